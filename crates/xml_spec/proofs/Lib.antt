@@ -1,0 +1,3 @@
+mod Classes
+mod Examples
+mod Tests

@@ -1,0 +1,12 @@
+pub mod Ascii
+pub mod Bytes
+pub mod Characters
+pub mod Tree
+pub mod Numbering
+pub mod Syntax
+pub mod Meaning
+pub mod Document
+pub mod Names
+pub mod Identifiers
+pub mod Canonical
+pub mod Content
