@@ -1,5 +1,5 @@
 -- The test of a class of characters says whether the character stands in one of its ranges.
-use Rattle.std.proofs.Common.{◌≡◌, ℕ, ◌≤◌, ◌⊎◌, Bool, true, ◌&&◌, List, [], ◌∷◌, IsTrue, nat_le, inl, inr}
+use Rattle.std.proofs.Common.{ℕ, ◌&&◌, [], ◌∷◌, IsTrue, nat_le, inl, inr}
 use borrow.Author.Tests.{leb-true, le-leb}
 use Rattle.xml_spec.specs.Characters.{Ranges, InRanges, in_ranges}
 use Rattle.xml_spec.proofs.Tests.{either_true, both_true, first_true, second_true, and_true}

@@ -1,6 +1,6 @@
 -- Words on lists of bytes that the definitions of XML share.
 use Rattle.std.specs.Prelude.{ℕ, Bool, true, false, ◌&&◌, ◌||◌, not, List, [], ◌∷◌, nat_eq, IsTrue}
-use Rattle.std.specs.List.{list_all, list_any, starts_with}
+use Rattle.std.specs.List.{list_all, starts_with}
 
 -- each byte passes the test
 abbrev pub AllPass : (ℕ → Bool) → List ℕ → Type 0

@@ -1,6 +1,6 @@
 -- The content of an element: what remains when prefixes, the order of attributes and comments are forgotten.
 -- (XML Infoset: elements with [namespace name], [local name], [attributes] as a set, and [children].)
-use Rattle.std.specs.Prelude.{ℕ, List, [], ◌∷◌, ◌++◌, map, Option}
+use Rattle.std.specs.Prelude.{ℕ, List, ◌++◌, map, Option}
 use Rattle.xml_spec.specs.Tree.{Attribute, Nodes, NoNodes, Element, Text, Comment, Instruction}
 use Rattle.xml_spec.specs.Names.{Scope, outermost, inner_scope, ExpandedName, element_name, attribute_name, proper_attributes}
 use Rattle.xml_spec.specs.Canonical.{sorted, expanded_order, scope_at, kept_element}

@@ -1,14 +1,14 @@
 -- Documents: which bytes spell which tree, and where each element stands in them. XML 1.0 (fifth edition), 2.1
 -- and 2.8, without document type declarations.
-use Rattle.std.specs.Prelude.{◌≡◌, ℕ, ◌+◌, ◌<◌, ◌⊎◌, Bool, true, false, ◌&&◌, List, [], ◌∷◌, ◌++◌, length, codes, Option, Some, None, if◌then◌else◌, IsTrue, IsFalse, IfSome, slice_get, unwrap_or, ⊤}
-use Rattle.std.specs.List.{list_all, AllByRecursion}
+use Rattle.std.specs.Prelude.{◌≡◌, ℕ, ◌+◌, ◌<◌, ◌⊎◌, Bool, true, false, ◌&&◌, List, [], ◌∷◌, ◌++◌, length, codes, Option, Some, None, if◌then◌else◌, IsTrue, IfSome, slice_get, unwrap_or}
+use Rattle.std.specs.List.{list_all}
 use Rattle.std.specs.Option.{option_map}
 use Rattle.std.specs.Str.{str_to_ascii_lowercase}
 use Rattle.xml_spec.specs.Ascii.{equals_sign}
 use Rattle.xml_spec.specs.Bytes.{AllPass}
 use Rattle.xml_spec.specs.Characters.{IsText}
 use Rattle.xml_spec.specs.Tree.{Nodes, NoNodes, Element}
-use Rattle.xml_spec.specs.Syntax.{is_white, is_quote, Tag, Item, Characters, Refers, Section, Remark, Processing, EmptyTag, print_item, print_token, Token, Alone, StartTag, EndTag, print_tokens, AreTokens, Content, NoContent, Then, Pair, tokens_of}
+use Rattle.xml_spec.specs.Syntax.{is_white, is_quote, Item, Characters, Remark, Processing, EmptyTag, print_item, print_token, StartTag, EndTag, print_tokens, AreTokens, Content, NoContent, Then, Pair, tokens_of}
 use Rattle.xml_spec.specs.Meaning.{attributes_of, nodes_of}
 
 -- a part of the XML declaration behind its name: S, and then Eq and a quoted value behind the name

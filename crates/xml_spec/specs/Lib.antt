@@ -10,3 +10,5 @@ pub mod Names
 pub mod Identifiers
 pub mod Canonical
 pub mod Content
+pub mod Laws
+pub mod Codes

@@ -1,10 +1,10 @@
 -- What a spelling means: the tree, without the choices of the writer.
-use Rattle.std.specs.Prelude.{ℕ, ◌+◌, Bool, true, false, ◌&&◌, ◌||◌, ◌==◌, List, [], ◌∷◌, ◌++◌, map, length, if◌then◌else◌}
+use Rattle.std.specs.Prelude.{ℕ, Bool, true, false, ◌&&◌, ◌||◌, ◌==◌, List, [], ◌∷◌, map, if◌then◌else◌}
 use Rattle.std.specs.List.{flat_map}
 use Rattle.std.specs.Char.{encode_utf8}
 use Rattle.xml_spec.specs.Ascii.{tab, line_feed, carriage_return, space_character}
 use Rattle.xml_spec.specs.Tree.{Attribute, Nodes, NoNodes, Element, Comment, Instruction, with_text}
-use Rattle.xml_spec.specs.Syntax.{Reference, character_of, Piece, Literal, Referred, Assignment, Tag, Item, Characters, Refers, Section, Remark, Processing, EmptyTag, Content, NoContent, Then, Pair}
+use Rattle.xml_spec.specs.Syntax.{character_of, Piece, Literal, Referred, Assignment, Tag, Item, Characters, Refers, Section, Remark, Processing, EmptyTag, Content, NoContent, Then, Pair}
 
 -- 2.11 End-of-Line Handling: "translating both the two-character sequence #xD #xA and any #xD that is not
 -- followed by #xA to a single #xA character"; the flag says that a #xD stands before

@@ -1,6 +1,6 @@
 -- The tree of a document: XML 1.0 (fifth edition), 2 and 3. What is left of a document when the choices of
 -- spelling are forgotten.
-use Rattle.std.specs.Prelude.{◌≡◌, ℕ, zero, suc, ◌+◌, ◌≤◌, Bool, true, false, max, List, [], ◌∷◌, ◌++◌, length, ◌==◌, not, ◌&&◌, nat_lt, IsTrue, ⊤}
+use Rattle.std.specs.Prelude.{ℕ, suc, ◌≤◌, Bool, true, false, max, List, [], ◌∷◌, ◌++◌, length, not, ◌&&◌, nat_lt, IsTrue, ⊤}
 
 -- an attribute with its name as written and its normalized value; a declaration of a namespace is one too
 pub record Attribute : Type 0 where

@@ -2,10 +2,63 @@
 //! stand in `specs/`, and the functions here carry the laws about them in their contracts.
 #![tactic(auto)]
 
-ghost use Rattle.std.specs.Prelude.{◌≡◌, ℕ, ◌↔◌, IsTrue};
+ghost use Rattle.std.specs.Prelude.{◌≡◌, ℕ, ◌<◌, ◌↔◌, List, ◌∷◌, map, IsTrue, Option, IsSomeAnd, Some};
+ghost use Rattle.std.specs.List.Sorted.{IsPermutation};
 ghost use Rattle.xml_spec.specs.Characters.{Ranges, InRanges, in_ranges};
+ghost use Rattle.xml_spec.specs.Tree.{Attribute, Nodes, IsJoined};
+ghost use Rattle.xml_spec.specs.Numbering.{size, path_of, number_of};
+ghost use Rattle.xml_spec.specs.Syntax.{Token, AreTokens, print_tokens};
+ghost use Rattle.xml_spec.specs.Document.{Spells, IsRange, Span};
+ghost use Rattle.xml_spec.specs.Names.{Scope, attribute_name, proper_attributes};
+ghost use Rattle.xml_spec.specs.Canonical.{byte_order, expanded_order, written_declarations, written_attributes};
+ghost use Rattle.xml_spec.specs.Laws.{IsAscending, IsNonDescending, IsDeclaredAsNeeded, BeginsWith};
 
 /// The tests of the classes of characters agree with the ranges of the standard.
 pub fn classes_are_their_ranges()
     ensures { (ranges : Ranges) (c : ℕ) → IsTrue (in_ranges ranges c) ↔ InRanges ranges c }
+{}
+
+/// Bytes begin with one token at most, and what prints them goes on behind it.
+pub fn bytes_begin_with_one_token()
+    ensures { (bytes : List ℕ) (token other : Token) (rest : List ℕ) (tokens : List Token) →
+        BeginsWith bytes token rest → AreTokens (other ∷ tokens) → bytes ≡ print_tokens (other ∷ tokens) →
+        (other ≡ token) × (print_tokens tokens ≡ rest) }
+{}
+
+/// No bytes spell two trees.
+pub fn no_bytes_spell_two_trees()
+    ensures { (bytes : List ℕ) (one other : Nodes) → Spells bytes one → Spells bytes other → one ≡ other }
+{}
+
+/// An element of the document that bytes spell stands in one range of them.
+pub fn a_range_is_one()
+    ensures { (bytes : List ℕ) (n : ℕ) (one other : Span) → IsRange bytes n one → IsRange bytes n other → one ≡ other }
+{}
+
+/// In a tree that bytes spell no text is empty and no two texts are neighbours.
+pub fn a_spelled_tree_is_joined()
+    ensures { (bytes : List ℕ) (tree : Nodes) → Spells bytes tree → IsJoined tree }
+{}
+
+/// Each node has a path, and the path leads back to its number.
+pub fn a_path_leads_to_its_node()
+    ensures { (nodes : Nodes) (k : ℕ) → k < size nodes →
+        IsSomeAnd (path_of nodes k) (λ path. number_of nodes path ≡ Some k) }
+{}
+
+/// Declarations are written in ascending order of their prefixes: each that is needed once, and no other.
+pub fn declarations_are_in_order()
+    ensures ascending { (listed : List (List ℕ)) (scope rendered : Scope) (name : List ℕ) (attributes : List Attribute) →
+        IsAscending byte_order (map (λ b. b.prefix) (written_declarations listed scope rendered name attributes)) }
+    ensures needed { (listed : List (List ℕ)) (scope rendered : Scope) (name : List ℕ) (attributes : List Attribute)
+        (prefix : List ℕ) → IsDeclaredAsNeeded listed scope rendered name attributes prefix }
+{}
+
+/// Attributes are written in the order of their expanded names, none lost and none doubled.
+pub fn attributes_are_in_order()
+    ensures in_order { (scope : Scope) (attributes : List Attribute) →
+        IsNonDescending (λ a b. expanded_order (attribute_name scope a.name) (attribute_name scope b.name))
+        (written_attributes scope attributes) }
+    ensures all { (scope : Scope) (attributes : List Attribute) →
+        IsPermutation (proper_attributes attributes) (written_attributes scope attributes) }
 {}

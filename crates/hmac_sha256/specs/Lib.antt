@@ -1,0 +1,4 @@
+pub mod Examples
+pub mod Hmac
+pub mod Pbkdf2
+pub mod Running

@@ -1,0 +1,155 @@
+//! A stack of namespace bindings, as Namespaces in XML 1.0 scopes them.
+//!
+//! A level is what one start tag declares. The latest declaration of the innermost level that has
+//! one decides what a prefix means (Namespaces in XML 1.0, 6.1), and a level ends with its element.
+//!
+//! Contracts see a [`Scope`] as its list of levels, the innermost first. A level is its list of
+//! pairs of a prefix, as bytes, and a number, the latest first.
+#![tactic(auto)]
+
+ghost use Rattle.std.specs.Prelude.{◌≡◌, ◌<◌, [], ◌∷◌, Some, length, drop, codes, OnOk, OnErr};
+ghost use Rattle.namespace_scope.specs.Levels.{declared_in, lookup_of};
+
+mod index;
+pub mod laws;
+
+use index::restore;
+use std::alloc::{AllocError, AllocFailed, Global};
+use std::collections::BTreeMap;
+use std::error::Error;
+use std::fmt;
+use std::marker::Model;
+
+/// There was no memory for what a call had to keep.
+#[derive(Debug, Clone, Copy, PartialEq, Eq)]
+pub struct NoMemory;
+
+impl fmt::Display for NoMemory {
+    ghost output = { λ _. Some (codes "out of memory") };
+
+    fn fmt<W: fmt::Write>(&self, f: &mut fmt::Formatter<W>) -> fmt::Result {
+        f.write_str("out of memory")
+    }
+}
+
+impl Error for NoMemory {}
+
+impl From<AllocError> for NoMemory {
+    fn from(_failed: AllocError) -> NoMemory {
+        NoMemory
+    }
+}
+
+impl<T: Drop> From<AllocFailed<T>> for NoMemory {
+    fn from(_failed: AllocFailed<T>) -> NoMemory {
+        NoMemory
+    }
+}
+
+// What a scope keeps of each call that added to it, in the order of the calls.
+#[derive(Drop)]
+enum Mark<'a> {
+    // a level began
+    Level,
+    // a prefix was declared, which until then had the number `shadowed`
+    Pair {
+        prefix: &'a str,
+        name: u32,
+        shadowed: Option<u32>,
+    },
+}
+
+/// The declarations in force: a stack of levels, each with the prefixes that it declares and the
+/// number of each one's namespace.
+///
+/// A look-up, and each declaration as it is made and as it is dropped, cost the logarithm of the
+/// number of prefixes in force.
+#[derive(Drop)]
+pub struct Scope<'a> {
+    marks: Vec<Mark<'a>>,
+    // the number of each prefix in force
+    latest: BTreeMap<String, u32>,
+}
+
+impl<'a> Model for Scope<'a> {
+    ghost use Rattle.std.specs.Prelude.{List, ℕ};
+
+    ghost Value = { List (List (List ℕ × ℕ)) };
+
+    ghost use Rattle.namespace_scope.specs.Marks.{levels_of, IsIndexed};
+    ghost use Rattle.std.specs.Prelude.{reverse};
+
+    ghost view = { λ s. levels_of (reverse s.marks.items) };
+
+    ghost invariant = { λ s. IsIndexed (reverse s.marks.items) s.latest };
+}
+
+impl<'a> Scope<'a> {
+    /// A scope with no level. It takes no memory.
+    pub fn new(alloc: Global) -> Scope<'a>
+        ensures { result ≡ [] }
+    {
+        Scope {
+            marks: Vec::new(alloc),
+            latest: BTreeMap::new(alloc),
+        }
+    }
+
+    /// Begins a level, which declares nothing yet. After `NoMemory` the scope is as before.
+    pub fn push(&mut self) -> Result<(), NoMemory>
+        ensures ok { OnOk result (self.new ≡ [] ∷ self.old) }
+        ensures err { OnErr result (self.new ≡ self.old) }
+    {
+        self.marks.push(Mark::Level)?;
+        Ok(())
+    }
+
+    /// Declares in the innermost level that `prefix` means the namespace of the number `name`. After
+    /// `NoMemory` the scope is as before.
+    pub fn declare(&mut self, prefix: &'a str, name: u32) -> Result<(), NoMemory>
+        requires { 0 < length self.old }
+        ensures ok { OnOk result (self.new ≡ declared_in prefix.now name self.old) }
+        ensures err { OnErr result (self.new ≡ self.old) }
+    {
+        let key = String::from_str(*self.marks.allocator(), prefix)?;
+        let shadowed = self.lookup(prefix);
+        self.marks.push(Mark::Pair {
+            prefix,
+            name,
+            shadowed,
+        })?;
+        if self.latest.insert(key, name).is_err() {
+            let _ = self.marks.pop();
+            return Err(NoMemory);
+        }
+        Ok(())
+    }
+
+    /// Ends the innermost level, with all that it declared. It takes no memory.
+    pub fn pop(&mut self)
+        requires { 0 < length self.old }
+        ensures { self.new ≡ drop 1 self.old }
+    {
+        while let Some(mark) = self.marks.pop() {
+            match mark {
+                Mark::Level => return,
+                Mark::Pair {
+                    prefix,
+                    shadowed,
+                    ..
+                } => restore(&mut self.latest, prefix, shadowed),
+            }
+        }
+    }
+
+    /// The number that `prefix` has: that of its latest declaration in the innermost level that has
+    /// one, and none where no level declares it. It takes no memory.
+    pub fn lookup(&self, prefix: &str) -> Option<u32>
+        ensures { result ≡ lookup_of prefix.now self.now }
+    {
+        self.latest.get(prefix).copied()
+    }
+}
+
+#[cfg(test)]
+mod tests;

@@ -1,0 +1,4 @@
+pub mod Names
+pub mod IdText
+pub mod Laws
+pub mod IdExamples

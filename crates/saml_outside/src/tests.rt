@@ -1,0 +1,88 @@
+//! What no clause says: that there is memory for a call, and that a trait's object works through its bound.
+use crate::laws::what_is_given_is_one_answer;
+use crate::{Blob, FileRead, Files, MemFiles, MemSink, Sink, SinkFailed, SteadyFiles, Text, Texts};
+use std::test::Fail;
+
+fn read_of(files: &mut impl Files, name: &str, limit: u64, into: &mut Vec<u8>) -> (FileRead, u64) {
+    let answer = files.read_all(name, limit, into);
+    (answer, files.faults())
+}
+
+fn put_in(sink: &mut impl Sink, bytes: &[u8]) -> (Result<(), SinkFailed>, u64) {
+    let answer = sink.put(bytes);
+    (answer, sink.faults())
+}
+
+#[test]
+fn texts_and_bytes_are_made_and_grow(rt: HostRuntime) -> Result<(), Fail> {
+    let mut text = Text::of(rt.alloc(), "ab")?;
+    text.push("c")?;
+    assert_eq!(rt; text.copy()?.as_str(), "abc");
+    let mut blob = Blob::of(rt.alloc(), b"ab")?;
+    blob.push(b"c")?;
+    assert_eq!(rt; blob.copy()?.as_slice(), b"abc".as_slice());
+    let mut texts = Texts::new(rt.alloc());
+    texts.push(text)?;
+    texts.push(Text::of(rt.alloc(), "d")?)?;
+    let copy = texts.copy()?;
+    assert_eq!(rt; copy.len(), 2);
+    assert_eq!(rt; copy.at(0).as_str(), "abc");
+    assert_eq!(rt; copy.at(1).as_str(), "d");
+    Ok(())
+}
+
+#[test]
+fn files_in_memory_are_read_and_one_call_fails(rt: HostRuntime) -> Result<(), Fail> {
+    let mut files = MemFiles::new(rt.alloc());
+    files.add("a", b"old")?;
+    files.add("a", b"new")?;
+    files.fail_at(3)?;
+    let mut into = Vec::new(rt.alloc());
+    assert_eq!(rt;
+        read_of(&mut files, "a", 3, &mut into),
+        (FileRead::Whole, 0)
+    );
+    assert_eq!(rt; into.as_slice(), b"new".as_slice());
+    assert_eq!(rt;
+        read_of(&mut files, "a", 2, &mut into),
+        (FileRead::TooLong, 0)
+    );
+    assert_eq!(rt;
+        read_of(&mut files, "a", 3, &mut into),
+        (FileRead::Failed, 1)
+    );
+    assert_eq!(rt;
+        read_of(&mut files, "b", 3, &mut into),
+        (FileRead::Absent, 1)
+    );
+    Ok(())
+}
+
+#[test]
+fn steady_files_are_read(rt: HostRuntime) -> Result<(), Fail> {
+    let mut files = SteadyFiles::new(rt.alloc());
+    files.add("a", b"new")?;
+    let mut into = Vec::new(rt.alloc());
+    assert_eq!(rt;
+        read_of(&mut files, "a", 3, &mut into),
+        (FileRead::Whole, 0)
+    );
+    assert_eq!(rt; into.as_slice(), b"new".as_slice());
+    Ok(())
+}
+
+#[test]
+fn a_sink_in_memory_takes_and_one_call_fails(rt: HostRuntime) -> Result<(), Fail> {
+    let mut sink = MemSink::new(rt.alloc());
+    sink.fail_at(2)?;
+    assert_eq!(rt; put_in(&mut sink, b"ab"), (Ok(()), 0));
+    assert_eq!(rt; put_in(&mut sink, b"c"), (Err(SinkFailed { sent: 0 }), 1));
+    assert_eq!(rt; put_in(&mut sink, b"d"), (Ok(()), 1));
+    assert_eq!(rt; sink.bytes(), b"abd".as_slice());
+    Ok(())
+}
+
+#[test]
+fn the_law_of_answers_can_be_called() {
+    what_is_given_is_one_answer::<u8, u16, bool, u8>();
+}

@@ -1,0 +1,5 @@
+pub mod CalendarLemmas
+pub mod FractionLemmas
+pub mod PieceLemmas
+pub mod WrittenLemmas
+pub mod LawLemmas
