@@ -1,0 +1,54 @@
+use Rattle.std.proofs.Common.{ap, sym, arith, is_some}
+use Rattle.saml_tree.specs.Documents.{DocumentView}
+use Rattle.saml_tree.proofs.Seen.{rows_are, is_row, depths_count, views_length, end_read, first_kid_read, no_kid_read}
+use Rattle.saml_tree.proofs.doc.Doc.first_kid.Goals as goal
+
+pub overflow_add-behind : goal.overflow_add-behind
+overflow_add-behind c =
+    let same = ap (λ (d : DocumentView). d.tree) c.self.view_is in
+    let items = c.self.inside.rows.items in
+    let tree = c.args.self.now.tree in
+    let shaped = c.self.invariant.shaped in
+    let all = rows_are items tree shaped same in
+    let count = depths_count items in
+    let linked = c.self.invariant.linked in
+    let there = is_row items tree shaped same c.args.n.0 (ap (λ o. is_some o) c.requires) in
+    let few = c.self.invariant.count in omega (arith, views_length items)
+
+pub index-requires : goal.index-requires
+index-requires c =
+    let same = ap (λ (d : DocumentView). d.tree) c.self.view_is in
+    let items = c.self.inside.rows.items in
+    let tree = c.args.self.now.tree in
+    let shaped = c.self.invariant.shaped in
+    let all = rows_are items tree shaped same in
+    let count = depths_count items in
+    let linked = c.self.invariant.linked in
+    let there = is_row items tree shaped same c.args.n.0 (ap (λ o. is_some o) c.requires) in
+    omega (arith, linked.count, c.self.inside.links.ok.0)
+
+pub returns-then-behind-end : goal.returns-then-behind-end
+returns-then-behind-end c =
+    let same = ap (λ (d : DocumentView). d.tree) c.self.view_is in
+    let items = c.self.inside.rows.items in
+    let tree = c.args.self.now.tree in
+    let shaped = c.self.invariant.shaped in
+    let all = rows_are items tree shaped same in
+    let count = depths_count items in
+    let linked = c.self.invariant.linked in
+    let there = is_row items tree shaped same c.args.n.0 (ap (λ o. is_some o) c.requires) in
+    let end = end_read _ _ c.args.n.0 c.index.result.now linked (omega arith) c.index.ensures in
+    sym (first_kid_read items tree shaped same c.args.n.0 c.index.result.now.end there end (omega arith))
+
+pub returns-else-behind-end : goal.returns-else-behind-end
+returns-else-behind-end c =
+    let same = ap (λ (d : DocumentView). d.tree) c.self.view_is in
+    let items = c.self.inside.rows.items in
+    let tree = c.args.self.now.tree in
+    let shaped = c.self.invariant.shaped in
+    let all = rows_are items tree shaped same in
+    let count = depths_count items in
+    let linked = c.self.invariant.linked in
+    let there = is_row items tree shaped same c.args.n.0 (ap (λ o. is_some o) c.requires) in
+    let end = end_read _ _ c.args.n.0 c.index.result.now linked (omega arith) c.index.ensures in
+    sym (no_kid_read items tree shaped same c.args.n.0 c.index.result.now.end there end (omega arith))

@@ -1,0 +1,38 @@
+use Rattle.std.proofs.Common.{ap, sym, arith}
+use Rattle.saml_tree.specs.Documents.{DocumentView}
+use Rattle.saml_tree.proofs.Seen.{rows_are, depths_count, parent_read, no_parent_read, parent_is_read}
+use Rattle.saml_tree.proofs.doc.Doc.parent.Goals as goal
+
+pub index-requires : goal.index-requires
+index-requires c =
+    let same = ap (λ (d : DocumentView). d.tree) c.self.view_is in
+    let items = c.self.inside.rows.items in
+    let tree = c.args.self.now.tree in
+    let shaped = c.self.invariant.shaped in
+    let all = rows_are items tree shaped same in
+    let count = depths_count items in
+    let linked = c.self.invariant.linked in
+    omega (arith, linked.count, c.self.inside.links.ok.0)
+
+pub returns-else-n-eq0 : goal.returns-else-n-eq0
+returns-else-n-eq0 c =
+    let same = ap (λ (d : DocumentView). d.tree) c.self.view_is in
+    let items = c.self.inside.rows.items in
+    let tree = c.args.self.now.tree in
+    let shaped = c.self.invariant.shaped in
+    let all = rows_are items tree shaped same in
+    let count = depths_count items in
+    let linked = c.self.invariant.linked in
+    let is_parent = parent_read _ _ c.args.n.0 c.index.result.now linked (omega arith) (omega arith) c.index.ensures in
+    sym (parent_is_read items tree shaped same c.args.n.0 c.index.result.now.parent (omega arith) is_parent)
+
+pub returns-then-n-eq0 : goal.returns-then-n-eq0
+returns-then-n-eq0 c =
+    let same = ap (λ (d : DocumentView). d.tree) c.self.view_is in
+    let items = c.self.inside.rows.items in
+    let tree = c.args.self.now.tree in
+    let shaped = c.self.invariant.shaped in
+    let all = rows_are items tree shaped same in
+    let count = depths_count items in
+    let linked = c.self.invariant.linked in
+    sym (no_parent_read items tree shaped same c.args.n.0 (omega arith))

@@ -1,0 +1,13 @@
+use Rattle.std.proofs.Common.{◌≡◌, true, false}
+use Rattle.xml_spec.specs.Characters.{IsName}
+use Rattle.saml_tree.proofs.PlainParts.{plain_name}
+use Rattle.saml_tree.proofs.AttributeReadings.{no_name}
+use Rattle.saml_tree.proofs.parts.name.Goals as goal
+
+pub returns-then-is_name-clause-name_plain : goal.returns-then-is_name-clause-name_plain
+returns-then-is_name-clause-name_plain c = plain_name c.split_run.result.0.now c.split_run.ensures.front_plain
+
+pub returns-else-is_name-clause-reading : goal.returns-else-is_name-clause-reading
+returns-else-is_name-clause-reading c =
+    no_name c.args.rest.now c.split_run.result.0.now c.split_run.result.1.now c.split_run.ensures.split c.split_run.ensures.passes c.split_run.ensures.stops
+    (λ (n : IsName c.split_run.result.0.now). let yes : c.is_name.result ≡ true = c.is_name.ensures.1 n in let no : c.is_name.result ≡ false = c.if-is_name.false in cc)

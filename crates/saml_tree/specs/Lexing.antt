@@ -1,0 +1,154 @@
+-- How the first part of a text is read: a name, an equals sign, a quoted value, an attribute, a tag, a run of
+-- characters. Each word says that the bytes are this part and then what follows it.
+use Rattle.std.specs.Prelude.{◌≡◌, ℕ, ◌<◌, ◌⊎◌, Bool, ◌||◌, not, ◌==◌, List, ◌∷◌, ◌++◌, map, length, codes, IsTrue, IsFalse}
+use Rattle.std.specs.List.{list_any, flat_map, AllByRecursion}
+use Rattle.xml_spec.specs.Ascii.{ampersand, less_than, equals_sign, greater_than}
+use Rattle.xml_spec.specs.Bytes.{AllPass, has, begins_with}
+use Rattle.xml_spec.specs.Characters.{IsName}
+use Rattle.xml_spec.specs.Tree as tree
+use Rattle.xml_spec.specs.Syntax.{is_white, is_quote, Assignment, print_assignment, IsAssignment, Tag, print_tag, IsTag, Token}
+use Rattle.xml_spec.specs.Meaning.{attribute_of, attributes_of}
+use Rattle.xml_spec.specs.Laws.{BeginsWith}
+use Rattle.saml_tree.specs.declared.class.Class.{Class}
+use Rattle.saml_tree.specs.declared.class.Class.TheVariants as classes
+use Rattle.saml_tree.specs.declared.node.TreeFault.{TreeFault}
+use Rattle.saml_tree.specs.declared.node.TreeFault.TheVariants.{BadXml, NoMemory}
+
+-- the bytes that follow names in markup, and those that never stand in one
+abbrev pub delimiters : List ℕ
+delimiters = codes " \t\r\n=/>?<&\"'!;#"
+
+-- no delimiter: each byte of a name is such a byte
+abbrev pub is_name_byte : ℕ → Bool
+is_name_byte b = not (list_any (λ d. d == b) delimiters)
+
+-- a byte of a run of characters
+abbrev pub is_character_byte : ℕ → Bool
+is_character_byte b = not (b == less_than || b == ampersand)
+
+-- a byte of a value that stands in these quotes
+abbrev pub is_value_byte : ℕ → ℕ → Bool
+is_value_byte quote b = not (b == less_than || b == ampersand || b == quote)
+
+-- the bytes of a class
+abbrev pub is_in : Class → ℕ → Bool
+is_in classes.Name b = is_name_byte b
+is_in classes.White b = is_white b
+is_in classes.Characters b = is_character_byte b
+is_in (classes.Value quote) b = is_value_byte quote b
+
+-- a name that ends where it does
+pub record NameAt (bytes name behind : List ℕ) : Type 0 where
+  pub named : IsName name
+  pub split : bytes ≡ name ++ behind
+  pub ends : IsFalse (begins_with is_name_byte behind)
+
+-- an equals sign with white space round it
+pub record EqualsAt (bytes behind : List ℕ) : Type 0 where
+  pub left : List ℕ
+  pub right : List ℕ
+  pub left_white : AllPass is_white left
+  pub right_white : AllPass is_white right
+  pub split : bytes ≡ left ++ equals_sign ∷ (right ++ behind)
+  pub ends : IsFalse (begins_with is_white behind)
+
+-- a quoted value without references, as it is written
+pub record QuotedAt (bytes value behind : List ℕ) : Type 0 where
+  pub quote : ℕ
+  pub quoted : IsTrue (is_quote quote)
+  pub passes : AllPass (is_value_byte quote) value
+  pub split : bytes ≡ quote ∷ (value ++ quote ∷ behind)
+
+-- a name, an equals sign and a quoted value
+pub record AssignedAt (bytes name value behind : List ℕ) : Type 0 where
+  pub sign : List ℕ
+  pub quote : List ℕ
+  pub named : NameAt bytes name sign
+  pub equated : EqualsAt sign quote
+  pub quoted : QuotedAt quote value behind
+
+-- an assignment that means this attribute
+pub record AssignmentAt (bytes : List ℕ) (attribute : tree.Attribute) (behind : List ℕ) : Type 0 where
+  pub assignment : Assignment
+  pub valid : IsAssignment assignment
+  pub means : attribute ≡ attribute_of assignment
+  pub split : bytes ≡ print_assignment assignment ++ behind
+
+-- a tag's attributes and the white space behind them, up to what is neither white space nor of a name
+pub record AttributesAt (bytes : List ℕ) (attributes : List tree.Attribute) (behind : List ℕ) : Type 0 where
+  pub assignments : List Assignment
+  pub space : List ℕ
+  pub valid : AllByRecursion IsAssignment assignments
+  pub white : AllPass is_white space
+  pub mean : attributes ≡ map attribute_of assignments
+  pub split : bytes ≡ flat_map print_assignment assignments ++ (space ++ behind)
+  pub not_white : IsFalse (begins_with is_white behind)
+  pub not_name : IsFalse (begins_with is_name_byte behind)
+
+-- attributes that were read, and what is left behind them
+pub record AreSoFar (bytes : List ℕ) (attributes : List tree.Attribute) (rest : List ℕ) : Type 0 where
+  pub assignments : List Assignment
+  pub valid : AllByRecursion IsAssignment assignments
+  pub mean : attributes ≡ map attribute_of assignments
+  pub split : bytes ≡ flat_map print_assignment assignments ++ rest
+
+-- what stands between the signs of a tag, up to what is neither white space nor of a name
+pub record TagAt (bytes name : List ℕ) (attributes : List tree.Attribute) (behind : List ℕ) : Type 0 where
+  pub tag : Tag
+  pub valid : IsTag tag
+  pub named : name ≡ tag.name
+  pub mean : attributes ≡ attributes_of tag
+  pub split : bytes ≡ print_tag tag ++ behind
+  pub not_white : IsFalse (begins_with is_white behind)
+  pub not_name : IsFalse (begins_with is_name_byte behind)
+
+-- the name and the white space of an end tag, and the sign that closes it
+pub record EndAt (bytes name behind : List ℕ) : Type 0 where
+  pub space : List ℕ
+  pub named : IsName name
+  pub white : AllPass is_white space
+  pub split : bytes ≡ name ++ (space ++ greater_than ∷ behind)
+
+-- a run of characters that is as long as it can be
+pub record CharactersAt (bytes text behind : List ℕ) : Type 0 where
+  pub some : 0 < length text
+  pub passes : AllPass is_character_byte text
+  pub not_closed : IsFalse (has (codes "]]>") text)
+  pub split : bytes ≡ text ++ behind
+  pub ends : IsFalse (begins_with is_character_byte behind)
+
+-- no name begins the bytes, and so on
+abbrev pub NoName : List ℕ → Type 0
+NoName bytes = (name behind : List ℕ) → ¬ (NameAt bytes name behind)
+
+abbrev pub NoEquals : List ℕ → Type 0
+NoEquals bytes = (behind : List ℕ) → ¬ (EqualsAt bytes behind)
+
+abbrev pub NoQuoted : List ℕ → Type 0
+NoQuoted bytes = (value behind : List ℕ) → ¬ (QuotedAt bytes value behind)
+
+abbrev pub NoAssigned : List ℕ → Type 0
+NoAssigned bytes = (name value behind : List ℕ) → ¬ (AssignedAt bytes name value behind)
+
+abbrev pub NoAssignment : List ℕ → Type 0
+NoAssignment bytes = (attribute : tree.Attribute) (behind : List ℕ) → ¬ (AssignmentAt bytes attribute behind)
+
+abbrev pub NoAttributes : List ℕ → Type 0
+NoAttributes bytes = (attributes : List tree.Attribute) (behind : List ℕ) → ¬ (AttributesAt bytes attributes behind)
+
+abbrev pub NoTag : List ℕ → Type 0
+NoTag bytes = (name : List ℕ) (attributes : List tree.Attribute) (behind : List ℕ) → ¬ (TagAt bytes name attributes behind)
+
+abbrev pub NoEnd : List ℕ → Type 0
+NoEnd bytes = (name behind : List ℕ) → ¬ (EndAt bytes name behind)
+
+abbrev pub NoCharacters : List ℕ → Type 0
+NoCharacters bytes = (text behind : List ℕ) → ¬ (CharactersAt bytes text behind)
+
+-- no valid token begins the bytes
+abbrev pub NoToken : List ℕ → Type 0
+NoToken bytes = (token : Token) (behind : List ℕ) → ¬ (BeginsWith bytes token behind)
+
+-- memory ran out, or the bytes are not XML, which says this
+abbrev pub IsFaultFor : Type 0 → TreeFault → Type 0
+IsFaultFor unread e = (e ≡ NoMemory) ⊎ ((e ≡ BadXml) × unread)

@@ -1,0 +1,14 @@
+pub mod Plain
+pub mod Rows
+pub mod Run
+pub mod Documents
+pub mod Markup
+pub mod Views
+pub mod Named
+pub mod RowTests
+pub mod Kept
+pub mod Links
+pub mod PlainTree
+pub mod Reads
+pub mod Lexing
+pub mod NodeNames

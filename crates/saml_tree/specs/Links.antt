@@ -1,0 +1,47 @@
+-- How the rows of a document are linked, and what a document keeps.
+use Rattle.std.specs.Prelude.{◌≡◌, ℕ, suc, ◌^◌, ◌<◌, ◌≤◌, List, length, map, slice_index, slice_index_or}
+use Rattle.saml_tree.specs.Rows.{Row, nodes_at}
+use Rattle.saml_tree.specs.Documents.{IsSpelled}
+use Rattle.saml_tree.specs.Kept.{IsShaped, ArePlain, HaveRanges}
+use Rattle.saml_tree.specs.declared.links.Link.{Link}
+
+-- how deep each row stands
+abbrev pub depths_of : List Row → List ℕ
+depths_of rows = map (λ row. row.depth) rows
+
+-- row k stands right in row `parent`: that one is less deep by one, and all between them are at least as deep as row k
+pub record IsParent (depths : List ℕ) (k parent : ℕ) : Type 0 where
+  pub before : parent < k
+  pub one_less : suc (slice_index depths parent) ≡ slice_index depths k
+  pub between : (i : ℕ) → parent < i → i < k → slice_index depths k ≤ slice_index depths i
+
+-- the rows that stand in row k end in front of row `end`
+pub record IsEnd (depths : List ℕ) (k end : ℕ) : Type 0 where
+  pub behind : k < end
+  pub in_range : end ≤ length depths
+  pub deeper : (i : ℕ) → k < i → i < end → slice_index depths k < slice_index depths i
+  pub stops : end < length depths → slice_index depths end ≤ slice_index depths k
+
+-- each of these links but the first has its row's parent
+pub record HaveParents (depths : List ℕ) (links : List Link) : Type 0 where
+  pub each : (k : ℕ) (link : Link) → 0 < k → k < length links → IsParent depths k (slice_index_or links k link).parent
+
+-- each of these links from number `from` on has its row's end
+pub record HaveEnds (depths : List ℕ) (from : ℕ) (links : List Link) : Type 0 where
+  pub each : (k : ℕ) (link : Link) → from ≤ k → k < length links → IsEnd depths k (slice_index_or links k link).end
+
+-- there is a link for each row, with its parent and its end
+pub record AreLinked (depths : List ℕ) (links : List Link) : Type 0 where
+  pub count : length links ≡ length depths
+  pub parents : HaveParents depths links
+  pub ends : HaveEnds depths 0 links
+
+-- what a document keeps: the rows of one tree, which are plain and which the text spells, the elements' places in
+-- the text, and the links
+pub record IsKept (text : List ℕ) (rows : List Row) (links : List Link) : Type 0 where
+  pub shaped : IsShaped rows
+  pub plain : ArePlain rows
+  pub ranges : HaveRanges text rows
+  pub count : length rows < 2 ^ 32
+  pub linked : AreLinked (depths_of rows) links
+  pub spelled : IsSpelled text (nodes_at 0 rows)

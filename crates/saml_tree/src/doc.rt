@@ -1,0 +1,270 @@
+// A document that was read.
+
+ghost use Rattle.std.specs.Prelude.{◌≡◌, ℕ, ◌<◌, ◌++◌, ◌↔◌, List, [], length, map, take, string_bytes, Some, IsTrue, OnOk, OnErr, IfOk, IfErr, IfSome, IsSome, ◌^◌};
+ghost use Rattle.std.specs.Option.{option_map};
+ghost use Rattle.std.specs.List.{AllByRecursion};
+ghost use Rattle.xml_spec.specs.Numbering.{size, from_node, kids_of, rest_of, first_kid_of, next_of, parent_of, elements_before};
+ghost use Rattle.xml_spec.specs.Identifiers.{identifiers, node_with};
+ghost use Rattle.xml_spec.specs.Names.{outermost};
+ghost use Rattle.xml_spec.specs.Canonical.{scope_at};
+ghost use Rattle.xml_spec.specs.Document.{IsRange};
+ghost use Rattle.saml_tree.specs.PlainTree.{ArePlainNodes};
+ghost use Rattle.saml_tree.specs.Documents.{IsSpelled, kind_of, name_of, attributes_of, text_of};
+ghost use Rattle.saml_tree.specs.NodeNames.{ShownName, name_at, attribute_at, attribute_name_at};
+ghost use Rattle.saml_tree.specs.Rows.{node, nodes_at};
+ghost use Rattle.saml_tree.specs.Kept.{IsShaped, IsPlainName, IsPlainShape, ArePlain, HaveRanges};
+ghost use Rattle.saml_tree.specs.Views.{attribute_view, shape_view, row_views, name_view};
+
+use crate::links::{Link, links_of};
+use crate::node::{Name, NodeKind, NodeNo, TreeFault};
+use crate::row::{Attribute, Row, Shape};
+use saml_outside::NoMemory;
+use std::alloc::Global;
+use std::marker::Model;
+use xml_chars::Span;
+
+/// A document: the text that it was read from, and the nodes of its tree, each addressed by its number.
+#[derive(Debug, Drop)]
+pub struct Doc<'a> {
+    text: &'a [u8],
+    rows: Vec<Row<'a>>,
+    links: Vec<Link>,
+}
+
+impl<'a> Model for Doc<'a> {
+    ghost use Rattle.saml_tree.specs.Documents.{DocumentView, coded_document};
+
+    ghost Value = { DocumentView };
+
+    ghost coded = { coded_document };
+
+    ghost use Rattle.saml_tree.specs.Rows.{nodes_at};
+    ghost use Rattle.saml_tree.specs.Views.{row_views};
+    ghost use Rattle.saml_tree.specs.Links.{IsKept};
+
+    ghost view = { λ d. record { text = d.text.now; tree = nodes_at 0 (row_views d.rows.items) } };
+
+    ghost invariant = { λ d. IsKept d.text.now (row_views d.rows.items) d.links.items };
+}
+
+impl<'a> Doc<'a> {
+    ghost use Rattle.saml_tree.specs.declared.node.NodeKind.{NodeKind};
+    ghost use Rattle.saml_tree.specs.declared.node.NodeKind.TheVariants as kinds;
+    ghost use Rattle.saml_tree.specs.declared.node.TreeFault.TheVariants as faults;
+
+    /// The document of these rows.
+    pub(crate) fn of(
+        alloc: Global,
+        text: &'a [u8],
+        rows: Vec<Row<'a>>,
+    ) -> Result<Doc<'a>, TreeFault>
+        requires shaped { IsShaped (row_views rows.items) }
+        requires plain { ArePlain (row_views rows.items) }
+        requires ranges { HaveRanges text.now (row_views rows.items) }
+        requires count { length rows.items < 2 ^ 32 }
+        requires spelled { IsSpelled text.now (nodes_at 0 (row_views rows.items)) }
+        ensures text { IfOk result (λ doc. doc.text ≡ text.now) }
+        ensures tree { IfOk result (λ doc. doc.tree ≡ nodes_at 0 (row_views rows.entry.items)) }
+        ensures err { IfErr result (λ e. e ≡ faults.NoMemory) }
+    {
+        let links = links_of(alloc, &rows)?;
+        Ok(Doc { text, rows, links })
+    }
+
+    /// The root element.
+    pub fn root(&self) -> NodeNo
+        ensures number { result.0 ≡ 0 }
+        ensures element { kind_of (from_node self.now.tree result.0) ≡ Some kinds.Element }
+        // The tree is the one that the text spells, under the limits, named and single.
+        ensures spelled { IsSpelled self.now.text self.now.tree }
+        ensures plain { ArePlainNodes self.now.tree }
+    {
+        let _ = &self.rows;
+        NodeNo(0)
+    }
+
+    /// The node itself, without its kids.
+    fn shape(&self, n: NodeNo) -> &Shape<'a>
+        requires { n.0 < size self.now.tree }
+        ensures node { let here = from_node self.now.tree n.0 in here ≡ node (shape_view result.now) (kids_of here) (rest_of here) }
+        ensures plain { IsPlainShape (shape_view result.now) }
+        ensures scope { scope_at outermost self.now.tree n.0 ≡ outermost }
+    {
+        &self.rows[n.0 as usize].shape
+    }
+
+    /// What the node is.
+    pub fn kind(&self, n: NodeNo) -> NodeKind
+        requires { n.0 < size self.now.tree }
+        ensures { kind_of (from_node self.now.tree n.0) ≡ Some result }
+    {
+        match self.shape(n) {
+            Shape::Element { .. } => NodeKind::Element,
+            Shape::Text(_) => NodeKind::Text,
+        }
+    }
+
+    /// The first kid of an element.
+    pub fn first_kid(&self, n: NodeNo) -> Option<NodeNo>
+        requires { kind_of (from_node self.now.tree n.0) ≡ Some kinds.Element }
+        ensures { option_map (λ kid. kid.0) result ≡ first_kid_of self.now.tree n.0 }
+    {
+        let end = self.links[n.0 as usize].end;
+        let behind = n.0 + 1;
+        if behind < end {
+            Some(NodeNo(behind))
+        } else {
+            None
+        }
+    }
+
+    /// The node behind this one among the kids of their parent.
+    pub fn next(&self, n: NodeNo) -> Option<NodeNo>
+        requires { n.0 < size self.now.tree }
+        ensures { option_map (λ node. node.0) result ≡ next_of self.now.tree n.0 }
+    {
+        let end = self.links[n.0 as usize].end;
+        if (end as usize) < self.rows.len()
+            && self.rows[end as usize].depth == self.rows[n.0 as usize].depth
+        {
+            Some(NodeNo(end))
+        } else {
+            None
+        }
+    }
+
+    /// The element that the node is a kid of; the root has none.
+    pub fn parent(&self, n: NodeNo) -> Option<NodeNo>
+        requires { n.0 < size self.now.tree }
+        ensures { option_map (λ element. element.0) result ≡ parent_of self.now.tree n.0 }
+    {
+        if n.0 == 0 {
+            None
+        } else {
+            Some(NodeNo(self.links[n.0 as usize].parent))
+        }
+    }
+
+    /// The name of an element, with its namespace.
+    pub fn name(&self, n: NodeNo) -> Name<'_>
+        requires { IsSome (name_of (from_node self.now.tree n.0)) }
+        ensures { name_at self.now.tree n.0 ≡ Some (name_view result) }
+    {
+        match self.shape(n) {
+            Shape::Element { name, .. } => plain_name(name),
+            Shape::Text(_) => unreachable!(),
+        }
+    }
+
+    /// Where an element stands in the text: from its first '<' to behind its last '>'.
+    pub fn span(&self, n: NodeNo) -> Span
+        requires { kind_of (from_node self.now.tree n.0) ≡ Some kinds.Element }
+        ensures { IsRange self.now.text (elements_before self.now.tree n.0) (record { start = result.start; end = result.end }) }
+    {
+        self.rows[n.0 as usize].span
+    }
+
+    /// The attributes of an element.
+    fn attributes(&self, n: NodeNo) -> &[Attribute<'a>]
+        requires { IsSome (attributes_of (from_node self.now.tree n.0)) }
+        ensures attributes { attributes_of (from_node self.now.tree n.0) ≡ Some (map attribute_view result.now) }
+        ensures plain { AllByRecursion (λ a. IsPlainName a.name) (map attribute_view result.now) }
+        ensures scope { scope_at outermost self.now.tree n.0 ≡ outermost }
+    {
+        match self.shape(n) {
+            Shape::Element { attributes, .. } => attributes.as_slice(),
+            Shape::Text(_) => unreachable!(),
+        }
+    }
+
+    /// How many attributes an element has, declarations of namespaces with them.
+    pub fn attr_count(&self, n: NodeNo) -> usize
+        requires { kind_of (from_node self.now.tree n.0) ≡ Some kinds.Element }
+        ensures { option_map length (attributes_of (from_node self.now.tree n.0)) ≡ Some result }
+    {
+        self.attributes(n).len()
+    }
+
+    /// Attribute i of an element.
+    fn attribute(&self, n: NodeNo, i: usize) -> &Attribute<'a>
+        requires { IsSome (attribute_at self.now.tree n.0 i) }
+        ensures { attribute_at self.now.tree n.0 i ≡ Some (attribute_view result.now) }
+    {
+        &self.attributes(n)[i]
+    }
+
+    /// The name of attribute i of an element, with its namespace.
+    pub fn attr_name(&self, n: NodeNo, i: usize) -> Name<'_>
+        requires { IsSome (attribute_at self.now.tree n.0 i) }
+        ensures { attribute_name_at self.now.tree n.0 i ≡ Some (name_view result) }
+    {
+        plain_name(self.attributes(n)[i].name)
+    }
+
+    /// The value of attribute i of an element is `s`.
+    pub fn attr_is(&self, n: NodeNo, i: usize, s: &str) -> bool
+        requires { IsSome (attribute_at self.now.tree n.0 i) }
+        ensures { IfSome (attribute_at self.now.tree n.0 i) (λ a. IsTrue result ↔ (a.value ≡ s.now)) }
+    {
+        self.attribute(n, i).value.as_str() == s
+    }
+
+    /// Appends the value of attribute i of an element. Where memory runs out, a part of it may have been appended.
+    pub fn put_attr(&self, n: NodeNo, i: usize, out: &mut String) -> Result<(), NoMemory>
+        requires { IsSome (attribute_at self.now.tree n.0 i) }
+        ensures ok { IfSome (attribute_at self.now.tree n.0 i) (λ a. OnOk result (string_bytes out.new ≡ string_bytes out.old ++ a.value)) }
+        ensures err { IfSome (attribute_at self.now.tree n.0 i) (λ a. OnErr result ((k : ℕ) × (string_bytes out.new ≡ string_bytes out.old ++ take k a.value))) }
+    {
+        out.push_str(self.attribute(n, i).value.as_str())?;
+        Ok(())
+    }
+
+    /// A text.
+    fn text(&self, n: NodeNo) -> &str
+        requires { IsSome (text_of (from_node self.now.tree n.0)) }
+        ensures { text_of (from_node self.now.tree n.0) ≡ Some result.now }
+    {
+        match self.shape(n) {
+            Shape::Element { .. } => unreachable!(),
+            Shape::Text(text) => text,
+        }
+    }
+
+    /// The text is `s`.
+    pub fn text_is(&self, n: NodeNo, s: &str) -> bool
+        requires { IsSome (text_of (from_node self.now.tree n.0)) }
+        ensures { IfSome (text_of (from_node self.now.tree n.0)) (λ text. IsTrue result ↔ (text ≡ s.now)) }
+    {
+        self.text(n) == s
+    }
+
+    /// Appends the text. Where memory runs out, a part of it may have been appended.
+    pub fn put_text(&self, n: NodeNo, out: &mut String) -> Result<(), NoMemory>
+        requires { IsSome (text_of (from_node self.now.tree n.0)) }
+        ensures ok { IfSome (text_of (from_node self.now.tree n.0)) (λ text. OnOk result (string_bytes out.new ≡ string_bytes out.old ++ text)) }
+        ensures err { IfSome (text_of (from_node self.now.tree n.0)) (λ text. OnErr result ((k : ℕ) × (string_bytes out.new ≡ string_bytes out.old ++ take k text))) }
+    {
+        out.push_str(self.text(n))?;
+        Ok(())
+    }
+
+    /// The element with this ID. No attribute of a document that is kept so far is an ID.
+    pub fn by_id(&self, id: &str) -> Option<NodeNo>
+        ensures { option_map (λ element. element.0) result ≡ node_with (identifiers self.now.tree) id.now }
+    {
+        let _ = &self.rows;
+        let _ = id;
+        None
+    }
+}
+
+/// A name without a prefix that is in no namespace.
+fn plain_name(local: &str) -> Name<'_>
+    ensures { name_view result ≡ record { prefix = []; local = local.now; namespace = [] } }
+{
+    Name {
+        prefix: "",
+        local,
+        namespace: "",
+    }
+}

@@ -1,0 +1,61 @@
+// Nodes by number, and what is said of one.
+
+use std::alloc::{AllocError, AllocFailed};
+
+/// The number of a node: its place in document order, from 0.
+#[derive(Clone, Copy, Debug, PartialEq, Eq)]
+pub struct NodeNo(pub u32);
+
+/// What a node is.
+#[derive(Clone, Copy, Debug, PartialEq, Eq)]
+pub enum NodeKind {
+    Element,
+    Text,
+    Comment,
+    Instruction,
+}
+
+/// A name as it is written, in two parts, and the namespace that it is in (empty: none).
+#[derive(Clone, Copy, Debug, PartialEq, Eq)]
+pub struct Name<'d> {
+    pub prefix: &'d str,
+    pub local: &'d str,
+    pub namespace: &'d str,
+}
+
+/// Why a document is refused: the first of these that holds of the whole text.
+#[derive(Clone, Copy, Debug, PartialEq, Eq)]
+pub enum TreeFault {
+    /// The bytes spell no tree (XML 1.0).
+    BadXml,
+    /// An element stands deeper than 64, or has more than 128 attributes.
+    XmlLimit,
+    /// A name breaks a rule of Namespaces in XML 1.0.
+    BadNames,
+    /// Two elements have one ID.
+    DuplicateId,
+    /// Memory ran out.
+    NoMemory,
+}
+
+impl From<AllocError> for TreeFault {
+    ghost use Rattle.std.specs.Prelude.{◌≡◌};
+    ghost use Rattle.saml_tree.specs.declared.node.TreeFault.TheVariants.{NoMemory};
+
+    ghost from_gives = { λ _ e. e ≡ NoMemory };
+
+    fn from(_: AllocError) -> TreeFault {
+        TreeFault::NoMemory
+    }
+}
+
+impl<T: Drop> From<AllocFailed<T>> for TreeFault {
+    ghost use Rattle.std.specs.Prelude.{◌≡◌};
+    ghost use Rattle.saml_tree.specs.declared.node.TreeFault.TheVariants.{NoMemory};
+
+    ghost from_gives = { λ _ e. e ≡ NoMemory };
+
+    fn from(_: AllocFailed<T>) -> TreeFault {
+        TreeFault::NoMemory
+    }
+}
