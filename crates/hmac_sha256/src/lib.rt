@@ -156,7 +156,7 @@ pub fn hmac(key: &[u8], text: &[u8]) -> [u8; 32]
     mac.finish()
 }
 
-/// Whether two tags are equal. The time that it takes does not depend on where they differ.
+/// Whether two tags are equal. Nothing is claimed of the time that it takes.
 pub fn same_tag(a: &[u8; 32], b: &[u8; 32]) -> bool
     ensures { IsTrue result ↔ (a.now ≡ b.now) }
 {

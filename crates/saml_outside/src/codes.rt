@@ -7,7 +7,7 @@ ghost use Rattle.saml_outside.specs.Codes.{number_of, name_of};
 /// those that speak of the program itself.
 #[derive(Clone, Copy, Debug, PartialEq, Eq)]
 pub enum Verdict {
-    /// The body of a POST is not the form of a SAML message.
+    /// The body of a POST is not the form that is asked for there.
     BadForm,
     /// The message in the form is not base64.
     BadBase64,
@@ -29,7 +29,8 @@ pub enum Verdict {
     NotOneAssertion,
     /// The Signature is absent, or not of the form that is accepted (SAML Core, 5.4).
     BadSignatureForm,
-    /// The Signature does not refer to the element that it stands in (SAML Core, 5.4.2).
+    /// The Signature does not refer to the element that it stands in (SAML Core, 5.4.2), or no element has the ID that is
+    /// asked for.
     BadReference,
     /// The value of the Signature is not that of its SignedInfo under the key.
     TagDiffers,
@@ -59,7 +60,7 @@ pub enum Verdict {
     UnknownPeer,
     /// The logout message names another address as its Destination.
     LogoutDestination,
-    /// The LogoutRequest names no session that is open.
+    /// No session is open that the LogoutRequest names, or that the cookie of a logout names.
     NoSuchSession,
     /// The LogoutResponse answers no logout that is open.
     UnknownLogout,
@@ -71,7 +72,7 @@ pub enum Verdict {
     UnknownIssuer,
     /// The AuthnRequest names another address as its Destination.
     RequestDestination,
-    /// The AuthnRequest asks for an answer to an address that is not its issuer's.
+    /// The AuthnRequest asks for an answer to an address that is not its issuer's, or over another binding.
     WrongConsumer,
     /// No login of that number is pending.
     NoSuchPending,
@@ -83,7 +84,7 @@ pub enum Verdict {
     Full,
     /// There was no memory.
     NoMemory,
-    /// A file of the journal was not written by this program.
+    /// The journal is not one that this program wrote for this role.
     Foreign,
     /// The canonical form could not be built, by a version that has not all of it.
     Unbuilt,
