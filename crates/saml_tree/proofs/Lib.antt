@@ -23,3 +23,4 @@ pub mod PlainParts
 pub mod AttributeReadings
 pub mod TagReadings
 pub mod TokenReadings
+pub mod Walking

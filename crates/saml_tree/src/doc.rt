@@ -201,7 +201,7 @@ impl<'a> Doc<'a> {
         plain_name(self.attributes(n)[i].name)
     }
 
-    /// The value of attribute i of an element is `s`.
+    /// Whether the value of attribute i of an element is `s`, byte by byte.
     pub fn attr_is(&self, n: NodeNo, i: usize, s: &str) -> bool
         requires { IsSome (attribute_at self.now.tree n.0 i) }
         ensures { IfSome (attribute_at self.now.tree n.0 i) (λ a. IsTrue result ↔ (a.value ≡ s.now)) }
@@ -209,7 +209,11 @@ impl<'a> Doc<'a> {
         self.attribute(n, i).value.as_str() == s
     }
 
-    /// Appends the value of attribute i of an element. Where memory runs out, a part of it may have been appended.
+    /// Appends the value of attribute i of an element.
+    ///
+    /// # Errors
+    ///
+    /// `NoMemory`: a part of the value may have been appended.
     pub fn put_attr(&self, n: NodeNo, i: usize, out: &mut String) -> Result<(), NoMemory>
         requires { IsSome (attribute_at self.now.tree n.0 i) }
         ensures ok { IfSome (attribute_at self.now.tree n.0 i) (λ a. OnOk result (string_bytes out.new ≡ string_bytes out.old ++ a.value)) }
@@ -230,7 +234,7 @@ impl<'a> Doc<'a> {
         }
     }
 
-    /// The text is `s`.
+    /// Whether the text is `s`, byte by byte.
     pub fn text_is(&self, n: NodeNo, s: &str) -> bool
         requires { IsSome (text_of (from_node self.now.tree n.0)) }
         ensures { IfSome (text_of (from_node self.now.tree n.0)) (λ text. IsTrue result ↔ (text ≡ s.now)) }
@@ -238,7 +242,11 @@ impl<'a> Doc<'a> {
         self.text(n) == s
     }
 
-    /// Appends the text. Where memory runs out, a part of it may have been appended.
+    /// Appends the text.
+    ///
+    /// # Errors
+    ///
+    /// `NoMemory`: a part of the text may have been appended.
     pub fn put_text(&self, n: NodeNo, out: &mut String) -> Result<(), NoMemory>
         requires { IsSome (text_of (from_node self.now.tree n.0)) }
         ensures ok { IfSome (text_of (from_node self.now.tree n.0)) (λ text. OnOk result (string_bytes out.new ≡ string_bytes out.old ++ text)) }

@@ -181,24 +181,3 @@ pub(crate) fn next_markup<'a>(
     }
     open_tag(alloc, tag)
 }
-
-#[cfg(test)]
-mod tests {
-    use super::*;
-    use std::test::Fail;
-
-    #[test]
-    fn a_start_tag_is_read_where_there_is_memory(rt: HostRuntime) -> Result<(), Fail> {
-        let (markup, rest) = next_markup(rt.alloc(), "<a b='c\td' e=\"\">f</a>")?;
-        assert_eq!(rt; rest, "f</a>");
-        match markup {
-            Markup::Start { name, attributes } => {
-                assert_eq!(rt; name, "a");
-                assert_eq!(rt; attributes.len(), 2);
-                assert_eq!(rt; attributes[0].value.as_str(), "c d");
-            }
-            _ => return Err(Fail::from("no start tag")),
-        }
-        Ok(())
-    }
-}

@@ -13,6 +13,8 @@ mod parts;
 mod plain;
 mod read;
 mod row;
+#[cfg(test)]
+mod tests;
 
 pub use doc::Doc;
 pub use node::{Name, NodeKind, NodeNo, TreeFault};

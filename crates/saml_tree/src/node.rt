@@ -6,20 +6,27 @@ use std::alloc::{AllocError, AllocFailed};
 #[derive(Clone, Copy, Debug, PartialEq, Eq)]
 pub struct NodeNo(pub u32);
 
-/// What a node is.
+/// What a node is (XML 1.0, 2.4 to 2.6 and 3). Neighbouring characters make one text.
 #[derive(Clone, Copy, Debug, PartialEq, Eq)]
 pub enum NodeKind {
+    /// An element, with its attributes and its kids.
     Element,
+    /// A run of characters in an element.
     Text,
+    /// A comment.
     Comment,
+    /// A processing instruction.
     Instruction,
 }
 
-/// A name as it is written, in two parts, and the namespace that it is in (empty: none).
+/// A name as it is written, in two parts, and the namespace that it is in (Namespaces in XML 1.0, 4).
 #[derive(Clone, Copy, Debug, PartialEq, Eq)]
 pub struct Name<'d> {
+    /// What stands before the colon; empty where there is none.
     pub prefix: &'d str,
+    /// What stands behind the colon, or the whole name.
     pub local: &'d str,
+    /// The name of the namespace; empty where the name is in none.
     pub namespace: &'d str,
 }
 

@@ -43,8 +43,12 @@ fn read_rows<'a>(alloc: Global, text: &'a str) -> Result<Vec<Row<'a>>, TreeFault
     }
 }
 
-/// The document that a plain text spells (XML 1.0, fifth edition). A refusal is the first of its faults that holds of
-/// the whole text. `NoMemory` may come in place of any other answer.
+/// The document that a plain text of at most 262,144 bytes spells (XML 1.0, fifth edition).
+///
+/// # Errors
+///
+/// The first of `BadXml`, `XmlLimit`, `BadNames` and `DuplicateId` that holds of the whole text. `NoMemory` may come in
+/// place of any other answer.
 pub fn read_document<'a>(alloc: Global, text: &'a [u8]) -> Result<Doc<'a>, TreeFault>
     requires small { length text.now ≤ 262144 }
     requires plain { IsPlain text.now }

@@ -1,0 +1,218 @@
+ghost use Rattle.std.specs.Prelude.{◌≡◌, ◌<◌, IfOk, Some, IsSome};
+ghost use Rattle.xml_spec.specs.Numbering.{size, from_node};
+ghost use Rattle.saml_tree.specs.Documents.{kind_of, text_of};
+ghost use Rattle.saml_tree.specs.declared.node.NodeKind.TheVariants as kinds;
+
+use crate::{Doc, Name, NodeKind, NodeNo, TreeFault, is_plain, read_document};
+use std::alloc::Global;
+use std::process::Abort;
+use std::test::Fail;
+use xml_chars::Span;
+
+// Texts, and whether they are plain.
+const PLAIN: [(&str, bool); 16] = [
+    ("", true),
+    ("<a b='1' c = \"2\">]]>\t\n</a>", true),
+    ("\u{7F}", true),
+    ("<!", false),
+    ("<?", false),
+    ("a:b", false),
+    ("&", false),
+    ("\r", false),
+    ("\u{80}", false),
+    ("<a xmlns=''/>", false),
+    ("xxmlns", false),
+    ("xmln s", true),
+    ("<a ID=''/>", false),
+    ("IID", false),
+    ("Id iD I D", true),
+    ("I", true),
+];
+
+#[test]
+fn only_texts_without_marks_prefixes_and_ids_are_plain(rt: HostRuntime) {
+    for (text, expected) in PLAIN {
+        assert_eq!(rt; is_plain(text.as_bytes()), expected, "{text}");
+    }
+    assert!(rt; !is_plain(&[0x80]));
+}
+
+// The fault for which a plain text is refused, none where it is read.
+fn fault_of(rt: &impl Abort, alloc: Global, text: &str) -> Option<TreeFault> {
+    let bytes = text.as_bytes();
+    assert!(rt; is_plain(bytes));
+    assert!(rt; bytes.len() <= 262_144);
+    read_document(alloc, bytes).err()
+}
+
+// Texts, and the fault of each.
+const FAULTS: [(&str, Option<TreeFault>); 18] = [
+    ("<a/>", None),
+    (" \n<a>]]<b/>></a>\t", None),
+    ("<a  b = '>' c=\"'\"></a >", None),
+    ("", Some(TreeFault::BadXml)),
+    (" ", Some(TreeFault::BadXml)),
+    ("<a", Some(TreeFault::BadXml)),
+    ("<a>", Some(TreeFault::BadXml)),
+    ("<2/>", Some(TreeFault::BadXml)),
+    ("<a></b>", Some(TreeFault::BadXml)),
+    ("<a/>x", Some(TreeFault::BadXml)),
+    ("<a/><a/>", Some(TreeFault::BadXml)),
+    ("<a>]]></a>", Some(TreeFault::BadXml)),
+    ("<a>\u{1}</a>", Some(TreeFault::BadXml)),
+    ("<a b=\"<\"/>", Some(TreeFault::BadXml)),
+    ("<a b='1'c='2'/>", Some(TreeFault::BadXml)),
+    ("<a b=\"1\" b=\"2\">", Some(TreeFault::BadXml)),
+    ("<a b=\"1\" b=\"2\"/>", Some(TreeFault::BadNames)),
+    ("<a b=\"1\"><a b=\"2\"/></a>", None),
+];
+
+#[test]
+fn only_well_formed_texts_are_read(rt: HostRuntime) {
+    for (text, fault) in FAULTS {
+        assert_eq!(rt; fault_of(&rt, rt.alloc(), text), fault, "{text}");
+    }
+}
+
+// Start tags in a row, and end tags behind them.
+fn nested(alloc: Global, opened: usize, closed: usize) -> Result<String, Fail> {
+    let mut text = String::new(alloc);
+    for _ in 0..opened {
+        text.push_str("<a>")?;
+    }
+    for _ in 0..closed {
+        text.push_str("</a>")?;
+    }
+    Ok(text)
+}
+
+// An element with this many attributes of different names.
+fn wide(alloc: Global, count: usize) -> Result<String, Fail> {
+    let mut text = String::new(alloc);
+    text.push_str("<a")?;
+    for i in 0..count {
+        write!(text, " b{i}=''")?;
+    }
+    text.push_str("/>")?;
+    Ok(text)
+}
+
+#[test]
+fn limits_hold_for_texts_that_are_well_formed(rt: HostRuntime) -> Result<(), Fail> {
+    for (opened, closed, fault) in [
+        (64, 64, None),
+        (65, 65, Some(TreeFault::XmlLimit)),
+        (64, 63, Some(TreeFault::BadXml)),
+        (65, 64, Some(TreeFault::BadXml)),
+        (90, 0, Some(TreeFault::BadXml)),
+    ] {
+        let text = nested(rt.alloc(), opened, closed)?;
+        assert_eq!(rt;
+            fault_of(&rt, rt.alloc(), &text),
+            fault,
+            "{opened} {closed}"
+        );
+    }
+    let most = wide(rt.alloc(), 128)?;
+    assert_eq!(rt; fault_of(&rt, rt.alloc(), &most), None);
+    let more = wide(rt.alloc(), 129)?;
+    assert_eq!(rt; fault_of(&rt, rt.alloc(), &more), Some(TreeFault::XmlLimit));
+    Ok(())
+}
+
+// The first kid of an element that has kids.
+fn kid_of(doc: &Doc<'_>, n: NodeNo) -> Result<NodeNo, Fail>
+    requires { kind_of (from_node doc.now.tree n.0) ≡ Some kinds.Element }
+    ensures { IfOk result (λ kid. kid.0 < size doc.now.tree) }
+{
+    match doc.first_kid(n) {
+        Some(kid) => Ok(kid),
+        None => Err(Fail::from("no kid")),
+    }
+}
+
+// The node behind one that is not the last.
+fn after(doc: &Doc<'_>, n: NodeNo) -> Result<NodeNo, Fail>
+    requires { n.0 < size doc.now.tree }
+    ensures { IfOk result (λ node. node.0 < size doc.now.tree) }
+{
+    match doc.next(n) {
+        Some(node) => Ok(node),
+        None => Err(Fail::from("no next node")),
+    }
+}
+
+// The node, where it is a text.
+fn text_at(doc: &Doc<'_>, n: NodeNo) -> Result<NodeNo, Fail>
+    requires { n.0 < size doc.now.tree }
+    ensures { IfOk result (λ text. IsSome (text_of (from_node doc.now.tree text.0))) }
+{
+    match doc.kind(n) {
+        NodeKind::Text => Ok(n),
+        _ => Err(Fail::from("no text")),
+    }
+}
+
+// A name without a prefix.
+fn local(name: &str) -> Name<'_> {
+    Name {
+        prefix: "",
+        local: name,
+        namespace: "",
+    }
+}
+
+#[test]
+fn the_nodes_of_a_document_are_walked(rt: HostRuntime) -> Result<(), Fail> {
+    let bytes = b"<a z=\"1\" b='2'>x<c/>y</a>".as_slice();
+    assert!(rt; is_plain(bytes));
+    assert!(rt; bytes.len() <= 262_144);
+    let Ok(doc) = read_document(rt.alloc(), bytes) else {
+        return Err(Fail::from("refused"));
+    };
+    let root = doc.root();
+    assert_eq!(rt; doc.kind(root), NodeKind::Element);
+    assert_eq!(rt; doc.name(root), local("a"));
+    assert_eq!(rt; doc.span(root), Span { start: 0, end: 25 });
+    assert_eq!(rt; doc.next(root), None);
+    assert_eq!(rt; doc.parent(root), None);
+    assert_eq!(rt; doc.by_id("a"), None);
+    let text = kid_of(&doc, root)?;
+    let element = after(&doc, text)?;
+    let last = after(&doc, element)?;
+    assert_eq!(rt; doc.parent(last), Some(root));
+    assert_eq!(rt; doc.next(last), None);
+    assert!(rt; doc.kind(element) == NodeKind::Element);
+    assert_eq!(rt; doc.name(element), local("c"));
+    assert_eq!(rt; doc.span(element), Span { start: 16, end: 20 });
+    assert_eq!(rt; doc.first_kid(element), None);
+    let x = text_at(&doc, text)?;
+    let y = text_at(&doc, last)?;
+    assert!(rt; doc.text_is(x, "x") && !doc.text_is(y, "x"));
+    let mut out = String::new(rt.alloc());
+    doc.put_text(x, &mut out)?;
+    doc.put_text(y, &mut out)?;
+    assert_eq!(rt; out.as_str(), "xy");
+    Ok(())
+}
+
+#[test]
+fn attributes_are_in_the_order_of_the_text(rt: HostRuntime) -> Result<(), Fail> {
+    let bytes = b"<a z=\"1\" b='2\t3'/>".as_slice();
+    assert!(rt; is_plain(bytes));
+    assert!(rt; bytes.len() <= 262_144);
+    let Ok(doc) = read_document(rt.alloc(), bytes) else {
+        return Err(Fail::from("refused"));
+    };
+    let root = doc.root();
+    let count = doc.attr_count(root);
+    assert!(rt; count == 2);
+    assert_eq!(rt; doc.attr_name(root, 0), local("z"));
+    assert_eq!(rt; doc.attr_name(root, 1), local("b"));
+    assert!(rt; doc.attr_is(root, 0, "1") && !doc.attr_is(root, 1, "1"));
+    let mut out = String::new(rt.alloc());
+    doc.put_attr(root, 0, &mut out)?;
+    doc.put_attr(root, 1, &mut out)?;
+    assert_eq!(rt; out.as_str(), "12 3");
+    Ok(())
+}
