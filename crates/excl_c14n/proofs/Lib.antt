@@ -1,0 +1,10 @@
+pub mod Canonical
+pub mod Escaping
+pub mod Names
+pub mod Nodes
+pub mod Sorting
+pub mod Shown
+pub mod Walking
+pub mod Ordered
+pub mod Tags
+pub mod Written

@@ -1,0 +1,186 @@
+-- Nodes by number: what stands at a node, in it and behind it, and that plain names are plain everywhere.
+use Rattle.std.proofs.Common.{◌≡◌, ℕ, zero, suc, ◌+◌, ◌-◌, ◌<◌, ◌≤◌, Bool, true, false, cond, ltb, List, IsSome, refl, sym, ap, ◌∙◌, inl, inr, arith}
+use Rattle.std.proofs.lemmas.Bool.{cases_lt, cond-true, cond-false, lt-ltb, le-ltb}
+use Rattle.xml_spec.specs.Tree.{Attribute, Nodes, NoNodes, Element, Text, Comment, Instruction}
+use Rattle.xml_spec.specs.Numbering.{size, from_node, kids_of, rest_of}
+use Rattle.xml_spec.specs.Names.{Scope}
+use Rattle.xml_spec.specs.Canonical.{scope_at, alone}
+use Rattle.saml_tree.specs.Documents.{kind_of}
+use Rattle.saml_tree.specs.PlainTree.{ArePlainNodes}
+use Rattle.excl_c14n.proofs.Names.{same_scope}
+
+-- node 0 is the first
+pub from_first : (nodes : Nodes) → from_node nodes 0 ≡ nodes
+from_first NoNodes = refl
+from_first (Element name attributes kids rest) = refl
+from_first (Text text rest) = refl
+from_first (Comment text rest) = refl
+from_first (Instruction target value rest) = refl
+
+in_kids : (name : List ℕ) (attributes : List Attribute) (kids rest : Nodes) (k : ℕ) → k < size kids →
+    from_node (Element name attributes kids rest) (suc k) ≡ from_node kids k
+in_kids name attributes kids rest k h = cond-true (ltb k (size kids)) _ _ (lt-ltb _ _ h)
+
+in_rest : (name : List ℕ) (attributes : List Attribute) (kids rest : Nodes) (k : ℕ) → size kids ≤ k →
+    from_node (Element name attributes kids rest) (suc k) ≡ from_node rest (k - size kids)
+in_rest name attributes kids rest k h = cond-false (ltb k (size kids)) _ _ (le-ltb _ _ h)
+
+-- a node and those that follow it are no more than the numbers that are left
+pub left_from : (nodes : Nodes) (k : ℕ) → size (from_node nodes k) ≤ size nodes - k
+left_from NoNodes k = omega arith
+left_from (Element name attributes kids rest) zero = omega arith
+left_from (Element name attributes kids rest) (suc k) = elim (cases_lt k (size kids)) [
+  | inl less ↦ omega (arith, left_from kids k, ap size (in_kids name attributes kids rest k less))
+  | inr past ↦ omega (arith, left_from rest (k - size kids), ap size (in_rest name attributes kids rest k past))
+]
+left_from (Text text rest) zero = omega arith
+left_from (Text text rest) (suc k) = omega (arith, left_from rest k)
+left_from (Comment text rest) zero = omega arith
+left_from (Comment text rest) (suc k) = omega (arith, left_from rest k)
+left_from (Instruction target value rest) zero = omega arith
+left_from (Instruction target value rest) (suc k) = omega (arith, left_from rest k)
+
+-- to count on from a node
+pub from_on : (nodes : Nodes) (k j : ℕ) → j < size (from_node nodes k) → from_node nodes (k + j) ≡ from_node (from_node nodes k) j
+from_on NoNodes k j h = absurd (omega arith)
+from_on (Element name attributes kids rest) zero j h =
+    let same : 0 + j ≡ j = omega arith in ap (from_node (Element name attributes kids rest)) same
+from_on (Element name attributes kids rest) (suc k) j h =
+    let next : suc k + j ≡ suc (k + j) = omega arith in
+    elim (cases_lt k (size kids)) [
+      | inl less ↦
+          let here = in_kids name attributes kids rest k less in
+          let h' : j < size (from_node kids k) = omega (arith, ap size here) in
+          ap (from_node (Element name attributes kids rest)) next
+          ∙ in_kids name attributes kids rest (k + j) (omega (arith, left_from kids k))
+          ∙ from_on kids k j h' ∙ ap (λ nodes. from_node nodes j) (sym here)
+      | inr past ↦
+          let here = in_rest name attributes kids rest k past in
+          let h' : j < size (from_node rest (k - size kids)) = omega (arith, ap size here) in
+          let place : k + j - size kids ≡ k - size kids + j = omega arith in
+          ap (from_node (Element name attributes kids rest)) next
+          ∙ in_rest name attributes kids rest (k + j) (omega arith) ∙ ap (from_node rest) place
+          ∙ from_on rest (k - size kids) j h' ∙ ap (λ nodes. from_node nodes j) (sym here)
+    ]
+from_on (Text text rest) zero j h = let same : 0 + j ≡ j = omega arith in ap (from_node (Text text rest)) same
+from_on (Text text rest) (suc k) j h =
+    let next : suc k + j ≡ suc (k + j) = omega arith in ap (from_node (Text text rest)) next ∙ from_on rest k j h
+from_on (Comment text rest) zero j h = let same : 0 + j ≡ j = omega arith in ap (from_node (Comment text rest)) same
+from_on (Comment text rest) (suc k) j h =
+    let next : suc k + j ≡ suc (k + j) = omega arith in ap (from_node (Comment text rest)) next ∙ from_on rest k j h
+from_on (Instruction target value rest) zero j h =
+    let same : 0 + j ≡ j = omega arith in ap (from_node (Instruction target value rest)) same
+from_on (Instruction target value rest) (suc k) j h =
+    let next : suc k + j ≡ suc (k + j) = omega arith in
+    ap (from_node (Instruction target value rest)) next ∙ from_on rest k j h
+
+-- a list is its first node with its kids, and the rest
+pub size_parts : (nodes : Nodes) → 0 < size nodes → size nodes ≡ suc (size (kids_of nodes) + size (rest_of nodes))
+size_parts NoNodes h = absurd (omega arith)
+size_parts (Element name attributes kids rest) h = refl
+size_parts (Text text rest) h = omega arith
+size_parts (Comment text rest) h = omega arith
+size_parts (Instruction target value rest) h = omega arith
+
+-- the first kid stands behind its element, and what follows an element behind all that it holds
+first_kid_at : (nodes : Nodes) → 0 < size (kids_of nodes) → from_node nodes 1 ≡ kids_of nodes
+first_kid_at NoNodes h = absurd (omega arith)
+first_kid_at (Element name attributes kids rest) h = in_kids name attributes kids rest 0 h ∙ from_first kids
+first_kid_at (Text text rest) h = absurd (omega arith)
+first_kid_at (Comment text rest) h = absurd (omega arith)
+first_kid_at (Instruction target value rest) h = absurd (omega arith)
+
+rest_at : (nodes : Nodes) → from_node nodes (suc (size (kids_of nodes))) ≡ rest_of nodes
+rest_at NoNodes = refl
+rest_at (Element name attributes kids rest) =
+    let none : size kids - size kids ≡ 0 = omega arith in
+    in_rest name attributes kids rest (size kids) (omega arith) ∙ ap (from_node rest) none ∙ from_first rest
+rest_at (Text text rest) = from_first rest
+rest_at (Comment text rest) = from_first rest
+rest_at (Instruction target value rest) = from_first rest
+
+some_kids : (nodes : Nodes) → 0 < size (kids_of nodes) → 1 < size nodes
+some_kids NoNodes h = absurd (omega arith)
+some_kids (Element name attributes kids rest) h = omega arith
+some_kids (Text text rest) h = absurd (omega arith)
+some_kids (Comment text rest) h = absurd (omega arith)
+some_kids (Instruction target value rest) h = absurd (omega arith)
+
+some_rest : (nodes : Nodes) → 0 < size (rest_of nodes) → suc (size (kids_of nodes)) < size nodes
+some_rest NoNodes h = absurd (omega arith)
+some_rest (Element name attributes kids rest) h = omega arith
+some_rest (Text text rest) h = omega arith
+some_rest (Comment text rest) h = omega arith
+some_rest (Instruction target value rest) h = omega arith
+
+pub kids_from : (tree : Nodes) (n : ℕ) → 0 < size (kids_of (from_node tree n)) → from_node tree (suc n) ≡ kids_of (from_node tree n)
+kids_from tree n h =
+    let next : suc n ≡ n + 1 = omega arith in
+    ap (from_node tree) next ∙ from_on tree n 1 (some_kids (from_node tree n) h) ∙ first_kid_at (from_node tree n) h
+
+pub kids_there : (tree : Nodes) (n : ℕ) → 0 < size (kids_of (from_node tree n)) → suc n < size tree
+kids_there tree n h = omega (arith, some_kids (from_node tree n) h, left_from tree n)
+
+pub rest_from : (tree : Nodes) (n : ℕ) → 0 < size (rest_of (from_node tree n)) →
+    from_node tree (suc (n + size (kids_of (from_node tree n)))) ≡ rest_of (from_node tree n)
+rest_from tree n h =
+    let next : suc (n + size (kids_of (from_node tree n))) ≡ n + suc (size (kids_of (from_node tree n))) = omega arith in
+    ap (from_node tree) next
+    ∙ from_on tree n (suc (size (kids_of (from_node tree n)))) (some_rest (from_node tree n) h) ∙ rest_at (from_node tree n)
+
+pub rest_there : (tree : Nodes) (n : ℕ) → 0 < size (rest_of (from_node tree n)) →
+    suc (n + size (kids_of (from_node tree n))) < size tree
+rest_there tree n h = omega (arith, some_rest (from_node tree n) h, left_from tree n)
+
+some_kind : (nodes : Nodes) → IsSome (kind_of nodes) → 0 < size nodes
+some_kind NoNodes h = absurd (let clash : false ≡ true = h in cc)
+some_kind (Element name attributes kids rest) h = omega arith
+some_kind (Text text rest) h = omega arith
+some_kind (Comment text rest) h = omega arith
+some_kind (Instruction target value rest) h = omega arith
+
+-- what has a kind is there
+pub node_there : (tree : Nodes) (n : ℕ) → IsSome (kind_of (from_node tree n)) → n < size tree
+node_there tree n h = omega (arith, some_kind (from_node tree n) h, left_from tree n)
+
+-- plain names stay plain
+pub plain_from : (nodes : Nodes) (k : ℕ) → ArePlainNodes nodes → ArePlainNodes (from_node nodes k)
+plain_from NoNodes k plain = tt
+plain_from (Element name attributes kids rest) zero plain = plain
+plain_from (Element name attributes kids rest) (suc k) plain =
+    which (ltb k (size kids)) (plain_from kids k plain.2) (plain_from rest (k - size kids) plain.3)
+  where
+    which : (b : Bool) → ArePlainNodes (from_node kids k) → ArePlainNodes (from_node rest (k - size kids)) →
+        ArePlainNodes (cond b (from_node kids k) (from_node rest (k - size kids)))
+    which true one other = one
+    which false one other = other
+plain_from (Text text rest) zero plain = plain
+plain_from (Text text rest) (suc k) plain = plain_from rest k plain
+plain_from (Comment text rest) zero plain = plain
+plain_from (Comment text rest) (suc k) plain = plain_from rest k plain
+plain_from (Instruction target value rest) zero plain = plain
+plain_from (Instruction target value rest) (suc k) plain = plain_from rest k plain
+
+pub plain_alone : (nodes : Nodes) → ArePlainNodes nodes → ArePlainNodes (alone nodes)
+plain_alone NoNodes plain = tt
+plain_alone (Element name attributes kids rest) plain = (plain.0, plain.1, plain.2, tt)
+plain_alone (Text text rest) plain = tt
+plain_alone (Comment text rest) plain = tt
+plain_alone (Instruction target value rest) plain = tt
+
+-- where no name declares anything, all nodes stand in one scope
+pub scope_stays : (scope : Scope) (nodes : Nodes) (k : ℕ) → ArePlainNodes nodes → scope_at scope nodes k ≡ scope
+scope_stays scope NoNodes k plain = refl
+scope_stays scope (Element name attributes kids rest) zero plain = refl
+scope_stays scope (Element name attributes kids rest) (suc k) plain = elim (cases_lt k (size kids)) [
+  | inl less ↦
+      cond-true (ltb k (size kids)) _ _ (lt-ltb _ _ less)
+      ∙ ap (λ s. scope_at s kids k) (same_scope attributes scope plain.1) ∙ scope_stays scope kids k plain.2
+  | inr past ↦ cond-false (ltb k (size kids)) _ _ (le-ltb _ _ past) ∙ scope_stays scope rest (k - size kids) plain.3
+]
+scope_stays scope (Text text rest) zero plain = refl
+scope_stays scope (Text text rest) (suc k) plain = scope_stays scope rest k plain
+scope_stays scope (Comment text rest) zero plain = refl
+scope_stays scope (Comment text rest) (suc k) plain = scope_stays scope rest k plain
+scope_stays scope (Instruction target value rest) zero plain = refl
+scope_stays scope (Instruction target value rest) (suc k) plain = scope_stays scope rest k plain

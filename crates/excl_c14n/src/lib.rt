@@ -1,0 +1,13 @@
+//! The canonical form of elements: Exclusive XML Canonicalization 1.0, without comments.
+#![tactic(auto)]
+
+mod escape;
+mod octets;
+mod order;
+#[cfg(test)]
+mod tests;
+mod walk;
+
+pub use escape::{escape_text, escape_value};
+pub use octets::{ByteList, Octets};
+pub use walk::canon_into;
