@@ -1,0 +1,4 @@
+pub mod Canon
+pub mod Exit
+pub mod Running
+pub mod Streams

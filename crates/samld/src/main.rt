@@ -1,0 +1,71 @@
+//! `samld`: SAML 2.0 Web Browser Single Sign-On and Single Logout.
+//!
+//! The program takes its command from its words, prints to the standard output alone, and ends with the number of the
+//! `Status` that `run` gives.
+#![tactic(auto)]
+
+mod fs_files;
+mod run;
+#[cfg(test)]
+mod run_tests;
+mod stdout_sink;
+#[cfg(test)]
+mod tests;
+
+ghost use Rattle.std.specs.Prelude.{◌≡◌, drop, map, string_bytes, IfOk};
+ghost use Rattle.std.specs.Vec.Iter.{into_iter_items};
+ghost use Rattle.std.specs.Process.{exit_status};
+ghost use Rattle.samld.specs.Exit.{exit_number};
+
+use fs_files::FsFiles;
+use run::{Status, run};
+use saml_outside::{NoMemory, Text};
+use std::alloc::Global;
+use std::env::Args;
+use std::io::ErrorKind;
+use std::process::ExitCode;
+use std::rt::{Env, Files};
+use std::{env, io};
+use stdout_sink::StdoutSink;
+
+// The words behind the first, which is the program's name.
+fn words_behind_name(alloc: Global, mut arguments: Args) -> Result<Vec<Text>, NoMemory>
+    ensures { IfOk result (λ words. words.items ≡ map string_bytes (drop 1 (into_iter_items arguments))) }
+{
+    let mut words = Vec::new(alloc);
+    arguments.next();
+    for word in arguments {
+        words.push(Text::of(alloc, word.as_str())?)?;
+    }
+    Ok(words)
+}
+
+// The program's words. Where one of them is no UTF-8 there are none, so that the program prints its usage.
+fn words<R: Env + AllocGlobal>(rt: &R) -> Result<Vec<Text>, NoMemory> {
+    match env::args(rt) {
+        Ok(arguments) => words_behind_name(rt.alloc(), arguments),
+        Err(e) if e.kind() == ErrorKind::OutOfMemory => Err(NoMemory),
+        Err(_) => Ok(Vec::new(rt.alloc())),
+    }
+}
+
+// Makes the real objects and runs the program over them.
+fn status<R: Env + Files + Print + AllocGlobal>(rt: &R) -> Status {
+    let Ok(words) = words(rt) else {
+        return Status::NoMemory;
+    };
+    let mut files = FsFiles::new(rt);
+    let mut out = StdoutSink::new(io::writer(rt));
+    run(rt.alloc(), &words, &mut files, &mut out)
+}
+
+// The exit status that says how a run ended.
+fn exit_code(status: Status) -> ExitCode
+    ensures { exit_status result ≡ exit_number status }
+{
+    ExitCode::from(status as u8)
+}
+
+fn main(rt: HostRuntime) -> ExitCode {
+    exit_code(status(&rt))
+}
