@@ -1,13 +1,9 @@
--- Nodes by number: what stands at a node, in it and behind it, and that plain names are plain everywhere.
-use Rattle.std.proofs.Common.{◌≡◌, ℕ, zero, suc, ◌+◌, ◌-◌, ◌<◌, ◌≤◌, Bool, true, false, cond, ltb, List, IsSome, refl, sym, ap, ◌∙◌, inl, inr, arith}
+-- Nodes by number: what stands at a node, in it and behind it.
+use Rattle.std.proofs.Common.{◌≡◌, ℕ, zero, suc, ◌+◌, ◌-◌, ◌<◌, ◌≤◌, true, false, ltb, List, IsSome, refl, sym, ap, ◌∙◌, inl, inr, arith}
 use Rattle.std.proofs.lemmas.Bool.{cases_lt, cond-true, cond-false, lt-ltb, le-ltb}
 use Rattle.xml_spec.specs.Tree.{Attribute, Nodes, NoNodes, Element, Text, Comment, Instruction}
 use Rattle.xml_spec.specs.Numbering.{size, from_node, kids_of, rest_of}
-use Rattle.xml_spec.specs.Names.{Scope}
-use Rattle.xml_spec.specs.Canonical.{scope_at, alone}
 use Rattle.saml_tree.specs.Documents.{kind_of}
-use Rattle.saml_tree.specs.PlainTree.{ArePlainNodes}
-use Rattle.excl_c14n.proofs.Names.{same_scope}
 
 -- node 0 is the first
 pub from_first : (nodes : Nodes) → from_node nodes 0 ≡ nodes
@@ -142,45 +138,3 @@ some_kind (Instruction target value rest) h = omega arith
 -- what has a kind is there
 pub node_there : (tree : Nodes) (n : ℕ) → IsSome (kind_of (from_node tree n)) → n < size tree
 node_there tree n h = omega (arith, some_kind (from_node tree n) h, left_from tree n)
-
--- plain names stay plain
-pub plain_from : (nodes : Nodes) (k : ℕ) → ArePlainNodes nodes → ArePlainNodes (from_node nodes k)
-plain_from NoNodes k plain = tt
-plain_from (Element name attributes kids rest) zero plain = plain
-plain_from (Element name attributes kids rest) (suc k) plain =
-    which (ltb k (size kids)) (plain_from kids k plain.2) (plain_from rest (k - size kids) plain.3)
-  where
-    which : (b : Bool) → ArePlainNodes (from_node kids k) → ArePlainNodes (from_node rest (k - size kids)) →
-        ArePlainNodes (cond b (from_node kids k) (from_node rest (k - size kids)))
-    which true one other = one
-    which false one other = other
-plain_from (Text text rest) zero plain = plain
-plain_from (Text text rest) (suc k) plain = plain_from rest k plain
-plain_from (Comment text rest) zero plain = plain
-plain_from (Comment text rest) (suc k) plain = plain_from rest k plain
-plain_from (Instruction target value rest) zero plain = plain
-plain_from (Instruction target value rest) (suc k) plain = plain_from rest k plain
-
-pub plain_alone : (nodes : Nodes) → ArePlainNodes nodes → ArePlainNodes (alone nodes)
-plain_alone NoNodes plain = tt
-plain_alone (Element name attributes kids rest) plain = (plain.0, plain.1, plain.2, tt)
-plain_alone (Text text rest) plain = tt
-plain_alone (Comment text rest) plain = tt
-plain_alone (Instruction target value rest) plain = tt
-
--- where no name declares anything, all nodes stand in one scope
-pub scope_stays : (scope : Scope) (nodes : Nodes) (k : ℕ) → ArePlainNodes nodes → scope_at scope nodes k ≡ scope
-scope_stays scope NoNodes k plain = refl
-scope_stays scope (Element name attributes kids rest) zero plain = refl
-scope_stays scope (Element name attributes kids rest) (suc k) plain = elim (cases_lt k (size kids)) [
-  | inl less ↦
-      cond-true (ltb k (size kids)) _ _ (lt-ltb _ _ less)
-      ∙ ap (λ s. scope_at s kids k) (same_scope attributes scope plain.1) ∙ scope_stays scope kids k plain.2
-  | inr past ↦ cond-false (ltb k (size kids)) _ _ (le-ltb _ _ past) ∙ scope_stays scope rest (k - size kids) plain.3
-]
-scope_stays scope (Text text rest) zero plain = refl
-scope_stays scope (Text text rest) (suc k) plain = scope_stays scope rest k plain
-scope_stays scope (Comment text rest) zero plain = refl
-scope_stays scope (Comment text rest) (suc k) plain = scope_stays scope rest k plain
-scope_stays scope (Instruction target value rest) zero plain = refl
-scope_stays scope (Instruction target value rest) (suc k) plain = scope_stays scope rest k plain

@@ -1,14 +1,20 @@
--- The numbers of an element's attributes, sorted by the attributes' names.
-use Rattle.std.proofs.Common.{◌≡◌, ℕ, zero, suc, ◌+◌, ◌-◌, ◌<◌, ◌≤◌, List, [], ◌∷◌, length, map, get_or, Option, Some, None, IsSome, IfSome, refl, sym, ap, ◌∙◌, subst, arith}
+-- The numbers of an element's proper attributes, sorted by the attributes' expanded names.
+use Rattle.std.proofs.Common.{◌≡◌, ℕ, zero, suc, ◌+◌, ◌-◌, ◌<◌, ◌≤◌, List, [], ◌∷◌, length, map, get_or, Bool, true, false, not, cond, filter, Option, Some, None, IsSome, IfSome, Bor, refl, sym, ap, ◌∙◌, subst, arith}
 use Rattle.std.specs.List.{AllByRecursion, slice_get, range_with_len}
-use Rattle.std.specs.Option.{option_map, option_map_or, option_and_then}
+use Rattle.std.specs.Option.{option_map, option_map_or, option_and_then, is_some, unwrap_or}
 use Rattle.std.specs.declared.cmp.Ordering.{Ordering}
 use Rattle.xml_spec.specs.Tree.{Attribute, Nodes}
 use Rattle.xml_spec.specs.Numbering.{from_node}
-use Rattle.xml_spec.specs.Canonical.{byte_order, inserted, sorted}
+use Rattle.std.specs.Ordering.{ordering_then}
+use Rattle.std.proofs.lemmas.Cmp.{nat_list_cmp_total, tied_itself}
+use Rattle.xml_spec.specs.Characters.{prefix_of, local_of}
+use Rattle.xml_spec.specs.Bytes.{is_empty}
+use Rattle.xml_spec.specs.Names.{Scope, ExpandedName, namespace_of, declared_prefix, is_declaration, proper_attributes, attribute_name}
+use Rattle.xml_spec.specs.Canonical.{byte_order, expanded_order, inserted, sorted, written_attributes}
 use Rattle.saml_tree.specs.Documents.{attributes_of}
 use Rattle.saml_tree.specs.NodeNames.{attribute_at}
-use Rattle.excl_c14n.specs.Plain.{name_order, number_order}
+use Rattle.excl_c14n.specs.Elements.{attributes_in}
+use Rattle.excl_c14n.specs.NodeByNode.{attribute_order_in, number_order, is_proper_number}
 use Rattle.excl_c14n.proofs.Sorting.{each_sorted, map-sorted}
 
 range_each : (P : ℕ → Type 0) (a n : ℕ) → ((j : ℕ) → a ≤ j → j < a + n → P j) → AllByRecursion P (range_with_len a n)
@@ -20,9 +26,10 @@ each_at P [] k each h = absurd (omega arith)
 each_at P (x ∷ xs) zero each h = each.0
 each_at P (x ∷ xs) (suc k) each h = each_at P xs k each.1 (omega arith)
 
--- the numbers from `from` up to the count, sorted
-abbrev pub IsOrder : Nodes → ℕ → ℕ → ℕ → List ℕ → Type 0
-IsOrder tree n count from order = order ≡ sorted (number_order tree n) (range_with_len from (count - from))
+-- the numbers from `from` up to the count whose attributes declare nothing, sorted
+abbrev pub IsOrder : Scope → Nodes → ℕ → ℕ → ℕ → List ℕ → Type 0
+IsOrder scope tree n count from order =
+    order ≡ sorted (number_order scope tree n) (filter (is_proper_number tree n) (range_with_len from (count - from)))
 
 -- there are so many attributes
 abbrev pub HasCount : Nodes → ℕ → ℕ → Type 0
@@ -43,26 +50,66 @@ attribute_there tree n count i counted h = which (attributes_of (from_node tree 
         attribute_at_place (a ∷ attributes) zero h = refl
         attribute_at_place (a ∷ attributes) (suc i) h = attribute_at_place attributes i (omega arith)
 
-pub all_there : (tree : Nodes) (n count from : ℕ) (order : List ℕ) → HasCount tree n count → IsOrder tree n count from order →
+each_filtered : (P : ℕ → Type 0) (test : ℕ → Bool) (ps : List ℕ) → AllByRecursion P ps → AllByRecursion P (filter test ps)
+each_filtered P test [] h = tt
+each_filtered P test (p ∷ ps) h = which (test p) (each_filtered P test ps h.1)
+  where
+    which : (b : Bool) → AllByRecursion P (filter test ps) → AllByRecursion P (cond b (p ∷ filter test ps) (filter test ps))
+    which true later = (h.0, later)
+    which false later = later
+
+pub all_there : (scope : Scope) (tree : Nodes) (n count from : ℕ) (order : List ℕ) → HasCount tree n count → IsOrder scope tree n count from order →
     (k : ℕ) → k < length order → IsSome (attribute_at tree n (get_or order k 0))
-all_there tree n count from order counted is =
+all_there scope tree n count from order counted is =
     let P : ℕ → Type 0 = λ i. IsSome (attribute_at tree n i) in
     let each : AllByRecursion P order =
-    subst (AllByRecursion P) (sym is) (each_sorted (number_order tree n) P (range_with_len from (count - from))
-    (range_each P from (count - from) (λ j low high. attribute_there tree n count j counted (omega arith)))) in
+    subst (AllByRecursion P) (sym is) (each_sorted (number_order scope tree n) P (filter (is_proper_number tree n) (range_with_len from (count - from)))
+    (each_filtered P (is_proper_number tree n) (range_with_len from (count - from))
+    (range_each P from (count - from) (λ j low high. attribute_there tree n count j counted (omega arith))))) in
     λ k h. each_at P order k each h
 
-pub none_ordered : (tree : Nodes) (n count : ℕ) → IsOrder tree n count count []
-none_ordered tree n count =
+pub none_ordered : (scope : Scope) (tree : Nodes) (n count : ℕ) → IsOrder scope tree n count count []
+none_ordered scope tree n count =
     let none : count - count ≡ 0 = omega arith in
-    sym (ap (λ m. sorted (number_order tree n) (range_with_len count m)) none)
+    sym (ap (λ m. sorted (number_order scope tree n) (filter (is_proper_number tree n) (range_with_len count m))) none)
 
-pub one_more_ordered : (tree : Nodes) (n count i : ℕ) (order new : List ℕ) → i < count → IsOrder tree n count (i + 1) order →
-    new ≡ inserted (number_order tree n) i order → IsOrder tree n count i new
-one_more_ordered tree n count i order new h is put =
-    let more : suc (count - (i + 1)) ≡ count - i = omega arith in
-    put ∙ ap (inserted (number_order tree n) i) is
-    ∙ ap (λ m. sorted (number_order tree n) (range_with_len i m)) more
+is_some_map : (o : Option (Bor (List ℕ))) → is_some (option_map (λ (p : Bor (List ℕ)). p.now) o) ≡ is_some o
+is_some_map None = refl
+is_some_map (Some p) = refl
+
+-- what the test of attribute i says, of the prefix that it declares
+proper_by : (o : Option Attribute) (declared : Option (List ℕ)) → IsSome o → IfSome o (λ a. declared ≡ declared_prefix a.name) →
+    option_map_or (λ (a : Attribute). not (is_declaration a)) o false ≡ not (is_some declared)
+proper_by None declared there is = absurd (let clash : false ≡ true = there in cc)
+proper_by (Some a) declared there is = ap (λ p. not (is_some p)) (sym is)
+
+in_front : (scope : Scope) (tree : Nodes) (n count i : ℕ) → i < count → (b : Bool) → is_proper_number tree n i ≡ b →
+    sorted (number_order scope tree n) (filter (is_proper_number tree n) (range_with_len i (count - i)))
+    ≡ sorted (number_order scope tree n) (cond b (i ∷ filter (is_proper_number tree n) (range_with_len (i + 1) (count - (i + 1))))
+    (filter (is_proper_number tree n) (range_with_len (i + 1) (count - (i + 1)))))
+in_front scope tree n count i h b is =
+    let more : count - i ≡ suc (count - (i + 1)) = omega arith in
+    ap (λ m. sorted (number_order scope tree n) (filter (is_proper_number tree n) (range_with_len i m))) more
+    ∙ ap (λ t. sorted (number_order scope tree n) (cond t (i ∷ filter (is_proper_number tree n) (range_with_len (i + 1) (count - (i + 1))))
+    (filter (is_proper_number tree n) (range_with_len (i + 1) (count - (i + 1)))))) is
+
+pub one_more_ordered : (scope : Scope) (tree : Nodes) (n count i next : ℕ) (order new : List ℕ) (declared : Option (Bor (List ℕ))) →
+    i < count → next ≡ i + 1 → IsSome (attribute_at tree n i) →
+    IfSome (attribute_at tree n i) (λ a. option_map (λ (p : Bor (List ℕ)). p.now) declared ≡ declared_prefix a.name) → is_some declared ≡ false →
+    IsOrder scope tree n count next order → new ≡ inserted (number_order scope tree n) i order → IsOrder scope tree n count i new
+one_more_ordered scope tree n count i next order new declared h on there known none is put =
+    put ∙ ap (inserted (number_order scope tree n) i) (subst (λ (k : ℕ). IsOrder scope tree n count k order) on is)
+    ∙ sym (in_front scope tree n count i h true (proper_by (attribute_at tree n i) (option_map (λ (p : Bor (List ℕ)). p.now) declared) there known
+    ∙ ap not (is_some_map declared ∙ none)))
+
+pub one_passed : (scope : Scope) (tree : Nodes) (n count i next : ℕ) (order : List ℕ) (declared : Option (Bor (List ℕ))) →
+    i < count → next ≡ i + 1 → IsSome (attribute_at tree n i) →
+    IfSome (attribute_at tree n i) (λ a. option_map (λ (p : Bor (List ℕ)). p.now) declared ≡ declared_prefix a.name) → is_some declared ≡ true →
+    IsOrder scope tree n count next order → IsOrder scope tree n count i order
+one_passed scope tree n count i next order declared h on there known some is =
+    subst (λ (k : ℕ). IsOrder scope tree n count k order) on is
+    ∙ sym (in_front scope tree n count i h false (proper_by (attribute_at tree n i) (option_map (λ (p : Bor (List ℕ)). p.now) declared) there known
+    ∙ ap not (is_some_map declared ∙ some)))
 
 all_numbers : (at : ℕ → Option Attribute) (attributes : List Attribute) (a : ℕ) →
     ((j : ℕ) → j < length attributes → at (a + j) ≡ slice_get attributes j) →
@@ -73,26 +120,62 @@ all_numbers at (x ∷ attributes) a each =
     (λ i. (ap at (sym here) ∙ each 0 (omega arith)) i
     ∷ all_numbers at attributes (a + 1) (λ j h. (let next : a + 1 + j ≡ a + suc j = omega arith in ap at next) ∙ each (suc j) (omega arith)) i)
 
--- the order of what is found at the numbers
-abbrev shown_order : Option Attribute → Option Attribute → Ordering
-shown_order o p = byte_order (option_map_or (λ (a : Attribute). a.name) o []) (option_map_or (λ (a : Attribute). a.name) p [])
+-- what is found at a number is a proper attribute
+abbrev is_proper_found : Option Attribute → Bool
+is_proper_found o = option_map_or (λ (a : Attribute). not (is_declaration a)) o false
 
-pub all_ordered : (tree : Nodes) (n count from : ℕ) (order : List ℕ) → HasCount tree n count → IsOrder tree n count from order → from ≡ 0 →
-    IfSome (attributes_of (from_node tree n)) (λ attributes. map (attribute_at tree n) order ≡ map Some (sorted name_order attributes))
-all_ordered tree n count from order counted is first = which (attributes_of (from_node tree n)) refl counted
+-- the order of what is found at the numbers
+abbrev found_order : Scope → Option Attribute → Option Attribute → Ordering
+found_order scope o p =
+    expanded_order (attribute_name scope (option_map_or (λ (a : Attribute). a.name) o []))
+    (attribute_name scope (option_map_or (λ (a : Attribute). a.name) p []))
+
+map-filter : {X Y : Type 0} (f : X → Y) (test : X → Bool) (other : Y → Bool) → ((x : X) → test x ≡ other (f x)) → (xs : List X) →
+    map f (filter test xs) ≡ filter other (map f xs)
+map-filter f test other same [] = refl
+map-filter f test other same (x ∷ xs) =
+    which (test x) (map-filter f test other same xs)
+    ∙ ap (λ b. cond b (f x ∷ filter other (map f xs)) (filter other (map f xs))) (same x)
+  where
+    which : (b : Bool) → map f (filter test xs) ≡ filter other (map f xs) →
+        map f (cond b (x ∷ filter test xs) (filter test xs)) ≡ cond b (f x ∷ filter other (map f xs)) (filter other (map f xs))
+    which true later = ap (λ ys. f x ∷ ys) later
+    which false later = later
+
+pub all_ordered : (scope : Scope) (tree : Nodes) (n count from : ℕ) (order : List ℕ) → HasCount tree n count → IsOrder scope tree n count from order →
+    from ≡ 0 →
+    map (attribute_at tree n) order ≡ map Some (written_attributes scope (attributes_in (from_node tree n)))
+all_ordered scope tree n count from order counted is first = which (attributes_of (from_node tree n)) refl counted
   where
     which : (o : Option (List Attribute)) → attributes_of (from_node tree n) ≡ o → option_map length o ≡ Some count →
-        IfSome o (λ attributes. map (attribute_at tree n) order ≡ map Some (sorted name_order attributes))
-    which None here e = tt
+        map (attribute_at tree n) order ≡ map Some (written_attributes scope (unwrap_or o []))
+    which None here e = absurd (let clash : None ≡ Some count = e in cc)
     which (Some attributes) here e =
         let same : length attributes ≡ count = cc in
-        let all : count - 0 ≡ length attributes = omega arith in
-        ap (map (attribute_at tree n)) (is ∙ ap (λ m. sorted (number_order tree n) (range_with_len m (count - m))) first)
-        ∙ ap (λ m. map (attribute_at tree n) (sorted (number_order tree n) (range_with_len 0 m))) all
-        ∙ map-sorted (attribute_at tree n) (number_order tree n) shown_order
-        (λ i j. refl) (range_with_len 0 (length attributes))
-        ∙ ap (sorted shown_order)
+        let all : count - from ≡ length attributes = omega arith in
+        ap (map (attribute_at tree n)) (is ∙ (λ i. sorted (number_order scope tree n) (filter (is_proper_number tree n) (range_with_len (first i) (all i)))))
+        ∙ map-sorted (attribute_at tree n) (number_order scope tree n) (found_order scope)
+        (λ i j. refl) (filter (is_proper_number tree n) (range_with_len 0 (length attributes)))
+        ∙ ap (sorted (found_order scope))
+        (map-filter (attribute_at tree n) (is_proper_number tree n) is_proper_found (λ i. refl) (range_with_len 0 (length attributes))
+        ∙ ap (filter is_proper_found)
         (all_numbers (attribute_at tree n) attributes 0
         (λ j h. (let same : 0 + j ≡ j = omega arith in ap (attribute_at tree n) same) ∙ ap (option_and_then (λ attributes. slice_get attributes j)) here))
-        ∙ sym (map-sorted Some name_order shown_order
-        (λ a b. refl) attributes)
+        ∙ sym (map-filter Some (λ (a : Attribute). not (is_declaration a)) is_proper_found (λ a. refl) attributes))
+        ∙ sym (map-sorted Some (attribute_order_in scope) (found_order scope)
+        (λ a b. refl) (proper_attributes attributes))
+
+-- the expanded name that these parts make
+pub expanded_parts : (scope : Scope) (o : Option Attribute) (prefix local namespace : List ℕ) → IsSome o →
+    IfSome o (λ a. (prefix ≡ prefix_of a.name) × (local ≡ local_of a.name)) → namespace ≡ cond (is_empty prefix) [] (namespace_of scope prefix) →
+    let named : ExpandedName = record { namespace = namespace; local = local } in
+    named ≡ attribute_name scope (option_map_or (λ (a : Attribute). a.name) o [])
+expanded_parts scope None prefix local namespace there parts is = absurd (let clash : false ≡ true = there in cc)
+expanded_parts scope (Some a) prefix local namespace there parts is =
+    (λ i. record { namespace = is i; local = local })
+    ∙ (λ i. record { namespace = cond (is_empty (parts.0 i)) [] (namespace_of scope (parts.0 i)); local = parts.1 i })
+
+-- names in one namespace are ordered by their local parts
+pub same_namespace : (one other : List ℕ) (order : Ordering) → one ≡ other → ordering_then (byte_order one other) order ≡ order
+same_namespace one other order same =
+    ap (λ space. ordering_then (byte_order one space) order) (sym same) ∙ ap (λ o. ordering_then o order) (tied_itself nat_list_cmp_total one)

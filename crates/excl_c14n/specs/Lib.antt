@@ -1,2 +1,7 @@
-pub mod Plain
 pub mod Elements
+pub mod Escapes
+pub mod Texts
+pub mod Levels
+pub mod Tables
+pub mod Shown
+pub mod NodeByNode

@@ -2,7 +2,7 @@
 ghost use Rattle.std.specs.Prelude.{◌≡◌, ℕ, [], ◌∷◌, ◌++◌, take, MatchOption, OnOk, OnErr};
 ghost use Rattle.std.specs.List.{flat_map};
 ghost use Rattle.xml_spec.specs.Canonical.{escape_text, escape_value};
-ghost use Rattle.excl_c14n.specs.Plain.{escape_byte};
+ghost use Rattle.excl_c14n.specs.Escapes.{escape_byte};
 
 use saml_outside::NoMemory;
 

@@ -1,20 +1,55 @@
 //! The canonical form of an element, node by node in document order.
-ghost use Rattle.std.specs.Prelude.{◌≡◌, ℕ, ◌<◌, ◌++◌, codes, take, Some, IsSome, IfSome, OnOk, OnErr};
+ghost use Rattle.std.specs.Prelude.{◌≡◌, ℕ, ◌<◌, [], ◌∷◌, ◌++◌, ◌||◌, List, map, length, take, unwrap_or, Some, IsSome, IfSome, OnOk, OnErr};
+ghost use Rattle.std.specs.List.{flat_map};
 ghost use Rattle.std.specs.Option.{option_map};
+ghost use Rattle.xml_spec.specs.Names.{HasNames, outermost, declarations};
 ghost use Rattle.xml_spec.specs.Numbering.{size, from_node};
-ghost use Rattle.xml_spec.specs.Canonical.{escape_text, canonical, print_attribute, print_instruction};
+ghost use Rattle.xml_spec.specs.Canonical.{scope_at, escape_text, canonical, print_attribute, print_binding, print_start, print_instruction, print_end, written_attributes};
 ghost use Rattle.saml_tree.specs.Documents.{name_of, text_of};
-ghost use Rattle.saml_tree.specs.PlainTree.{ArePlainNodes};
 ghost use Rattle.saml_tree.specs.NodeNames.{attribute_at};
-ghost use Rattle.excl_c14n.specs.Elements.{IsElement};
-ghost use Rattle.excl_c14n.specs.Plain.{is_skipped, start_form, end_form, node_form};
+ghost use Rattle.excl_c14n.specs.Elements.{IsElement, name_in, attributes_in};
+ghost use Rattle.excl_c14n.specs.Texts.{texts};
+ghost use Rattle.excl_c14n.specs.Levels.{in_force, with_bindings, binding_in, is_among, AreListedRendered};
+ghost use Rattle.excl_c14n.specs.NodeByNode.{written_in, start_in, is_skipped, node_form};
 
+use crate::bindings::Bindings;
 use crate::escape::{escape_text, escape_value};
+use crate::listed::Listed;
+use crate::names::{declared, put_attribute_name, put_node_name};
 use crate::octets::Octets;
-use crate::order::{attribute_name, attribute_order, name_in};
+use crate::order::attribute_order;
+use crate::wanted::wanted_at;
 use saml_outside::{NoMemory, Texts};
 use saml_tree::{Doc, NodeKind, NodeNo};
 use std::alloc::Global;
+
+/// Appends the declaration of a prefix.
+fn put_declaration(prefix: &str, namespace: &str, out: &mut Vec<u8>) -> Result<(), NoMemory>
+    ensures { OnOk result (out.new.items ≡ out.old.items ++ print_binding (record { prefix = prefix.now; namespace = namespace.now })) }
+{
+    out.extend_from_slice(b" xmlns")?;
+    if !prefix.is_empty() {
+        out.push(b':')?;
+        out.extend_from_slice(prefix.as_bytes())?;
+    }
+    out.extend_from_slice(b"=\"")?;
+    escape_value(namespace, out)?;
+    out.push(b'"')?;
+    Ok(())
+}
+
+/// Notes that the innermost element renders these prefixes.
+fn render_all<'d>(wanted: &[&'d str], bindings: &mut Bindings<'d>) -> Result<(), NoMemory>
+    requires { 0 < length bindings.old.rendered }
+    ensures { OnOk result (bindings.new ≡ record bindings.old {
+      rendered = with_bindings (map (binding_in (in_force bindings.old.scope)) (texts wanted.now)) bindings.old.rendered;
+    }) }
+{
+    for i in (0..wanted.len()).rev() {
+        bindings.render(wanted[i])?;
+    }
+    Ok(())
+}
 
 /// A document whose nodes are written, all but one that is left out.
 #[derive(Drop)]
@@ -22,50 +57,166 @@ struct Walk<'d, 'a> {
     alloc: Global,
     doc: &'d Doc<'a>,
     skip: Option<NodeNo>,
+    listed: Listed<'d>,
 }
 
 impl<'d, 'a> Walk<'d, 'a> {
+    /// Binds what element n declares, its last attribute first, and adds the prefixes to `declared`.
+    fn declare(
+        &self,
+        n: NodeNo,
+        bindings: &mut Bindings<'d>,
+        prefixes: &mut Vec<&'d str>,
+    ) -> Result<(), NoMemory>
+        requires element { IsElement self.now.doc.now.tree n.0 }
+        requires names { HasNames self.now.doc.now.tree }
+        requires level { 0 < length bindings.old.scope }
+        ensures bound { OnOk result (bindings.new ≡ record bindings.old {
+          scope = with_bindings (declarations (attributes_in (from_node self.now.doc.now.tree n.0))) bindings.old.scope;
+        }) }
+        ensures declared { OnOk result ((q : List ℕ) → is_among q (texts prefixes.new.items)
+            ≡ (is_among q (texts prefixes.old.items)
+            || is_among q (map (λ b. b.prefix) (declarations (attributes_in (from_node self.now.doc.now.tree n.0)))))) }
+    {
+        for i in (0..self.doc.attr_count(n)).rev() {
+            if let Some(prefix) = declared(self.doc, n, i) {
+                let mut namespace = String::new(self.alloc);
+                self.doc.put_attr(n, i, &mut namespace)?;
+                bindings.bind(prefix, namespace)?;
+                prefixes.push(prefix)?;
+            }
+        }
+        Ok(())
+    }
+
+    /// Binds what the elements around node n declare, the outermost first. A document's elements stand at most 64 deep,
+    /// and so deep are the calls.
+    fn declare_outside(
+        &self,
+        n: NodeNo,
+        bindings: &mut Bindings<'d>,
+        prefixes: &mut Vec<&'d str>,
+    ) -> Result<(), NoMemory>
+        requires there { n.0 < size self.now.doc.now.tree }
+        requires names { HasNames self.now.doc.now.tree }
+        requires level { 0 < length bindings.old.scope }
+        requires outermost { in_force bindings.old.scope ≡ outermost }
+        requires rendered { AreListedRendered self.now.listed (texts prefixes.old.items) (in_force bindings.old.scope) (in_force bindings.old.rendered) }
+        ensures level { OnOk result (0 < length bindings.new.scope) }
+        ensures scope { OnOk result (in_force bindings.new.scope ≡ scope_at outermost self.now.doc.now.tree n.0) }
+        ensures same { OnOk result (bindings.new.rendered ≡ bindings.old.rendered) }
+        ensures rendered { OnOk result (AreListedRendered self.now.listed (texts prefixes.new.items) (in_force bindings.new.scope) (in_force bindings.new.rendered)) }
+    {
+        if let Some(element) = self.doc.parent(n) {
+            self.declare_outside(element, bindings, prefixes)?;
+            self.declare(element, bindings, prefixes)?;
+        }
+        Ok(())
+    }
+
     /// Appends attribute i of node n.
     fn put_attribute(&self, n: NodeNo, i: usize, out: &mut Vec<u8>) -> Result<(), NoMemory>
         requires there { IsSome (attribute_at self.now.doc.now.tree n.0 i) }
-        requires plain { ArePlainNodes self.now.doc.now.tree }
+        requires names { HasNames self.now.doc.now.tree }
         ensures { IfSome (attribute_at self.now.doc.now.tree n.0 i) (λ a.
             OnOk result (out.new.items ≡ out.old.items ++ print_attribute a.name a.value)) }
     {
         let mut value = String::new(self.alloc);
         self.doc.put_attr(n, i, &mut value)?;
         out.push(b' ')?;
-        out.extend_from_slice(attribute_name(self.doc, n, i).as_bytes())?;
+        put_attribute_name(self.doc, n, i, out)?;
         out.extend_from_slice(b"=\"")?;
         escape_value(value.as_str(), out)?;
         out.push(b'"')?;
         Ok(())
     }
 
-    /// Appends the start tag of an element.
-    fn put_start(&self, n: NodeNo, out: &mut Vec<u8>) -> Result<(), NoMemory>
+    /// Appends the attributes of an element that declare nothing, in order.
+    fn put_attributes(
+        &self,
+        n: NodeNo,
+        bindings: &Bindings<'d>,
+        out: &mut Vec<u8>,
+    ) -> Result<(), NoMemory>
         requires element { IsElement self.now.doc.now.tree n.0 }
-        requires plain { ArePlainNodes self.now.doc.now.tree }
-        ensures { OnOk result (out.new.items ≡ out.old.items ++ start_form (from_node self.now.doc.now.tree n.0)) }
+        requires names { HasNames self.now.doc.now.tree }
+        ensures { OnOk result (out.new.items ≡ out.old.items ++ flat_map (λ a. print_attribute a.name a.value)
+            (written_attributes (in_force bindings.now.scope) (attributes_in (from_node self.now.doc.now.tree n.0)))) }
     {
-        let order = attribute_order(self.alloc, self.doc, n)?;
-        out.push(b'<')?;
-        out.extend_from_slice(name_in(self.doc, n).as_bytes())?;
+        let order = attribute_order(self.alloc, self.doc, bindings, n)?;
         for i in &order {
             self.put_attribute(n, *i, out)?;
         }
+        Ok(())
+    }
+
+    /// Appends the start tag of an element, with the declarations of these prefixes.
+    fn put_start(
+        &self,
+        n: NodeNo,
+        wanted: &[&'d str],
+        bindings: &Bindings<'d>,
+        out: &mut Vec<u8>,
+    ) -> Result<(), NoMemory>
+        requires element { IsElement self.now.doc.now.tree n.0 }
+        requires names { HasNames self.now.doc.now.tree }
+        ensures { OnOk result (out.new.items ≡ out.old.items ++ print_start (name_in (from_node self.now.doc.now.tree n.0))
+            (map (binding_in (in_force bindings.now.scope)) (texts wanted.now))
+            (written_attributes (in_force bindings.now.scope) (attributes_in (from_node self.now.doc.now.tree n.0)))) }
+    {
+        out.push(b'<')?;
+        put_node_name(self.doc, n, out)?;
+        for prefix in wanted {
+            put_declaration(prefix, bindings.namespace(prefix), out)?;
+        }
+        self.put_attributes(n, bindings, out)?;
         out.push(b'>')?;
         Ok(())
+    }
+
+    /// Begins an element: binds what it declares, appends its start tag, and notes what that renders. `prefixes` are
+    /// those that were declared since the last start tag was written.
+    fn begin(
+        &self,
+        n: NodeNo,
+        mut prefixes: Vec<&'d str>,
+        bindings: &mut Bindings<'d>,
+        out: &mut Vec<u8>,
+    ) -> Result<(), NoMemory>
+        requires element { IsElement self.now.doc.now.tree n.0 }
+        requires names { HasNames self.now.doc.now.tree }
+        requires rendered { AreListedRendered self.now.listed (texts prefixes.items) (in_force bindings.old.scope) (in_force bindings.old.rendered) }
+        ensures start { OnOk result (out.new.items ≡ out.old.items
+            ++ start_in self.now.listed (in_force bindings.old.scope) (in_force bindings.old.rendered)
+            (name_in (from_node self.now.doc.now.tree n.0)) (attributes_in (from_node self.now.doc.now.tree n.0))) }
+        ensures bound { OnOk result (bindings.new ≡ record {
+          scope = with_bindings (declarations (attributes_in (from_node self.now.doc.now.tree n.0))) ([] ∷ bindings.old.scope);
+          rendered = with_bindings (written_in self.now.listed (in_force bindings.old.scope) (in_force bindings.old.rendered)
+              (name_in (from_node self.now.doc.now.tree n.0)) (attributes_in (from_node self.now.doc.now.tree n.0))) ([] ∷ bindings.old.rendered);
+        }) }
+    {
+        bindings.enter()?;
+        self.declare(n, bindings, &mut prefixes)?;
+        let wanted = wanted_at(
+            self.alloc,
+            self.doc,
+            &self.listed,
+            bindings,
+            n,
+            prefixes.as_slice(),
+        )?;
+        self.put_start(n, wanted.as_slice(), bindings, out)?;
+        render_all(wanted.as_slice(), bindings)
     }
 
     /// Appends the end tag of an element.
     fn put_end(&self, n: NodeNo, out: &mut Vec<u8>) -> Result<(), NoMemory>
         requires element { IsElement self.now.doc.now.tree n.0 }
-        requires plain { ArePlainNodes self.now.doc.now.tree }
-        ensures { OnOk result (out.new.items ≡ out.old.items ++ end_form (from_node self.now.doc.now.tree n.0)) }
+        requires names { HasNames self.now.doc.now.tree }
+        ensures { OnOk result (out.new.items ≡ out.old.items ++ print_end (name_in (from_node self.now.doc.now.tree n.0))) }
     {
         out.extend_from_slice(b"</")?;
-        out.extend_from_slice(name_in(self.doc, n).as_bytes())?;
+        put_node_name(self.doc, n, out)?;
         out.push(b'>')?;
         Ok(())
     }
@@ -85,15 +236,14 @@ impl<'d, 'a> Walk<'d, 'a> {
     fn put_instruction(&self, n: NodeNo, out: &mut Vec<u8>) -> Result<(), NoMemory>
         requires named { IsSome (name_of (from_node self.now.doc.now.tree n.0)) }
         requires valued { IsSome (text_of (from_node self.now.doc.now.tree n.0)) }
-        requires plain { ArePlainNodes self.now.doc.now.tree }
-        ensures { IfSome (name_of (from_node self.now.doc.now.tree n.0)) (λ target.
-            IfSome (text_of (from_node self.now.doc.now.tree n.0)) (λ value.
-            OnOk result (out.new.items ≡ out.old.items ++ print_instruction target value))) }
+        requires names { HasNames self.now.doc.now.tree }
+        ensures { IfSome (text_of (from_node self.now.doc.now.tree n.0)) (λ value.
+            OnOk result (out.new.items ≡ out.old.items ++ print_instruction (name_in (from_node self.now.doc.now.tree n.0)) value)) }
     {
         let mut value = String::new(self.alloc);
         self.doc.put_text(n, &mut value)?;
         out.extend_from_slice(b"<?")?;
-        out.extend_from_slice(name_in(self.doc, n).as_bytes())?;
+        put_node_name(self.doc, n, out)?;
         if !value.is_empty() {
             out.push(b' ')?;
             out.extend_from_slice(value.as_bytes())?;
@@ -109,12 +259,23 @@ impl<'d, 'a> Walk<'d, 'a> {
         self.skip == Some(n)
     }
 
-    /// Appends a node with all that is below it. A document's nodes stand at most 64 deep, and so deep are the calls.
-    fn put_node(&self, n: NodeNo, out: &mut Vec<u8>) -> Result<(), NoMemory>
+    /// Appends a node with all that is below it, and leaves the bindings as they were. `prefixes` are those that were
+    /// declared since the last start tag was written. A document's elements stand at most 64 deep, and so deep are the
+    /// calls.
+    fn put_node(
+        &self,
+        n: NodeNo,
+        prefixes: Vec<&'d str>,
+        bindings: &mut Bindings<'d>,
+        out: &mut Vec<u8>,
+    ) -> Result<(), NoMemory>
         requires there { n.0 < size self.now.doc.now.tree }
-        requires plain { ArePlainNodes self.now.doc.now.tree }
-        ensures { OnOk result (out.new.items
-            ≡ out.old.items ++ node_form (option_map (λ s. s.0) self.now.skip) n.0 (from_node self.now.doc.now.tree n.0)) }
+        requires names { HasNames self.now.doc.now.tree }
+        requires rendered { AreListedRendered self.now.listed (texts prefixes.items) (in_force bindings.old.scope) (in_force bindings.old.rendered) }
+        ensures form { OnOk result (out.new.items ≡ out.old.items
+            ++ node_form self.now.listed (option_map (λ s. s.0) self.now.skip) n.0 (in_force bindings.old.scope) (in_force bindings.old.rendered)
+            (from_node self.now.doc.now.tree n.0)) }
+        ensures same { OnOk result (bindings.new ≡ bindings.old) }
     {
         if self.skips(n) {
             return Ok(());
@@ -125,12 +286,13 @@ impl<'d, 'a> Walk<'d, 'a> {
             NodeKind::Instruction => return self.put_instruction(n, out),
             NodeKind::Element => {}
         }
-        self.put_start(n, out)?;
+        self.begin(n, prefixes, bindings, out)?;
         let mut next = self.doc.first_kid(n);
         while let Some(kid) = next {
-            self.put_node(kid, out)?;
+            self.put_node(kid, Vec::new(self.alloc), bindings, out)?;
             next = self.doc.next(kid);
         }
+        bindings.leave();
         self.put_end(n, out)
     }
 }
@@ -154,10 +316,19 @@ pub fn canon_into<O: Octets>(
     ensures err { OnErr result ((n : ℕ) × (O.octets_of out.new
         ≡ O.octets_of out.old ++ take n (canonical doc.now.tree node.0 (option_map (λ s. s.0) skip) prefixes.now))) }
 {
-    // The names of a document have no prefixes, so there is no namespace to declare.
-    let _ = prefixes;
+    // The document is named well, which its root tells.
     let _ = doc.root();
+    let listed = Listed::new(alloc, prefixes)?;
+    let walk = Walk {
+        alloc,
+        doc,
+        skip,
+        listed,
+    };
+    let mut bindings = Bindings::new(alloc)?;
+    let mut declared = Vec::new(alloc);
+    walk.declare_outside(node, &mut bindings, &mut declared)?;
     let mut form = Vec::new(alloc);
-    Walk { alloc, doc, skip }.put_node(node, &mut form)?;
+    walk.put_node(node, declared, &mut bindings, &mut form)?;
     out.put(form.as_slice())
 }

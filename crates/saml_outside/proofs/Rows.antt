@@ -4,11 +4,11 @@ use Rattle.std.specs.List.{find}
 use Rattle.std.specs.Str.{bytes_eq}
 use Rattle.saml_outside.specs.Codes.{number_of, name_of}
 use Rattle.saml_outside.specs.declared.codes.Verdict.{Verdict}
-use Rattle.saml_outside.specs.declared.codes.Verdict.TheVariants.{BadForm, BadBase64, TooLarge, BadXml, XmlLimit, BadNames, DuplicateId, NotResponse, NotSuccess, NotOneAssertion, BadSignatureForm, BadReference, TagDiffers, DigestDiffers, BadAssertion, WrongIssuer, WrongAudience, WrongRecipient, NotInTime, NotOutstanding, RequestSpent, AssertionSeen, RelayDiffers, NotLogout, UnknownPeer, LogoutDestination, NoSuchSession, UnknownLogout, LogoutNotInTime, NotAuthnRequest, UnknownIssuer, RequestDestination, WrongConsumer, NoSuchPending, LoginRefused, DiskFault, Full, NoMemory, Foreign, Unbuilt}
+use Rattle.saml_outside.specs.declared.codes.Verdict.TheVariants.{BadForm, BadBase64, TooLarge, BadXml, XmlLimit, BadNames, DuplicateId, NotResponse, NotSuccess, NotOneAssertion, BadSignatureForm, BadReference, TagDiffers, DigestDiffers, BadAssertion, WrongIssuer, WrongAudience, WrongRecipient, NotInTime, NotOutstanding, RequestSpent, AssertionSeen, RelayDiffers, NotLogout, UnknownPeer, LogoutDestination, NoSuchSession, UnknownLogout, LogoutNotInTime, NotAuthnRequest, UnknownIssuer, RequestDestination, WrongConsumer, NoSuchPending, LoginRefused, DiskFault, Full, NoMemory, Foreign}
 
 -- the rows of the table
 abbrev rows : List Verdict
-rows = BadForm ∷ BadBase64 ∷ TooLarge ∷ BadXml ∷ XmlLimit ∷ BadNames ∷ DuplicateId ∷ NotResponse ∷ NotSuccess ∷ NotOneAssertion ∷ BadSignatureForm ∷ BadReference ∷ TagDiffers ∷ DigestDiffers ∷ BadAssertion ∷ WrongIssuer ∷ WrongAudience ∷ WrongRecipient ∷ NotInTime ∷ NotOutstanding ∷ RequestSpent ∷ AssertionSeen ∷ RelayDiffers ∷ NotLogout ∷ UnknownPeer ∷ LogoutDestination ∷ NoSuchSession ∷ UnknownLogout ∷ LogoutNotInTime ∷ NotAuthnRequest ∷ UnknownIssuer ∷ RequestDestination ∷ WrongConsumer ∷ NoSuchPending ∷ LoginRefused ∷ DiskFault ∷ Full ∷ NoMemory ∷ Foreign ∷ Unbuilt ∷ []
+rows = BadForm ∷ BadBase64 ∷ TooLarge ∷ BadXml ∷ XmlLimit ∷ BadNames ∷ DuplicateId ∷ NotResponse ∷ NotSuccess ∷ NotOneAssertion ∷ BadSignatureForm ∷ BadReference ∷ TagDiffers ∷ DigestDiffers ∷ BadAssertion ∷ WrongIssuer ∷ WrongAudience ∷ WrongRecipient ∷ NotInTime ∷ NotOutstanding ∷ RequestSpent ∷ AssertionSeen ∷ RelayDiffers ∷ NotLogout ∷ UnknownPeer ∷ LogoutDestination ∷ NoSuchSession ∷ UnknownLogout ∷ LogoutNotInTime ∷ NotAuthnRequest ∷ UnknownIssuer ∷ RequestDestination ∷ WrongConsumer ∷ NoSuchPending ∷ LoginRefused ∷ DiskFault ∷ Full ∷ NoMemory ∷ Foreign ∷ []
 
 -- the row of a number
 abbrev numbered : ℕ → Option Verdict
@@ -58,7 +58,6 @@ numbered_back DiskFault = refl
 numbered_back Full = refl
 numbered_back NoMemory = refl
 numbered_back Foreign = refl
-numbered_back Unbuilt = refl
 
 named_back : (v : Verdict) → named (name_of v) ≡ Some v
 named_back BadForm = refl
@@ -100,7 +99,6 @@ named_back DiskFault = refl
 named_back Full = refl
 named_back NoMemory = refl
 named_back Foreign = refl
-named_back Unbuilt = refl
 
 pub numbers_differ : (a b : Verdict) → number_of a ≡ number_of b → a ≡ b
 numbers_differ a b same =

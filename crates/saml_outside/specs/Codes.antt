@@ -1,7 +1,7 @@
 -- The table of codes: the number of each verdict, and its name as it is printed.
 use Rattle.std.specs.Prelude.{ℕ, List, codes}
 use Rattle.saml_outside.specs.declared.codes.Verdict.{Verdict}
-use Rattle.saml_outside.specs.declared.codes.Verdict.TheVariants.{BadForm, BadBase64, TooLarge, BadXml, XmlLimit, BadNames, DuplicateId, NotResponse, NotSuccess, NotOneAssertion, BadSignatureForm, BadReference, TagDiffers, DigestDiffers, BadAssertion, WrongIssuer, WrongAudience, WrongRecipient, NotInTime, NotOutstanding, RequestSpent, AssertionSeen, RelayDiffers, NotLogout, UnknownPeer, LogoutDestination, NoSuchSession, UnknownLogout, LogoutNotInTime, NotAuthnRequest, UnknownIssuer, RequestDestination, WrongConsumer, NoSuchPending, LoginRefused, DiskFault, Full, NoMemory, Foreign, Unbuilt}
+use Rattle.saml_outside.specs.declared.codes.Verdict.TheVariants.{BadForm, BadBase64, TooLarge, BadXml, XmlLimit, BadNames, DuplicateId, NotResponse, NotSuccess, NotOneAssertion, BadSignatureForm, BadReference, TagDiffers, DigestDiffers, BadAssertion, WrongIssuer, WrongAudience, WrongRecipient, NotInTime, NotOutstanding, RequestSpent, AssertionSeen, RelayDiffers, NotLogout, UnknownPeer, LogoutDestination, NoSuchSession, UnknownLogout, LogoutNotInTime, NotAuthnRequest, UnknownIssuer, RequestDestination, WrongConsumer, NoSuchPending, LoginRefused, DiskFault, Full, NoMemory, Foreign}
 
 -- the number of a verdict
 abbrev pub number_of : Verdict → ℕ
@@ -44,7 +44,6 @@ number_of DiskFault = 50
 number_of Full = 51
 number_of NoMemory = 52
 number_of Foreign = 53
-number_of Unbuilt = 60
 
 -- the name of a verdict, in ASCII
 abbrev pub name_of : Verdict → List ℕ
@@ -87,4 +86,3 @@ name_of DiskFault = codes "DiskFault"
 name_of Full = codes "Full"
 name_of NoMemory = codes "NoMemory"
 name_of Foreign = codes "Foreign"
-name_of Unbuilt = codes "Unbuilt"

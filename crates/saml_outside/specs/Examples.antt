@@ -6,15 +6,15 @@ use Rattle.saml_outside.specs.Files.{File, answer_of, bytes_of}
 use Rattle.saml_outside.specs.Gives.{Gives}
 use Rattle.saml_outside.specs.InMemory.{FilesInMemory, after_read}
 use Rattle.saml_outside.specs.Sinks.{then_bytes}
-use Rattle.saml_outside.specs.declared.codes.Verdict.TheVariants.{RelayDiffers, NotLogout, NoSuchPending, Unbuilt}
+use Rattle.saml_outside.specs.declared.codes.Verdict.TheVariants.{RelayDiffers, NotLogout, NoSuchPending, Foreign}
 use Rattle.saml_outside.specs.declared.reading.FileRead.TheVariants.{Whole, Absent, TooLong}
 
 -- the numbers leave gaps: from 23 to 30, and from 43 to 45
-numbers : (number_of RelayDiffers ≡ 23) × (number_of NotLogout ≡ 30) × (number_of NoSuchPending ≡ 45) × (number_of Unbuilt ≡ 60)
+numbers : (number_of RelayDiffers ≡ 23) × (number_of NotLogout ≡ 30) × (number_of NoSuchPending ≡ 45) × (number_of Foreign ≡ 53)
 numbers = (refl, refl, refl, refl)
 
 -- a name is its letters
-name : name_of Unbuilt ≡ 85 ∷ 110 ∷ 98 ∷ 117 ∷ 105 ∷ 108 ∷ 116 ∷ []
+name : name_of Foreign ≡ 70 ∷ 111 ∷ 114 ∷ 101 ∷ 105 ∷ 103 ∷ 110 ∷ []
 name = refl
 
 -- a count stays at its end

@@ -86,8 +86,6 @@ pub enum Verdict {
     NoMemory,
     /// The journal is not one that this program wrote for this role.
     Foreign,
-    /// The canonical form could not be built, by a version that has not all of it.
-    Unbuilt,
 }
 
 impl Verdict {
@@ -135,7 +133,6 @@ impl Verdict {
             Verdict::Full => 51,
             Verdict::NoMemory => 52,
             Verdict::Foreign => 53,
-            Verdict::Unbuilt => 60,
         }
     }
 
@@ -183,7 +180,6 @@ impl Verdict {
             Verdict::Full => "Full",
             Verdict::NoMemory => "NoMemory",
             Verdict::Foreign => "Foreign",
-            Verdict::Unbuilt => "Unbuilt",
         }
     }
 }

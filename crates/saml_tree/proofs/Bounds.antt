@@ -4,7 +4,7 @@ use Rattle.std.specs.List.{list_all}
 use Rattle.xml_spec.specs.Tree as tree
 use Rattle.xml_spec.specs.Tree.{Attribute, Nodes, NoNodes, Element, Text, Comment, Instruction, IsWithinLimits, most_attributes}
 use Rattle.xml_spec.proofs.Tests.{both_true, and_true}
-use Rattle.saml_tree.specs.Rows.{Shape, ElementShape, TextShape, Row, nodes_at}
+use Rattle.saml_tree.specs.Rows.{Shape, ElementShape, TextShape, CommentShape, InstructionShape, Row, nodes_at}
 use Rattle.saml_tree.specs.Kept.{IsShaped}
 use Rattle.saml_tree.specs.RowTests.{is_small}
 use Rattle.saml_tree.proofs.Elements.{EachElement, HoldsOf, EachRow, rows_to_tree, tree_to_rows}
@@ -40,6 +40,8 @@ small_shape depth (ElementShape name attributes) h =
     let few = both.1 in
     (grind arith, grind arith)
 small_shape depth (TextShape text) h = tt
+small_shape depth (CommentShape text) h = tt
+small_shape depth (InstructionShape target value) h = tt
 
 shape_small : (depth : ℕ) (shape : Shape) → HoldsOf IsSmall depth shape → is_small depth shape ≡ true
 shape_small depth (ElementShape name attributes) h =
@@ -47,6 +49,8 @@ shape_small depth (ElementShape name attributes) h =
     let few = h.1 in
     and_true (nat_lt depth 64) (nat_le (length attributes) 128) (grind arith) (grind arith)
 shape_small depth (TextShape text) h = refl
+shape_small depth (CommentShape text) h = refl
+shape_small depth (InstructionShape target value) h = refl
 
 small_rows : (rows : List Row) → list_all (λ (r : Row). is_small r.depth r.shape) rows ≡ true → EachRow IsSmall rows
 small_rows [] h = tt

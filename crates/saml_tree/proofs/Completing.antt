@@ -1,36 +1,20 @@
 -- What is made of a document's tokens in a row: its rows.
-use Rattle.std.proofs.Common.{◌≡◌, ℕ, suc, ◌+◌, true, false, cond, List, [], ◌∷◌, ◌++◌, length, Option, Some, None, refl, sym, ◌∙◌, ap, append_assoc, arith, length-append}
-use Rattle.std.specs.Prelude.{slice_get, slice_set}
+use Rattle.std.proofs.Common.{◌≡◌, ℕ, suc, ◌+◌, true, false, cond, List, [], ◌∷◌, ◌++◌, length, refl, sym, ◌∙◌, ap, append_assoc, arith, length-append}
 use Rattle.std.specs.List.{list_all}
-use Rattle.std.specs.Option.{option_and_then}
-use Rattle.std.specs.Str.{bytes_eq}
-use Rattle.std.proofs.lemmas.Slice.Eq.{bytes_eq-Decides}
-use Rattle.std.proofs.Math.Seq.{set-append_seam}
-use Rattle.xml_spec.specs.Tree.{Attribute}
-use Rattle.xml_spec.specs.Syntax.{is_white, Tag, Characters, Refers, Section, Remark, Processing, EmptyTag, Token, Alone, StartTag, EndTag, print_token, print_tokens, Content, NoContent, Then, Pair, tokens_of}
-use Rattle.xml_spec.specs.Meaning.{attributes_of}
+use Rattle.xml_spec.specs.Syntax.{is_white, Tag, Item, Characters, Refers, Section, Remark, Processing, EmptyTag, Token, Alone, StartTag, EndTag, print_token, print_tokens, Content, NoContent, Then, Pair, tokens_of}
 use Rattle.xml_spec.specs.Document.{is_epilog, is_document}
 use Rattle.xml_spec.proofs.Tests.{both_true}
-use Rattle.saml_tree.specs.Rows.{ElementShape, Row}
-use Rattle.saml_tree.specs.Run.{State, is_element_named, closed, ended, step, run}
-use Rattle.saml_tree.proofs.Contents.{IsSimple, text_row, element_row, empty_length, start_length, content_length, end_length, pair_end, rows_of}
+use Rattle.saml_tree.specs.Rows.{Row}
+use Rattle.saml_tree.specs.Run.{State, text_rows, all_rows, part_of, part_rows, part_text, with_part, with_item, is_some, ended, end_at, closed, step, run, first_state}
+use Rattle.saml_tree.proofs.Contents.{element_row, item_end, start_length, content_length, end_length, pair_end, rows_of}
 
--- the state with these rows, this stack of open elements, and this place
+-- the state with these rows and no text, this stack of open elements, and this place
 abbrev pub state : List Row → List ℕ → ℕ → State
-state rows stack place = record { rows = rows; open_elements = stack; place = place }
+state rows stack place = record { rows = rows; text = []; open_elements = stack; place = place }
 
-pub get_seam : {X : Type 0} (xs : List X) (y : X) (ys : List X) → slice_get (xs ++ y ∷ ys) (length xs) ≡ Some y
-get_seam [] y ys = refl
-get_seam (x ∷ xs) y ys = get_seam xs y ys
-
-onward : (ts us : List Token) → ((s : State) → run s (ts ++ us) ≡ option_and_then (λ t. run t us) (run s ts)) → (o : Option State) →
-    option_and_then (λ t. run t (ts ++ us)) o ≡ option_and_then (λ t. run t us) (option_and_then (λ t. run t ts) o)
-onward ts us h None = refl
-onward ts us h (Some next) = h next
-
-pub run_append : (ts us : List Token) (s : State) → run s (ts ++ us) ≡ option_and_then (λ t. run t us) (run s ts)
+pub run_append : (ts us : List Token) (s : State) → run s (ts ++ us) ≡ run (run s ts) us
 run_append [] us s = refl
-run_append (t ∷ ts) us s = onward ts us (run_append ts us) (step s t)
+run_append (t ∷ ts) us s = run_append ts us (step s t)
 
 sum_place : (place a b : ℕ) → (place + a) + b ≡ place + (a + b)
 sum_place place a b = omega arith
@@ -52,128 +36,134 @@ pair_length tag inner space rest =
     let ending = length_tokens (EndTag tag.name space) (tokens_of rest) in
     omega arith
 
-one_more_row : (rows : List Row) (row : Row) (more : List Row) → (rows ++ row ∷ []) ++ more ≡ rows ++ row ∷ more
-one_more_row rows row more = append_assoc rows (row ∷ []) more
-
-pub named_itself : (name : List ℕ) → bytes_eq name name ≡ true
-named_itself name = (bytes_eq-Decides name name).1 refl
-
-pub nothing_behind : {X : Type 0} (xs : List X) → xs ≡ xs ++ []
-nothing_behind [] = refl
-nothing_behind (x ∷ xs) = ap (λ zs. x ∷ zs) (nothing_behind xs)
-
 nothing_more : (n : ℕ) → n ≡ n + 0
 nothing_more n = omega arith
+
+item_place : (place : ℕ) (item : Item) (rest : Content) →
+    item_end place item + content_length rest ≡ place + content_length (Then item rest)
+item_place place item rest = let whole = length_tokens (Alone item) (tokens_of rest) in omega arith
 
 pair_place : (place : ℕ) (tag : Tag) (inner : Content) (space : List ℕ) (rest : Content) →
     pair_end place tag inner space + content_length rest ≡ place + content_length (Pair tag inner space rest)
 pair_place place tag inner space rest = let whole = pair_length tag inner space rest in omega arith
 
--- closing element n, which has this name
-close_at : (rows later : List Row) (row : Row) (outer : List ℕ) (name : List ℕ) (attributes : List Attribute) (before place : ℕ) →
-    row.shape ≡ ElementShape name attributes →
-    closed (state (rows ++ row ∷ later) (length rows ∷ outer) before) (length rows ∷ outer) name place
-    ≡ Some (state (rows ++ ended place row ∷ later) outer place)
-close_at rows later row outer name attributes before place e =
-    let named : is_element_named name row.shape ≡ true = ap (is_element_named name) e ∙ named_itself name in
-    let rest = λ (found : Row). cond (is_element_named name found.shape)
-    (Some (state (slice_set (rows ++ row ∷ later) (length rows) (ended place found)) outer place)) None in
-    ap (option_and_then rest) (get_seam rows row later)
-    ∙ ap (λ b. cond b (Some (state (slice_set (rows ++ row ∷ later) (length rows) (ended place row)) outer place)) None) named
-    ∙ ap (λ zs. Some (state zs outer place)) (set-append_seam rows row later (ended place row))
+-- an item in an open element
+item_inside : (s : State) (item : Item) (end : ℕ) → is_some s.open_elements ≡ true → with_item s item end ≡ with_part s (part_of item) end
+item_inside s (Characters bytes) end h = ap (λ b. cond b (with_part s (part_of (Characters bytes)) end) (record s { place = end })) h
+item_inside s (Refers r) end h = ap (λ b. cond b (with_part s (part_of (Refers r)) end) (record s { place = end })) h
+item_inside s (Section bytes) end h = ap (λ b. cond b (with_part s (part_of (Section bytes)) end) (record s { place = end })) h
+item_inside s (Remark bytes) end h = ap (λ b. cond b (with_part s (part_of (Remark bytes)) end) (record s { place = end })) h
+item_inside s (Processing t u v) end h = ap (λ b. cond b (with_part s (part_of (Processing t u v)) end) (record s { place = end })) h
+item_inside s (EmptyTag tag) end h = refl
+
+-- what a content in an element makes of the state before it
+record Makes (s after : State) (c : Content) : Type 0 where
+  rows : all_rows after ≡ s.rows ++ rows_of (length s.open_elements) s.place s.text c
+  stack : after.open_elements ≡ s.open_elements
+  place : after.place ≡ s.place + content_length c
+
+-- the row at a seam ends
+end_seam : (place : ℕ) (xs : List Row) (row : Row) (ys : List Row) → end_at place (length xs) (xs ++ row ∷ ys) ≡ xs ++ ended place row ∷ ys
+end_seam place [] row ys = refl
+end_seam place (x ∷ xs) row ys = ap (λ zs. x ∷ zs) (end_seam place xs row ys)
+
+started : (xs ys zs : List Row) (row : Row) → (xs ++ (ys ++ row ∷ [])) ++ zs ≡ (xs ++ ys) ++ row ∷ zs
+started xs ys zs row =
+    ap (λ ws. ws ++ zs) (sym (append_assoc xs ys (row ∷ []))) ∙ append_assoc (xs ++ ys) (row ∷ []) zs
+
+-- behind an element's end tag
+end_step : (s inside : State) (tag : Tag) (inner : Content) (space : List ℕ) →
+    Makes (step s (StartTag tag)) inside inner →
+    step inside (EndTag tag.name space)
+    ≡ state (all_rows s ++ element_row (length s.open_elements) s.place (pair_end s.place tag inner space) tag
+    ∷ rows_of (suc (length s.open_elements)) (s.place + start_length tag) [] inner) s.open_elements (pair_end s.place tag inner space)
+end_step s inside tag inner space m =
+    let depth = length s.open_elements in
+    let begin = s.place + start_length tag in
+    let end = pair_end s.place tag inner space in
+    let first = element_row depth s.place begin tag in
+    let rows = rows_of (suc depth) begin [] inner in
+    let placed : inside.place + end_length tag space ≡ end = ap (λ p. p + end_length tag space) m.place in
+    (λ i. closed inside (m.stack i) (placed i))
+    ∙ ap (λ zs. state (end_at end (length (all_rows s)) zs) s.open_elements end)
+    (m.rows ∙ started s.rows (text_rows depth s.place s.text) rows first)
+    ∙ ap (λ zs. state zs s.open_elements end) (end_seam end (all_rows s) first rows)
+
+-- the rows behind an element and what follows it
+pair_rows : (xs ys zs ws : List Row) (row : Row) → ((xs ++ ys) ++ row ∷ zs) ++ ws ≡ xs ++ (ys ++ (row ∷ (zs ++ ws)))
+pair_rows xs ys zs ws row = append_assoc (xs ++ ys) (row ∷ zs) ws ∙ append_assoc xs ys (row ∷ (zs ++ ws))
 
 -- behind a content in an element
-run_content : (c : Content) (rows : List Row) (n : ℕ) (outer : List ℕ) (place : ℕ) (ts : List Token) → IsSimple c →
-    run (state rows (n ∷ outer) place) (tokens_of c ++ ts)
-    ≡ run (state (rows ++ rows_of (length (n ∷ outer)) place c) (n ∷ outer) (place + content_length c)) ts
-run_content NoContent rows n outer place ts s = λ i. run (state (nothing_behind rows i) (n ∷ outer) (nothing_more place i)) ts
-run_content (Then (Characters bytes) rest) rows n outer place ts s =
-    run_content rest (rows ++ text_row (length (n ∷ outer)) place bytes ∷ []) n outer (place + length bytes) ts s
-    ∙ (λ i. run (state (one_more_row rows (text_row (length (n ∷ outer)) place bytes) (rows_of (length (n ∷ outer)) (place + length bytes) rest) i) (n ∷ outer)
-    ((sum_place place (length bytes) (content_length rest) ∙ ap (λ l. place + l) (sym (length_tokens (Alone (Characters bytes)) (tokens_of rest)))) i)) ts)
-run_content (Then (EmptyTag tag) rest) rows n outer place ts s =
-    let depth = length (n ∷ outer) in
-    let end = place + empty_length tag in
-    run_content rest (rows ++ element_row depth place end tag ∷ []) n outer end ts s
-    ∙ (λ i. run (state (one_more_row rows (element_row depth place end tag) (rows_of depth end rest) i) (n ∷ outer)
-    ((sum_place place (empty_length tag) (content_length rest) ∙ ap (λ l. place + l) (sym (length_tokens (Alone (EmptyTag tag)) (tokens_of rest)))) i)) ts)
-run_content (Then (Refers r) rest) rows n outer place ts s = absurd s
-run_content (Then (Section bytes) rest) rows n outer place ts s = absurd s
-run_content (Then (Remark bytes) rest) rows n outer place ts s = absurd s
-run_content (Then (Processing t u w) rest) rows n outer place ts s = absurd s
-run_content (Pair tag inner space rest) rows n outer place ts s =
-    let depth = length (n ∷ outer) in
-    let begin = place + start_length tag in
-    let end = pair_end place tag inner space in
-    let inside = rows_of (suc depth) begin inner in
-    let first = element_row depth place begin tag in
-    let whole = element_row depth place end tag in
-    let ending : Token = EndTag tag.name space in
-    let later = tokens_of rest ++ ts in
-    ap (run (state (rows ++ first ∷ []) (length rows ∷ n ∷ outer) begin)) (append_assoc (tokens_of inner) (ending ∷ tokens_of rest) ts)
-    ∙ run_content inner (rows ++ first ∷ []) (length rows) (n ∷ outer) begin (ending ∷ later) s.0
-    ∙ ap (λ zs. run (state zs (length rows ∷ n ∷ outer) (begin + content_length inner)) (ending ∷ later)) (one_more_row rows first inside)
-    ∙ ap (option_and_then (λ t. run t later)) (close_at rows inside first (n ∷ outer) tag.name (attributes_of tag) (begin + content_length inner) end refl)
-    ∙ run_content rest (rows ++ whole ∷ inside) n outer end ts s.1
-    ∙ (λ i. run (state (append_assoc rows (whole ∷ inside) (rows_of depth end rest) i) (n ∷ outer) (pair_place place tag inner space rest i)) ts)
+run_content : (c : Content) (s : State) → is_some s.open_elements ≡ true → Makes s (run s (tokens_of c)) c
+run_content NoContent s h = record { rows = refl; stack = refl; place = nothing_more s.place }
+run_content (Then item rest) s h =
+    let depth = length s.open_elements in
+    let end = item_end s.place item in
+    let next = with_part s (part_of item) end in
+    let same : step s (Alone item) ≡ next = item_inside s item end h in
+    let behind = run_content rest next h in
+    record {
+      rows =
+          ap (λ t. all_rows (run t (tokens_of rest))) same ∙ behind.rows
+          ∙ append_assoc s.rows (part_rows depth s.place end s.text (part_of item)) (rows_of depth end (part_text s.text (part_of item)) rest);
+      stack = ap (λ t. (run t (tokens_of rest)).open_elements) same ∙ behind.stack;
+      place = ap (λ t. (run t (tokens_of rest)).place) same ∙ behind.place ∙ item_place s.place item rest;
+    }
+run_content (Pair tag inner space rest) s h =
+    let depth = length s.open_elements in
+    let begin = s.place + start_length tag in
+    let end = pair_end s.place tag inner space in
+    let inside = run (step s (StartTag tag)) (tokens_of inner) in
+    let row = element_row depth s.place end tag in
+    let rows = rows_of (suc depth) begin [] inner in
+    let next = state (all_rows s ++ row ∷ rows) s.open_elements end in
+    let same : run s (tokens_of (Pair tag inner space rest)) ≡ run next (tokens_of rest) =
+    run_append (tokens_of inner) (EndTag tag.name space ∷ tokens_of rest) (step s (StartTag tag))
+    ∙ ap (λ t. run t (tokens_of rest)) (end_step s inside tag inner space (run_content inner (step s (StartTag tag)) refl)) in
+    let behind = run_content rest next h in
+    record {
+      rows = ap all_rows same ∙ behind.rows ∙ pair_rows s.rows (text_rows depth s.place s.text) rows (rows_of depth end [] rest) row;
+      stack = ap (λ (t : State). t.open_elements) same ∙ behind.stack;
+      place = ap (λ (t : State). t.place) same ∙ behind.place ∙ pair_place s.place tag inner space rest;
+    }
 
 -- the rows of a document
 abbrev pub root_rows : ℕ → Content → List Row
 root_rows place NoContent = []
-root_rows place (Then (Characters bytes) rest) = root_rows (place + length bytes) rest
-root_rows place (Then (EmptyTag tag) rest) = element_row 0 place (place + empty_length tag) tag ∷ []
-root_rows place (Then item rest) = []
+root_rows place (Then (EmptyTag tag) rest) = element_row 0 place (item_end place (EmptyTag tag)) tag ∷ []
+root_rows place (Then item rest) = root_rows (item_end place item) rest
 root_rows place (Pair tag inner space rest) =
-    element_row 0 place (pair_end place tag inner space) tag ∷ rows_of 1 (place + start_length tag) inner
-
-white_step : (rows : List Row) (place : ℕ) (bytes : List ℕ) (ts : List Token) → list_all is_white bytes ≡ true →
-    run (state rows [] place) (Alone (Characters bytes) ∷ ts) ≡ run (state rows [] (place + length bytes)) ts
-white_step rows place bytes ts h =
-    ap (λ b. option_and_then (λ t. run t ts) (cond b (Some (state rows [] (place + length bytes))) None)) h
-
-white_place : (place : ℕ) (bytes : List ℕ) (rest : Content) →
-    (place + length bytes) + content_length rest ≡ place + content_length (Then (Characters bytes) rest)
-white_place place bytes rest =
-    sum_place place (length bytes) (content_length rest) ∙ ap (λ l. place + l) (sym (length_tokens (Alone (Characters bytes)) (tokens_of rest)))
+    element_row 0 place (pair_end place tag inner space) tag ∷ rows_of 1 (place + start_length tag) [] inner
 
 -- behind an epilog
-run_epilog : (c : Content) (rows : List Row) (place : ℕ) → IsSimple c → is_epilog c ≡ true →
-    run (state rows [] place) (tokens_of c) ≡ Some (state rows [] (place + content_length c))
-run_epilog NoContent rows place s h = ap (λ p. Some (state rows [] p)) (nothing_more place)
-run_epilog (Then (Characters bytes) rest) rows place s h =
-    white_step rows place bytes (tokens_of rest) (both_true (list_all is_white bytes) _ h).0
-    ∙ run_epilog rest rows (place + length bytes) s (both_true (list_all is_white bytes) _ h).1
-    ∙ ap (λ p. Some (state rows [] p)) (white_place place bytes rest)
-run_epilog (Then (EmptyTag tag) rest) rows place s h = absurd (let clash : false ≡ true = h in cc)
-run_epilog (Then (Refers r) rest) rows place s h = absurd s
-run_epilog (Then (Section bytes) rest) rows place s h = absurd s
-run_epilog (Then (Remark bytes) rest) rows place s h = absurd s
-run_epilog (Then (Processing t u w) rest) rows place s h = absurd s
-run_epilog (Pair tag inner space rest) rows place s h = absurd (let clash : false ≡ true = h in cc)
+run_epilog : (c : Content) (rows : List Row) (place : ℕ) → is_epilog c ≡ true → (run (state rows [] place) (tokens_of c)).rows ≡ rows
+run_epilog NoContent rows place h = refl
+run_epilog (Then (Characters bytes) rest) rows place h =
+    run_epilog rest rows (item_end place (Characters bytes)) (both_true (list_all is_white bytes) _ h).1
+run_epilog (Then (Remark bytes) rest) rows place h = run_epilog rest rows (item_end place (Remark bytes)) h
+run_epilog (Then (Processing t s v) rest) rows place h = run_epilog rest rows (item_end place (Processing t s v)) h
+run_epilog (Then (Refers r) rest) rows place h = absurd (let clash : false ≡ true = h in cc)
+run_epilog (Then (Section bytes) rest) rows place h = absurd (let clash : false ≡ true = h in cc)
+run_epilog (Then (EmptyTag tag) rest) rows place h = absurd (let clash : false ≡ true = h in cc)
+run_epilog (Pair tag inner space rest) rows place h = absurd (let clash : false ≡ true = h in cc)
 
 -- behind a document
-pub run_document : (c : Content) (place : ℕ) → IsSimple c → is_document c ≡ true →
-    run (state [] [] place) (tokens_of c) ≡ Some (state (root_rows place c) [] (place + content_length c))
-run_document NoContent place s h = absurd (let clash : false ≡ true = h in cc)
-run_document (Then (Characters bytes) rest) place s h =
-    white_step [] place bytes (tokens_of rest) (both_true (list_all is_white bytes) _ h).0
-    ∙ run_document rest (place + length bytes) s (both_true (list_all is_white bytes) _ h).1
-    ∙ ap (λ p. Some (state (root_rows (place + length bytes) rest) [] p)) (white_place place bytes rest)
-run_document (Then (EmptyTag tag) rest) place s h =
-    run_epilog rest (element_row 0 place (place + empty_length tag) tag ∷ []) (place + empty_length tag) s h
-    ∙ ap (λ p. Some (state (element_row 0 place (place + empty_length tag) tag ∷ []) [] p))
-    (sum_place place (empty_length tag) (content_length rest) ∙ ap (λ l. place + l) (sym (length_tokens (Alone (EmptyTag tag)) (tokens_of rest))))
-run_document (Then (Refers r) rest) place s h = absurd s
-run_document (Then (Section bytes) rest) place s h = absurd s
-run_document (Then (Remark bytes) rest) place s h = absurd s
-run_document (Then (Processing t u w) rest) place s h = absurd s
-run_document (Pair tag inner space rest) place s h =
-    let begin = place + start_length tag in
+pub run_document : (c : Content) (place : ℕ) → is_document c ≡ true → (run (first_state place) (tokens_of c)).rows ≡ root_rows place c
+run_document NoContent place h = absurd (let clash : false ≡ true = h in cc)
+run_document (Then (Characters bytes) rest) place h =
+    run_document rest (item_end place (Characters bytes)) (both_true (list_all is_white bytes) _ h).1
+run_document (Then (Remark bytes) rest) place h = run_document rest (item_end place (Remark bytes)) h
+run_document (Then (Processing t s v) rest) place h = run_document rest (item_end place (Processing t s v)) h
+run_document (Then (Refers r) rest) place h = absurd (let clash : false ≡ true = h in cc)
+run_document (Then (Section bytes) rest) place h = absurd (let clash : false ≡ true = h in cc)
+run_document (Then (EmptyTag tag) rest) place h =
+    run_epilog rest (element_row 0 place (item_end place (EmptyTag tag)) tag ∷ []) (item_end place (EmptyTag tag)) h
+run_document (Pair tag inner space rest) place h =
+    let s = first_state place in
     let end = pair_end place tag inner space in
-    let inside = rows_of 1 begin inner in
-    let first = element_row 0 place begin tag in
-    let whole = element_row 0 place end tag in
-    run_content inner (first ∷ []) 0 [] begin (EndTag tag.name space ∷ tokens_of rest) s.0
-    ∙ ap (option_and_then (λ t. run t (tokens_of rest))) (close_at [] inside first [] tag.name (attributes_of tag) (begin + content_length inner) end refl)
-    ∙ run_epilog rest (whole ∷ inside) end s.1 h
-    ∙ ap (λ p. Some (state (whole ∷ inside) [] p)) (pair_place place tag inner space rest)
+    let inside = run (step s (StartTag tag)) (tokens_of inner) in
+    let rows = element_row 0 place end tag ∷ rows_of 1 (place + start_length tag) [] inner in
+    ap (λ (t : State). t.rows)
+    (run_append (tokens_of inner) (EndTag tag.name space ∷ tokens_of rest) (step s (StartTag tag))
+    ∙ ap (λ t. run t (tokens_of rest)) (end_step s inside tag inner space (run_content inner (step s (StartTag tag)) refl)))
+    ∙ run_epilog rest rows end h

@@ -2,7 +2,7 @@
 use Rattle.std.proofs.Common.{◌≡◌, ℕ, zero, suc, ◌+◌, ◌-◌, ◌<◌, ◌≤◌, cond, List, [], ◌∷◌, take, refl, ap, ◌∙◌, subst, inl, inr, arith}
 use Rattle.std.proofs.lemmas.Bool.{cases_lt, cases_order}
 use Rattle.xml_spec.specs.Numbering.{size, elements, elements_before}
-use Rattle.saml_tree.specs.Rows.{Shape, ElementShape, TextShape, Row, nodes_at}
+use Rattle.saml_tree.specs.Rows.{Shape, ElementShape, TextShape, CommentShape, InstructionShape, Row, nodes_at}
 use Rattle.saml_tree.specs.Kept.{is_element, elements_in}
 use Rattle.saml_tree.specs.Links.{depths_of}
 use Rattle.saml_tree.proofs.Within.{within, within_out, within_in}
@@ -12,6 +12,8 @@ use Rattle.saml_tree.proofs.Places.{limit, Steps, own, nodes_same, nodes_deeper,
 counted_first : (shape : Shape) (n : ℕ) → cond (is_element shape) (suc n) n ≡ counted shape + n
 counted_first (ElementShape name attributes) n = omega arith
 counted_first (TextShape text) n = omega arith
+counted_first (CommentShape text) n = omega arith
+counted_first (InstructionShape target value) n = omega arith
 
 elements_more : (row : Row) (rows : List Row) → elements_in (row ∷ rows) ≡ counted row.shape + elements_in rows
 elements_more row rows = counted_first row.shape (elements_in rows)

@@ -4,7 +4,7 @@ use Rattle.std.specs.Bool.{⊤}
 use Rattle.std.specs.List.{AllByRecursion}
 use Rattle.std.proofs.lemmas.Bool.{cases_order}
 use Rattle.xml_spec.specs.Tree.{Attribute, Nodes, NoNodes, Element, Text, Comment, Instruction}
-use Rattle.saml_tree.specs.Rows.{Shape, ElementShape, TextShape, Row, node, nodes_at}
+use Rattle.saml_tree.specs.Rows.{Shape, ElementShape, TextShape, CommentShape, InstructionShape, Row, node, nodes_at}
 use Rattle.saml_tree.specs.Kept.{is_element, AreBelow, IsShaped}
 use Rattle.saml_tree.proofs.Contents.{at_depth}
 use Rattle.saml_tree.proofs.Places.{nodes_deeper}
@@ -22,6 +22,8 @@ EachElement P depth (Instruction target value rest) = EachElement P depth rest
 abbrev pub HoldsOf : (ℕ → List ℕ → List Attribute → Type 0) → ℕ → Shape → Type 0
 HoldsOf P depth (ElementShape name attributes) = P depth name attributes
 HoldsOf P depth (TextShape text) = ⊤
+HoldsOf P depth (CommentShape text) = ⊤
+HoldsOf P depth (InstructionShape target value) = ⊤
 
 abbrev pub EachRow : (ℕ → List ℕ → List Attribute → Type 0) → List Row → Type 0
 EachRow P rows = AllByRecursion (λ (r : Row). HoldsOf P r.depth r.shape) rows
@@ -30,6 +32,8 @@ holds_of_node : (P : ℕ → List ℕ → List Attribute → Type 0) (depth : �
     HoldsOf P depth shape → EachElement P (suc depth) kids → EachElement P depth rest → EachElement P depth (node shape kids rest)
 holds_of_node P depth (ElementShape name attributes) kids rest h k r = (h, k, r)
 holds_of_node P depth (TextShape text) kids rest h k r = r
+holds_of_node P depth (CommentShape text) kids rest h k r = r
+holds_of_node P depth (InstructionShape target value) kids rest h k r = r
 
 pub rows_to_tree : (P : ℕ → List ℕ → List Attribute → Type 0) (rows : List Row) (depth : ℕ) → EachRow P rows → EachElement P depth (nodes_at depth rows)
 rows_to_tree P [] depth h = tt
@@ -52,6 +56,8 @@ holds_of_parts : (P : ℕ → List ℕ → List Attribute → Type 0) (depth : �
     HoldsOf P depth shape × (IsTrue (is_element shape) → EachElement P (suc depth) kids) × EachElement P depth rest
 holds_of_parts P depth (ElementShape name attributes) kids rest h = (h.0, λ _. h.1, h.2)
 holds_of_parts P depth (TextShape text) kids rest h = (tt, λ e. absurd (let clash : false ≡ true = e in cc), h)
+holds_of_parts P depth (CommentShape text) kids rest h = (tt, λ e. absurd (let clash : false ≡ true = e in cc), h)
+holds_of_parts P depth (InstructionShape target value) kids rest h = (tt, λ e. absurd (let clash : false ≡ true = e in cc), h)
 
 -- how deep the row behind this one may be
 abbrev deepest : Row → ℕ

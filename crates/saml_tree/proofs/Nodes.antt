@@ -6,7 +6,7 @@ use Rattle.xml_spec.specs.Tree.{Nodes, NoNodes, Element, Text, Comment, Instruct
 use Rattle.xml_spec.specs.Numbering.{size, from_node, elements, elements_before, kids_of, rest_of, number_if_any, parent_of}
 use Rattle.saml_tree.specs.Documents.{kind_of, name_of, attributes_of, text_of}
 use Rattle.saml_tree.specs.declared.node.NodeKind.TheVariants as kinds
-use Rattle.saml_tree.specs.Rows.{Shape, ElementShape, TextShape, node}
+use Rattle.saml_tree.specs.Rows.{Shape, ElementShape, TextShape, CommentShape, InstructionShape, node}
 use Rattle.saml_tree.specs.Kept.{is_element}
 
 -- a text has no kids
@@ -17,22 +17,32 @@ pub size_of_node : (shape : Shape) (kids rest : Nodes) → HasRoom shape kids �
     size (node shape kids rest) ≡ suc (size kids + size rest)
 size_of_node (ElementShape name attributes) kids rest room = refl
 size_of_node (TextShape text) kids rest room = omega (arith, ap size (room refl))
+size_of_node (CommentShape text) kids rest room = omega (arith, ap size (room refl))
+size_of_node (InstructionShape target value) kids rest room = omega (arith, ap size (room refl))
 
 pub kids_of_node : (shape : Shape) (kids rest : Nodes) → HasRoom shape kids → kids_of (node shape kids rest) ≡ kids
 kids_of_node (ElementShape name attributes) kids rest room = refl
 kids_of_node (TextShape text) kids rest room = sym (room refl)
+kids_of_node (CommentShape text) kids rest room = sym (room refl)
+kids_of_node (InstructionShape target value) kids rest room = sym (room refl)
 
 pub rest_of_node : (shape : Shape) (kids rest : Nodes) → rest_of (node shape kids rest) ≡ rest
 rest_of_node (ElementShape name attributes) kids rest = refl
 rest_of_node (TextShape text) kids rest = refl
+rest_of_node (CommentShape text) kids rest = refl
+rest_of_node (InstructionShape target value) kids rest = refl
 
 pub number_of_node : (shape : Shape) (kids rest : Nodes) (k : ℕ) → number_if_any (node shape kids rest) k ≡ Some k
 number_of_node (ElementShape name attributes) kids rest k = refl
 number_of_node (TextShape text) kids rest k = refl
+number_of_node (CommentShape text) kids rest k = refl
+number_of_node (InstructionShape target value) kids rest k = refl
 
 pub node_at_zero : (shape : Shape) (kids rest : Nodes) → from_node (node shape kids rest) 0 ≡ node shape kids rest
 node_at_zero (ElementShape name attributes) kids rest = refl
 node_at_zero (TextShape text) kids rest = refl
+node_at_zero (CommentShape text) kids rest = refl
+node_at_zero (InstructionShape target value) kids rest = refl
 
 no_kids : (kids : Nodes) (k : ℕ) → kids ≡ NoNodes → k < size kids → ⊥
 no_kids kids k e h = omega (arith, ap size e)
@@ -42,11 +52,17 @@ pub node_at_kid : (shape : Shape) (kids rest : Nodes) (k : ℕ) → HasRoom shap
     from_node (node shape kids rest) (suc k) ≡ from_node kids k
 node_at_kid (ElementShape name attributes) kids rest k room h = cond-true (ltb k (size kids)) _ _ (lt-ltb _ _ h)
 node_at_kid (TextShape text) kids rest k room h = absurd (no_kids kids k (room refl) h)
+node_at_kid (CommentShape text) kids rest k room h = absurd (no_kids kids k (room refl) h)
+node_at_kid (InstructionShape target value) kids rest k room h = absurd (no_kids kids k (room refl) h)
 
 pub node_at_rest : (shape : Shape) (kids rest : Nodes) (k : ℕ) → HasRoom shape kids → size kids ≤ k →
     from_node (node shape kids rest) (suc k) ≡ from_node rest (k - size kids)
 node_at_rest (ElementShape name attributes) kids rest k room h = cond-false (ltb k (size kids)) _ _ (le-ltb _ _ h)
 node_at_rest (TextShape text) kids rest k room h =
+    ap (from_node rest) (let none : size kids ≡ 0 = ap size (room refl) in omega arith)
+node_at_rest (CommentShape text) kids rest k room h =
+    ap (from_node rest) (let none : size kids ≡ 0 = ap size (room refl) in omega arith)
+node_at_rest (InstructionShape target value) kids rest k room h =
     ap (from_node rest) (let none : size kids ≡ 0 = ap size (room refl) in omega arith)
 
 -- how many elements a node alone is
@@ -57,16 +73,22 @@ pub elements_of_node : (shape : Shape) (kids rest : Nodes) → HasRoom shape kid
     elements (node shape kids rest) ≡ counted shape + (elements kids + elements rest)
 elements_of_node (ElementShape name attributes) kids rest room = omega arith
 elements_of_node (TextShape text) kids rest room = omega (arith, ap elements (room refl))
+elements_of_node (CommentShape text) kids rest room = omega (arith, ap elements (room refl))
+elements_of_node (InstructionShape target value) kids rest room = omega (arith, ap elements (room refl))
 
 pub before_zero : (shape : Shape) (kids rest : Nodes) → elements_before (node shape kids rest) 0 ≡ 0
 before_zero (ElementShape name attributes) kids rest = refl
 before_zero (TextShape text) kids rest = refl
+before_zero (CommentShape text) kids rest = refl
+before_zero (InstructionShape target value) kids rest = refl
 
 pub before_kid : (shape : Shape) (kids rest : Nodes) (k : ℕ) → HasRoom shape kids → k < size kids →
     elements_before (node shape kids rest) (suc k) ≡ counted shape + elements_before kids k
 before_kid (ElementShape name attributes) kids rest k room h =
     cond-true (ltb k (size kids)) _ _ (lt-ltb _ _ h) ∙ omega arith
 before_kid (TextShape text) kids rest k room h = absurd (no_kids kids k (room refl) h)
+before_kid (CommentShape text) kids rest k room h = absurd (no_kids kids k (room refl) h)
+before_kid (InstructionShape target value) kids rest k room h = absurd (no_kids kids k (room refl) h)
 
 pub before_rest : (shape : Shape) (kids rest : Nodes) (k : ℕ) → HasRoom shape kids → size kids ≤ k →
     elements_before (node shape kids rest) (suc k) ≡ counted shape + (elements kids + elements_before rest (k - size kids))
@@ -77,16 +99,36 @@ before_rest (TextShape text) kids rest k room h =
     let nothing : elements kids ≡ 0 = ap elements (room refl) in
     let same : k ≡ k - size kids = omega arith in
     omega (arith, ap (elements_before rest) same)
+before_rest (CommentShape text) kids rest k room h =
+    let none : size kids ≡ 0 = ap size (room refl) in
+    let nothing : elements kids ≡ 0 = ap elements (room refl) in
+    let same : k ≡ k - size kids = omega arith in
+    omega (arith, ap (elements_before rest) same)
+before_rest (InstructionShape target value) kids rest k room h =
+    let none : size kids ≡ 0 = ap size (room refl) in
+    let nothing : elements kids ≡ 0 = ap elements (room refl) in
+    let same : k ≡ k - size kids = omega arith in
+    omega (arith, ap (elements_before rest) same)
 
 pub parent_zero : (shape : Shape) (kids rest : Nodes) → parent_of (node shape kids rest) 0 ≡ None
 parent_zero (ElementShape name attributes) kids rest = refl
 parent_zero (TextShape text) kids rest = refl
+parent_zero (CommentShape text) kids rest = refl
+parent_zero (InstructionShape target value) kids rest = refl
 
 pub parent_rest : (shape : Shape) (kids rest : Nodes) (k : ℕ) → HasRoom shape kids → size kids ≤ k →
     parent_of rest (k - size kids) ≡ None → parent_of (node shape kids rest) (suc k) ≡ None
 parent_rest (ElementShape name attributes) kids rest k room h none =
     cond-false (ltb k (size kids)) _ _ (le-ltb _ _ h) ∙ ap (option_map (λ p. suc (size kids + p))) none
 parent_rest (TextShape text) kids rest k room h none =
+    let empty : size kids ≡ 0 = ap size (room refl) in
+    let same : k ≡ k - size kids = omega arith in
+    ap (λ i. option_map (λ p. suc p) (parent_of rest i)) same ∙ ap (option_map (λ p. suc p)) none
+parent_rest (CommentShape text) kids rest k room h none =
+    let empty : size kids ≡ 0 = ap size (room refl) in
+    let same : k ≡ k - size kids = omega arith in
+    ap (λ i. option_map (λ p. suc p) (parent_of rest i)) same ∙ ap (option_map (λ p. suc p)) none
+parent_rest (InstructionShape target value) kids rest k room h none =
     let empty : size kids ≡ 0 = ap size (room refl) in
     let same : k ≡ k - size kids = omega arith in
     ap (λ i. option_map (λ p. suc p) (parent_of rest i)) same ∙ ap (option_map (λ p. suc p)) none
@@ -179,6 +221,8 @@ parent_is (Instruction target value rest) (suc p) j in_it h none =
 pub element_by_kind : (shape : Shape) (kids rest : Nodes) → kind_of (node shape kids rest) ≡ Some kinds.Element → is_element shape ≡ true
 element_by_kind (ElementShape name attributes) kids rest e = refl
 element_by_kind (TextShape text) kids rest e = absurd (let clash : Some kinds.Text ≡ Some kinds.Element = e in cc)
+element_by_kind (CommentShape text) kids rest e = absurd (let clash : Some kinds.Comment ≡ Some kinds.Element = e in cc)
+element_by_kind (InstructionShape target value) kids rest e = absurd (let clash : Some kinds.Instruction ≡ Some kinds.Element = e in cc)
 
 -- a node that has a name, attributes or a text is one of the tree
 kind_by_name : (nodes : Nodes) → IsSome (name_of nodes) → IsSome (kind_of nodes)

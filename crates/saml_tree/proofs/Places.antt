@@ -4,7 +4,7 @@ use Rattle.std.specs.Bool.{⊤}
 use Rattle.std.proofs.lemmas.Bool.{cases_lt, cases_order, cond-true, cond-false, eq-eqb, ne_eqb, lt-ltb, le-ltb}
 use Rattle.xml_spec.specs.Tree.{Nodes, NoNodes}
 use Rattle.xml_spec.specs.Numbering.{size, from_node, parent_of}
-use Rattle.saml_tree.specs.Rows.{Shape, ElementShape, TextShape, Row, node, nodes_at}
+use Rattle.saml_tree.specs.Rows.{Shape, ElementShape, TextShape, CommentShape, InstructionShape, Row, node, nodes_at}
 use Rattle.saml_tree.specs.Kept.{is_element, AreBelow, IsShaped}
 use Rattle.saml_tree.specs.Links.{depths_of}
 use Rattle.saml_tree.proofs.Within.{within, within_out, within_in, within_deep}
@@ -30,6 +30,8 @@ steps_of (row ∷ rows) h = (let root : row.depth ≡ 0 = h.0 in omega arith, st
 limit_of_shape : (shape : Shape) (depth : ℕ) → cond (is_element shape) (suc depth) depth ≤ suc depth
 limit_of_shape (ElementShape name attributes) depth = omega arith
 limit_of_shape (TextShape text) depth = omega arith
+limit_of_shape (CommentShape text) depth = omega arith
+limit_of_shape (InstructionShape target value) depth = omega arith
 
 pub limit_most : (row : Row) → limit row ≤ suc row.depth
 limit_most row = limit_of_shape row.shape row.depth

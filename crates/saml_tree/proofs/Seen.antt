@@ -1,23 +1,19 @@
 -- What the program reads of a row and its link, and what it says of the tree.
-use Rattle.std.proofs.Common.{◌≡◌, ℕ, suc, ◌+◌, ◌<◌, ◌≤◌, ◌++◌, true, List, [], ◌∷◌, length, get_or, take, drop, Some, None, IsSome, sym, ap, ◌∙◌, subst, arith}
+use Rattle.std.proofs.Common.{◌≡◌, ℕ, suc, ◌+◌, ◌<◌, ◌≤◌, ◌++◌, true, List, ◌∷◌, length, get_or, take, drop, Some, None, IsSome, sym, ap, ◌∙◌, subst, arith}
 use Rattle.std.proofs.lemmas.List.{get_or-map, length-map}
 use Rattle.xml_spec.specs.Tree.{Nodes}
 use Rattle.xml_spec.specs.Numbering.{size, from_node, elements_before, kids_of, rest_of, first_kid_of, next_of, parent_of}
-use Rattle.xml_spec.specs.Names.{outermost}
-use Rattle.xml_spec.specs.Canonical.{scope_at}
-use Rattle.xml_spec.specs.Identifiers.{identifiers}
 use Rattle.xml_spec.specs.Document.{IsRange}
 use Rattle.saml_tree.specs.Documents.{kind_of}
 use Rattle.saml_tree.specs.Rows as rows
 use Rattle.saml_tree.specs.Rows.{node, nodes_at}
-use Rattle.saml_tree.specs.Kept.{is_element, IsShaped, IsPlainShape, ArePlain, HaveRanges}
+use Rattle.saml_tree.specs.Kept.{is_element, IsShaped, HaveRanges}
 use Rattle.saml_tree.specs.Links.{depths_of, IsParent, IsEnd, AreLinked}
 use Rattle.saml_tree.specs.Views.{shape_view, row_view, row_views}
 use Rattle.saml_tree.specs.declared.row.Row.{Row}
 use Rattle.saml_tree.specs.declared.links.Link.{Link}
 use Rattle.saml_tree.proofs.Nodes.{HasRoom, kids_of_node, rest_of_node, in_tree}
 use Rattle.saml_tree.proofs.Places.{room_of}
-use Rattle.saml_tree.proofs.PlainNames.{plain_at, scope_stays, no_identifiers}
 use Rattle.saml_tree.proofs.Rows.{no_row, depth_at, depths_length, size_is, node_is, behind, first_kid_there, first_kid_none, next_there, next_none, root_alone, parent_there, before_row, split_at}
 
 -- a row that is read is seen as the one at its place
@@ -71,17 +67,6 @@ module _ (items : List Row) (tree : Nodes) (shaped : IsShaped (row_views items))
       (room_of kept list (behind (row_views items) shaped k there))
       (sym (ap (λ nodes. from_node nodes k) is) ∙ node_is (row_views items) shaped k there) in
       parts ∙ ap (λ (r : rows.Row). node r.shape (kids_of (from_node tree k)) (rest_of (from_node tree k))) (row_read items k row h read)
-
-  pub plain_read : (k : ℕ) (row : Row) → ArePlain (row_views items) → k < length items → row ≡ get_or items k row →
-      IsPlainShape (shape_view row.shape)
-  plain_read k row plain h read =
-      subst (λ (r : rows.Row). IsPlainShape r.shape) (row_read items k row h read) (plain_at (row_views items) k no_row plain (in_views k h))
-
-  pub scope_read : (k : ℕ) → ArePlain (row_views items) → scope_at outermost tree k ≡ outermost
-  scope_read k plain = sym (ap (λ nodes. scope_at outermost nodes k) is) ∙ scope_stays outermost 0 (row_views items) k plain
-
-  pub no_ids : ArePlain (row_views items) → identifiers tree ≡ []
-  no_ids plain = sym (ap identifiers is) ∙ no_identifiers 0 (row_views items) 0 plain
 
   pub first_kid_read : (k end : ℕ) → k < length items → IsEnd (depths_of (row_views items)) k end → k + 1 < end →
       first_kid_of tree k ≡ Some (k + 1)

@@ -1,9 +1,14 @@
 -- How the rows of a document are linked, and what a document keeps.
 use Rattle.std.specs.Prelude.{◌≡◌, ℕ, suc, ◌^◌, ◌<◌, ◌≤◌, List, length, map, slice_index, slice_index_or}
+use Rattle.xml_spec.specs.Identifiers.{identifiers}
 use Rattle.saml_tree.specs.Rows.{Row, nodes_at}
 use Rattle.saml_tree.specs.Documents.{IsSpelled}
-use Rattle.saml_tree.specs.Kept.{IsShaped, ArePlain, HaveRanges}
+use Rattle.saml_tree.specs.Kept.{IsShaped, HaveRanges}
+use Rattle.saml_tree.specs.Index.{IsIndex}
+use Rattle.saml_tree.specs.declared.ids.Ids.{Ids}
+use Rattle.saml_tree.specs.Resolved.{AreResolved}
 use Rattle.saml_tree.specs.declared.links.Link.{Link}
+use Rattle.saml_tree.specs.declared.names.Names.{Names}
 
 -- how deep each row stands
 abbrev pub depths_of : List Row → List ℕ
@@ -36,12 +41,13 @@ pub record AreLinked (depths : List ℕ) (links : List Link) : Type 0 where
   pub parents : HaveParents depths links
   pub ends : HaveEnds depths 0 links
 
--- what a document keeps: the rows of one tree, which are plain and which the text spells, the elements' places in
--- the text, and the links
-pub record IsKept (text : List ℕ) (rows : List Row) (links : List Link) : Type 0 where
+-- what a document keeps: the rows of one tree, which the text spells, the elements' places in the text, the links, the
+-- namespaces of the names, and the elements by their IDs
+pub record IsKept (text : List ℕ) (rows : List Row) (links : List Link) (names : Names) (ids : Ids) : Type 0 where
   pub shaped : IsShaped rows
-  pub plain : ArePlain rows
   pub ranges : HaveRanges text rows
   pub count : length rows < 2 ^ 32
   pub linked : AreLinked (depths_of rows) links
+  pub resolved : AreResolved rows names
   pub spelled : IsSpelled text (nodes_at 0 rows)
+  pub indexed : IsIndex (identifiers (nodes_at 0 rows)) ids

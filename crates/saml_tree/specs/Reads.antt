@@ -1,20 +1,31 @@
--- Tokens read one after the other.
-use Rattle.std.specs.Prelude.{◌≡◌, ℕ, List, [], ◌∷◌, ⊤}
-use Rattle.xml_spec.specs.Syntax.{Token, Alone, StartTag, EndTag, Characters, EmptyTag}
-use Rattle.xml_spec.specs.Meaning.{attributes_of}
+-- Tokens read one after the other, and what reading them answers.
+use Rattle.std.specs.Prelude.{◌≡◌, ℕ, List, [], ◌∷◌}
+use Rattle.xml_spec.specs.Characters.{IsText}
+use Rattle.xml_spec.specs.Tree.{Nodes, IsWithinLimits}
+use Rattle.xml_spec.specs.Syntax.{Token}
+use Rattle.xml_spec.specs.Document.{Spells}
 use Rattle.xml_spec.specs.Laws.{BeginsWith}
-use Rattle.saml_tree.specs.Rows.{ElementShape}
-use Rattle.saml_tree.specs.Kept.{IsPlainShape}
+use Rattle.xml_tokens.specs.declared.token.TokenFault.{TokenFault}
+use Rattle.xml_tokens.specs.declared.token.TokenFault.TheVariants as tokens
+use Rattle.saml_tree.specs.Rows.{Row, nodes_at}
+use Rattle.saml_tree.specs.Kept.{IsRead}
+use Rattle.saml_tree.specs.declared.node.TreeFault.{TreeFault}
+use Rattle.saml_tree.specs.declared.node.TreeFault.TheVariants as faults
 
 -- the text begins with these tokens, each as long as it can be, and goes on with the rest
 abbrev pub Reads : List ℕ → List Token → List ℕ → Type 0
 Reads text [] rest = text ≡ rest
 Reads text (token ∷ tokens) rest = (middle : List ℕ) × BeginsWith text token middle × Reads middle tokens rest
 
--- a token of a plain text: characters or a tag with plain names
-abbrev pub IsPlainToken : Token → Type 0
-IsPlainToken (Alone (Characters bytes)) = ⊤
-IsPlainToken (Alone (EmptyTag tag)) = IsPlainShape (ElementShape tag.name (attributes_of tag))
-IsPlainToken (StartTag tag) = IsPlainShape (ElementShape tag.name (attributes_of tag))
-IsPlainToken (EndTag name space) = ⊤
-IsPlainToken token = ⊥
+-- why there is no document, where there is no token
+abbrev pub fault_of : TokenFault → TreeFault
+fault_of tokens.Invalid = faults.BadXml
+fault_of tokens.NoMemory = faults.NoMemory
+
+-- what a text spells that is refused before its names are looked at: no tree, or one beyond the limits
+abbrev pub IsNotKept : List ℕ → TreeFault → Type 0
+IsNotKept text faults.BadXml = (tree : Nodes) → ¬ (Spells text tree)
+IsNotKept text faults.XmlLimit = IsText text → (rows : List Row) × IsRead text rows × ¬ (IsWithinLimits (nodes_at 0 rows))
+IsNotKept text faults.BadNames = ⊥
+IsNotKept text faults.DuplicateId = ⊥
+IsNotKept text faults.NoMemory = Unit {0}

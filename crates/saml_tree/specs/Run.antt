@@ -1,22 +1,59 @@
--- What one token after the other makes of a document that is being read.
-use Rattle.std.specs.Prelude.{ℕ, ◌+◌, Bool, true, false, ◌&&◌, ◌||◌, not, List, [], ◌∷◌, ◌++◌, length, Option, Some, None, if◌then◌else◌, slice_get, slice_set}
-use Rattle.std.specs.List.{list_all}
-use Rattle.std.specs.Option.{option_and_then}
-use Rattle.std.specs.Str.{bytes_eq}
-use Rattle.xml_spec.specs.Syntax.{is_white, Characters, EmptyTag, Token, Alone, StartTag, EndTag, print_token}
+-- What one token after the other makes of a document that is being read: its rows.
+use Rattle.std.specs.Prelude.{ℕ, zero, suc, ◌+◌, Bool, true, false, List, [], ◌∷◌, ◌++◌, length, if◌then◌else◌}
+use Rattle.std.specs.Char.{encode_utf8}
+use Rattle.xml_spec.specs.Syntax.{character_of, Tag, Item, Characters, Refers, Section, Remark, Processing, EmptyTag, print_item, Token, Alone, StartTag, EndTag, print_token}
 use Rattle.xml_spec.specs.Meaning.{line_ends, attributes_of}
-use Rattle.saml_tree.specs.Rows.{Shape, ElementShape, TextShape, Row}
+use Rattle.saml_tree.specs.Rows.{Shape, ElementShape, TextShape, CommentShape, InstructionShape, Row}
 
--- the rows so far, the numbers of the open elements, the innermost first, and where the next token begins
+-- the rows so far, the text behind them that may go on, the numbers of the open elements, the innermost first, and
+-- where the next token begins
 pub record State : Type 0 where
   pub rows : List Row
+  pub text : List ℕ
   pub open_elements : List ℕ
   pub place : ℕ
 
--- a row at the end, written up to this place
-abbrev pub with_row : State → Shape → ℕ → State
-with_row s shape end = record s {
-  rows = s.rows ++ record { depth = length s.open_elements; start = s.place; end = end; shape = shape } ∷ [];
+-- a text that ends at this place as a row, an empty one as none
+abbrev pub text_rows : ℕ → ℕ → List ℕ → List Row
+text_rows depth place [] = []
+text_rows depth place (b ∷ bytes) =
+    record { depth = depth; start = place; end = place; shape = TextShape (b ∷ bytes) } ∷ []
+
+-- the rows, and the text behind them
+abbrev pub all_rows : State → List Row
+all_rows s = s.rows ++ text_rows (length s.open_elements) s.place s.text
+
+-- what an item is in an element: a piece of a text, which joins what stands before it, or a node of its own
+pub data Part : Type 0 where
+  TextPart : (bytes : List ℕ) → Part
+  NodePart : (shape : Shape) → Part
+
+abbrev pub shape_of : Tag → Shape
+shape_of tag = ElementShape tag.name (attributes_of tag)
+
+abbrev pub part_of : Item → Part
+part_of (Characters bytes) = TextPart (line_ends bytes)
+part_of (Refers reference) = TextPart (encode_utf8 (character_of reference))
+part_of (Section bytes) = TextPart (line_ends bytes)
+part_of (Remark bytes) = NodePart (CommentShape (line_ends bytes))
+part_of (Processing target space value) = NodePart (InstructionShape target (line_ends value))
+part_of (EmptyTag tag) = NodePart (shape_of tag)
+
+-- the rows that a part adds behind this text, and the text that is left
+abbrev pub part_rows : ℕ → ℕ → ℕ → List ℕ → Part → List Row
+part_rows depth place end text (TextPart bytes) = []
+part_rows depth place end text (NodePart shape) =
+    text_rows depth place text ++ record { depth = depth; start = place; end = end; shape = shape } ∷ []
+
+abbrev pub part_text : List ℕ → Part → List ℕ
+part_text text (TextPart bytes) = text ++ bytes
+part_text text (NodePart shape) = []
+
+-- a part that is written up to this place
+abbrev pub with_part : State → Part → ℕ → State
+with_part s part end = record s {
+  rows = s.rows ++ part_rows (length s.open_elements) s.place end s.text part;
+  text = part_text s.text part;
   place = end;
 }
 
@@ -24,57 +61,45 @@ abbrev pub is_some : {X : Type 0} → List X → Bool
 is_some [] = false
 is_some (x ∷ xs) = true
 
--- an element may begin in an open one, or as the root
-abbrev pub may_begin : State → Bool
-may_begin s = is_some s.open_elements || not (is_some s.rows)
+-- outside the root nothing is kept
+abbrev pub with_part_inside : State → Part → ℕ → State
+with_part_inside s part end = if is_some s.open_elements then with_part s part end else record s { place = end }
 
--- it is an element of this name
-abbrev pub is_element_named : List ℕ → Shape → Bool
-is_element_named name (ElementShape given attributes) = bytes_eq given name
-is_element_named name (TextShape text) = false
+-- an item that is written up to this place; one outside that is an element is the root
+abbrev pub with_item : State → Item → ℕ → State
+with_item s (EmptyTag tag) end = with_part s (NodePart (shape_of tag)) end
+with_item s item end = with_part_inside s (part_of item) end
+
+-- an element whose start tag is written up to this place
+abbrev pub opened : State → Shape → ℕ → State
+opened s shape end = record (with_part s (NodePart shape) end) { open_elements = length (all_rows s) ∷ s.open_elements }
 
 -- the element ends at this place
 abbrev pub ended : ℕ → Row → Row
 ended place row = record row { end = place }
 
--- element n is the innermost open one; it ends at this place where it has this name
-abbrev pub closed : State → List ℕ → List ℕ → ℕ → Option State
-closed s [] name place = None
-closed s (n ∷ outer) name place =
-    option_and_then (λ row. if is_element_named name row.shape
-    then Some (record { rows = slice_set s.rows n (ended place row); open_elements = outer; place = place })
-    else None) (slice_get s.rows n)
+-- row n ends at this place
+abbrev pub end_at : ℕ → ℕ → List Row → List Row
+end_at place n [] = []
+end_at place zero (row ∷ rows) = ended place row ∷ rows
+end_at place (suc n) (row ∷ rows) = row ∷ end_at place n rows
 
--- behind a run of characters: a text in an open element, and else white space
-abbrev pub with_characters : State → List ℕ → Option State
-with_characters s bytes =
-    if is_some s.open_elements then Some (with_row s (TextShape (line_ends bytes)) (s.place + length bytes))
-    else if list_all is_white bytes then Some (record s { place = s.place + length bytes })
-    else None
+-- the innermost of these open elements ends at this place
+abbrev pub closed : State → List ℕ → ℕ → State
+closed s [] end = record { rows = all_rows s; text = []; open_elements = []; place = end }
+closed s (n ∷ outer) end = record { rows = end_at end n (all_rows s); text = []; open_elements = outer; place = end }
 
--- the state behind a token, none where the token has no place there
-abbrev pub step : State → Token → Option State
-step s (Alone (Characters bytes)) = with_characters s bytes
-step s (Alone (EmptyTag tag)) =
-    if may_begin s
-    then Some (with_row s (ElementShape tag.name (attributes_of tag)) (s.place + length (print_token (Alone (EmptyTag tag)))))
-    else None
-step s (StartTag tag) =
-    if may_begin s
-    then Some (record (with_row s (ElementShape tag.name (attributes_of tag)) (s.place + length (print_token (StartTag tag)))) { open_elements = length s.rows ∷ s.open_elements })
-    else None
-step s (EndTag name space) = closed s s.open_elements name (s.place + length (print_token (EndTag name space)))
-step s _ = None
+-- the state behind a token
+abbrev pub step : State → Token → State
+step s (Alone item) = with_item s item (s.place + length (print_item item))
+step s (StartTag tag) = opened s (shape_of tag) (s.place + length (print_token (StartTag tag)))
+step s (EndTag name space) = closed s s.open_elements (s.place + length (print_token (EndTag name space)))
 
 -- the state behind tokens in a row
-abbrev pub run : State → List Token → Option State
-run s [] = Some s
-run s (token ∷ tokens) = option_and_then (λ t. run t tokens) (step s token)
+abbrev pub run : State → List Token → State
+run s [] = s
+run s (token ∷ tokens) = run (step s token) tokens
 
--- before the first token of a text without a head
-abbrev pub first_state : State
-first_state = record { rows = []; open_elements = []; place = 0 }
-
--- the root is read and no element is open
-abbrev pub is_complete : State → Bool
-is_complete s = not (is_some s.open_elements) && is_some s.rows
+-- before the first token, which begins at this place
+abbrev pub first_state : ℕ → State
+first_state place = record { rows = []; text = []; open_elements = []; place = place }

@@ -1,45 +1,73 @@
 // What is made of a document's tokens: rows, one token after the other.
 
-ghost use Rattle.std.specs.Prelude.{◌≡◌, ◌<◌, ◌≤◌, ◌+◌, ◌^◌, ◌⊎◌, ℕ, length, vec_len, map, IfErr, OnOk, IsTrue, IsFalse, None, Some};
-ghost use Rattle.std.specs.List.{list_all};
-ghost use Rattle.xml_spec.specs.Bytes.{AllPass};
-ghost use Rattle.xml_spec.specs.Syntax.{is_white, Token, print_token};
-ghost use Rattle.saml_tree.specs.Plain.{is_plain_byte};
-ghost use Rattle.saml_tree.specs.Rows.{ElementShape, TextShape};
-ghost use Rattle.saml_tree.specs.Run.{first_state, with_row, with_characters, may_begin, is_element_named, closed, step, is_complete};
-ghost use Rattle.saml_tree.specs.Views.{attribute_view, shape_view, builder_view, Shows};
+ghost use Rattle.std.specs.Prelude.{◌≡◌, ◌<◌, ◌+◌, ◌^◌, ◌++◌, [], length, string_bytes, vec_len, map, IfOk, IfErr, OnOk, IsTrue};
+ghost use Rattle.std.specs.Char.{encode_utf8};
+ghost use Rattle.xml_spec.specs.Syntax.{Token, print_token};
+ghost use Rattle.xml_spec.specs.Meaning.{line_ends};
+ghost use Rattle.xml_tokens.specs.Views.{Shows, attribute_view};
+ghost use Rattle.saml_tree.specs.Rows.{ElementShape, CommentShape, InstructionShape};
+ghost use Rattle.saml_tree.specs.Run.{first_state, all_rows, TextPart, NodePart, with_part, with_part_inside, opened, end_at, closed, step};
+ghost use Rattle.saml_tree.specs.Views.{shape_view, builder_view};
 
 use crate::node::TreeFault;
-use crate::row::{Attribute, Markup, Row, Shape};
+use crate::row::{Attribute, Row, Shape};
 use std::alloc::Global;
+use std::mem;
 use xml_chars::Span;
+use xml_tokens::{Markup, put_line_ends};
 
-/// The rows so far, the numbers of the open elements, the innermost last, and where the next token begins.
+/// The rows so far, the text behind them that may go on, the numbers of the open elements, the innermost last, and
+/// where the next token begins.
 #[derive(Drop)]
 pub(crate) struct Builder<'a> {
     pub(crate) rows: Vec<Row<'a>>,
+    pub(crate) text: String,
     pub(crate) open_elements: Vec<usize>,
     pub(crate) place: usize,
 }
 
 impl<'a> Builder<'a> {
-    pub(crate) fn new(alloc: Global) -> Builder<'a>
-        ensures { builder_view result ≡ first_state }
+    /// Before the first token, which begins at this place.
+    pub(crate) fn new(alloc: Global, place: usize) -> Builder<'a>
+        ensures { builder_view result ≡ first_state place }
     {
         Builder {
             rows: Vec::new(alloc),
+            text: String::new(alloc),
             open_elements: Vec::new(alloc),
-            place: 0,
+            place,
         }
     }
 
-    // A node at the end, in the innermost open element, written in this many bytes.
-    fn push(&mut self, shape: Shape<'a>, len: usize) -> Result<(), TreeFault>
-        requires fits { self.old.place + len < 2 ^ 64 }
-        requires few { vec_len self.old.open_elements < 2 ^ 32 }
-        ensures ok { OnOk result (builder_view self.new ≡ with_row (builder_view self.old) (shape_view shape.entry) (self.old.place + len)) }
+    // The text so far becomes a row, an empty one none.
+    fn end_text(&mut self, alloc: Global) -> Result<(), TreeFault>
+        requires { vec_len self.old.open_elements < 2 ^ 32 }
+        ensures ok { OnOk result (builder_view self.new ≡ record (builder_view self.old) { rows = all_rows (builder_view self.old); text = [] }) }
         ensures err { IfErr result (λ e. e ≡ TreeFault.NoMemory) }
     {
+        if self.text.is_empty() {
+            return Ok(());
+        }
+        let text = mem::replace(&mut self.text, String::new(alloc));
+        self.rows.push(Row {
+            depth: self.open_elements.len() as u32,
+            span: Span {
+                start: self.place,
+                end: self.place,
+            },
+            shape: Shape::Text(text),
+        })?;
+        Ok(())
+    }
+
+    // A node at the end, in the innermost open element, written in this many bytes.
+    fn push(&mut self, alloc: Global, shape: Shape<'a>, len: usize) -> Result<(), TreeFault>
+        requires fits { self.old.place + len < 2 ^ 64 }
+        requires few { vec_len self.old.open_elements < 2 ^ 32 }
+        ensures ok { OnOk result (builder_view self.new ≡ with_part (builder_view self.old) (NodePart (shape_view shape.entry)) (self.old.place + len)) }
+        ensures err { IfErr result (λ e. e ≡ TreeFault.NoMemory) }
+    {
+        self.end_text(alloc)?;
         let end = self.place + len;
         self.rows.push(Row {
             depth: self.open_elements.len() as u32,
@@ -53,115 +81,185 @@ impl<'a> Builder<'a> {
         Ok(())
     }
 
-    // A run of characters: a text in an open element, and else white space.
-    fn characters(&mut self, text: &'a str) -> Result<(), TreeFault>
-        requires fits { self.old.place + length text.now < 2 ^ 64 }
-        requires few { vec_len self.old.open_elements < 2 ^ 32 }
-        requires plain { AllPass is_plain_byte text.now }
-        ensures ok { OnOk result (with_characters (builder_view self.old) text.now ≡ Some (builder_view self.new)) }
-        ensures err { IfErr result (λ e. (e ≡ TreeFault.NoMemory)
-            ⊎ ((e ≡ TreeFault.BadXml) × (with_characters (builder_view self.old) text.now ≡ None))) }
+    // A piece of a text, written in this many bytes.
+    fn put(&mut self, text: &str, len: usize) -> Result<(), TreeFault>
+        requires { self.old.place + len < 2 ^ 64 }
+        ensures ok { OnOk result (builder_view self.new
+            ≡ with_part_inside (builder_view self.old) (TextPart (line_ends text.now)) (self.old.place + len)) }
+        ensures err { IfErr result (λ e. e ≡ TreeFault.NoMemory) }
     {
         if !self.open_elements.is_empty() {
-            return self.push(Shape::Text(text), text.len());
+            put_translated(text, &mut self.text)?;
         }
-        if !is_all_white(text) {
-            return Err(TreeFault::BadXml);
-        }
-        self.place += text.len();
+        self.place += len;
         Ok(())
     }
 
-    // An element with no kids yet, in an open one or as the root.
-    fn element(
+    // A character of a text, written in this many bytes.
+    fn put_character(&mut self, character: char, len: usize) -> Result<(), TreeFault>
+        requires { self.old.place + len < 2 ^ 64 }
+        ensures ok { OnOk result (builder_view self.new
+            ≡ with_part_inside (builder_view self.old) (TextPart (encode_utf8 character)) (self.old.place + len)) }
+        ensures err { IfErr result (λ e. e ≡ TreeFault.NoMemory) }
+    {
+        if !self.open_elements.is_empty() {
+            self.text.push(character)?;
+        }
+        self.place += len;
+        Ok(())
+    }
+
+    // A comment. Outside the root it is not kept.
+    fn comment(&mut self, alloc: Global, text: &str, len: usize) -> Result<(), TreeFault>
+        requires fits { self.old.place + len < 2 ^ 64 }
+        requires few { vec_len self.old.open_elements < 2 ^ 32 }
+        ensures ok { OnOk result (builder_view self.new
+            ≡ with_part_inside (builder_view self.old) (NodePart (CommentShape (line_ends text.now))) (self.old.place + len)) }
+        ensures err { IfErr result (λ e. e ≡ TreeFault.NoMemory) }
+    {
+        if self.open_elements.is_empty() {
+            self.place += len;
+            return Ok(());
+        }
+        let text = translated(alloc, text)?;
+        self.push(alloc, Shape::Comment(text), len)
+    }
+
+    // A processing instruction. Outside the root it is not kept.
+    fn instruction(
         &mut self,
+        alloc: Global,
+        target: &'a str,
+        value: &str,
+        len: usize,
+    ) -> Result<(), TreeFault>
+        requires fits { self.old.place + len < 2 ^ 64 }
+        requires few { vec_len self.old.open_elements < 2 ^ 32 }
+        ensures ok { OnOk result (builder_view self.new
+            ≡ with_part_inside (builder_view self.old) (NodePart (InstructionShape target.now (line_ends value.now))) (self.old.place + len)) }
+        ensures err { IfErr result (λ e. e ≡ TreeFault.NoMemory) }
+    {
+        if self.open_elements.is_empty() {
+            self.place += len;
+            return Ok(());
+        }
+        let value = translated(alloc, value)?;
+        self.push(alloc, Shape::Instruction { target, value }, len)
+    }
+
+    // An element that the tokens behind stand in.
+    fn open(
+        &mut self,
+        alloc: Global,
         name: &'a str,
         attributes: Vec<Attribute<'a>>,
         len: usize,
     ) -> Result<(), TreeFault>
         requires fits { self.old.place + len < 2 ^ 64 }
         requires few { vec_len self.old.open_elements < 2 ^ 32 }
-        ensures ok { OnOk result (IsTrue (may_begin (builder_view self.old)) × (builder_view self.new
-            ≡ with_row (builder_view self.old) (ElementShape name.now (map attribute_view attributes.entry.items)) (self.old.place + len))) }
-        ensures err { IfErr result (λ e. (e ≡ TreeFault.NoMemory)
-            ⊎ ((e ≡ TreeFault.BadXml) × IsFalse (may_begin (builder_view self.old)))) }
+        ensures ok { OnOk result (builder_view self.new
+            ≡ opened (builder_view self.old) (ElementShape name.now (map attribute_view attributes.entry.items)) (self.old.place + len)) }
+        ensures err { IfErr result (λ e. e ≡ TreeFault.NoMemory) }
     {
-        if self.open_elements.is_empty() && !self.rows.is_empty() {
-            return Err(TreeFault::BadXml);
-        }
-        self.push(Shape::Element { name, attributes }, len)
-    }
-
-    // The end of the innermost open element, where it has this name.
-    fn end(&mut self, name: &str, len: usize) -> Result<(), TreeFault>
-        requires fits { self.old.place + len < 2 ^ 64 }
-        ensures ok { OnOk result (closed (builder_view self.old) (builder_view self.old).open_elements name.now (self.old.place + len)
-            ≡ Some (builder_view self.new)) }
-        ensures err { IfErr result (λ e. (e ≡ TreeFault.BadXml)
-            × (closed (builder_view self.old) (builder_view self.old).open_elements name.now (self.old.place + len) ≡ None)) }
-    {
-        let end = self.place + len;
-        let Some(number) = self.open_elements.pop() else {
-            return Err(TreeFault::BadXml);
-        };
-        if number >= self.rows.len() {
-            return Err(TreeFault::BadXml);
-        }
-        if !is_named(&self.rows[number].shape, name) {
-            return Err(TreeFault::BadXml);
-        }
-        self.rows[number].span.end = end;
-        self.place = end;
+        self.end_text(alloc)?;
+        let number = self.rows.len();
+        self.push(alloc, Shape::Element { name, attributes }, len)?;
+        self.open_elements.push(number)?;
         Ok(())
     }
 
-    /// Adds a token of this many bytes. A refusal says that the token has no place there.
-    pub(crate) fn take(&mut self, markup: Markup<'a>, len: usize) -> Result<(), TreeFault>
+    // The end of the innermost open element.
+    fn close(&mut self, alloc: Global, len: usize) -> Result<(), TreeFault>
         requires fits { self.old.place + len < 2 ^ 64 }
         requires few { vec_len self.old.open_elements < 2 ^ 32 }
-        requires shown { (token : Token) × Shows token markup × (len ≡ length (print_token token))
-            × AllPass is_plain_byte (print_token token) }
-        ensures ok { OnOk result ((token : Token) → Shows token markup.entry → len ≡ length (print_token token) →
-            step (builder_view self.old) token ≡ Some (builder_view self.new)) }
-        ensures err { IfErr result (λ e. (e ≡ TreeFault.NoMemory) ⊎ ((e ≡ TreeFault.BadXml)
-            × ((token : Token) → Shows token markup.entry → len ≡ length (print_token token) →
-            step (builder_view self.old) token ≡ None))) }
+        ensures ok { OnOk result (builder_view self.new
+            ≡ closed (builder_view self.old) (builder_view self.old).open_elements (self.old.place + len)) }
+        ensures err { IfErr result (λ e. e ≡ TreeFault.NoMemory) }
     {
-        match markup {
-            Markup::Characters(text) => self.characters(text),
-            Markup::Empty { name, attributes } => self.element(name, attributes, len),
-            Markup::Start { name, attributes } => {
-                let number = self.rows.len();
-                self.element(name, attributes, len)?;
-                self.open_elements.push(number)?;
-                Ok(())
-            }
-            Markup::End { name } => self.end(name, len),
+        self.end_text(alloc)?;
+        self.place += len;
+        let Some(number) = self.open_elements.pop() else {
+            return Ok(());
+        };
+        self.end_row(number);
+        Ok(())
+    }
+
+    // Row `number` ends where the next token begins.
+    fn end_row(&mut self, number: usize)
+        ensures { builder_view self.new
+            ≡ record (builder_view self.old) { rows = end_at self.old.place number (builder_view self.old).rows } }
+    {
+        if number < self.rows.len() {
+            self.rows[number].span.end = self.place;
         }
     }
 
-    /// Whether the root is read and no element is open.
-    pub(crate) fn is_complete(&self) -> bool
-        ensures { result ≡ is_complete (builder_view self.now) }
+    /// Adds a token of this many bytes.
+    pub(crate) fn take(
+        &mut self,
+        alloc: Global,
+        markup: Markup<'a>,
+        len: usize,
+    ) -> Result<(), TreeFault>
+        requires fits { self.old.place + len < 2 ^ 64 }
+        requires few { vec_len self.old.open_elements < 2 ^ 32 }
+        ensures ok { OnOk result ((token : Token) → Shows token markup.entry → len ≡ length (print_token token) →
+            step (builder_view self.old) token ≡ builder_view self.new) }
+        ensures err { IfErr result (λ e. e ≡ TreeFault.NoMemory) }
     {
-        self.open_elements.is_empty() && !self.rows.is_empty()
+        match markup {
+            Markup::Characters(text) | Markup::Section(text) => self.put(text, len),
+            Markup::Reference(character) => self.put_character(character, len),
+            Markup::Comment(text) => self.comment(alloc, text, len),
+            Markup::Instruction { target, value } => self.instruction(alloc, target, value, len),
+            Markup::Empty { name, attributes } => {
+                self.push(alloc, Shape::Element { name, attributes }, len)
+            }
+            Markup::Start { name, attributes } => self.open(alloc, name, attributes, len),
+            Markup::End { .. } => self.close(alloc, len),
+        }
+    }
+
+    /// Adds a token of this many bytes to a document that is within the limits. Of others no more rows are kept.
+    pub(crate) fn take_if(
+        &mut self,
+        within: bool,
+        alloc: Global,
+        markup: Markup<'a>,
+        len: usize,
+    ) -> Result<(), TreeFault>
+        requires fits { IsTrue within → self.old.place + len < 2 ^ 64 }
+        requires few { IsTrue within → vec_len self.old.open_elements < 2 ^ 32 }
+        ensures ok { OnOk result (IsTrue within → (token : Token) → Shows token markup.entry → len ≡ length (print_token token) →
+            step (builder_view self.old) token ≡ builder_view self.new) }
+        ensures err { IfErr result (λ e. e ≡ TreeFault.NoMemory) }
+    {
+        if within {
+            self.take(alloc, markup, len)
+        } else {
+            Ok(())
+        }
     }
 }
 
-// Whether it is an element of this name.
-fn is_named(shape: &Shape<'_>, name: &str) -> bool
-    ensures { result ≡ is_element_named name.now (shape_view shape.now) }
+// Appends a text with its line ends translated (XML 1.0, 2.11).
+fn put_translated(text: &str, out: &mut String) -> Result<(), TreeFault>
+    ensures ok { OnOk result (string_bytes out.new ≡ string_bytes out.old ++ line_ends text.now) }
+    ensures err { IfErr result (λ e. e ≡ TreeFault.NoMemory) }
 {
-    match shape {
-        Shape::Element { name: given, .. } => *given == name,
-        Shape::Text(_) => false,
+    match put_line_ends(text, out) {
+        Ok(()) => Ok(()),
+        Err(_) => Err(TreeFault::NoMemory),
     }
 }
 
-// Whether each byte is white space.
-fn is_all_white(text: &str) -> bool
-    ensures { result ≡ list_all is_white text.now }
+// A text with its line ends translated.
+fn translated(alloc: Global, text: &str) -> Result<String, TreeFault>
+    ensures ok { IfOk result (λ out. string_bytes out ≡ line_ends text.now) }
+    ensures err { IfErr result (λ e. e ≡ TreeFault.NoMemory) }
 {
-    text.bytes()
-        .all(|b| matches!(b, b' ' | b'\t' | b'\r' | b'\n'))
+    let mut out = String::new(alloc);
+    put_translated(text, &mut out)?;
+    Ok(out)
 }

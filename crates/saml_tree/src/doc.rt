@@ -2,20 +2,21 @@
 
 ghost use Rattle.std.specs.Prelude.{◌≡◌, ℕ, ◌<◌, ◌++◌, ◌↔◌, List, [], length, map, take, string_bytes, Some, IsTrue, OnOk, OnErr, IfOk, IfErr, IfSome, IsSome, ◌^◌};
 ghost use Rattle.std.specs.Option.{option_map};
-ghost use Rattle.std.specs.List.{AllByRecursion};
 ghost use Rattle.xml_spec.specs.Numbering.{size, from_node, kids_of, rest_of, first_kid_of, next_of, parent_of, elements_before};
 ghost use Rattle.xml_spec.specs.Identifiers.{identifiers, node_with};
-ghost use Rattle.xml_spec.specs.Names.{outermost};
-ghost use Rattle.xml_spec.specs.Canonical.{scope_at};
 ghost use Rattle.xml_spec.specs.Document.{IsRange};
-ghost use Rattle.saml_tree.specs.PlainTree.{ArePlainNodes};
 ghost use Rattle.saml_tree.specs.Documents.{IsSpelled, kind_of, name_of, attributes_of, text_of};
 ghost use Rattle.saml_tree.specs.NodeNames.{ShownName, name_at, attribute_at, attribute_name_at};
 ghost use Rattle.saml_tree.specs.Rows.{node, nodes_at};
-ghost use Rattle.saml_tree.specs.Kept.{IsShaped, IsPlainName, IsPlainShape, ArePlain, HaveRanges};
-ghost use Rattle.saml_tree.specs.Views.{attribute_view, shape_view, row_views, name_view};
+ghost use Rattle.saml_tree.specs.Resolved.{AreResolved};
+ghost use Rattle.saml_tree.specs.Kept.{IsShaped, HaveRanges};
+ghost use Rattle.saml_tree.specs.Index.{IsIndex};
+ghost use Rattle.saml_tree.specs.Views.{shape_view, row_views, name_view};
+ghost use Rattle.xml_tokens.specs.Views.{attribute_view};
 
+use crate::ids::Ids;
 use crate::links::{Link, links_of};
+use crate::names::{Names, shown_name};
 use crate::node::{Name, NodeKind, NodeNo, TreeFault};
 use crate::row::{Attribute, Row, Shape};
 use saml_outside::NoMemory;
@@ -29,6 +30,8 @@ pub struct Doc<'a> {
     text: &'a [u8],
     rows: Vec<Row<'a>>,
     links: Vec<Link>,
+    names: Names,
+    ids: Ids,
 }
 
 impl<'a> Model for Doc<'a> {
@@ -44,7 +47,7 @@ impl<'a> Model for Doc<'a> {
 
     ghost view = { λ d. record { text = d.text.now; tree = nodes_at 0 (row_views d.rows.items) } };
 
-    ghost invariant = { λ d. IsKept d.text.now (row_views d.rows.items) d.links.items };
+    ghost invariant = { λ d. IsKept d.text.now (row_views d.rows.items) d.links.items d.names d.ids };
 }
 
 impl<'a> Doc<'a> {
@@ -52,23 +55,32 @@ impl<'a> Doc<'a> {
     ghost use Rattle.saml_tree.specs.declared.node.NodeKind.TheVariants as kinds;
     ghost use Rattle.saml_tree.specs.declared.node.TreeFault.TheVariants as faults;
 
-    /// The document of these rows.
+    /// The document of these rows, with its elements by their IDs.
     pub(crate) fn of(
         alloc: Global,
         text: &'a [u8],
         rows: Vec<Row<'a>>,
+        names: Names,
+        ids: Ids,
     ) -> Result<Doc<'a>, TreeFault>
         requires shaped { IsShaped (row_views rows.items) }
-        requires plain { ArePlain (row_views rows.items) }
         requires ranges { HaveRanges text.now (row_views rows.items) }
         requires count { length rows.items < 2 ^ 32 }
+        requires resolved { AreResolved (row_views rows.items) names }
         requires spelled { IsSpelled text.now (nodes_at 0 (row_views rows.items)) }
+        requires indexed { IsIndex (identifiers (nodes_at 0 (row_views rows.items))) ids }
         ensures text { IfOk result (λ doc. doc.text ≡ text.now) }
         ensures tree { IfOk result (λ doc. doc.tree ≡ nodes_at 0 (row_views rows.entry.items)) }
         ensures err { IfErr result (λ e. e ≡ faults.NoMemory) }
     {
         let links = links_of(alloc, &rows)?;
-        Ok(Doc { text, rows, links })
+        Ok(Doc {
+            text,
+            rows,
+            links,
+            names,
+            ids,
+        })
     }
 
     /// The root element.
@@ -77,7 +89,6 @@ impl<'a> Doc<'a> {
         ensures element { kind_of (from_node self.now.tree result.0) ≡ Some kinds.Element }
         // The tree is the one that the text spells, under the limits, named and single.
         ensures spelled { IsSpelled self.now.text self.now.tree }
-        ensures plain { ArePlainNodes self.now.tree }
     {
         let _ = &self.rows;
         NodeNo(0)
@@ -87,8 +98,6 @@ impl<'a> Doc<'a> {
     fn shape(&self, n: NodeNo) -> &Shape<'a>
         requires { n.0 < size self.now.tree }
         ensures node { let here = from_node self.now.tree n.0 in here ≡ node (shape_view result.now) (kids_of here) (rest_of here) }
-        ensures plain { IsPlainShape (shape_view result.now) }
-        ensures scope { scope_at outermost self.now.tree n.0 ≡ outermost }
     {
         &self.rows[n.0 as usize].shape
     }
@@ -101,13 +110,16 @@ impl<'a> Doc<'a> {
         match self.shape(n) {
             Shape::Element { .. } => NodeKind::Element,
             Shape::Text(_) => NodeKind::Text,
+            Shape::Comment(_) => NodeKind::Comment,
+            Shape::Instruction { .. } => NodeKind::Instruction,
         }
     }
 
     /// The first kid of an element.
     pub fn first_kid(&self, n: NodeNo) -> Option<NodeNo>
         requires { kind_of (from_node self.now.tree n.0) ≡ Some kinds.Element }
-        ensures { option_map (λ kid. kid.0) result ≡ first_kid_of self.now.tree n.0 }
+        ensures number { option_map (λ kid. kid.0) result ≡ first_kid_of self.now.tree n.0 }
+        ensures inside { IfSome result (λ kid. kid.0 < size self.now.tree) }
     {
         let end = self.links[n.0 as usize].end;
         let behind = n.0 + 1;
@@ -121,7 +133,8 @@ impl<'a> Doc<'a> {
     /// The node behind this one among the kids of their parent.
     pub fn next(&self, n: NodeNo) -> Option<NodeNo>
         requires { n.0 < size self.now.tree }
-        ensures { option_map (λ node. node.0) result ≡ next_of self.now.tree n.0 }
+        ensures number { option_map (λ node. node.0) result ≡ next_of self.now.tree n.0 }
+        ensures inside { IfSome result (λ node. node.0 < size self.now.tree) }
     {
         let end = self.links[n.0 as usize].end;
         if (end as usize) < self.rows.len()
@@ -136,7 +149,8 @@ impl<'a> Doc<'a> {
     /// The element that the node is a kid of; the root has none.
     pub fn parent(&self, n: NodeNo) -> Option<NodeNo>
         requires { n.0 < size self.now.tree }
-        ensures { option_map (λ element. element.0) result ≡ parent_of self.now.tree n.0 }
+        ensures number { option_map (λ element. element.0) result ≡ parent_of self.now.tree n.0 }
+        ensures element { IfSome result (λ element. kind_of (from_node self.now.tree element.0) ≡ Some kinds.Element) }
     {
         if n.0 == 0 {
             None
@@ -151,9 +165,22 @@ impl<'a> Doc<'a> {
         ensures { name_at self.now.tree n.0 ≡ Some (name_view result) }
     {
         match self.shape(n) {
-            Shape::Element { name, .. } => plain_name(name),
-            Shape::Text(_) => unreachable!(),
+            Shape::Element { name, .. } => shown_name(name, self.namespace(n)),
+            Shape::Instruction { target, .. } => Name {
+                prefix: "",
+                local: target,
+                namespace: "",
+            },
+            Shape::Text(_) | Shape::Comment(_) => unreachable!(),
         }
+    }
+
+    /// The namespace that the name of an element is in.
+    fn namespace(&self, n: NodeNo) -> &str
+        requires { kind_of (from_node self.now.tree n.0) ≡ Some kinds.Element }
+        ensures { option_map (λ name. name.namespace) (name_at self.now.tree n.0) ≡ Some result.now }
+    {
+        self.names.of_element(n.0 as usize)
     }
 
     /// Where an element stands in the text: from its first '<' to behind its last '>'.
@@ -168,12 +195,10 @@ impl<'a> Doc<'a> {
     fn attributes(&self, n: NodeNo) -> &[Attribute<'a>]
         requires { IsSome (attributes_of (from_node self.now.tree n.0)) }
         ensures attributes { attributes_of (from_node self.now.tree n.0) ≡ Some (map attribute_view result.now) }
-        ensures plain { AllByRecursion (λ a. IsPlainName a.name) (map attribute_view result.now) }
-        ensures scope { scope_at outermost self.now.tree n.0 ≡ outermost }
     {
         match self.shape(n) {
             Shape::Element { attributes, .. } => attributes.as_slice(),
-            Shape::Text(_) => unreachable!(),
+            Shape::Text(_) | Shape::Comment(_) | Shape::Instruction { .. } => unreachable!(),
         }
     }
 
@@ -198,7 +223,15 @@ impl<'a> Doc<'a> {
         requires { IsSome (attribute_at self.now.tree n.0 i) }
         ensures { attribute_name_at self.now.tree n.0 i ≡ Some (name_view result) }
     {
-        plain_name(self.attributes(n)[i].name)
+        shown_name(self.attribute(n, i).name, self.attr_namespace(n, i))
+    }
+
+    /// The namespace that the name of attribute i of an element is in.
+    fn attr_namespace(&self, n: NodeNo, i: usize) -> &str
+        requires { IsSome (attribute_at self.now.tree n.0 i) }
+        ensures { option_map (λ name. name.namespace) (attribute_name_at self.now.tree n.0 i) ≡ Some result.now }
+    {
+        self.names.of_attribute(n.0 as usize, i)
     }
 
     /// Whether the value of attribute i of an element is `s`, byte by byte.
@@ -223,18 +256,19 @@ impl<'a> Doc<'a> {
         Ok(())
     }
 
-    /// A text.
+    /// A text, or the value of an instruction.
     fn text(&self, n: NodeNo) -> &str
         requires { IsSome (text_of (from_node self.now.tree n.0)) }
         ensures { text_of (from_node self.now.tree n.0) ≡ Some result.now }
     {
         match self.shape(n) {
-            Shape::Element { .. } => unreachable!(),
-            Shape::Text(text) => text,
+            Shape::Text(text) => text.as_str(),
+            Shape::Instruction { value, .. } => value.as_str(),
+            Shape::Element { .. } | Shape::Comment(_) => unreachable!(),
         }
     }
 
-    /// Whether the text is `s`, byte by byte.
+    /// Whether the text, or the value of an instruction, is `s`, byte by byte.
     pub fn text_is(&self, n: NodeNo, s: &str) -> bool
         requires { IsSome (text_of (from_node self.now.tree n.0)) }
         ensures { IfSome (text_of (from_node self.now.tree n.0)) (λ text. IsTrue result ↔ (text ≡ s.now)) }
@@ -242,7 +276,7 @@ impl<'a> Doc<'a> {
         self.text(n) == s
     }
 
-    /// Appends the text.
+    /// Appends the text, or the value of an instruction.
     ///
     /// # Errors
     ///
@@ -256,23 +290,12 @@ impl<'a> Doc<'a> {
         Ok(())
     }
 
-    /// The element with this ID. No attribute of a document that is kept so far is an ID.
+    /// The element with this ID, which is the value of its attribute named ID.
     pub fn by_id(&self, id: &str) -> Option<NodeNo>
-        ensures { option_map (λ element. element.0) result ≡ node_with (identifiers self.now.tree) id.now }
+        ensures number { option_map (λ element. element.0) result ≡ node_with (identifiers self.now.tree) id.now }
+        ensures element { IfSome result (λ element. kind_of (from_node self.now.tree element.0) ≡ Some kinds.Element) }
     {
-        let _ = &self.rows;
-        let _ = id;
-        None
-    }
-}
-
-/// A name without a prefix that is in no namespace.
-fn plain_name(local: &str) -> Name<'_>
-    ensures { name_view result ≡ record { prefix = []; local = local.now; namespace = [] } }
-{
-    Name {
-        prefix: "",
-        local,
-        namespace: "",
+        let number = self.ids.get(id)?;
+        Some(NodeNo(number))
     }
 }

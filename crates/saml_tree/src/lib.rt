@@ -2,21 +2,21 @@
 #![tactic(auto)]
 
 mod build;
-mod class;
 mod doc;
-mod lex;
+mod ids;
 mod limits;
 mod links;
 mod names;
 mod node;
-mod parts;
-mod plain;
+mod outline;
+mod qualified;
 mod read;
 mod row;
+mod spaces;
 #[cfg(test)]
 mod tests;
+mod text;
 
 pub use doc::Doc;
 pub use node::{Name, NodeKind, NodeNo, TreeFault};
-pub use plain::is_plain;
 pub use read::read_document;

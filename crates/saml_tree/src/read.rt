@@ -1,49 +1,90 @@
 // From the bytes of a text to its rows.
 
-ghost use Rattle.std.specs.Prelude.{◌≡◌, ◌<◌, ◌≤◌, ◌^◌, ◌⊎◌, ℕ, length, vec_len, IfOk, IfErr};
+ghost use Rattle.std.specs.Prelude.{◌≡◌, ◌<◌, ◌≤◌, ◌^◌, length, vec_len, IfOk, IfErr};
 ghost use Rattle.xml_spec.specs.Characters.{IsText};
-ghost use Rattle.xml_spec.specs.Tree.{Nodes};
-ghost use Rattle.xml_spec.specs.Document.{Spells};
-ghost use Rattle.saml_tree.specs.Plain.{IsPlain};
+ghost use Rattle.xml_spec.specs.Tree.{IsWithinLimits};
+ghost use Rattle.xml_tokens.specs.Heads.{HasHead};
+ghost use Rattle.saml_tree.specs.Rows.{nodes_at};
 ghost use Rattle.saml_tree.specs.Kept.{IsRead};
 ghost use Rattle.saml_tree.specs.Documents.{IsSpelled, IsRefused};
+ghost use Rattle.saml_tree.specs.Reads.{IsNotKept};
 ghost use Rattle.saml_tree.specs.Views.{row_views};
 
 use crate::build::Builder;
 use crate::doc::Doc;
-use crate::lex::next_markup;
-use crate::limits::is_within_limits;
-use crate::names::has_names;
+use crate::ids::index_of;
+use crate::limits::is_small;
+use crate::names::resolve;
 use crate::node::TreeFault;
-use crate::plain::is_text;
+use crate::outline::Outline;
 use crate::row::Row;
+use crate::text::text_of;
 use std::alloc::Global;
+use xml_tokens::{TokenFault, behind_head, next_token};
 
-// The rows of a plain text, read to its end. `BadXml` says that the text spells no tree.
-fn read_rows<'a>(alloc: Global, text: &'a str) -> Result<Vec<Row<'a>>, TreeFault>
-    requires plain { IsPlain text.now }
-    requires small { length text.now < 2 ^ 32 }
-    ensures ok { IfOk result (λ rows. IsText text.now → IsRead text.now (row_views rows.items)) }
-    ensures few { IfOk result (λ rows. vec_len rows ≤ length text.now) }
-    ensures err { IfErr result (λ e. (e ≡ TreeFault.NoMemory)
-        ⊎ ((e ≡ TreeFault.BadXml) × ((tree : Nodes) → ¬ (Spells text.now tree)))) }
-{
-    let mut builder = Builder::new(alloc);
-    let mut rest = text;
-    'tokens: while !rest.is_empty() {
-        let len = rest.len();
-        let (markup, behind) = next_markup(alloc, rest)?;
-        builder.take(markup, len - behind.len())?;
-        rest = behind;
-    }
-    if builder.is_complete() {
-        Ok(builder.rows)
-    } else {
-        Err(TreeFault::BadXml)
+impl From<TokenFault> for TreeFault {
+    ghost use Rattle.std.specs.Prelude.{◌≡◌};
+    ghost use Rattle.saml_tree.specs.Reads.{fault_of};
+
+    ghost from_gives = { λ fault e. e ≡ fault_of fault };
+
+    fn from(fault: TokenFault) -> TreeFault {
+        match fault {
+            TokenFault::Invalid => TreeFault::BadXml,
+            TokenFault::NoMemory => TreeFault::NoMemory,
+        }
     }
 }
 
-/// The document that a plain text of at most 262,144 bytes spells (XML 1.0, fifth edition).
+/// The rows of a text, of which `rest` stands behind the head. It is read to its end before the limits are judged:
+/// `BadXml` says that the text spells no tree, `XmlLimit` that it spells one beyond them.
+pub(crate) fn read_rows<'a>(
+    alloc: Global,
+    text: &'a str,
+    rest: &'a str,
+) -> Result<Vec<Row<'a>>, TreeFault>
+    requires head { HasHead text.now rest.now }
+    requires small { length text.now < 2 ^ 32 }
+    ensures ok { IfOk result (λ rows. IsText text.now → IsRead text.now (row_views rows.items)) }
+    ensures limits { IfOk result (λ rows. IsWithinLimits (nodes_at 0 (row_views rows.items))) }
+    ensures few { IfOk result (λ rows. vec_len rows ≤ length text.now) }
+    ensures err { IfErr result (λ fault. IsNotKept text.now fault) }
+{
+    let mut outline = Outline::new(alloc);
+    let mut builder = Builder::new(alloc, text.len() - rest.len());
+    let mut left = rest;
+    let mut within = true;
+    'tokens: while !left.is_empty() {
+        let (markup, behind) = next_token(alloc, left)?;
+        within &= is_small(&markup, outline.depth());
+        outline.take(&markup)?;
+        builder.take_if(within, alloc, markup, left.len() - behind.len())?;
+        left = behind;
+    }
+    if !outline.is_complete() {
+        return Err(TreeFault::BadXml);
+    }
+    if !within {
+        return Err(TreeFault::XmlLimit);
+    }
+    Ok(builder.rows)
+}
+
+// The document of the rows that were read, where its names and its IDs keep the rules.
+fn document_of<'a>(alloc: Global, text: &'a [u8], rows: Vec<Row<'a>>) -> Result<Doc<'a>, TreeFault>
+    requires read { IsRead text.now (row_views rows.items) }
+    requires limits { IsWithinLimits (nodes_at 0 (row_views rows.items)) }
+    requires count { length rows.items < 2 ^ 32 }
+    ensures text { IfOk result (λ doc. doc.text ≡ text.now) }
+    ensures ok { IfOk result (λ doc. IsSpelled text.now doc.tree) }
+    ensures refused { IfErr result (λ fault. IsRefused text.now fault) }
+{
+    let names = resolve(alloc, &rows)?;
+    let ids = index_of(alloc, &rows)?;
+    Doc::of(alloc, text, rows, names, ids)
+}
+
+/// The document that a text of at most 262,144 bytes spells (XML 1.0, fifth edition).
 ///
 /// # Errors
 ///
@@ -51,23 +92,16 @@ fn read_rows<'a>(alloc: Global, text: &'a str) -> Result<Vec<Row<'a>>, TreeFault
 /// place of any other answer.
 pub fn read_document<'a>(alloc: Global, text: &'a [u8]) -> Result<Doc<'a>, TreeFault>
     requires small { length text.now ≤ 262144 }
-    requires plain { IsPlain text.now }
     ensures text { IfOk result (λ doc. doc.text ≡ text.now) }
     ensures ok { IfOk result (λ doc. IsSpelled text.now doc.tree) }
     ensures refused { IfErr result (λ fault. IsRefused text.now fault) }
 {
-    if !is_text(text) {
-        return Err(TreeFault::BadXml);
-    }
-    let Ok(characters) = str::from_utf8(text) else {
+    let Some(characters) = text_of(text) else {
         return Err(TreeFault::BadXml);
     };
-    let rows = read_rows(alloc, characters)?;
-    if !is_within_limits(&rows) {
-        return Err(TreeFault::XmlLimit);
-    }
-    if !has_names(&rows) {
-        return Err(TreeFault::BadNames);
-    }
-    Doc::of(alloc, text, rows)
+    let Some(rest) = behind_head(characters) else {
+        return Err(TreeFault::BadXml);
+    };
+    let rows = read_rows(alloc, characters, rest)?;
+    document_of(alloc, text, rows)
 }

@@ -1,13 +1,7 @@
 // Nodes as they are kept: in document order, each with its depth.
 
 use xml_chars::Span;
-
-/// An attribute: its name as written and its normalized value.
-#[derive(Debug, Drop)]
-pub(crate) struct Attribute<'a> {
-    pub(crate) name: &'a str,
-    pub(crate) value: String,
-}
+pub(crate) use xml_tokens::Attribute;
 
 /// A node without its kids.
 #[derive(Debug, Drop)]
@@ -16,30 +10,19 @@ pub(crate) enum Shape<'a> {
         name: &'a str,
         attributes: Vec<Attribute<'a>>,
     },
-    Text(&'a str),
+    Text(String),
+    Comment(String),
+    Instruction {
+        target: &'a str,
+        value: String,
+    },
 }
 
-/// A node, how many elements it stands in, and the bytes that it is written as.
+/// A node, how many elements it stands in, and the bytes that an element is written as, from its first '<' to
+/// behind its last '>'.
 #[derive(Debug, Drop)]
 pub(crate) struct Row<'a> {
     pub(crate) depth: u32,
     pub(crate) span: Span,
     pub(crate) shape: Shape<'a>,
-}
-
-/// One token of a document.
-#[derive(Debug, Drop)]
-pub(crate) enum Markup<'a> {
-    Characters(&'a str),
-    Start {
-        name: &'a str,
-        attributes: Vec<Attribute<'a>>,
-    },
-    Empty {
-        name: &'a str,
-        attributes: Vec<Attribute<'a>>,
-    },
-    End {
-        name: &'a str,
-    },
 }

@@ -3,53 +3,28 @@ ghost use Rattle.xml_spec.specs.Numbering.{size, from_node};
 ghost use Rattle.saml_tree.specs.Documents.{kind_of, text_of};
 ghost use Rattle.saml_tree.specs.declared.node.NodeKind.TheVariants as kinds;
 
-use crate::{Doc, Name, NodeKind, NodeNo, TreeFault, is_plain, read_document};
+use crate::{Doc, Name, NodeKind, NodeNo, TreeFault, read_document};
 use std::alloc::Global;
 use std::process::Abort;
 use std::test::Fail;
 use xml_chars::Span;
 
-// Texts, and whether they are plain.
-const PLAIN: [(&str, bool); 16] = [
-    ("", true),
-    ("<a b='1' c = \"2\">]]>\t\n</a>", true),
-    ("\u{7F}", true),
-    ("<!", false),
-    ("<?", false),
-    ("a:b", false),
-    ("&", false),
-    ("\r", false),
-    ("\u{80}", false),
-    ("<a xmlns=''/>", false),
-    ("xxmlns", false),
-    ("xmln s", true),
-    ("<a ID=''/>", false),
-    ("IID", false),
-    ("Id iD I D", true),
-    ("I", true),
-];
-
-#[test]
-fn only_texts_without_marks_prefixes_and_ids_are_plain(rt: HostRuntime) {
-    for (text, expected) in PLAIN {
-        assert_eq!(rt; is_plain(text.as_bytes()), expected, "{text}");
-    }
-    assert!(rt; !is_plain(&[0x80]));
-}
-
-// The fault for which a plain text is refused, none where it is read.
+// The fault for which a text is refused, none where it is read.
 fn fault_of(rt: &impl Abort, alloc: Global, text: &str) -> Option<TreeFault> {
     let bytes = text.as_bytes();
-    assert!(rt; is_plain(bytes));
     assert!(rt; bytes.len() <= 262_144);
     read_document(alloc, bytes).err()
 }
 
 // Texts, and the fault of each.
-const FAULTS: [(&str, Option<TreeFault>); 18] = [
+const FAULTS: [(&str, Option<TreeFault>); 48] = [
     ("<a/>", None),
     (" \n<a>]]<b/>></a>\t", None),
     ("<a  b = '>' c=\"'\"></a >", None),
+    ("\u{FEFF}<?xml version='1.0'?><a/>", None),
+    ("<!--b--><?b?><a/><!--b--> <?b?>", None),
+    ("<a><![CDATA[<]]>&lt;&#60;&#x3c;</a>", None),
+    ("<\u{E9}>\u{1F600}</\u{E9}>", None),
     ("", Some(TreeFault::BadXml)),
     (" ", Some(TreeFault::BadXml)),
     ("<a", Some(TreeFault::BadXml)),
@@ -57,14 +32,55 @@ const FAULTS: [(&str, Option<TreeFault>); 18] = [
     ("<2/>", Some(TreeFault::BadXml)),
     ("<a></b>", Some(TreeFault::BadXml)),
     ("<a/>x", Some(TreeFault::BadXml)),
+    ("<a/>&#32;", Some(TreeFault::BadXml)),
+    ("<![CDATA[ ]]><a/>", Some(TreeFault::BadXml)),
     ("<a/><a/>", Some(TreeFault::BadXml)),
     ("<a>]]></a>", Some(TreeFault::BadXml)),
     ("<a>\u{1}</a>", Some(TreeFault::BadXml)),
+    ("<a>\u{FFFF}</a>", Some(TreeFault::BadXml)),
     ("<a b=\"<\"/>", Some(TreeFault::BadXml)),
     ("<a b='1'c='2'/>", Some(TreeFault::BadXml)),
+    ("<a>&x;</a>", Some(TreeFault::BadXml)),
+    ("<a>&#0;</a>", Some(TreeFault::BadXml)),
+    ("<!DOCTYPE a><a/>", Some(TreeFault::BadXml)),
+    (" <?xml version='1.0'?><a/>", Some(TreeFault::BadXml)),
     ("<a b=\"1\" b=\"2\">", Some(TreeFault::BadXml)),
     ("<a b=\"1\" b=\"2\"/>", Some(TreeFault::BadNames)),
     ("<a b=\"1\"><a b=\"2\"/></a>", None),
+    ("<p:a xmlns:p='urn:x' p:c=''/>", None),
+    ("<xml:a xml:b='' xmlns='urn:x'/>", None),
+    (
+        "<a xmlns:p='urn:x'><p:b/><b xmlns='' p:c='' c=''/></a>",
+        None,
+    ),
+    ("<a xmlns='urn:x' xmlns:p='urn:x' p:b='' b=''/>", None),
+    ("<p:a/>", Some(TreeFault::BadNames)),
+    ("<a p:b=''/>", Some(TreeFault::BadNames)),
+    ("<a xmlns:p='u'/>", Some(TreeFault::BadNames)),
+    ("<a xmlns:p=''/>", Some(TreeFault::BadNames)),
+    ("<a xmlns:xml='urn:x'/>", Some(TreeFault::BadNames)),
+    (
+        "<a xmlns='http://www.w3.org/2000/xmlns/'/>",
+        Some(TreeFault::BadNames),
+    ),
+    ("<xmlns:a/>", Some(TreeFault::BadNames)),
+    ("<a:b:c xmlns:a='urn:x'/>", Some(TreeFault::BadNames)),
+    ("<a :b=''/>", Some(TreeFault::BadNames)),
+    (
+        "<a><b xmlns:p='urn:x'/><p:c/></a>",
+        Some(TreeFault::BadNames),
+    ),
+    (
+        "<a xmlns:p='urn:x' xmlns:q='urn:x' p:b='' q:b=''/>",
+        Some(TreeFault::BadNames),
+    ),
+    ("<a ID='x'><b ID='x'/></a>", Some(TreeFault::DuplicateId)),
+    (
+        "<a ID='x'><b ID='&#120;'/></a>",
+        Some(TreeFault::DuplicateId),
+    ),
+    ("<a ID='x'><p:b ID='x'/></a>", Some(TreeFault::BadNames)),
+    ("<a ID='x' xmlns:p='urn:x'><b p:ID='x' Id='x'/></a>", None),
 ];
 
 #[test]
@@ -120,25 +136,15 @@ fn limits_hold_for_texts_that_are_well_formed(rt: HostRuntime) -> Result<(), Fai
     Ok(())
 }
 
-// The first kid of an element that has kids.
-fn kid_of(doc: &Doc<'_>, n: NodeNo) -> Result<NodeNo, Fail>
-    requires { kind_of (from_node doc.now.tree n.0) ≡ Some kinds.Element }
-    ensures { IfOk result (λ kid. kid.0 < size doc.now.tree) }
-{
-    match doc.first_kid(n) {
-        Some(kid) => Ok(kid),
-        None => Err(Fail::from("no kid")),
-    }
-}
-
-// The node behind one that is not the last.
-fn after(doc: &Doc<'_>, n: NodeNo) -> Result<NodeNo, Fail>
+// The node, where it is an element.
+fn element_at(doc: &Doc<'_>, n: NodeNo) -> Result<NodeNo, Fail>
     requires { n.0 < size doc.now.tree }
-    ensures { IfOk result (λ node. node.0 < size doc.now.tree) }
+    ensures kind { IfOk result (λ element. kind_of (from_node doc.now.tree element.0) ≡ Some kinds.Element) }
+    ensures inside { IfOk result (λ element. element.0 < size doc.now.tree) }
 {
-    match doc.next(n) {
-        Some(node) => Ok(node),
-        None => Err(Fail::from("no next node")),
+    match doc.kind(n) {
+        NodeKind::Element => Ok(n),
+        _ => Err(Fail::from("no element")),
     }
 }
 
@@ -165,7 +171,6 @@ fn local(name: &str) -> Name<'_> {
 #[test]
 fn the_nodes_of_a_document_are_walked(rt: HostRuntime) -> Result<(), Fail> {
     let bytes = b"<a z=\"1\" b='2'>x<c/>y</a>".as_slice();
-    assert!(rt; is_plain(bytes));
     assert!(rt; bytes.len() <= 262_144);
     let Ok(doc) = read_document(rt.alloc(), bytes) else {
         return Err(Fail::from("refused"));
@@ -177,12 +182,11 @@ fn the_nodes_of_a_document_are_walked(rt: HostRuntime) -> Result<(), Fail> {
     assert_eq!(rt; doc.next(root), None);
     assert_eq!(rt; doc.parent(root), None);
     assert_eq!(rt; doc.by_id("a"), None);
-    let text = kid_of(&doc, root)?;
-    let element = after(&doc, text)?;
-    let last = after(&doc, element)?;
+    let text = doc.first_kid(root).ok_or("no kid")?;
+    let element = element_at(&doc, doc.next(text).ok_or("no next node")?)?;
+    let last = doc.next(element).ok_or("no next node")?;
     assert_eq!(rt; doc.parent(last), Some(root));
     assert_eq!(rt; doc.next(last), None);
-    assert!(rt; doc.kind(element) == NodeKind::Element);
     assert_eq!(rt; doc.name(element), local("c"));
     assert_eq!(rt; doc.span(element), Span { start: 16, end: 20 });
     assert_eq!(rt; doc.first_kid(element), None);
@@ -199,7 +203,6 @@ fn the_nodes_of_a_document_are_walked(rt: HostRuntime) -> Result<(), Fail> {
 #[test]
 fn attributes_are_in_the_order_of_the_text(rt: HostRuntime) -> Result<(), Fail> {
     let bytes = b"<a z=\"1\" b='2\t3'/>".as_slice();
-    assert!(rt; is_plain(bytes));
     assert!(rt; bytes.len() <= 262_144);
     let Ok(doc) = read_document(rt.alloc(), bytes) else {
         return Err(Fail::from("refused"));
@@ -214,5 +217,53 @@ fn attributes_are_in_the_order_of_the_text(rt: HostRuntime) -> Result<(), Fail> 
     doc.put_attr(root, 0, &mut out)?;
     doc.put_attr(root, 1, &mut out)?;
     assert_eq!(rt; out.as_str(), "12 3");
+    Ok(())
+}
+
+// Texts with IDs, and the fault of each.
+const ID_FAULTS: [(&str, Option<TreeFault>); 7] = [
+    ("<a ID='1'>1<b ID='2'/></a>", None),
+    ("<a ID='1' Id='1'><b id='1'/></a>", None),
+    ("<a ID='1'><b ID=\"1\"/></a>", Some(TreeFault::DuplicateId)),
+    (
+        "<a><b ID=''/><c><d ID=''/></c></a>",
+        Some(TreeFault::DuplicateId),
+    ),
+    (
+        "<a ID='x\ty'><b ID='x y'/></a>",
+        Some(TreeFault::DuplicateId),
+    ),
+    ("<a ID='1' ID='1'/>", Some(TreeFault::BadNames)),
+    ("<a ID='1'><b ID='1'/>", Some(TreeFault::BadXml)),
+];
+
+#[test]
+fn two_elements_of_one_id_are_refused(rt: HostRuntime) {
+    for (text, fault) in ID_FAULTS {
+        let bytes = text.as_bytes();
+        assert!(rt; bytes.len() <= 262_144);
+        assert_eq!(rt; read_document(rt.alloc(), bytes).err(), fault, "{text}");
+    }
+}
+
+#[test]
+fn elements_are_found_by_their_ids(rt: HostRuntime) -> Result<(), Fail> {
+    let bytes = b"<a ID='x' b='y'>t<b ID=''/><c Id='z'><d id='u' ID='v w'/></c></a>".as_slice();
+    assert!(rt; bytes.len() <= 262_144);
+    let Ok(doc) = read_document(rt.alloc(), bytes) else {
+        return Err(Fail::from("refused"));
+    };
+    for (id, node) in [
+        ("x", Some(NodeNo(0))),
+        ("", Some(NodeNo(2))),
+        ("v w", Some(NodeNo(4))),
+        ("v", None),
+        ("X", None),
+        ("y", None),
+        ("z", None),
+        ("u", None),
+    ] {
+        assert_eq!(rt; doc.by_id(id), node, "{id}");
+    }
     Ok(())
 }

@@ -2,3 +2,4 @@ pub mod Canon
 pub mod Exit
 pub mod Running
 pub mod Streams
+pub mod Printing

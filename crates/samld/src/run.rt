@@ -1,15 +1,19 @@
 // What the program does with its words.
 
-ghost use Rattle.std.specs.Prelude.{◌≡◌, ◌≤◌, ◌⊎◌, ℕ, List, length, IfOk, IfErr, IsSome, string_bytes, codes};
+ghost use Rattle.std.specs.Prelude.{◌≡◌, ◌≤◌, ◌⊎◌, ℕ, List, length, IfOk, IfErr, IfSome, IsSome, Some, string_bytes, codes};
 ghost use Rattle.std.specs.Option.{option_map};
 ghost use Rattle.saml_outside.specs.Counts.{Rose};
-ghost use Rattle.samld.specs.Canon.{refusal, verdict_of};
+ghost use Rattle.xml_spec.specs.Numbering.{from_node};
+ghost use Rattle.saml_tree.specs.Documents.{kind_of};
+ghost use Rattle.saml_tree.specs.declared.node.NodeKind.TheVariants as kinds;
+ghost use Rattle.samld.specs.Canon.{refusal, verdict_of, node_of};
+ghost use Rattle.samld.specs.Printing.{command_view, IsPrinted};
 ghost use Rattle.samld.specs.Running.{command_of, bad_file, AnswersFile, Answers, Ends, Accepts};
 ghost use Rattle.saml_outside.specs.declared.reading.FileRead.TheVariants as answers;
 
 use excl_c14n::{ByteList, Octets, canon_into};
 use saml_outside::{FileRead, Files, NoMemory, Sink, Text, Texts, Verdict};
-use saml_tree::{TreeFault, is_plain, read_document};
+use saml_tree::{Doc, NodeNo, TreeFault, read_document};
 use std::alloc::Global;
 
 /// The greatest length of a document, in bytes.
@@ -40,12 +44,26 @@ pub enum Status {
     ForeignJournal,
 }
 
-// The file that the words `canon FILE` name.
-fn file_of(words: &[Text]) -> Option<&str>
-    ensures { option_map (λ file. file.now) result ≡ command_of words.now }
+/// What `canon` is asked for: a file, and the ID of an element in it, or none for the root.
+#[derive(Clone, Copy, Debug)]
+struct Command<'w> {
+    file: &'w str,
+    id: Option<&'w str>,
+}
+
+// The command of the words `canon FILE` and `canon FILE ID`.
+fn command_of(words: &[Text]) -> Option<Command<'_>>
+    ensures { option_map command_view result ≡ command_of words.now }
 {
     match words {
-        [word, file] if word.as_str() == "canon" => Some(file.as_str()),
+        [word, file] if word.as_str() == "canon" => Some(Command {
+            file: file.as_str(),
+            id: None,
+        }),
+        [word, file, id] if word.as_str() == "canon" => Some(Command {
+            file: file.as_str(),
+            id: Some(id.as_str()),
+        }),
         _ => None,
     }
 }
@@ -90,20 +108,36 @@ fn bad_file(alloc: Global, file: &str) -> Result<ByteList, NoMemory>
     bytes_of(alloc, line.as_str())
 }
 
-// What `canon` answers for the bytes of a file.
-fn canon(alloc: Global, bytes: &[u8]) -> Result<(Status, ByteList), NoMemory>
-    requires { length bytes.now ≤ DOCUMENT_LIMIT }
-    ensures { IfOk result (λ found. (file : List ℕ) → AnswersFile file answers.Whole bytes.now found.0 found.1) }
+// The element that is asked for: the root, or the one with this ID.
+fn node_of(doc: &Doc<'_>, id: Option<&str>) -> Option<NodeNo>
+    ensures number { option_map (λ node. node.0) result ≡ node_of doc.now.tree (option_map (λ text. text.now) id.entry) }
+    ensures element { IfSome result (λ node. kind_of (from_node doc.now.tree node.0) ≡ Some kinds.Element) }
 {
-    if !is_plain(bytes) {
-        return Ok((Status::Refused, refusal(alloc, Verdict::Unbuilt)?));
+    match id {
+        None => Some(doc.root()),
+        Some(id) => doc.by_id(id),
     }
+}
+
+// What is printed of a document: the canonical form of the element that is asked for.
+fn printed(alloc: Global, doc: &Doc<'_>, id: Option<&str>) -> Result<(Status, ByteList), NoMemory>
+    ensures { IfOk result (λ found. IsPrinted doc.now.tree (option_map (λ text. text.now) id.entry) found.0 found.1) }
+{
+    let Some(node) = node_of(doc, id) else {
+        return Ok((Status::Refused, refusal(alloc, Verdict::BadReference)?));
+    };
+    let mut form = ByteList::new(alloc);
+    canon_into(alloc, doc, node, None, &Texts::new(alloc), &mut form)?;
+    Ok((Status::Done, form))
+}
+
+// What `canon` answers for the bytes of a file.
+fn canon(alloc: Global, bytes: &[u8], command: Command<'_>) -> Result<(Status, ByteList), NoMemory>
+    requires { length bytes.now ≤ DOCUMENT_LIMIT }
+    ensures { IfOk result (λ found. AnswersFile (command_view command.entry) answers.Whole bytes.now found.0 found.1) }
+{
     match read_document(alloc, bytes) {
-        Ok(doc) => {
-            let mut form = ByteList::new(alloc);
-            canon_into(alloc, &doc, doc.root(), None, &Texts::new(alloc), &mut form)?;
-            Ok((Status::Done, form))
-        }
+        Ok(doc) => printed(alloc, &doc, command.id),
         Err(fault) => match verdict_of(fault) {
             Some(verdict) => Ok((Status::Refused, refusal(alloc, verdict)?)),
             None => Err(NoMemory),
@@ -139,13 +173,15 @@ fn answer<F: Files>(
     ensures err { result ≡ Err Stop.ReadFault →
         IsSome (command_of words.now) × Rose (F.faults_of files.old) (F.faults_of files.new) }
 {
-    let Some(file) = file_of(words) else {
+    let Some(command) = command_of(words) else {
         return Ok((Status::Usage, bytes_of(alloc, "usage\n")?));
     };
     let mut bytes = Vec::new(alloc);
-    match files.read_all(file, DOCUMENT_LIMIT, &mut bytes) {
-        FileRead::Whole => Ok(canon(alloc, &bytes)?),
-        FileRead::Absent | FileRead::TooLong => Ok((Status::BadInput, bad_file(alloc, file)?)),
+    match files.read_all(command.file, DOCUMENT_LIMIT, &mut bytes) {
+        FileRead::Whole => Ok(canon(alloc, &bytes, command)?),
+        FileRead::Absent | FileRead::TooLong => {
+            Ok((Status::BadInput, bad_file(alloc, command.file)?))
+        }
         FileRead::Failed => Err(Stop::ReadFault),
         FileRead::NoMemory => Err(Stop::NoMemory),
     }

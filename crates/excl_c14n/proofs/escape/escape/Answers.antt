@@ -1,5 +1,5 @@
 use Rattle.std.proofs.Common.{◌++◌, Vec, refl, ap, ◌∙◌, get_or, arith}
-use Rattle.excl_c14n.specs.Plain.{escape_byte}
+use Rattle.excl_c14n.specs.Escapes.{escape_byte}
 use Rattle.excl_c14n.proofs.Escaping.{one_more, one_escaped, same_escaped, with_run, all_escaped, part_escaped, on_err}
 use Rattle.excl_c14n.proofs.escape.escape.Goals as goal
 use Rattle.excl_c14n.proofs.escape.escape.Goals.{in-Some+in_ok-extend_from_slice+in_ok-extend_from_slice-2, in_default}

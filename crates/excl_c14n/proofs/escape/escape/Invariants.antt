@@ -1,4 +1,4 @@
-use Rattle.excl_c14n.specs.Plain.{escape_byte}
+use Rattle.excl_c14n.specs.Escapes.{escape_byte}
 use Rattle.excl_c14n.proofs.Escaping.{IsEscaped}
 use Rattle.excl_c14n.proofs.escape.escape.Given as goal
 

@@ -3,8 +3,8 @@ use Rattle.std.specs.List.{list_any}
 use Rattle.std.specs.Str.{bytes_eq}
 use Rattle.std.proofs.lemmas.List.{take_rest}
 use Rattle.saml_tree.specs.RowTests.{are_apart}
-use Rattle.saml_tree.specs.Views.{attribute_view}
-use Rattle.saml_tree.specs.declared.row.Attribute.{Attribute}
+use Rattle.xml_tokens.specs.Views.{attribute_view}
+use Rattle.xml_tokens.specs.declared.token.Attribute.{Attribute}
 use Rattle.saml_tree.proofs.names.are_apart.Goals as goal
 
 abbrev names_of : List Attribute → List (List ℕ)

@@ -1,6 +1,6 @@
 use Rattle.std.proofs.Common.{◌≡◌, map, length}
 use Rattle.saml_tree.specs.RowTests.{are_apart}
-use Rattle.saml_tree.specs.Views.{attribute_view}
+use Rattle.xml_tokens.specs.Views.{attribute_view}
 use Rattle.saml_tree.proofs.names.are_apart.Given as goal
 
 -- what is left decides

@@ -1,60 +1,89 @@
-use Rattle.std.proofs.Common.{◌≡◌, [], inl, inr, refl, sym, ◌∙◌, subst}
+use Rattle.std.proofs.Common.{rules, ◌≡◌, ◌∷◌, ◌++◌, [], length, sym, ◌∙◌, ap, subst, arith}
 use Rattle.std.proofs.lemmas.Result.{err_from_is_err_and}
-use Rattle.saml_tree.specs.Reads.{Reads}
-use Rattle.saml_tree.specs.Views.{builder_view}
-use Rattle.saml_tree.proofs.Reading.{no_tokens, no_place, not_complete, read_whole}
-use Rattle.saml_tree.proofs.Showing.{shown_plain, plain_utf8, empty_list, token_length, one_more}
+use Rattle.xml_spec.proofs.Tests.{both_true}
+use Rattle.saml_tree.specs.RowTests.{is_small_token}
+use Rattle.saml_tree.specs.Views.{outline_view}
+use Rattle.saml_tree.proofs.Reading.{after, Progress, more_progress, no_place, no_tokens, not_complete}
+use Rattle.saml_tree.proofs.Following.{more_follows, builder_depth, outline_depth, token_length, empty_list, no_token, not_taken, rows_read, rows_within, rows_beyond}
 use Rattle.saml_tree.proofs.read.read_rows.Goals as goal
-
-pub is_empty-requires-text-self : goal.is_empty-requires-text-self
-is_empty-requires-text-self c = λ _. plain_utf8 c.tokens.rest.now c.tokens.invariant.plain
 
 pub returns-in_err-markup-clause-err : goal.returns-in_err-markup-clause-err
 returns-in_err-markup-clause-err c =
     let read = c.tokens.invariant.read in
+    let left = c.tokens.left.now in
     let p = err_from_is_err_and c.from_residual.result c.from_residual.ensures.1 in
-    rw (p.1, p.2) (elim c.in_err-markup.ensures.refused [
-      | inl memory ↦ inl memory
-      | inr bad ↦ inr (bad.0, no_tokens c.args.text.now c.tokens.rest.now read.0 c.requires.plain.bytes read.1 bad.1)
-    ])
+    rw (p.1, p.2) (no_token c.args.text.now left _ c.in_err-markup.ensures.refused
+    (no_tokens c.args.text.now c.args.rest.now left read.0 (outline_view c.tokens.outline) c.requires.head read.1))
 
 pub returns-in_err-take-clause-err : goal.returns-in_err-take-clause-err
 returns-in_err-take-clause-err c =
     let read = c.tokens.invariant.read in
+    let left = c.tokens.left.now in
     let found = c.in_ok-markup.ensures.read in
     let p = err_from_is_err_and c.from_residual-in_err-take.result c.from_residual-in_err-take.ensures.1 in
-    rw (p.1, p.2) (elim c.in_err-take.ensures.err [
-      | inl memory ↦ inl memory
-      | inr bad ↦ inr (
-        bad.0,
-        no_place c.args.text.now c.tokens.rest.now c.in_ok-markup.behind.now read.0 (builder_view c.tokens.builder) found.0
-            c.requires.plain.bytes read.1 read.3 found.2 (bad.1 found.0 found.1 (token_length c.tokens.rest.now c.in_ok-markup.behind.now found.0 found.2)),
-      )
-    ])
+    rw (p.1, p.2) (not_taken c.args.text.now _ _ c.in_err-take.ensures.err
+    (λ none. no_place c.args.text.now c.args.rest.now left c.in_ok-markup.behind.now read.0 (outline_view c.tokens.outline) found.0
+    c.requires.head read.1 found.2 (none found.0 found.1)))
+
+pub take_if-requires-clause-few : goal.take_if-requires-clause-few
+take_if-requires-clause-few c = λ w.
+    let read = c.tokens.invariant.read in
+    let progress = read.1 in
+    let stack = progress.stack in
+    let place = progress.place in
+    let builder = c.tokens.builder in
+    let small = c.requires.small in
+    let depth = builder_depth builder (after c.args.text.now c.args.rest.now read.0) (read.2.view (both_true c.tokens.within c.is_small-within.result w).0) in
+    omega (arith, builder.open_elements.ok.0)
 
 pub tokens-preserved : goal.tokens-preserved
 tokens-preserved c =
     let read = c.tokens.invariant.read in
+    let left = c.tokens.left.now in
+    let behind = c.in_ok-markup.behind.now in
     let found = c.in_ok-markup.ensures.read in
-    let names = c.in_ok-markup.ensures.plain in
-    let more = one_more c.args.text.now c.tokens.rest.now c.in_ok-markup.behind.now read.0 found.0 (builder_view c.tokens.builder) (builder_view c.take.new.self)
-    read.1 read.2 read.3 found.2 (shown_plain found.0 c.in_ok-markup.markup found.1 names.0)
-    (c.in_ok-take.ensures.ok found.0 found.1 (token_length c.tokens.rest.now c.in_ok-markup.behind.now found.0 found.2)) c.tokens.invariant.placed c.tokens.invariant.counted in
-    record { plain = names.1; read = more.read; placed = more.placed; counted = more.counted }
+    let progress = read.1 in
+    let level = progress.level in
+    let names = c.tokens.outline.names in
+    let depth : length (after c.args.text.now c.args.rest.now read.0).open_elements ≡ c.depth.result =
+    omega (arith, outline_depth c.tokens.outline, c.depth.ensures, names.ok.0) in
+    record {
+      utf8 = search rules;
+      read = (
+        read.0 ++ found.0 ∷ [],
+        more_progress c.args.text.now c.args.rest.now left behind read.0 (outline_view c.tokens.outline) (outline_view c.take.new.self) found.0
+            read.1 found.2 (c.in_ok-take.ensures.ok found.0 found.1),
+        more_follows c.args.text.now c.args.rest.now read.0 found.0 c.tokens.within c.is_small-within.result c.tokens.builder c.take_if.new.self
+            read.2 (ap (λ d. is_small_token d found.0) depth ∙ c.is_small-within.ensures found.0 found.1)
+            (λ w. c.in_ok-take_if.ensures.ok w found.0 found.1 (token_length left behind found.0 found.2)),
+      );
+    }
 
-pub returns-then-is_complete-clause-ok : goal.returns-then-is_complete-clause-ok
-returns-then-is_complete-clause-ok c = λ characters.
+pub returns-then-not-is_complete-clause-err : goal.returns-then-not-is_complete-clause-err
+returns-then-not-is_complete-clause-err c =
     let read = c.tokens.invariant.read in
-    let ended : c.tokens.rest.now ≡ [] = empty_list c.tokens.rest.now (sym c.is_empty.ensures ∙ c.tokens-test.false) in
-    read_whole c.args.text.now read.0 (builder_view c.tokens.builder) (subst (λ z. Reads c.args.text.now read.0 z) ended read.1) read.2 read.3
-    (sym c.is_complete.ensures ∙ c.if-is_complete.true) characters
+    let ended : c.tokens.left.now ≡ [] = empty_list c.tokens.left.now (sym c.is_empty.ensures ∙ c.tokens-test.false) in
+    not_complete c.args.text.now c.args.rest.now read.0 (outline_view c.tokens.outline) c.requires.head
+    (subst (λ z. Progress c.args.text.now c.args.rest.now z read.0 (outline_view c.tokens.outline)) ended read.1)
+    (sym c.is_complete.ensures ∙ c.if-not-is_complete.true)
 
-pub returns-clause-err : goal.returns-clause-err
-returns-clause-err c =
+pub returns-then-not-within-clause-err : goal.returns-then-not-within-clause-err
+returns-then-not-within-clause-err c =
     let read = c.tokens.invariant.read in
-    let ended : c.tokens.rest.now ≡ [] = empty_list c.tokens.rest.now (sym c.is_empty.ensures ∙ c.tokens-test.false) in
-    inr (
-      refl,
-      not_complete c.args.text.now read.0 (builder_view c.tokens.builder) c.requires.plain.bytes
-          (subst (λ z. Reads c.args.text.now read.0 z) ended read.1) read.3 (sym c.is_complete.ensures ∙ c.if-is_complete.false),
-    )
+    let ended : c.tokens.left.now ≡ [] = empty_list c.tokens.left.now (sym c.is_empty.ensures ∙ c.tokens-test.false) in
+    rows_beyond c.args.text.now c.args.rest.now c.tokens.left.now read.0 (outline_view c.tokens.outline) c.tokens.within c.tokens.builder read.1 read.2
+    ended (sym c.is_complete.ensures ∙ c.if-not-is_complete.false) c.requires.head c.if-not-within.true
+
+pub returns-clause-ok : goal.returns-clause-ok
+returns-clause-ok c =
+    let read = c.tokens.invariant.read in
+    let ended : c.tokens.left.now ≡ [] = empty_list c.tokens.left.now (sym c.is_empty.ensures ∙ c.tokens-test.false) in
+    rows_read c.args.text.now c.args.rest.now c.tokens.left.now read.0 (outline_view c.tokens.outline) c.tokens.within c.tokens.builder read.1 read.2
+    ended (sym c.is_complete.ensures ∙ c.if-not-is_complete.false) c.requires.head c.if-not-within.false
+
+pub returns-clause-limits : goal.returns-clause-limits
+returns-clause-limits c =
+    let read = c.tokens.invariant.read in
+    let ended : c.tokens.left.now ≡ [] = empty_list c.tokens.left.now (sym c.is_empty.ensures ∙ c.tokens-test.false) in
+    rows_within c.args.text.now c.args.rest.now c.tokens.left.now read.0 (outline_view c.tokens.outline) c.tokens.within c.tokens.builder read.1 read.2
+    ended (sym c.is_complete.ensures ∙ c.if-not-is_complete.false) c.if-not-within.false

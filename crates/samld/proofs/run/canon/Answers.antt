@@ -1,6 +1,13 @@
-use Rattle.std.proofs.Common.{sym, ◌∙◌}
-use Rattle.samld.proofs.Answering.{not_plain}
+use Rattle.saml_outside.specs.declared.reading.FileRead.TheVariants as answers
+use Rattle.samld.specs.Printing.{command_view, IsPrinted}
+use Rattle.samld.specs.Running.{AnswersFile}
+use Rattle.samld.proofs.Answering.{if_ok_map, of_document}
 use Rattle.samld.proofs.run.canon.Goals as goal
 
-pub returns-then-not-is_plain : goal.returns-then-not-is_plain
-returns-then-not-is_plain c = λ file. not_plain c.args.bytes.now c.in_ok-refusal.field-0 (λ p. let clash = sym c.if-not-is_plain.true ∙ c.is_plain.ensures.1 p in cc) c.in_ok-refusal.ensures
+pub returns-in-Ok : goal.returns-in-Ok
+returns-in-Ok c =
+    let command = command_view c.args.command in
+    if_ok_map c.printed.result (λ found. IsPrinted c.in-Ok.doc.tree command.id found.0 found.1)
+    (λ found. AnswersFile command answers.Whole c.args.bytes.now found.0 found.1)
+    (λ found printed. of_document command c.args.bytes.now c.in-Ok.doc.tree found.0 found.1 c.in-Ok.ensures.ok printed)
+    c.printed.ensures

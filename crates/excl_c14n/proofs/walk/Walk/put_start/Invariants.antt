@@ -1,13 +1,7 @@
-use Rattle.std.proofs.Common.{◌≡◌, ◌++◌, take}
-use Rattle.std.specs.List.{flat_map}
-use Rattle.xml_spec.specs.Numbering.{from_node}
-use Rattle.saml_tree.specs.NodeNames.{attribute_at}
-use Rattle.excl_c14n.proofs.Tags.{in_order, print_of, LeadTo}
+use Rattle.std.proofs.Common.{◌≡◌, ◌++◌}
+use Rattle.excl_c14n.specs.Levels.{in_force}
+use Rattle.excl_c14n.proofs.Tags.{declared_until}
 use Rattle.excl_c14n.proofs.walk.Walk.put_start.Given as goal
 
-abbrev pub invariant-loop-i : goal.invariant-loop-i
-invariant-loop-i l = record {
-  lead : LeadTo (attribute_at l.self.doc.now.tree l.n.0) l.i-items (from_node l.self.doc.now.tree l.n.0);
-  written :
-      l.out.items ≡ l.initial.out.items ++ flat_map print_of (take l.i-index (in_order (from_node l.self.doc.now.tree l.n.0)));
-}
+abbrev pub invariant-loop-prefix : goal.invariant-loop-prefix
+invariant-loop-prefix l = l.out.items ≡ l.initial.out.items ++ declared_until (in_force l.bindings.scope) l.wanted l.prefix-index

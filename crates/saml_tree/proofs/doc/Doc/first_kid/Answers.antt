@@ -27,8 +27,8 @@ index-requires c =
     let there = is_row items tree shaped same c.args.n.0 (ap (λ o. is_some o) c.requires) in
     omega (arith, linked.count, c.self.inside.links.ok.0)
 
-pub returns-then-behind-end : goal.returns-then-behind-end
-returns-then-behind-end c =
+pub returns-then-behind-end-clause-number : goal.returns-then-behind-end-clause-number
+returns-then-behind-end-clause-number c =
     let same = ap (λ (d : DocumentView). d.tree) c.self.view_is in
     let items = c.self.inside.rows.items in
     let tree = c.args.self.now.tree in
@@ -40,8 +40,8 @@ returns-then-behind-end c =
     let end = end_read _ _ c.args.n.0 c.index.result.now linked (omega arith) c.index.ensures in
     sym (first_kid_read items tree shaped same c.args.n.0 c.index.result.now.end there end (omega arith))
 
-pub returns-else-behind-end : goal.returns-else-behind-end
-returns-else-behind-end c =
+pub returns-else-behind-end-clause-number : goal.returns-else-behind-end-clause-number
+returns-else-behind-end-clause-number c =
     let same = ap (λ (d : DocumentView). d.tree) c.self.view_is in
     let items = c.self.inside.rows.items in
     let tree = c.args.self.now.tree in
@@ -52,3 +52,15 @@ returns-else-behind-end c =
     let there = is_row items tree shaped same c.args.n.0 (ap (λ o. is_some o) c.requires) in
     let end = end_read _ _ c.args.n.0 c.index.result.now linked (omega arith) c.index.ensures in
     sym (no_kid_read items tree shaped same c.args.n.0 c.index.result.now.end there end (omega arith))
+
+pub returns-then-behind-end-clause-inside : goal.returns-then-behind-end-clause-inside
+returns-then-behind-end-clause-inside c =
+    let same = ap (λ (d : DocumentView). d.tree) c.self.view_is in
+    let items = c.self.inside.rows.items in
+    let tree = c.args.self.now.tree in
+    let shaped = c.self.invariant.shaped in
+    let all = rows_are items tree shaped same in
+    let count = depths_count items in
+    let there = is_row items tree shaped same c.args.n.0 (ap (λ o. is_some o) c.requires) in
+    let end = end_read _ _ c.args.n.0 c.index.result.now c.self.invariant.linked (omega arith) c.index.ensures in
+    omega (arith, end.in_range)

@@ -26,8 +26,8 @@ index-requires-then-end-len-2 c =
     let linked = c.self.invariant.linked in
     omega (arith, c.self.inside.rows.ok.0)
 
-pub returns-then-index : goal.returns-then-index
-returns-then-index c =
+pub returns-then-index-clause-number : goal.returns-then-index-clause-number
+returns-then-index-clause-number c =
     let same = ap (λ (d : DocumentView). d.tree) c.self.view_is in
     let items = c.self.inside.rows.items in
     let tree = c.args.self.now.tree in
@@ -42,8 +42,8 @@ returns-then-index c =
     ∙ depth_read items c.args.n.0 c.index-then-end-len-2.result.now (omega arith) c.index-then-end-len-2.ensures in
     sym (next_read items tree shaped same c.args.n.0 c.index.result.now.end (omega arith) end in_rows level)
 
-pub returns-else-end-len : goal.returns-else-end-len
-returns-else-end-len c =
+pub returns-else-end-len-clause-number : goal.returns-else-end-len-clause-number
+returns-else-end-len-clause-number c =
     let same = ap (λ (d : DocumentView). d.tree) c.self.view_is in
     let items = c.self.inside.rows.items in
     let tree = c.args.self.now.tree in
@@ -60,3 +60,9 @@ returns-else-end-len c =
           w.if-index.false (here ∙ level ∙ sym there)
       | else-end-len-via-else-end-len w ↦ omega (arith, c.self.inside.rows.ok.0)
     ]))
+
+pub returns-then-index-clause-inside : goal.returns-then-index-clause-inside
+returns-then-index-clause-inside c =
+    let same = ap (λ (d : DocumentView). d.tree) c.self.view_is in
+    let all = rows_are c.self.inside.rows.items c.args.self.now.tree c.self.invariant.shaped same in
+    omega (arith, c.self.inside.rows.ok.0)

@@ -1,0 +1,335 @@
+-- The prefixes that are wanted: found one by one, they are those of the definition.
+use Rattle.std.proofs.Common.{◌≡◌, ℕ, suc, ◌+◌, ◌<◌, ◌≤◌, Bool, true, false, not, cond, eqb, ltb, ◌||◌, ◌&&◌, codes, List, [], ◌∷◌, ◌++◌, length, map, filter, take, get_or, Option, Some, None, IsSome, IfSome, Bor, refl, sym, ap, ◌∙◌, subst, arith}
+use Rattle.std.specs.List.{slice_get}
+use Rattle.std.specs.Option.{option_map, option_and_then, is_some, unwrap_or}
+use Rattle.std.specs.Str.{bytes_eq}
+use Rattle.std.proofs.lemmas.List.{map-append, append-nil, append_assoc, take_more, take_all, get_or-map, length-map}
+use Rattle.std.proofs.lemmas.List.Elements.{filter-append}
+use Rattle.std.proofs.lemmas.List.Folds.{list_any-append}
+use Rattle.std.proofs.lemmas.List.Sums.{sum_by-cons}
+use Rattle.std.proofs.lemmas.Cmp.{nat_list_eq_equiv}
+use Rattle.std.proofs.lemmas.Slice.Eq.{bytes_eq-Decides}
+use Rattle.std.proofs.lemmas.Bool.{and_right, lt-ltb, ne_eqb}
+use Rattle.xml_spec.specs.Bytes.{is_empty}
+use Rattle.xml_spec.specs.Characters.{prefix_of, local_of}
+use Rattle.xml_spec.specs.Tree.{Attribute, Nodes}
+use Rattle.xml_spec.specs.Numbering.{from_node}
+use Rattle.xml_spec.specs.Names.{Binding, Scope, namespace_of, declared_prefix, is_declaration, proper_attributes}
+use Rattle.xml_spec.specs.Canonical.{byte_order, used_prefixes, listed_prefix, is_rendered_anew}
+use Rattle.xml_spec.specs.Laws.{IsAscending, times_declared}
+use Rattle.xml_spec.proofs.Declared.{declarations_ascend, declared_as_needed}
+use Rattle.saml_tree.specs.Documents.{attributes_of}
+use Rattle.saml_tree.specs.NodeNames.{attribute_at}
+use Rattle.excl_c14n.specs.Elements.{attributes_in}
+use Rattle.excl_c14n.specs.Texts.{texts}
+use Rattle.excl_c14n.specs.Levels.{is_among, binding_in, AreListedRendered}
+use Rattle.excl_c14n.specs.NodeByNode.{wanted_prefixes, IsWanted}
+use Rattle.excl_c14n.proofs.Ascending.{same_ascending}
+use Rattle.excl_c14n.proofs.Listing.{taken_more}
+
+-- one more prefix, where it is to be declared
+or_and : (a b c : Bool) → c ≡ true → (a || b) ≡ (a || (b && c))
+or_and a b true e = ap (λ t. a || t) (and_true b)
+  where
+    and_true : (b : Bool) → b ≡ (b && true)
+    and_true true = refl
+    and_true false = refl
+or_and a b false e = absurd (let clash : false ≡ true = e in cc)
+
+pub wanted_too : (scope rendered : Scope) (p q : List ℕ) (anew a new : Bool) → anew ≡ is_rendered_anew scope rendered p → anew ≡ true →
+    new ≡ (a || bytes_eq q p) → new ≡ (a || (bytes_eq q p && is_rendered_anew scope rendered q))
+wanted_too scope rendered p q anew a new is needed put = put ∙ which (bytes_eq q p) refl
+  where
+    which : (b : Bool) → bytes_eq q p ≡ b → (a || b) ≡ (a || (b && is_rendered_anew scope rendered q))
+    which true e = or_and a true (is_rendered_anew scope rendered q) (ap (is_rendered_anew scope rendered) ((bytes_eq-Decides q p).0 e) ∙ sym is ∙ needed)
+    which false e = refl
+
+pub not_wanted : (scope rendered : Scope) (p q : List ℕ) (anew a : Bool) → anew ≡ is_rendered_anew scope rendered p → anew ≡ false →
+    a ≡ (a || (bytes_eq q p && is_rendered_anew scope rendered q))
+not_wanted scope rendered p q anew a is never = which (bytes_eq q p) refl
+  where
+    drop_false : (a : Bool) → a ≡ (a || false)
+    drop_false true = refl
+    drop_false false = refl
+
+    which : (b : Bool) → bytes_eq q p ≡ b → a ≡ (a || (b && is_rendered_anew scope rendered q))
+    which true e =
+        drop_false a ∙ ap (λ t. a || t) (sym (ap (is_rendered_anew scope rendered) ((bytes_eq-Decides q p).0 e) ∙ sym is ∙ never))
+    which false e = drop_false a
+
+-- one more candidate
+or_over_and : (a b c : Bool) → ((a && c) || ((b || false) && c)) ≡ ((a || (b || false)) && c)
+or_over_and true true true = refl
+or_over_and true true false = refl
+or_over_and true false true = refl
+or_over_and true false false = refl
+or_over_and false true true = refl
+or_over_and false true false = refl
+or_over_and false false c = refl
+
+one_only : (b : Bool) → b ≡ (b || false)
+one_only true = refl
+one_only false = refl
+
+pub one_more_wanted : (scope rendered : Scope) (candidates wanted new : List (List ℕ)) (p : List ℕ) →
+    IsWanted scope rendered candidates wanted → IsAscending byte_order new →
+    ((q : List ℕ) → is_among q new ≡ (is_among q wanted || (bytes_eq q p && is_rendered_anew scope rendered q))) →
+    IsWanted scope rendered (candidates ++ p ∷ []) new
+one_more_wanted scope rendered candidates wanted new p so_far up among = record {
+  ascending = up;
+  among = λ q.
+      among q
+      ∙ (λ i. so_far.among q i || (one_only (bytes_eq q p) i && is_rendered_anew scope rendered q))
+      ∙ or_over_and (is_among q candidates) (bytes_eq q p) (is_rendered_anew scope rendered q)
+      ∙ ap (λ b. b && is_rendered_anew scope rendered q) (sym (list_any-append (bytes_eq q) candidates (p ∷ [])));
+}
+
+pub first_wanted : (scope rendered : Scope) (new empty : List (List ℕ)) (p : List ℕ) → empty ≡ [] → IsAscending byte_order new →
+    ((q : List ℕ) → is_among q new ≡ (is_among q empty || (bytes_eq q p && is_rendered_anew scope rendered q))) →
+    IsWanted scope rendered (p ∷ []) new
+first_wanted scope rendered new empty p none up among =
+    one_more_wanted scope rendered [] [] new p (record { ascending = tt; among = λ q. refl }) up
+    (λ q. among q ∙ ap (λ xs. is_among q xs || (bytes_eq q p && is_rendered_anew scope rendered q)) none)
+
+-- what an attribute adds to the prefixes that are used
+abbrev own_prefixes : Attribute → List (List ℕ)
+own_prefixes a =
+    filter (λ prefix. not (is_empty prefix)) (map (λ (b : Attribute). prefix_of b.name) (proper_attributes (a ∷ [])))
+
+used_more : (name : List ℕ) (attributes : List Attribute) (a : Attribute) →
+    used_prefixes name (attributes ++ a ∷ []) ≡ used_prefixes name attributes ++ own_prefixes a
+used_more name attributes a =
+    ap (λ xs. prefix_of name ∷ filter (λ prefix. not (is_empty prefix)) (map (λ (b : Attribute). prefix_of b.name) xs))
+    (filter-append (λ (b : Attribute). not (is_declaration b)) attributes (a ∷ []))
+    ∙ ap (λ xs. prefix_of name ∷ filter (λ prefix. not (is_empty prefix)) xs)
+    (map-append (λ (b : Attribute). prefix_of b.name) (proper_attributes attributes) (proper_attributes (a ∷ [])))
+    ∙ ap (λ xs. prefix_of name ∷ xs)
+    (filter-append (λ prefix. not (is_empty prefix)) (map (λ (b : Attribute). prefix_of b.name) (proper_attributes attributes))
+    (map (λ (b : Attribute). prefix_of b.name) (proper_attributes (a ∷ []))))
+
+own_is : (a : Attribute) (proper empty : Bool) → not (is_declaration a) ≡ proper → is_empty (prefix_of a.name) ≡ empty →
+    own_prefixes a ≡ cond proper (cond (not empty) (prefix_of a.name ∷ []) []) []
+own_is a proper empty one other =
+    ap (λ b. filter (λ prefix. not (is_empty prefix)) (map (λ (b : Attribute). prefix_of b.name) (cond b (a ∷ []) []))) one
+    ∙ which proper
+  where
+    which : (b : Bool) → filter (λ prefix. not (is_empty prefix)) (map (λ (c : Attribute). prefix_of c.name) (cond b (a ∷ []) []))
+        ≡ cond b (cond (not empty) (prefix_of a.name ∷ []) []) []
+    which true = ap (λ t. cond (not t) (prefix_of a.name ∷ []) []) other
+    which false = refl
+
+pub shown_attribute : (tree : Nodes) (n i : ℕ) → attribute_at tree n i ≡ slice_get (attributes_in (from_node tree n)) i
+shown_attribute tree n i = which (attributes_of (from_node tree n))
+  where
+    which : (o : Option (List Attribute)) → option_and_then (λ attributes. slice_get attributes i) o ≡ slice_get (unwrap_or o []) i
+    which None = refl
+    which (Some attributes) = refl
+
+is_some_map : (o : Option (Bor (List ℕ))) → is_some (option_map (λ (p : Bor (List ℕ)). p.now) o) ≡ is_some o
+is_some_map None = refl
+is_some_map (Some p) = refl
+
+-- the used prefixes when one more attribute was looked at
+used_next : (name : List ℕ) (attributes : List Attribute) (i : ℕ) (a : Attribute) → slice_get attributes i ≡ Some a →
+    used_prefixes name (take (i + 1) attributes) ≡ used_prefixes name (take i attributes) ++ own_prefixes a
+used_next name attributes i a there =
+    let next : i + 1 ≡ suc i = omega arith in
+    ap (λ k. used_prefixes name (take k attributes)) next ∙ ap (used_prefixes name) (taken_more attributes i a there)
+    ∙ used_more name (take i attributes) a
+
+pub attribute_wanted : (scope rendered : Scope) (tree : Nodes) (n i : ℕ) (name prefix local : List ℕ) (declared : Option (Bor (List ℕ)))
+    (wanted new : List (List ℕ)) → IsSome (attribute_at tree n i) →
+    IfSome (attribute_at tree n i) (λ a. (prefix ≡ prefix_of a.name) × (local ≡ local_of a.name)) →
+    IfSome (attribute_at tree n i) (λ a. option_map (λ (p : Bor (List ℕ)). p.now) declared ≡ declared_prefix a.name) →
+    is_some declared ≡ false → is_empty prefix ≡ false →
+    IsWanted scope rendered (used_prefixes name (take i (attributes_in (from_node tree n)))) wanted → IsAscending byte_order new →
+    ((q : List ℕ) → is_among q new ≡ (is_among q wanted || (bytes_eq q prefix && is_rendered_anew scope rendered q))) →
+    IsWanted scope rendered (used_prefixes name (take (i + 1) (attributes_in (from_node tree n)))) new
+attribute_wanted scope rendered tree n i name prefix local declared wanted new there parts known none some so_far up among =
+    which (attribute_at tree n i) refl there parts known
+  where
+    which : (o : Option Attribute) → attribute_at tree n i ≡ o → IsSome o → IfSome o (λ a. (prefix ≡ prefix_of a.name) × (local ≡ local_of a.name)) →
+        IfSome o (λ a. option_map (λ (p : Bor (List ℕ)). p.now) declared ≡ declared_prefix a.name) →
+        IsWanted scope rendered (used_prefixes name (take (i + 1) (attributes_in (from_node tree n)))) new
+    which None is there parts known = absurd (let clash : false ≡ true = there in cc)
+    which (Some a) is there parts known =
+        subst (λ (candidates : List (List ℕ)). IsWanted scope rendered candidates new)
+        (sym (used_next name (attributes_in (from_node tree n)) i a (sym (shown_attribute tree n i) ∙ is)
+        ∙ ap (λ xs. used_prefixes name (take i (attributes_in (from_node tree n))) ++ xs)
+        (own_is a true false (ap (λ o. not (is_some o)) (sym known) ∙ ap not (is_some_map declared ∙ none)) (ap is_empty (sym parts.0) ∙ some)
+        ∙ ap (λ p. p ∷ []) (sym parts.0))))
+        (one_more_wanted scope rendered (used_prefixes name (take i (attributes_in (from_node tree n)))) wanted new prefix so_far up among)
+
+pub attribute_passed : (scope rendered : Scope) (tree : Nodes) (n i : ℕ) (name prefix local : List ℕ) (declared : Option (Bor (List ℕ)))
+    (wanted : List (List ℕ)) → IsSome (attribute_at tree n i) →
+    IfSome (attribute_at tree n i) (λ a. (prefix ≡ prefix_of a.name) × (local ≡ local_of a.name)) →
+    IfSome (attribute_at tree n i) (λ a. option_map (λ (p : Bor (List ℕ)). p.now) declared ≡ declared_prefix a.name) →
+    (not (is_some declared) && not (is_empty prefix)) ≡ false →
+    IsWanted scope rendered (used_prefixes name (take i (attributes_in (from_node tree n)))) wanted →
+    IsWanted scope rendered (used_prefixes name (take (i + 1) (attributes_in (from_node tree n)))) wanted
+attribute_passed scope rendered tree n i name prefix local declared wanted there parts known passed so_far =
+    which (attribute_at tree n i) refl there parts known
+  where
+    nothing : (a : Attribute) (b t : Bool) → (not b && not t) ≡ false → cond (not b) (cond (not t) (prefix_of a.name ∷ []) []) [] ≡ []
+    nothing a true t e = refl
+    nothing a false true e = refl
+    nothing a false false e = absurd (let clash : true ≡ false = e in cc)
+
+    which : (o : Option Attribute) → attribute_at tree n i ≡ o → IsSome o → IfSome o (λ a. (prefix ≡ prefix_of a.name) × (local ≡ local_of a.name)) →
+        IfSome o (λ a. option_map (λ (p : Bor (List ℕ)). p.now) declared ≡ declared_prefix a.name) →
+        IsWanted scope rendered (used_prefixes name (take (i + 1) (attributes_in (from_node tree n)))) wanted
+    which None is there parts known = absurd (let clash : false ≡ true = there in cc)
+    which (Some a) is there parts known =
+        subst (λ (candidates : List (List ℕ)). IsWanted scope rendered candidates wanted)
+        (sym (used_next name (attributes_in (from_node tree n)) i a (sym (shown_attribute tree n i) ∙ is)
+        ∙ ap (λ xs. used_prefixes name (take i (attributes_in (from_node tree n))) ++ xs)
+        (own_is a (not (is_some declared)) (is_empty prefix) (ap (λ o. not (is_some o)) (sym known) ∙ ap not (is_some_map declared))
+        (ap is_empty (sym parts.0)) ∙ nothing a (is_some declared) (is_empty prefix) passed)
+        ∙ append-nil (used_prefixes name (take i (attributes_in (from_node tree n))))))
+        so_far
+
+-- of the definition: in ascending order, and each that is needed
+prefixes_stay : (scope : Scope) (ps : List (List ℕ)) → map (λ (b : Binding). b.prefix) (map (binding_in scope) ps) ≡ ps
+prefixes_stay scope [] = refl
+prefixes_stay scope (p ∷ ps) = ap (λ qs. p ∷ qs) (prefixes_stay scope ps)
+
+count_step : (b m : Bool) (k : ℕ) → m ≡ ltb 0 k → (b || m) ≡ ltb 0 (cond b 1 0 + k)
+count_step true m k e = sym (lt-ltb 0 (1 + k) (omega arith))
+count_step false m k e = let same : 0 + k ≡ k = omega arith in e ∙ ap (ltb 0) (sym same)
+
+counted : (scope : Scope) (q : List ℕ) (ps : List (List ℕ)) → is_among q ps ≡ ltb 0 (times_declared q (map (binding_in scope) ps))
+counted scope q [] = refl
+counted scope q (p ∷ ps) =
+    ap (λ b. b || is_among q ps) (nat_list_eq_equiv.symm q p)
+    ∙ count_step (bytes_eq p q) (is_among q ps) (times_declared q (map (binding_in scope) ps)) (counted scope q ps)
+    ∙ ap (ltb 0) (sym (sum_by-cons (λ (b : Binding). cond (bytes_eq b.prefix q) 1 0) (binding_in scope p) (map (binding_in scope) ps)))
+
+wanted_ascend : (listed : List (List ℕ)) (scope rendered : Scope) (name : List ℕ) (attributes : List Attribute) →
+    IsAscending byte_order (wanted_prefixes listed scope rendered name attributes)
+wanted_ascend listed scope rendered name attributes =
+    subst (IsAscending byte_order) (prefixes_stay scope (wanted_prefixes listed scope rendered name attributes))
+    (declarations_ascend listed scope rendered name attributes)
+
+pub wanted_among : (listed : List (List ℕ)) (scope rendered : Scope) (name : List ℕ) (attributes : List Attribute) (q : List ℕ) →
+    is_among q (wanted_prefixes listed scope rendered name attributes)
+    ≡ (is_among q (used_prefixes name attributes ++ map listed_prefix listed) && is_rendered_anew scope rendered q)
+wanted_among listed scope rendered name attributes q =
+    counted scope q (wanted_prefixes listed scope rendered name attributes)
+    ∙ ap (ltb 0) (declared_as_needed listed scope rendered name attributes q)
+    ∙ one_or_none (is_among q (used_prefixes name attributes ++ map listed_prefix listed) && is_rendered_anew scope rendered q)
+  where
+    one_or_none : (b : Bool) → ltb 0 (cond b 1 0) ≡ b
+    one_or_none true = refl
+    one_or_none false = refl
+
+-- Of the listed prefixes only those can be wanted that were declared since the last start tag.
+among_filtered : (test : List ℕ → Bool) (q : List ℕ) (ps : List (List ℕ)) → is_among q (filter test ps) ≡ (is_among q ps && test q)
+among_filtered test q [] = refl
+among_filtered test q (p ∷ ps) = which (bytes_eq q p) refl (test p) refl (among_filtered test q ps)
+  where
+    which : (same : Bool) → bytes_eq q p ≡ same → (passes : Bool) → test p ≡ passes → is_among q (filter test ps) ≡ (is_among q ps && test q) →
+        is_among q (cond passes (p ∷ filter test ps) (filter test ps)) ≡ ((same || is_among q ps) && test q)
+    which true e true t later =
+        ap (λ b. b || is_among q (filter test ps)) e ∙ sym (ap test ((bytes_eq-Decides q p).0 e) ∙ t)
+    which true e false t later =
+        let never : test q ≡ false = ap test ((bytes_eq-Decides q p).0 e) ∙ t in
+        later ∙ and_right (is_among q ps) (test q) never ∙ sym never
+    which false e true t later = ap (λ b. b || is_among q (filter test ps)) e ∙ later
+    which false e false t later = later
+
+not_anew : (scope rendered : Scope) (q : List ℕ) → (bytes_eq q (codes "xml") ≡ false → namespace_of scope q ≡ namespace_of rendered q) →
+    is_rendered_anew scope rendered q ≡ false
+not_anew scope rendered q same = which (bytes_eq q (codes "xml")) refl
+  where
+    which : (b : Bool) → bytes_eq q (codes "xml") ≡ b → (not b && not (bytes_eq (namespace_of scope q) (namespace_of rendered q))) ≡ false
+    which true e = refl
+    which false e =
+        ap not (ap (λ x. bytes_eq x (namespace_of rendered q)) (same e) ∙ (bytes_eq-Decides (namespace_of rendered q) (namespace_of rendered q)).1 refl)
+
+pub all_wanted : (listed : List (List ℕ)) (scope rendered : Scope) (name : List ℕ) (attributes : List Attribute) (declared wanted : List (List ℕ)) →
+    AreListedRendered listed declared scope rendered →
+    IsWanted scope rendered (used_prefixes name attributes ++ filter (λ p. is_among p (map listed_prefix listed)) declared) wanted →
+    wanted ≡ wanted_prefixes listed scope rendered name attributes
+all_wanted listed scope rendered name attributes declared wanted kept found =
+    same_ascending wanted (wanted_prefixes listed scope rendered name attributes) found.ascending (wanted_ascend listed scope rendered name attributes)
+    (λ q. found.among q
+    ∙ ap (λ b. b && is_rendered_anew scope rendered q) (list_any-append (bytes_eq q) (used_prefixes name attributes)
+    (filter (λ p. is_among p (map listed_prefix listed)) declared)
+    ∙ ap (λ b. is_among q (used_prefixes name attributes) || b) (among_filtered (λ p. is_among p (map listed_prefix listed)) q declared))
+    ∙ which q (is_among q (used_prefixes name attributes)) (is_among q declared) refl (is_among q (map listed_prefix listed)) refl
+    ∙ ap (λ b. b && is_rendered_anew scope rendered q) (sym (list_any-append (bytes_eq q) (used_prefixes name attributes) (map listed_prefix listed)))
+    ∙ sym (wanted_among listed scope rendered name attributes q))
+  where
+    which : (q : List ℕ) (u d : Bool) → is_among q declared ≡ d → (l : Bool) → is_among q (map listed_prefix listed) ≡ l →
+        ((u || (d && l)) && is_rendered_anew scope rendered q) ≡ ((u || l) && is_rendered_anew scope rendered q)
+    which q true d is l listed = refl
+    which q false true is l listed = refl
+    which q false false is false listed = refl
+    which q false false is true listed = sym (not_anew scope rendered q (λ other. kept q listed other is))
+
+-- one of the declared prefixes was looked at
+abbrev pub is_listed : List (List ℕ) → List ℕ → Bool
+is_listed listed p = is_among p (map listed_prefix listed)
+
+abbrev pub candidates_at : List (List ℕ) → List (List ℕ) → List (Bor (List ℕ)) → ℕ → List (List ℕ)
+candidates_at listed used declared i = used ++ filter (is_listed listed) (take i (texts declared))
+
+candidates_next : (listed used : List (List ℕ)) (declared : List (Bor (List ℕ))) (i : ℕ) (d : Bor (List ℕ)) → i < length declared →
+    candidates_at listed used declared (i + 1)
+    ≡ candidates_at listed used declared i ++ cond (is_listed listed (get_or declared i d).now) ((get_or declared i d).now ∷ []) []
+candidates_next listed used declared i d h =
+    let p : List ℕ = (get_or declared i d).now in
+    ap (λ xs. used ++ filter (is_listed listed) xs)
+    (take_more (texts declared) i d.now (omega (arith, length-map declared (λ (t : Bor (List ℕ)). t.now)))
+    ∙ ap (λ x. take i (texts declared) ++ x ∷ []) (get_or-map (λ (t : Bor (List ℕ)). t.now) declared i d d.now h))
+    ∙ ap (λ xs. used ++ xs) (filter-append (is_listed listed) (take i (texts declared)) (p ∷ []))
+    ∙ sym (append_assoc used (filter (is_listed listed) (take i (texts declared))) (filter (is_listed listed) (p ∷ [])))
+
+pub listed_wanted : (scope rendered : Scope) (listed used : List (List ℕ)) (declared : List (Bor (List ℕ))) (i : ℕ) (d : Bor (List ℕ)) (has : Bool)
+    (wanted new : List (List ℕ)) → i < length declared → has ≡ is_listed listed (get_or declared i d).now → has ≡ true →
+    IsWanted scope rendered (candidates_at listed used declared i) wanted → IsAscending byte_order new →
+    ((q : List ℕ) → is_among q new ≡ (is_among q wanted || (bytes_eq q (get_or declared i d).now && is_rendered_anew scope rendered q))) →
+    IsWanted scope rendered (candidates_at listed used declared (i + 1)) new
+listed_wanted scope rendered listed used declared i d has wanted new h is found so_far up among =
+    subst (λ (candidates : List (List ℕ)). IsWanted scope rendered candidates new)
+    (sym (candidates_next listed used declared i d h
+    ∙ ap (λ b. candidates_at listed used declared i ++ cond b ((get_or declared i d).now ∷ []) []) (sym is ∙ found)))
+    (one_more_wanted scope rendered (candidates_at listed used declared i) wanted new (get_or declared i d).now so_far up among)
+
+pub listed_passed : (scope rendered : Scope) (listed used : List (List ℕ)) (declared : List (Bor (List ℕ))) (i : ℕ) (d : Bor (List ℕ)) (has : Bool)
+    (wanted : List (List ℕ)) → i < length declared → has ≡ is_listed listed (get_or declared i d).now → has ≡ false →
+    IsWanted scope rendered (candidates_at listed used declared i) wanted →
+    IsWanted scope rendered (candidates_at listed used declared (i + 1)) wanted
+listed_passed scope rendered listed used declared i d has wanted h is missed so_far =
+    subst (λ (candidates : List (List ℕ)). IsWanted scope rendered candidates wanted)
+    (sym (candidates_next listed used declared i d h
+    ∙ ap (λ b. candidates_at listed used declared i ++ cond b ((get_or declared i d).now ∷ []) []) (sym is ∙ missed)
+    ∙ append-nil (candidates_at listed used declared i)))
+    so_far
+
+pub none_looked_at : (scope rendered : Scope) (listed used : List (List ℕ)) (declared : List (Bor (List ℕ))) (wanted : List (List ℕ)) →
+    IsWanted scope rendered used wanted → IsWanted scope rendered (candidates_at listed used declared 0) wanted
+none_looked_at scope rendered listed used declared wanted found =
+    subst (λ (candidates : List (List ℕ)). IsWanted scope rendered candidates wanted) (sym (append-nil used)) found
+
+pub all_looked_at : (scope rendered : Scope) (listed : List (List ℕ)) (name : List ℕ) (attributes : List Attribute) (declared : List (Bor (List ℕ))) (i : ℕ)
+    (wanted : List (List ℕ)) → length declared ≤ i → AreListedRendered listed (texts declared) scope rendered →
+    IsWanted scope rendered (candidates_at listed (used_prefixes name attributes) declared i) wanted →
+    wanted ≡ wanted_prefixes listed scope rendered name attributes
+all_looked_at scope rendered listed name attributes declared i wanted end kept found =
+    all_wanted listed scope rendered name attributes (texts declared) wanted kept
+    (subst (λ (ps : List (List ℕ)). IsWanted scope rendered (used_prefixes name attributes ++ filter (is_listed listed) ps) wanted)
+    (take_all i (texts declared) (omega (arith, length-map declared (λ (t : Bor (List ℕ)). t.now)))) found)
+
+-- all attributes were looked at
+pub all_used : (scope rendered : Scope) (tree : Nodes) (n i : ℕ) (name : List ℕ) (wanted : List (List ℕ)) →
+    length (attributes_in (from_node tree n)) ≤ i →
+    IsWanted scope rendered (used_prefixes name (take i (attributes_in (from_node tree n)))) wanted →
+    IsWanted scope rendered (used_prefixes name (attributes_in (from_node tree n))) wanted
+all_used scope rendered tree n i name wanted end found =
+    subst (λ (attributes : List Attribute). IsWanted scope rendered (used_prefixes name attributes) wanted)
+    (take_all i (attributes_in (from_node tree n)) end) found
+
+pub empty_by_length : (p : List ℕ) → eqb (length p) 0 ≡ is_empty p
+empty_by_length [] = refl
+empty_by_length (b ∷ bytes) = ne_eqb (length (b ∷ bytes)) 0 (λ e. omega arith)

@@ -1,0 +1,92 @@
+//! The names of elements and attributes.
+ghost use Rattle.std.specs.Prelude.{◌≡◌, ◌++◌, IsSome, IfSome, OnOk};
+ghost use Rattle.std.specs.Option.{option_map};
+ghost use Rattle.xml_spec.specs.Characters.{prefix_of, local_of};
+ghost use Rattle.xml_spec.specs.Numbering.{from_node};
+ghost use Rattle.xml_spec.specs.Names.{HasNames, declared_prefix};
+ghost use Rattle.saml_tree.specs.Documents.{name_of};
+ghost use Rattle.saml_tree.specs.NodeNames.{attribute_at};
+ghost use Rattle.excl_c14n.specs.Elements.{IsElement, name_in};
+ghost use Rattle.excl_c14n.specs.Shown.{joined_name, prefix_declared_by};
+
+use saml_outside::NoMemory;
+use saml_tree::{Doc, NodeNo};
+
+/// Appends the name of this prefix and this local part.
+fn put_parts(prefix: &str, local: &str, out: &mut Vec<u8>) -> Result<(), NoMemory>
+    ensures { OnOk result (out.new.items ≡ out.old.items ++ joined_name prefix.now local.now) }
+{
+    if !prefix.is_empty() {
+        out.extend_from_slice(prefix.as_bytes())?;
+        out.push(b':')?;
+    }
+    out.extend_from_slice(local.as_bytes())?;
+    Ok(())
+}
+
+/// Appends the name of an element, or the target of an instruction.
+pub(crate) fn put_node_name(doc: &Doc<'_>, n: NodeNo, out: &mut Vec<u8>) -> Result<(), NoMemory>
+    requires named { IsSome (name_of (from_node doc.now.tree n.0)) }
+    requires names { HasNames doc.now.tree }
+    ensures { OnOk result (out.new.items ≡ out.old.items ++ name_in (from_node doc.now.tree n.0)) }
+{
+    let name = doc.name(n);
+    put_parts(name.prefix, name.local, out)
+}
+
+/// Appends the name of attribute i of node n.
+pub(crate) fn put_attribute_name(
+    doc: &Doc<'_>,
+    n: NodeNo,
+    i: usize,
+    out: &mut Vec<u8>,
+) -> Result<(), NoMemory>
+    requires there { IsSome (attribute_at doc.now.tree n.0 i) }
+    requires names { HasNames doc.now.tree }
+    ensures { IfSome (attribute_at doc.now.tree n.0 i) (λ a. OnOk result (out.new.items ≡ out.old.items ++ a.name)) }
+{
+    let (prefix, local) = attribute_parts(doc, n, i);
+    put_parts(prefix, local, out)
+}
+
+/// The prefix of an element's name.
+pub(crate) fn element_prefix<'d>(doc: &'d Doc<'_>, n: NodeNo) -> &'d str
+    requires element { IsElement doc.now.tree n.0 }
+    ensures { result.now ≡ prefix_of (name_in (from_node doc.now.tree n.0)) }
+{
+    doc.name(n).prefix
+}
+
+/// The prefix and the local part of the name of attribute i of node n.
+pub(crate) fn attribute_parts<'d>(doc: &'d Doc<'_>, n: NodeNo, i: usize) -> (&'d str, &'d str)
+    requires there { IsSome (attribute_at doc.now.tree n.0 i) }
+    ensures { IfSome (attribute_at doc.now.tree n.0 i) (λ a.
+        (result.0.now ≡ prefix_of a.name) × (result.1.now ≡ local_of a.name)) }
+{
+    let name = doc.attr_name(n, i);
+    (name.prefix, name.local)
+}
+
+/// The prefix that an attribute of these parts declares: a name is a declaration's where it is xmlns or begins with
+/// xmlns: (Namespaces in XML 1.0, 3).
+fn declared_by<'d>(prefix: &'d str, local: &'d str) -> Option<&'d str>
+    ensures { option_map (λ p. p.now) result ≡ prefix_declared_by prefix.now local.now }
+{
+    if prefix == "xmlns" {
+        Some(local)
+    } else if prefix.is_empty() && local == "xmlns" {
+        Some("")
+    } else {
+        None
+    }
+}
+
+/// The prefix that attribute i of node n declares; none where it is a proper attribute.
+pub(crate) fn declared<'d>(doc: &'d Doc<'_>, n: NodeNo, i: usize) -> Option<&'d str>
+    requires there { IsSome (attribute_at doc.now.tree n.0 i) }
+    requires names { HasNames doc.now.tree }
+    ensures { IfSome (attribute_at doc.now.tree n.0 i) (λ a. option_map (λ p. p.now) result ≡ declared_prefix a.name) }
+{
+    let (prefix, local) = attribute_parts(doc, n, i);
+    declared_by(prefix, local)
+}

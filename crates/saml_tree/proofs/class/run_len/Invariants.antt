@@ -1,7 +1,0 @@
-use Rattle.std.proofs.Common.{take}
-use Rattle.xml_spec.specs.Bytes.{AllPass}
-use Rattle.saml_tree.specs.Lexing.{is_in}
-use Rattle.saml_tree.proofs.class.run_len.Given as goal
-
-abbrev pub invariant-loop-i : goal.invariant-loop-i
-invariant-loop-i l = AllPass (is_in l.class) (take l.i l.bytes)

@@ -1,7 +1,0 @@
-use Rattle.saml_tree.proofs.AttributeReadings.{no_quoted}
-use Rattle.saml_tree.proofs.parts.closed.Goals as goal
-
-pub returns-in_err-behind-clause-reading : goal.returns-in_err-behind-clause-reading
-returns-in_err-behind-clause-reading c =
-    rw c.from_residual.ensures (no_quoted c.args.quote c.args.rest.now c.split_run.result.0.now c.split_run.result.1.now
-    c.split_run.ensures.split c.split_run.ensures.passes c.split_run.ensures.stops c.in_err-behind.ensures)

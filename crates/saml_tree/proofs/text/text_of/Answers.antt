@@ -1,0 +1,5 @@
+use Rattle.saml_tree.proofs.Texts.{text_utf8}
+use Rattle.saml_tree.proofs.text.text_of.Goals as goal
+
+pub returns-in_default-clause-none : goal.returns-in_default-clause-none
+returns-in_default-clause-none c = λ text. c.in_default.ensures.cases.0 (text_utf8 c.args.bytes.now text)

@@ -1,0 +1,100 @@
+// The elements of a document by their IDs.
+
+ghost use Rattle.std.specs.Prelude.{◌≡◌, ◌<◌, ◌^◌, ◌⊎◌, ◌++◌, List, [], ◌∷◌, length, map, IfOk, OnOk, IfErr};
+ghost use Rattle.std.specs.BTreeMap.{get_by_text};
+ghost use Rattle.std.specs.List.{filter_map};
+ghost use Rattle.xml_spec.specs.Identifiers.{Identifier, identifier_at, identifiers, IsSingle};
+ghost use Rattle.saml_tree.specs.Rows.{nodes_at};
+ghost use Rattle.saml_tree.specs.Kept.{IsShaped};
+ghost use Rattle.saml_tree.specs.Index.{IsIndex, AreIndexed, AreOnce};
+ghost use Rattle.saml_tree.specs.Views.{row_views};
+ghost use Rattle.xml_tokens.specs.Views.{attribute_view};
+ghost use Rattle.saml_tree.specs.declared.node.TreeFault.TheVariants as faults;
+
+use crate::node::TreeFault;
+use crate::row::{Attribute, Row, Shape};
+use std::alloc::Global;
+use std::collections::BTreeMap;
+
+/// The elements of a document by their IDs: a look-up takes the logarithm of how many there are.
+#[derive(Debug, Drop)]
+pub(crate) struct Ids {
+    index: BTreeMap<String, u32>,
+}
+
+impl Ids {
+    fn new(alloc: Global) -> Ids
+        ensures { AreIndexed [] result }
+    {
+        Ids {
+            index: BTreeMap::new(alloc),
+        }
+    }
+
+    /// The element with this ID.
+    pub(crate) fn get(&self, value: &str) -> Option<u32>
+        ensures { result ≡ get_by_text self.now.index value.now }
+    {
+        self.index.get(value).copied()
+    }
+
+    // One ID more. `DuplicateId` says that there is one of this value.
+    fn add(&mut self, alloc: Global, value: &str, node: u32) -> Result<(), TreeFault>
+        ensures ok { OnOk result ((before : List Identifier) → AreIndexed before self.old →
+            AreIndexed (before ++ record { value = value.now; node = node } ∷ []) self.new) }
+        ensures err { IfErr result (λ e. (e ≡ faults.NoMemory) ⊎ ((e ≡ faults.DuplicateId)
+            × ((before : List Identifier) → AreIndexed before self.old →
+            ¬ (AreOnce (before ++ record { value = value.now; node = node } ∷ []))))) }
+    {
+        if self.index.contains_key(value) {
+            return Err(TreeFault::DuplicateId);
+        }
+        let key = String::from_str(alloc, value)?;
+        self.index.insert(key, node)?;
+        Ok(())
+    }
+
+    // The IDs among the attributes of this element.
+    fn add_all(
+        &mut self,
+        alloc: Global,
+        attributes: &[Attribute<'_>],
+        node: u32,
+    ) -> Result<(), TreeFault>
+        ensures ok { OnOk result ((before : List Identifier) → AreIndexed before self.old →
+            AreIndexed (before ++ filter_map (identifier_at node) (map attribute_view attributes.now)) self.new) }
+        ensures err { IfErr result (λ e. (e ≡ faults.NoMemory) ⊎ ((e ≡ faults.DuplicateId)
+            × ((before : List Identifier) → AreIndexed before self.old →
+            ¬ (AreOnce (before ++ filter_map (identifier_at node) (map attribute_view attributes.now)))))) }
+    {
+        for attribute in attributes {
+            if attribute.name == "ID" {
+                self.add(alloc, attribute.value.as_str(), node)?;
+            }
+        }
+        Ok(())
+    }
+}
+
+/// The elements of a document by their IDs, which are the values of attributes named ID. Time goes with n log n of
+/// the document's length.
+///
+/// # Errors
+///
+/// `DuplicateId`: two attributes named ID have one value. `NoMemory`.
+pub(crate) fn index_of(alloc: Global, rows: &[Row<'_>]) -> Result<Ids, TreeFault>
+    requires shaped { IsShaped (row_views rows.now) }
+    requires count { length rows.now < 2 ^ 32 }
+    ensures ok { IfOk result (λ ids. IsSingle (nodes_at 0 (row_views rows.now))
+        × IsIndex (identifiers (nodes_at 0 (row_views rows.now))) ids) }
+    ensures err { IfErr result (λ e. (e ≡ faults.NoMemory)
+        ⊎ ((e ≡ faults.DuplicateId) × ¬ (IsSingle (nodes_at 0 (row_views rows.now))))) }
+{
+    let mut ids = Ids::new(alloc);
+    for (k, row) in rows.iter().enumerate() {
+        if let Shape::Element { attributes, .. } = &row.shape {
+            ids.add_all(alloc, attributes, k as u32)?;
+        }
+    }
+    Ok(ids)
+}

@@ -1,0 +1,121 @@
+// Whether the tokens of a document stand where they may.
+
+ghost use Rattle.std.specs.Prelude.{◌≡◌, ◌⊎◌, vec_len, IfErr, OnOk, IsTrue, IsFalse, None, Some};
+ghost use Rattle.std.specs.List.{list_all};
+ghost use Rattle.xml_spec.specs.Syntax.{is_white, Tag, EmptyTag, Token, Alone, StartTag};
+ghost use Rattle.xml_tokens.specs.Views.{Shows};
+ghost use Rattle.saml_tree.specs.Outlines.{first_outline, next_outline, named_end, is_complete};
+ghost use Rattle.saml_tree.specs.Views.{outline_view};
+
+use crate::node::TreeFault;
+use std::alloc::Global;
+use xml_tokens::Markup;
+
+/// The names of the open elements, the innermost last, and whether the root has begun.
+#[derive(Drop)]
+pub(crate) struct Outline<'a> {
+    pub(crate) names: Vec<&'a str>,
+    pub(crate) begun: bool,
+}
+
+impl<'a> Outline<'a> {
+    pub(crate) fn new(alloc: Global) -> Outline<'a>
+        ensures { outline_view result ≡ first_outline }
+    {
+        Outline {
+            names: Vec::new(alloc),
+            begun: false,
+        }
+    }
+
+    /// How many elements are open.
+    pub(crate) fn depth(&self) -> usize
+        ensures { result ≡ vec_len self.now.names }
+    {
+        self.names.len()
+    }
+
+    /// Adds a token. A refusal says that the token has no place there.
+    pub(crate) fn take(&mut self, markup: &Markup<'a>) -> Result<(), TreeFault>
+        ensures ok { OnOk result ((token : Token) → Shows token markup.now →
+            next_outline (outline_view self.old) token ≡ Some (outline_view self.new)) }
+        ensures err { IfErr result (λ e. (e ≡ TreeFault.NoMemory) ⊎ ((e ≡ TreeFault.BadXml)
+            × ((token : Token) → Shows token markup.now → next_outline (outline_view self.old) token ≡ None))) }
+    {
+        let inside = !self.names.is_empty();
+        match markup {
+            Markup::Characters(text) => allow(inside || is_all_white(text)),
+            Markup::Reference(_) | Markup::Section(_) => allow(inside),
+            Markup::Comment(_) | Markup::Instruction { .. } => Ok(()),
+            Markup::Empty { .. } => self.take_empty(),
+            Markup::Start { name, .. } => self.open(name),
+            Markup::End { name } => self.close(name),
+        }
+    }
+
+    // An element that ends where it begins, in an open one or as the root.
+    fn take_empty(&mut self) -> Result<(), TreeFault>
+        ensures ok { OnOk result ((tag : Tag) → next_outline (outline_view self.old) (Alone (EmptyTag tag)) ≡ Some (outline_view self.new)) }
+        ensures err { IfErr result (λ e. (e ≡ TreeFault.BadXml)
+            × ((tag : Tag) → next_outline (outline_view self.old) (Alone (EmptyTag tag)) ≡ None)) }
+    {
+        if !self.names.is_empty() {
+            return Ok(());
+        }
+        allow(!self.begun)?;
+        self.begun = true;
+        Ok(())
+    }
+
+    // The start of an element, in an open one or as the root.
+    fn open(&mut self, name: &'a str) -> Result<(), TreeFault>
+        ensures ok { OnOk result ((tag : Tag) → name.now ≡ tag.name →
+            next_outline (outline_view self.old) (StartTag tag) ≡ Some (outline_view self.new)) }
+        ensures err { IfErr result (λ e. (e ≡ TreeFault.NoMemory) ⊎ ((e ≡ TreeFault.BadXml)
+            × ((tag : Tag) → next_outline (outline_view self.old) (StartTag tag) ≡ None))) }
+    {
+        allow(!self.names.is_empty() || !self.begun)?;
+        self.names.push(name)?;
+        self.begun = true;
+        Ok(())
+    }
+
+    // The end of the innermost open element, where it has this name.
+    fn close(&mut self, name: &str) -> Result<(), TreeFault>
+        ensures ok { OnOk result (named_end (outline_view self.old) (outline_view self.old).names name.now ≡ Some (outline_view self.new)) }
+        ensures err { IfErr result (λ e. (e ≡ TreeFault.BadXml)
+            × (named_end (outline_view self.old) (outline_view self.old).names name.now ≡ None)) }
+    {
+        let Some(inner) = self.names.pop() else {
+            return Err(TreeFault::BadXml);
+        };
+        allow(inner == name)
+    }
+
+    /// Whether the root is read and no element is open.
+    pub(crate) fn is_complete(&self) -> bool
+        ensures { result ≡ is_complete (outline_view self.now) }
+    {
+        self.names.is_empty() && self.begun
+    }
+}
+
+// No fault where the token may stand there.
+fn allow(holds: bool) -> Result<(), TreeFault>
+    ensures ok { OnOk result (IsTrue holds) }
+    ensures err { IfErr result (λ e. (e ≡ TreeFault.BadXml) × IsFalse holds) }
+{
+    if holds {
+        Ok(())
+    } else {
+        Err(TreeFault::BadXml)
+    }
+}
+
+// Whether each byte is white space.
+fn is_all_white(text: &str) -> bool
+    ensures { result ≡ list_all is_white text.now }
+{
+    text.bytes()
+        .all(|b| matches!(b, b' ' | b'\t' | b'\r' | b'\n'))
+}

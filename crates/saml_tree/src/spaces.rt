@@ -1,0 +1,154 @@
+// The namespaces in force at a place of a document.
+
+ghost use Rattle.std.specs.Prelude.{◌≡◌, suc, ◌-◌, ◌<◌, ◌^◌, ◌++◌, [], ◌∷◌, drop, length, map, string_bytes, IfOk, IfErr, OnOk};
+
+use crate::node::TreeFault;
+use crate::qualified::{XML_NAMESPACE, XMLNS_NAMESPACE, declared_prefix};
+use crate::row::Attribute;
+use namespace_scope::{NoMemory, Scope};
+use std::alloc::Global;
+
+impl From<NoMemory> for TreeFault {
+    ghost use Rattle.std.specs.Prelude.{◌≡◌};
+    ghost use Rattle.saml_tree.specs.declared.node.TreeFault.TheVariants.{NoMemory};
+
+    ghost from_gives = { λ _ e. e ≡ NoMemory };
+
+    fn from(_: NoMemory) -> TreeFault {
+        TreeFault::NoMemory
+    }
+}
+
+/// The number of no namespace.
+pub(crate) const NONE: u32 = 0;
+
+/// The number of the namespace of the prefix xmlns.
+pub(crate) const XMLNS: u32 = 2;
+
+/// Namespaces by number, and which of them each prefix is bound to.
+#[derive(Drop)]
+pub(crate) struct Spaces<'a> {
+    // no namespace, that of the prefix xml, that of xmlns, and then that of each declaration
+    pub(crate) namespaces: Vec<String>,
+    // a level for the document, and one for each open element
+    pub(crate) scope: Scope<'a>,
+    // how many levels there are
+    pub(crate) levels: usize,
+}
+
+/// One more namespace in the table, and its number.
+fn add(alloc: Global, namespaces: &mut Vec<String>, namespace: &str) -> Result<u32, TreeFault>
+    ensures number { IfOk result (λ n. n ≡ length namespaces.old.items) }
+    ensures table { OnOk result (map string_bytes namespaces.new.items ≡ map string_bytes namespaces.old.items ++ namespace.now ∷ []) }
+    ensures err { IfErr result (λ e. e ≡ TreeFault.NoMemory) }
+{
+    let Ok(number) = u32::try_from(namespaces.len()) else {
+        return Err(TreeFault::NoMemory);
+    };
+    let text = String::from_str(alloc, namespace)?;
+    namespaces.push(text)?;
+    Ok(number)
+}
+
+impl<'a> Spaces<'a> {
+    ghost use Rattle.std.specs.Prelude.{None, IsSome, MatchOption, slice_get, slice_index_or};
+    ghost use Rattle.xml_spec.specs.Names.{bound, outermost, declarations};
+    ghost use Rattle.xml_tokens.specs.Views.{attribute_view};
+    ghost use Rattle.saml_tree.specs.Spaces.{texts, scope_of, IsReady, Binds, Enters};
+
+    /// Those of a document, outside its root.
+    pub(crate) fn new(alloc: Global) -> Result<Spaces<'a>, TreeFault>
+        ensures ready { IfOk result (λ s. IsReady s) }
+        ensures one { IfOk result (λ s. length s.scope ≡ 1) }
+        ensures scope { IfOk result (λ s. scope_of s ≡ outermost) }
+        ensures err { IfErr result (λ e. e ≡ TreeFault.NoMemory) }
+    {
+        let mut namespaces = Vec::new(alloc);
+        let _none = add(alloc, &mut namespaces, "")?;
+        let xml = add(alloc, &mut namespaces, XML_NAMESPACE)?;
+        let _xmlns = add(alloc, &mut namespaces, XMLNS_NAMESPACE)?;
+        let mut scope = Scope::new(alloc);
+        scope.push()?;
+        scope.declare("xml", xml)?;
+        Ok(Spaces {
+            namespaces,
+            scope,
+            levels: 1,
+        })
+    }
+
+    /// Ends the levels of the elements that a node of this depth doesn't stand in.
+    pub(crate) fn leave(&mut self, depth: u32)
+        requires ready { IsReady self.old }
+        requires deep { depth < length self.old.scope }
+        ensures ready { IsReady self.new }
+        ensures scope { self.new.scope ≡ drop (length self.old.scope - suc depth) self.old.scope }
+        ensures count { length self.new.scope ≡ suc depth }
+        ensures table { self.new.namespaces ≡ self.old.namespaces }
+    {
+        while self.levels > depth as usize + 1 {
+            self.scope.pop();
+            self.levels -= 1;
+        }
+    }
+
+    /// Begins the level of an element with these attributes.
+    pub(crate) fn enter(
+        &mut self,
+        alloc: Global,
+        attributes: &[Attribute<'a>],
+    ) -> Result<(), TreeFault>
+        requires ready { IsReady self.old }
+        requires few { self.old.levels < 2 ^ 33 }
+        ensures ok { OnOk result (Enters self.old self.new (declarations (map attribute_view attributes.now))) }
+        ensures err { IfErr result (λ e. e ≡ TreeFault.NoMemory) }
+    {
+        self.scope.push()?;
+        self.levels += 1;
+        self.declare_all(alloc, attributes)
+    }
+
+    // The last declaration of a prefix hides the others, so they are made from the last to the first.
+    fn declare_all(&mut self, alloc: Global, attributes: &[Attribute<'a>]) -> Result<(), TreeFault>
+        requires ready { IsReady self.old }
+        ensures ok { OnOk result (Binds self.old self.new (declarations (map attribute_view attributes.now))) }
+        ensures err { IfErr result (λ e. e ≡ TreeFault.NoMemory) }
+    {
+        for i in (0..attributes.len()).rev() {
+            self.declare(alloc, &attributes[i])?;
+        }
+        Ok(())
+    }
+
+    fn declare(&mut self, alloc: Global, attribute: &Attribute<'a>) -> Result<(), TreeFault>
+        requires ready { IsReady self.old }
+        ensures ok { OnOk result (Binds self.old self.new (declarations (attribute_view attribute.now ∷ []))) }
+        ensures err { IfErr result (λ e. e ≡ TreeFault.NoMemory) }
+    {
+        match declared_prefix(attribute.name) {
+            Some(prefix) => {
+                let number = add(alloc, &mut self.namespaces, attribute.value.as_str())?;
+                self.scope.declare(prefix, number)?;
+                Ok(())
+            }
+            None => Ok(()),
+        }
+    }
+
+    /// The number of the namespace of a prefix.
+    pub(crate) fn number_of(&self, prefix: &str) -> Option<u32>
+        requires { IsReady self.now }
+        ensures { MatchOption result (bound (scope_of self.now) prefix.now ≡ None)
+            (λ n. IsSome (bound (scope_of self.now) prefix.now) × (slice_get (texts self.now.namespaces.items) n ≡ bound (scope_of self.now) prefix.now)) }
+    {
+        self.scope.lookup(prefix)
+    }
+
+    /// The namespace of a number.
+    pub(crate) fn text(&self, number: u32) -> &str
+        requires { number < length (texts self.now.namespaces.items) }
+        ensures { result.now ≡ slice_index_or (texts self.now.namespaces.items) number [] }
+    {
+        self.namespaces[number as usize].as_str()
+    }
+}

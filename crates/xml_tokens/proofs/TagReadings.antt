@@ -1,0 +1,169 @@
+-- Readings of a tag's attributes and of a tag are one, and what refuses them.
+use Rattle.std.proofs.Common.{◌≡◌, ℕ, ◌+◌, ◌<◌, true, false, List, [], ◌∷◌, ◌++◌, length, IsFalse, refl, sym, ◌∙◌, ap, subst, append_assoc, append-nil, length-append, arith}
+use Rattle.std.specs.List.{flat_map, AllByRecursion}
+use Rattle.std.proofs.lemmas.List.{map-append}
+use Rattle.std.proofs.lemmas.List.Concat.{flat_map-append}
+use Rattle.xml_spec.specs.Ascii.{equals_sign}
+use Rattle.xml_spec.specs.Bytes.{AllPass, begins_with}
+use Rattle.xml_spec.specs.Tree as tree
+use Rattle.xml_spec.specs.Syntax.{is_white, print_piece, Assignment, print_assignment, IsAssignment, Tag}
+use Rattle.xml_spec.specs.Meaning.{attribute_of, attributes_of}
+use Rattle.xml_spec.proofs.Tests.{both_true}
+use Rattle.xml_spec.proofs.Runs.{same_run}
+use Rattle.xml_spec.proofs.NameBytes.{name_begins}
+use Rattle.xml_spec.proofs.Tags.{Closes, from_value, from_right, from_left, from_name, from_before, assignment_parts, from_assignments, assignments_go_on, same_assignment, white_is_no_name, white_begins, tag_parts, same_tag}
+use Rattle.xml_tokens.specs.Lexing.{is_name_byte, NameAt, AssignmentAt, AttributesAt, AreSoFar, TagAt, NoName, NoAssignment, NoAttributes, NoTag}
+use Rattle.xml_tokens.proofs.AttributeReadings.{same_name, name_begins_not_white}
+
+every_more : {X : Type 0} (P : X → Type 0) (xs : List X) (y : X) → AllByRecursion P xs → P y → AllByRecursion P (xs ++ y ∷ [])
+every_more P [] y h k = (k, tt)
+every_more P (x ∷ xs) y h k = (h.0, every_more P xs y h.1 k)
+
+pub none_so_far : (whole : List ℕ) → AreSoFar whole [] whole
+none_so_far whole = record { assignments = []; valid = tt; mean = refl; split = refl }
+
+-- one more attribute
+pub one_more : (whole : List ℕ) (read : List tree.Attribute) (rest : List ℕ) (attribute : tree.Attribute) (behind : List ℕ) →
+    AreSoFar whole read rest → AssignmentAt rest attribute behind → AreSoFar whole (read ++ attribute ∷ []) behind
+one_more whole read rest attribute behind far at =
+    let a = at.assignment in
+    record {
+      assignments = far.assignments ++ a ∷ [];
+      valid = every_more IsAssignment far.assignments a far.valid at.valid;
+      mean = (λ i. far.mean i ++ at.means i ∷ []) ∙ sym (map-append attribute_of far.assignments (a ∷ []));
+      split = far.split ∙ ap (λ z. flat_map print_assignment far.assignments ++ z) at.split
+          ∙ sym (append_assoc (flat_map print_assignment far.assignments) (print_assignment a) behind)
+          ∙ ap (λ z. z ++ behind) (ap (λ z. flat_map print_assignment far.assignments ++ z) (sym (append-nil (print_assignment a)))
+          ∙ sym (flat_map-append print_assignment far.assignments (a ∷ [])));
+    }
+
+-- an attribute has a byte
+pub assignment_is_some : (bytes : List ℕ) (attribute : tree.Attribute) (behind : List ℕ) → AssignmentAt bytes attribute behind → length behind < length bytes
+assignment_is_some bytes attribute behind at =
+    let a = at.assignment in
+    let some = at.valid.apart in
+    let whole : length bytes ≡ length a.before + length (from_name a behind) =
+    ap length (at.split ∙ assignment_parts a behind) ∙ length-append a.before (from_name a behind) in
+    let parts : length (from_name a behind) ≡ length a.name + length (from_left a behind) = length-append a.name (from_left a behind) in
+    let left : length (from_left a behind) ≡ length a.left + length (equals_sign ∷ from_right a behind) = length-append a.left (equals_sign ∷ from_right a behind) in
+    let right : length (from_right a behind) ≡ length a.right + length (a.quote ∷ from_value a behind) = length-append a.right (a.quote ∷ from_value a behind) in
+    let value : length (from_value a behind) ≡ length (flat_map print_piece a.pieces) + length (a.quote ∷ behind) = length-append (flat_map print_piece a.pieces) (a.quote ∷ behind) in
+    omega arith
+
+-- all attributes
+pub all_read : (whole : List ℕ) (read : List tree.Attribute) (rest space at : List ℕ) → AreSoFar whole read rest →
+    rest ≡ space ++ at → AllPass is_white space → IsFalse (begins_with is_white at) → IsFalse (begins_with is_name_byte at) →
+    AttributesAt whole read at
+all_read whole read rest space at far e white stops ends = record {
+  assignments = far.assignments;
+  space = space;
+  valid = far.valid;
+  white = white;
+  mean = far.mean;
+  split = far.split ∙ ap (λ z. flat_map print_assignment far.assignments ++ z) e;
+  not_white = stops;
+  not_name = ends;
+}
+
+not_both_ways : (z x : List ℕ) → z ≡ x → begins_with is_name_byte z ≡ true → begins_with is_name_byte x ≡ false → ⊥
+not_both_ways z x e begins stops =
+    let clash : begins_with is_name_byte x ≡ true = sym (ap (begins_with is_name_byte) e) ∙ begins in
+    cc
+
+-- white space and then the end of a tag is not white space and then a name
+no_assignment_at_end : (b : Assignment) (space x y : List ℕ) → IsAssignment b → AllPass is_white space → Closes x →
+    space ++ x ≡ from_before b y → ⊥
+no_assignment_at_end b space x y vb ws closes e =
+    let split = same_run is_white space b.before x (from_name b y) ws vb.before closes.not_white
+    (name_begins_not_white (from_name b y) (name_begins b.name (from_left b y) vb.name)) e in
+    not_both_ways (from_name b y) x (sym split.1) (name_begins b.name (from_left b y) vb.name) closes.not_name
+
+-- where no assignment begins the rest, and a name follows its white space, no attributes are read
+stuck : (ones bs : List Assignment) (rest space at blank y : List ℕ) → AllByRecursion IsAssignment ones →
+    AllByRecursion IsAssignment bs → AllPass is_white space → AllPass is_white blank → rest ≡ space ++ at →
+    begins_with is_name_byte at ≡ true → Closes y → NoAssignment rest →
+    flat_map print_assignment ones ++ rest ≡ from_assignments bs blank y → ⊥
+stuck [] [] rest space at blank y vo vb ws wb split named closes none e =
+    let same = same_run is_white space blank at y ws wb (name_begins_not_white at named) closes.not_white (sym split ∙ e) in
+    not_both_ways at y same.1 named closes.not_name
+stuck [] (b ∷ bs) rest space at blank y vo vb ws wb split named closes none e =
+    let behind = from_assignments bs blank y in
+    none (attribute_of b) behind (record {
+      assignment = b;
+      valid = vb.0;
+      means = refl;
+      split = e ∙ append_assoc (print_assignment b) (flat_map print_assignment bs) (blank ++ y);
+    })
+stuck (a ∷ ones) [] rest space at blank y vo vb ws wb split named closes none e =
+    no_assignment_at_end a blank y (flat_map print_assignment ones ++ rest) vo.0 wb closes
+    (sym e ∙ append_assoc (print_assignment a) (flat_map print_assignment ones) rest
+    ∙ assignment_parts a (flat_map print_assignment ones ++ rest))
+stuck (a ∷ ones) (b ∷ bs) rest space at blank y vo vb ws wb split named closes none e =
+    let here = same_assignment a b (flat_map print_assignment ones ++ rest) (from_assignments bs blank y) vo.0 vb.0
+    (sym (append_assoc (print_assignment a) (flat_map print_assignment ones) rest
+    ∙ assignment_parts a (flat_map print_assignment ones ++ rest)) ∙ e ∙ assignments_go_on b bs blank y) in
+    stuck ones bs rest space at blank y vo.1 vb.1 ws wb split named closes none here.behind
+
+pub no_attributes : (whole : List ℕ) (read : List tree.Attribute) (rest space at : List ℕ) → AreSoFar whole read rest →
+    rest ≡ space ++ at → AllPass is_white space → begins_with is_name_byte at ≡ true → NoAssignment (space ++ at) → NoAttributes whole
+no_attributes whole read rest space at far split white named none attributes behind other =
+    stuck far.assignments other.assignments rest space at other.space behind far.valid other.valid white other.white split named
+    (record { not_white = other.not_white; not_name = other.not_name }) (subst NoAssignment (sym split) none) (sym far.split ∙ other.split)
+
+-- behind the name of a tag
+assignments_stop_name : (ones : List Assignment) (space x : List ℕ) → AllByRecursion IsAssignment ones → AllPass is_white space →
+    Closes x → begins_with is_name_byte (from_assignments ones space x) ≡ false
+assignments_stop_name [] [] x va ws closes = closes.not_name
+assignments_stop_name [] (b ∷ space) x va ws closes = white_is_no_name b (both_true (is_white b) _ ws).0
+assignments_stop_name (a ∷ ones) space x va ws closes =
+    ap (begins_with is_name_byte) (assignments_go_on a ones space x)
+    ∙ white_begins a.before (from_name a (from_assignments ones space x)) va.0.apart va.0.before
+
+name_of_tag : (bytes name : List ℕ) (attributes : List tree.Attribute) (behind : List ℕ) → (at : TagAt bytes name attributes behind) →
+    NameAt bytes at.tag.name (from_assignments at.tag.assignments at.tag.space behind)
+name_of_tag bytes name attributes behind at = record {
+  named = at.valid.name;
+  split = at.split ∙ tag_parts at.tag behind;
+  ends = assignments_stop_name at.tag.assignments at.tag.space behind at.valid.assignments at.valid.space
+      (record { not_white = at.not_white; not_name = at.not_name });
+}
+
+pub unnamed_no_tag : (bytes : List ℕ) → NoName bytes → NoTag bytes
+unnamed_no_tag bytes none name attributes behind at =
+    none at.tag.name (from_assignments at.tag.assignments at.tag.space behind) (name_of_tag bytes name attributes behind at)
+
+pub unread_no_tag : (bytes name mid : List ℕ) → NameAt bytes name mid → NoAttributes mid → NoTag bytes
+unread_no_tag bytes name mid n none other attributes behind at =
+    let same = same_name bytes name at.tag.name mid (from_assignments at.tag.assignments at.tag.space behind) n
+    (name_of_tag bytes other attributes behind at) in
+    none (attributes_of at.tag) behind (record {
+      assignments = at.tag.assignments;
+      space = at.tag.space;
+      valid = at.valid.assignments;
+      white = at.valid.space;
+      mean = refl;
+      split = same.1;
+      not_white = at.not_white;
+      not_name = at.not_name;
+    })
+
+pub tag_from : (bytes name mid : List ℕ) (attributes : List tree.Attribute) (behind : List ℕ) → NameAt bytes name mid →
+    AttributesAt mid attributes behind → TagAt bytes name attributes behind
+tag_from bytes name mid attributes behind n at =
+    let tag : Tag = record { name = name; assignments = at.assignments; space = at.space } in
+    record {
+      tag = tag;
+      valid = record { name = n.named; assignments = at.valid; space = at.white };
+      named = refl;
+      mean = at.mean;
+      split = n.split ∙ ap (λ z. name ++ z) at.split ∙ sym (tag_parts tag behind);
+      not_white = at.not_white;
+      not_name = at.not_name;
+    }
+
+-- two readings of a tag end at one place
+pub same_tag_end : (bytes name other : List ℕ) (attributes others : List tree.Attribute) (x y : List ℕ) →
+    TagAt bytes name attributes x → TagAt bytes other others y → x ≡ y
+same_tag_end bytes name other attributes others x y a b =
+    (same_tag a.tag b.tag x y a.valid b.valid (record { not_white = a.not_white; not_name = a.not_name })
+    (record { not_white = b.not_white; not_name = b.not_name }) (sym a.split ∙ b.split)).behind

@@ -1,0 +1,4 @@
+pub mod Heads
+pub mod Lexing
+pub mod Markup
+pub mod Views

@@ -1,0 +1,76 @@
+// Classes of bytes, and runs of them.
+
+ghost use Rattle.std.specs.Prelude.{◌≡◌, ◌≤◌, ◌++◌, length, take, drop, IsFalse};
+ghost use Rattle.xml_spec.specs.Bytes.{AllPass, begins_with};
+ghost use Rattle.xml_tokens.specs.Lexing.{is_in, IsCut};
+
+/// A class of bytes. A run of them ends where a text may be cut.
+#[derive(Clone, Copy, Debug, PartialEq, Eq)]
+pub(crate) enum Class {
+    /// The bytes that may stand in a name.
+    Name,
+    /// White space.
+    White,
+    /// The bytes that may stand in a run of characters.
+    Characters,
+    /// The bytes that may stand in a value in these quotes.
+    Value(u8),
+    /// The bytes that stay as they are in a value.
+    Kept,
+}
+
+impl Class {
+    /// Whether the byte is of the class.
+    pub(crate) fn has(self, byte: u8) -> bool
+        ensures { result ≡ is_in self byte }
+    {
+        match self {
+            Class::Name => !matches!(
+                byte,
+                b' ' | b'\t'
+                    | b'\r'
+                    | b'\n'
+                    | b'='
+                    | b'/'
+                    | b'>'
+                    | b'?'
+                    | b'<'
+                    | b'&'
+                    | b'"'
+                    | b'\''
+                    | b'!'
+                    | b';'
+                    | b'#'
+            ),
+            Class::White => matches!(byte, b' ' | b'\t' | b'\r' | b'\n'),
+            Class::Characters => !matches!(byte, b'<' | b'&'),
+            Class::Value(quote) => byte != b'<' && byte != b'&' && byte != quote,
+            Class::Kept => !matches!(byte, b'\t' | b'\n' | b'\r'),
+        }
+    }
+}
+
+/// How many of the first bytes are of the class.
+fn run_len(bytes: &[u8], class: Class) -> usize
+    ensures within { result ≤ length bytes.now }
+    ensures passes { AllPass (is_in class) (take result bytes.now) }
+    ensures stops { IsFalse (begins_with (is_in class) (drop result bytes.now)) }
+{
+    for (i, byte) in bytes.iter().enumerate() {
+        if !class.has(*byte) {
+            return i;
+        }
+    }
+    bytes.len()
+}
+
+/// The longest run of bytes of the class at the front of a text, and what follows it.
+pub(crate) fn split_run<'a>(rest: &'a str, class: Class) -> (&'a str, &'a str)
+    requires cut { IsCut class }
+    ensures split { rest.now ≡ result.0.now ++ result.1.now }
+    ensures passes { AllPass (is_in class) result.0.now }
+    ensures stops { IsFalse (begins_with (is_in class) result.1.now) }
+{
+    let len = run_len(rest.as_bytes(), class);
+    rest.split_at(len)
+}

@@ -1,0 +1,20 @@
+//! The tokens of XML documents (XML 1.0, fifth edition): what stands before them, and one after the other.
+#![tactic(auto)]
+
+mod class;
+mod head;
+mod lex;
+mod lines;
+mod marks;
+mod parts;
+mod settings;
+mod tags;
+#[cfg(test)]
+mod tests;
+mod token;
+mod values;
+
+pub use head::behind_head;
+pub use lex::next_token;
+pub use lines::put_line_ends;
+pub use token::{Attribute, Markup, TokenFault};

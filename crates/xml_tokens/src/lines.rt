@@ -1,0 +1,61 @@
+// Line ends, and white space in values.
+
+ghost use Rattle.std.specs.Prelude.{◌≡◌, ◌++◌, map, string_bytes};
+ghost use Rattle.std.specs.Option.{MatchOption};
+ghost use Rattle.std.specs.Result.{OnOk};
+ghost use Rattle.xml_spec.specs.Meaning.{as_blank, line_ends};
+ghost use Rattle.xml_tokens.specs.Lexing.{NoBlank, BlankAt};
+
+use crate::class::{Class, split_run};
+use crate::marks::{split_mark, strip_byte};
+use std::alloc::AllocError;
+
+/// Appends a text with its line ends translated (XML 1.0, 2.11).
+///
+/// # Errors
+///
+/// Memory ran out: a part of the text may have been appended.
+pub fn put_line_ends(text: &str, out: &mut String) -> Result<(), AllocError>
+    ensures ok { OnOk result (string_bytes out.new ≡ string_bytes out.old ++ line_ends text.now) }
+{
+    let mut rest = text;
+    'lines: while let Some((line, behind)) = split_mark(rest, "\r") {
+        out.push_str(line)?;
+        out.push('\n')?;
+        rest = strip_byte(behind, b'\n').unwrap_or(behind);
+    }
+    out.push_str(rest)
+}
+
+/// What follows a tab or a line end.
+fn strip_blank<'a>(rest: &'a str) -> Option<&'a str>
+    ensures { MatchOption result (NoBlank rest.now) (λ behind. BlankAt rest.now behind.now) }
+{
+    if let Some(behind) = strip_byte(rest, b'\r') {
+        return Some(strip_byte(behind, b'\n').unwrap_or(behind));
+    }
+    if let Some(behind) = strip_byte(rest, b'\n') {
+        return Some(behind);
+    }
+    strip_byte(rest, b'\t')
+}
+
+/// Appends a literal part of a value, with a space for each tab and each line end (XML 1.0, 2.11 and 3.3.3).
+///
+/// # Errors
+///
+/// Memory ran out: a part of the text may have been appended.
+pub(crate) fn put_blanks(literal: &str, out: &mut String) -> Result<(), AllocError>
+    ensures ok { OnOk result (string_bytes out.new ≡ string_bytes out.old ++ map as_blank (line_ends literal.now)) }
+{
+    let mut rest = literal;
+    'blanks: loop {
+        let (kept, at) = split_run(rest, Class::Kept);
+        out.push_str(kept)?;
+        let Some(behind) = strip_blank(at) else {
+            return Ok(());
+        };
+        out.push(' ')?;
+        rest = behind;
+    }
+}

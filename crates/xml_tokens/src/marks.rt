@@ -1,0 +1,40 @@
+// Bytes and words that a text begins with, or that stand in it.
+
+ghost use Rattle.std.specs.Prelude.{◌≡◌, ℕ, ◌<◌, List, ◌∷◌, ◌++◌, length};
+ghost use Rattle.std.specs.Option.{MatchOption};
+ghost use Rattle.xml_spec.specs.Bytes.{has};
+ghost use Rattle.xml_tokens.specs.Lexing.{CutAt};
+
+/// What follows this byte of ASCII, where the text begins with it.
+pub(crate) fn strip_byte<'a>(rest: &'a str, byte: u8) -> Option<&'a str>
+    requires ascii { byte < 128 }
+    ensures { MatchOption result ((x : List ℕ) → ¬ (rest.now ≡ byte ∷ x)) (λ behind. rest.now ≡ byte ∷ behind.now) }
+{
+    match rest.as_bytes() {
+        [first, ..] if *first == byte => Some(&rest[1..]),
+        _ => None,
+    }
+}
+
+/// What follows this word, where the text begins with it.
+pub(crate) fn strip_word<'a>(rest: &'a str, word: &str) -> Option<&'a str>
+    ensures { MatchOption result ((x : List ℕ) → ¬ (rest.now ≡ word.now ++ x)) (λ behind. rest.now ≡ word.now ++ behind.now) }
+{
+    rest.strip_prefix(word)
+}
+
+/// What stands before the first place of this mark, and what stands behind it.
+pub(crate) fn split_mark<'a>(rest: &'a str, mark: &str) -> Option<(&'a str, &'a str)>
+    ensures { MatchOption result ((front behind : List ℕ) → ¬ (rest.now ≡ front ++ (mark.now ++ behind)))
+        (λ found. CutAt mark.now rest.now found.0.now found.1.now) }
+{
+    rest.split_once(mark)
+}
+
+/// Whether the mark stands in the text.
+pub(crate) fn has_mark(text: &str, mark: &str) -> bool
+    requires some { 0 < length mark.now }
+    ensures { result ≡ has mark.now text.now }
+{
+    text.contains(mark)
+}

@@ -1,0 +1,124 @@
+// Names, equals signs and attributes at the front of a text: each reader takes what is left of the text, and gives
+// what it read and what follows it.
+
+ghost use Rattle.std.specs.Prelude.{◌≡◌, ℕ, ◌<◌, ◌↔◌, List, ◌∷◌, ◌++◌, length, IsTrue, IsFalse};
+ghost use Rattle.std.specs.Option.{MatchOption};
+ghost use Rattle.std.specs.Result.{IfOk, IfErr};
+ghost use Rattle.xml_spec.specs.Bytes.{AllPass, begins_with};
+ghost use Rattle.xml_spec.specs.Characters.{is_name_start, is_name_char, IsName};
+ghost use Rattle.xml_spec.specs.Syntax.{is_white};
+ghost use Rattle.xml_tokens.specs.Views.{attribute_view};
+ghost use Rattle.xml_tokens.specs.Lexing.{is_ascii_name_byte, NameAt, EqualsAt, AssignedAt, AssignmentAt, NoName, NoEquals, NoAssigned, NoAssignment, IsFaultFor};
+
+use crate::class::{Class, split_run};
+use crate::marks::strip_byte;
+use crate::token::{Attribute, TokenFault};
+use crate::values::value;
+use std::alloc::Global;
+
+/// Whether the byte is ASCII and may begin a name.
+fn is_name_start_byte(byte: u8) -> bool
+    ensures ascii { IsTrue result → byte < 128 }
+    ensures starts { byte < 128 → result ≡ is_name_start byte }
+{
+    matches!(byte, b':' | b'A'..=b'Z' | b'_' | b'a'..=b'z')
+}
+
+/// Whether the byte is ASCII and may stand in a name.
+fn is_name_char_byte(byte: u8) -> bool
+    ensures ascii { IsTrue result → byte < 128 }
+    ensures stands { byte < 128 → result ≡ is_name_char byte }
+{
+    matches!(byte, b'-' | b'.' | b'0'..=b'9') || is_name_start_byte(byte)
+}
+
+/// Whether each byte is ASCII and may stand in a name.
+fn all_name_chars(bytes: &[u8]) -> bool
+    ensures { IsTrue result → AllPass is_ascii_name_byte bytes.now }
+{
+    for byte in bytes {
+        if !is_name_char_byte(*byte) {
+            return false;
+        }
+    }
+    true
+}
+
+/// Whether the text is a name of ASCII alone.
+fn is_ascii_name(text: &str) -> bool
+    ensures { IsTrue result → IsName text.now }
+{
+    match text.as_bytes() {
+        [] => false,
+        [first, others @ ..] => is_name_start_byte(*first) && all_name_chars(others),
+    }
+}
+
+/// Whether the text is a name (XML 1.0, production 5).
+fn is_name(text: &str) -> bool
+    ensures { IsTrue result ↔ IsName text.now }
+{
+    is_ascii_name(text) || xml_chars::is_name(text)
+}
+
+/// A name, and what follows it.
+pub(crate) fn name<'a>(rest: &'a str) -> Option<(&'a str, &'a str)>
+    ensures { MatchOption result (NoName rest.now) (λ found. NameAt rest.now found.0.now found.1.now) }
+{
+    let (name, behind) = split_run(rest, Class::Name);
+    if is_name(name) {
+        Some((name, behind))
+    } else {
+        None
+    }
+}
+
+/// What follows an equals sign and the white space round it.
+pub(crate) fn equals<'a>(rest: &'a str) -> Option<&'a str>
+    ensures { MatchOption result (NoEquals rest.now) (λ found. EqualsAt rest.now found.now) }
+{
+    let (_, sign) = split_run(rest, Class::White);
+    let behind = strip_byte(sign, b'=')?;
+    let (_, behind) = split_run(behind, Class::White);
+    Some(behind)
+}
+
+/// A name and the value that it is given, and what follows them.
+///
+/// # Errors
+///
+/// `Invalid`: no such thing stands there. `NoMemory`.
+fn assigned<'a>(alloc: Global, rest: &'a str) -> Result<(Attribute<'a>, &'a str), TokenFault>
+    ensures reading { IfOk result (λ found. AssignedAt rest.now (attribute_view found.0) found.1.now) }
+    ensures refused { IfErr result (IsFaultFor (NoAssigned rest.now)) }
+{
+    let Some((name, sign)) = name(rest) else {
+        return Err(TokenFault::Invalid);
+    };
+    let Some(quote) = equals(sign) else {
+        return Err(TokenFault::Invalid);
+    };
+    let (value, behind) = value(alloc, quote)?;
+    Ok((Attribute { name, value }, behind))
+}
+
+/// The attribute behind this white space, and what follows it.
+///
+/// # Errors
+///
+/// `Invalid`: no white space and attribute stand there. `NoMemory`.
+pub(crate) fn assignment<'a>(
+    alloc: Global,
+    space: &str,
+    rest: &'a str,
+) -> Result<(Attribute<'a>, &'a str), TokenFault>
+    requires white { AllPass is_white space.now }
+    requires stops { IsFalse (begins_with is_white rest.now) }
+    ensures reading { IfOk result (λ found. AssignmentAt (space.now ++ rest.now) (attribute_view found.0) found.1.now) }
+    ensures refused { IfErr result (IsFaultFor (NoAssignment (space.now ++ rest.now))) }
+{
+    if space.is_empty() {
+        return Err(TokenFault::Invalid);
+    }
+    assigned(alloc, rest)
+}

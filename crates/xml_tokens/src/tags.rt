@@ -1,0 +1,112 @@
+// Tags.
+
+ghost use Rattle.std.specs.Prelude.{◌≡◌, ℕ, ◌<◌, List, ◌∷◌, ◌++◌, map, codes};
+ghost use Rattle.std.specs.Option.{MatchOption};
+ghost use Rattle.std.specs.Result.{IfOk, IfErr};
+ghost use Rattle.xml_spec.specs.Ascii.{less_than};
+ghost use Rattle.xml_spec.specs.Bytes.{begins_with};
+ghost use Rattle.xml_spec.specs.Syntax.{Token};
+ghost use Rattle.xml_spec.specs.Laws.{BeginsWith};
+ghost use Rattle.xml_tokens.specs.Views.{attribute_view, Shows};
+ghost use Rattle.xml_tokens.specs.Lexing.{is_name_byte, BeginsTag, AttributesAt, TagAt, EndAt, NoAttributes, NoTag, NoEnd, NoToken, IsFaultFor};
+
+use crate::class::{Class, split_run};
+use crate::marks::strip_byte;
+use crate::parts::{assignment, name};
+use crate::token::{Attribute, Markup, TokenFault};
+use std::alloc::Global;
+
+/// Whether the text begins with a byte that may stand in a name.
+fn begins_name(rest: &str) -> bool
+    ensures { result ≡ begins_with is_name_byte rest.now }
+{
+    match rest.as_bytes() {
+        [first, ..] => Class::Name.has(*first),
+        [] => false,
+    }
+}
+
+/// The attributes of a tag, and what follows them and the white space behind them.
+///
+/// # Errors
+///
+/// `Invalid`: what stands there is no such list. `NoMemory`.
+fn attributes<'a>(
+    alloc: Global,
+    whole: &'a str,
+) -> Result<(Vec<Attribute<'a>>, &'a str), TokenFault>
+    ensures reading { IfOk result (λ found. AttributesAt whole.now (map attribute_view found.0.items) found.1.now) }
+    ensures refused { IfErr result (IsFaultFor (NoAttributes whole.now)) }
+{
+    let mut attributes = Vec::new(alloc);
+    let mut rest = whole;
+    'tag: loop {
+        let (space, at) = split_run(rest, Class::White);
+        if !begins_name(at) {
+            return Ok((attributes, at));
+        }
+        let (attribute, behind) = assignment(alloc, space, at)?;
+        attributes.push(attribute)?;
+        rest = behind;
+    }
+}
+
+/// The name and the attributes of a tag, and what follows them and the white space behind them.
+///
+/// # Errors
+///
+/// `Invalid`: what stands there is no such thing. `NoMemory`.
+fn tag<'a>(
+    alloc: Global,
+    rest: &'a str,
+) -> Result<(&'a str, Vec<Attribute<'a>>, &'a str), TokenFault>
+    ensures reading { IfOk result (λ found. TagAt rest.now found.0.now (map attribute_view found.1.items) found.2.now) }
+    ensures refused { IfErr result (IsFaultFor (NoTag rest.now)) }
+{
+    let Some((name, given)) = name(rest) else {
+        return Err(TokenFault::Invalid);
+    };
+    let (attributes, close) = attributes(alloc, given)?;
+    Ok((name, attributes, close))
+}
+
+/// What follows the sign that closes the tag of an empty element.
+fn strip_empty_close<'a>(rest: &'a str) -> Option<&'a str>
+    ensures { MatchOption result ((x : List ℕ) → ¬ (rest.now ≡ codes "/>" ++ x)) (λ behind. rest.now ≡ codes "/>" ++ behind.now) }
+{
+    let sign = strip_byte(rest, b'/')?;
+    strip_byte(sign, b'>')
+}
+
+/// The start tag or the tag of an empty element behind `<`, and what follows it.
+///
+/// # Errors
+///
+/// `Invalid`: no valid token is written so. `NoMemory`.
+pub(crate) fn open_tag<'a>(
+    alloc: Global,
+    rest: &'a str,
+) -> Result<(Markup<'a>, &'a str), TokenFault>
+    requires begins { BeginsTag rest.now }
+    ensures reading { IfOk result (λ found. (token : Token) × Shows token found.0 × BeginsWith (less_than ∷ rest.now) token found.1.now) }
+    ensures refused { IfErr result (IsFaultFor (NoToken (less_than ∷ rest.now))) }
+{
+    let (name, attributes, close) = tag(alloc, rest)?;
+    if let Some(behind) = strip_byte(close, b'>') {
+        return Ok((Markup::Start { name, attributes }, behind));
+    }
+    match strip_empty_close(close) {
+        Some(behind) => Ok((Markup::Empty { name, attributes }, behind)),
+        None => Err(TokenFault::Invalid),
+    }
+}
+
+/// The name of the end tag behind `</`, and what follows it.
+pub(crate) fn end_tag<'a>(rest: &'a str) -> Option<(&'a str, &'a str)>
+    ensures { MatchOption result (NoEnd rest.now) (λ found. EndAt rest.now found.0.now found.1.now) }
+{
+    let (name, space) = name(rest)?;
+    let (_, close) = split_run(space, Class::White);
+    let behind = strip_byte(close, b'>')?;
+    Some((name, behind))
+}
