@@ -11,6 +11,7 @@ pub mod Nodes
 pub mod Opening
 pub mod Ordered
 pub mod Parts
+pub mod Placing
 pub mod Scopes
 pub mod Sorting
 pub mod Tables

@@ -1,6 +1,6 @@
 -- The numbers of an element's proper attributes, sorted by the attributes' expanded names.
-use Rattle.std.proofs.Common.{◌≡◌, ℕ, zero, suc, ◌+◌, ◌-◌, ◌<◌, ◌≤◌, List, [], ◌∷◌, length, map, get_or, Bool, true, false, not, cond, filter, Option, Some, None, IsSome, IfSome, Bor, refl, sym, ap, ◌∙◌, subst, arith}
-use Rattle.std.specs.List.{AllByRecursion, slice_get, range_with_len}
+use Rattle.std.proofs.Common.{◌≡◌, ℕ, zero, suc, ◌+◌, ◌-◌, ◌<◌, List, [], ◌∷◌, length, map, Bool, true, false, not, cond, filter, Option, Some, None, IsSome, IfSome, Bor, refl, sym, ap, ◌∙◌, subst, arith}
+use Rattle.std.specs.List.{slice_get, range_with_len}
 use Rattle.std.specs.Option.{option_map, option_map_or, option_and_then, is_some, unwrap_or}
 use Rattle.std.specs.declared.cmp.Ordering.{Ordering}
 use Rattle.xml_spec.specs.Tree.{Attribute, Nodes}
@@ -15,16 +15,7 @@ use Rattle.saml_tree.specs.Documents.{attributes_of}
 use Rattle.saml_tree.specs.NodeNames.{attribute_at}
 use Rattle.excl_c14n.specs.Elements.{attributes_in}
 use Rattle.excl_c14n.specs.NodeByNode.{attribute_order_in, number_order, is_proper_number}
-use Rattle.excl_c14n.proofs.Sorting.{each_sorted, map-sorted}
-
-range_each : (P : ℕ → Type 0) (a n : ℕ) → ((j : ℕ) → a ≤ j → j < a + n → P j) → AllByRecursion P (range_with_len a n)
-range_each P a zero each = tt
-range_each P a (suc n) each = (each a (omega arith) (omega arith), range_each P (a + 1) n (λ j low high. each j (omega arith) (omega arith)))
-
-each_at : (P : ℕ → Type 0) (xs : List ℕ) (k : ℕ) → AllByRecursion P xs → k < length xs → P (get_or xs k 0)
-each_at P [] k each h = absurd (omega arith)
-each_at P (x ∷ xs) zero each h = each.0
-each_at P (x ∷ xs) (suc k) each h = each_at P xs k each.1 (omega arith)
+use Rattle.excl_c14n.proofs.Sorting.{map-sorted}
 
 -- the numbers from `from` up to the count whose attributes declare nothing, sorted
 abbrev pub IsOrder : Scope → Nodes → ℕ → ℕ → ℕ → List ℕ → Type 0
@@ -49,24 +40,6 @@ attribute_there tree n count i counted h = which (attributes_of (from_node tree 
         attribute_at_place [] i h = absurd (omega arith)
         attribute_at_place (a ∷ attributes) zero h = refl
         attribute_at_place (a ∷ attributes) (suc i) h = attribute_at_place attributes i (omega arith)
-
-each_filtered : (P : ℕ → Type 0) (test : ℕ → Bool) (ps : List ℕ) → AllByRecursion P ps → AllByRecursion P (filter test ps)
-each_filtered P test [] h = tt
-each_filtered P test (p ∷ ps) h = which (test p) (each_filtered P test ps h.1)
-  where
-    which : (b : Bool) → AllByRecursion P (filter test ps) → AllByRecursion P (cond b (p ∷ filter test ps) (filter test ps))
-    which true later = (h.0, later)
-    which false later = later
-
-pub all_there : (scope : Scope) (tree : Nodes) (n count from : ℕ) (order : List ℕ) → HasCount tree n count → IsOrder scope tree n count from order →
-    (k : ℕ) → k < length order → IsSome (attribute_at tree n (get_or order k 0))
-all_there scope tree n count from order counted is =
-    let P : ℕ → Type 0 = λ i. IsSome (attribute_at tree n i) in
-    let each : AllByRecursion P order =
-    subst (AllByRecursion P) (sym is) (each_sorted (number_order scope tree n) P (filter (is_proper_number tree n) (range_with_len from (count - from)))
-    (each_filtered P (is_proper_number tree n) (range_with_len from (count - from))
-    (range_each P from (count - from) (λ j low high. attribute_there tree n count j counted (omega arith))))) in
-    λ k h. each_at P order k each h
 
 pub none_ordered : (scope : Scope) (tree : Nodes) (n count : ℕ) → IsOrder scope tree n count count []
 none_ordered scope tree n count =

@@ -14,13 +14,18 @@ use std::marker::Model;
 /// The name that the prefix xml is bound to (Namespaces in XML 1.0, 3).
 const XML_NAMESPACE: &str = "http://www.w3.org/XML/1998/namespace";
 
+/// The names of namespaces, each with a number. They stay until the walk is over.
+#[derive(Drop)]
+struct Names {
+    list: Vec<String>,
+}
+
 /// What the prefixes are bound to, and what they are bound to by the declarations that were written: by levels, of
 /// which each element has one.
 #[derive(Drop)]
 pub(crate) struct Bindings<'d> {
     alloc: Global,
-    /// The name of each number.
-    names: Vec<String>,
+    names: Names,
     scope: Scope<'d>,
     rendered: Scope<'d>,
 }
@@ -32,9 +37,9 @@ impl<'d> Model for Bindings<'d> {
 
     ghost Value = { BindingsView };
 
-    ghost view = { λ b. record { scope = levels_named b.names.items b.scope; rendered = levels_named b.names.items b.rendered } };
+    ghost view = { λ b. record { scope = levels_named b.names.list.items b.scope; rendered = levels_named b.names.list.items b.rendered } };
 
-    ghost invariant = { λ b. AreNumbered (length b.names.items) b.scope b.rendered };
+    ghost invariant = { λ b. AreNumbered (length b.names.list.items) b.scope b.rendered };
 }
 
 /// The answer of a call that wants memory, as this crate gives it.
@@ -47,44 +52,46 @@ pub(crate) fn kept(answer: Result<(), namespace_scope::NoMemory>) -> Result<(), 
     }
 }
 
-/// The name of a number; the empty one where there is none.
-fn name_in(names: &Vec<String>, number: Option<u32>) -> &str
-    ensures { result.now ≡ name_of_number names.now.items number }
-{
-    let Some(number) = number else {
-        return "";
-    };
-    match names.get(number as usize) {
-        Some(name) => name.as_str(),
-        None => "",
+impl Names {
+    /// The name of a number; the empty one where there is none.
+    fn name(&self, number: Option<u32>) -> &str
+        ensures { result.now ≡ name_of_number self.now.list.items number }
+    {
+        let Some(number) = number else {
+            return "";
+        };
+        match self.list.get(number as usize) {
+            Some(name) => name.as_str(),
+            None => "",
+        }
     }
-}
 
-/// Gives a name a number, its place in the table.
-fn number(names: &mut Vec<String>, name: String) -> Result<u32, NoMemory>
-    ensures ok { IfOk result (λ k. (names.new.items ≡ names.old.items ++ name ∷ []) × (k ≡ length names.old.items)) }
-    ensures err { OnErr result (names.new.items ≡ names.old.items) }
-{
-    let count = names.len();
-    if count > u32::MAX as usize {
-        return Err(NoMemory);
+    /// Gives a name a number, its place in the list.
+    fn add(&mut self, name: String) -> Result<u32, NoMemory>
+        ensures ok { IfOk result (λ k. (self.new.list.items ≡ self.old.list.items ++ name ∷ []) × (k ≡ length self.old.list.items)) }
+        ensures err { OnErr result (self.new.list.items ≡ self.old.list.items) }
+    {
+        let count = self.list.len();
+        if count > u32::MAX as usize {
+            return Err(NoMemory);
+        }
+        self.list.push(name)?;
+        Ok(count as u32)
     }
-    names.push(name)?;
-    Ok(count as u32)
 }
 
 /// The number that is rendered for a prefix, if it is that of this name.
 fn rendered_number(
-    names: &Vec<String>,
+    names: &Names,
     rendered: &Scope<'_>,
     prefix: &str,
     namespace: &str,
 ) -> Option<u32>
     ensures found { IfSome result (λ k. lookup_of prefix.now rendered.now ≡ Some k) }
-    ensures name { IfSome result (λ k. name_numbered names.now.items k ≡ namespace.now) }
+    ensures name { IfSome result (λ k. name_numbered names.now.list.items k ≡ namespace.now) }
 {
     match rendered.lookup(prefix) {
-        Some(number) if name_in(names, Some(number)) == namespace => Some(number),
+        Some(number) if names.name(Some(number)) == namespace => Some(number),
         _ => None,
     }
 }
@@ -94,14 +101,14 @@ impl<'d> Bindings<'d> {
     pub(crate) fn new(alloc: Global) -> Result<Bindings<'d>, NoMemory>
         ensures { IfOk result (λ b. b ≡ record { scope = outermost ∷ []; rendered = [] }) }
     {
-        let mut names = Vec::new(alloc);
-        names.push(String::from_str(alloc, XML_NAMESPACE)?)?;
+        let mut list = Vec::new(alloc);
+        list.push(String::from_str(alloc, XML_NAMESPACE)?)?;
         let mut scope = Scope::new(alloc);
         kept(scope.push())?;
         kept(scope.declare("xml", 0))?;
         Ok(Bindings {
             alloc,
-            names,
+            names: Names { list },
             scope,
             rendered: Scope::new(alloc),
         })
@@ -125,8 +132,8 @@ impl<'d> Bindings<'d> {
         self.rendered.pop();
     }
 
-    /// Binds a prefix, in the innermost element. A name that is rendered for the prefix keeps its number, so names that
-    /// are the same are mostly told by their numbers.
+    /// Binds a prefix, in the innermost element. A name that is rendered for the prefix keeps its number, so that long
+    /// names that are the same need not be compared again at each use.
     pub(crate) fn bind(&mut self, prefix: &'d str, namespace: String) -> Result<(), NoMemory>
         requires { 0 < length self.old.scope }
         ensures { OnOk result (self.new ≡ record self.old {
@@ -136,7 +143,7 @@ impl<'d> Bindings<'d> {
         match rendered_number(&self.names, &self.rendered, prefix, namespace.as_str()) {
             Some(number) => kept(self.scope.declare(prefix, number)),
             None => {
-                let new = number(&mut self.names, namespace)?;
+                let new = self.names.add(namespace)?;
                 kept(self.scope.declare(prefix, new))
             }
         }
@@ -152,7 +159,7 @@ impl<'d> Bindings<'d> {
         match self.scope.lookup(prefix) {
             Some(number) => kept(self.rendered.declare(prefix, number)),
             None => {
-                let unbound = number(&mut self.names, String::new(self.alloc))?;
+                let unbound = self.names.add(String::new(self.alloc))?;
                 kept(self.rendered.declare(prefix, unbound))
             }
         }
@@ -162,7 +169,7 @@ impl<'d> Bindings<'d> {
     pub(crate) fn namespace(&self, prefix: &str) -> &str
         ensures { result.now ≡ namespace_of (in_force self.now.scope) prefix.now }
     {
-        name_in(&self.names, self.scope.lookup(prefix))
+        self.names.name(self.scope.lookup(prefix))
     }
 
     /// Whether a prefix that is needed is to be declared here: where what it is bound to is not what was rendered for it
@@ -175,6 +182,6 @@ impl<'d> Bindings<'d> {
         }
         let bound = self.scope.lookup(prefix);
         let rendered = self.rendered.lookup(prefix);
-        bound != rendered && name_in(&self.names, bound) != name_in(&self.names, rendered)
+        bound != rendered && self.names.name(bound) != self.names.name(rendered)
     }
 }

@@ -1,13 +1,16 @@
 //! The order in which attributes are written.
-ghost use Rattle.std.specs.Prelude.{◌≡◌, ℕ, ◌<◌, ◌≤◌, map, length, slice_index, Some, IsSome, IfOk};
-ghost use Rattle.std.specs.List.{insert};
+ghost use Rattle.std.specs.Prelude.{◌≡◌, ℕ, ◌<◌, ◌≤◌, map, length, slice_index_or, true, false, Some, IsSome, IfOk};
+ghost use Rattle.std.specs.Ordering.{is_le};
 ghost use Rattle.xml_spec.specs.Names.{HasNames, attribute_name};
 ghost use Rattle.xml_spec.specs.Numbering.{from_node};
-ghost use Rattle.xml_spec.specs.Canonical.{inserted, expanded_order, written_attributes};
+ghost use Rattle.xml_spec.specs.Canonical.{expanded_order, written_attributes};
+ghost use Rattle.xml_spec.specs.Laws.{IsNonDescending};
 ghost use Rattle.saml_tree.specs.NodeNames.{attribute_at};
 ghost use Rattle.excl_c14n.specs.Elements.{IsElement, attributes_in};
 ghost use Rattle.excl_c14n.specs.Levels.{in_force};
-ghost use Rattle.excl_c14n.specs.NodeByNode.{attribute_name_of, namespace_by_prefix, number_order};
+ghost use Rattle.excl_c14n.specs.NodeByNode.{attribute_name_of, namespace_by_prefix};
+ghost use Rattle.excl_c14n.specs.Shown.{expanded_of};
+ghost use Rattle.excl_c14n.specs.declared.order.Expanded.{Expanded};
 
 use crate::bindings::Bindings;
 use crate::names::{attribute_parts, declared};
@@ -62,27 +65,37 @@ fn name_of_attribute<'d>(
     }
 }
 
-/// Where attribute i of node n goes among these ones, which are in order: in front of the first that is not below it.
-fn place_of(doc: &Doc<'_>, bindings: &Bindings<'_>, n: NodeNo, i: usize, order: &[usize]) -> usize
-    requires there { IsSome (attribute_at doc.now.tree n.0 i) }
-    requires others { (k : ℕ) → k < length order.now → IsSome (attribute_at doc.now.tree n.0 (slice_index order.now k)) }
-    ensures within { result ≤ length order.now }
-    ensures place { insert order.now result i ≡ inserted (number_order (in_force bindings.now.scope) doc.now.tree n.0) i order.now }
+/// Where a name goes among these ones, which are in order: in front of the first that is not below it. One prefix stands
+/// for one namespace.
+fn place_of(name: Expanded<'_>, names: &[Expanded<'_>]) -> usize
+    requires prefixes { (k : ℕ) → (d : Expanded) → k < length names.now →
+        name.prefix.now ≡ (slice_index_or names.now k d).prefix.now → name.namespace.now ≡ (slice_index_or names.now k d).namespace.now }
+    requires order { IsNonDescending expanded_order (map expanded_of names.now) }
+    ensures within { result ≤ length names.now }
+    ensures above { (k : ℕ) → (d : Expanded) → k < result →
+        is_le (expanded_order (expanded_of name.entry) (expanded_of (slice_index_or names.now k d))) ≡ false }
+    ensures place { (d : Expanded) → result < length names.now →
+        is_le (expanded_order (expanded_of name.entry) (expanded_of (slice_index_or names.now result d))) ≡ true }
 {
-    let name = name_of_attribute(doc, bindings, n, i);
-    for (place, other) in order.iter().enumerate() {
-        if compare(name, name_of_attribute(doc, bindings, n, *other)).is_le() {
-            return place;
+    let mut low = 0;
+    let mut high = names.len();
+    while low < high {
+        let middle = low + (high - low) / 2;
+        if compare(name, names[middle]).is_le() {
+            high = middle;
+        } else {
+            low = middle + 1;
         }
     }
-    order.len()
+    low
 }
 
-/// The numbers of an element's attributes that declare nothing, in the order of their expanded names.
-pub(crate) fn attribute_order(
+/// The numbers of an element's attributes that declare nothing, in the order of their expanded names. Each name
+/// is taken once, and kept while the others are put in order.
+pub(crate) fn attribute_order<'d>(
     alloc: Global,
-    doc: &Doc<'_>,
-    bindings: &Bindings<'_>,
+    doc: &'d Doc<'_>,
+    bindings: &'d Bindings<'_>,
     n: NodeNo,
 ) -> Result<Vec<usize>, NoMemory>
     requires element { IsElement doc.now.tree n.0 }
@@ -91,11 +104,15 @@ pub(crate) fn attribute_order(
         ≡ map Some (written_attributes (in_force bindings.now.scope) (attributes_in (from_node doc.now.tree n.0)))) }
 {
     let mut order = Vec::new(alloc);
+    let mut names = Vec::new(alloc);
     for i in (0..doc.attr_count(n)).rev() {
-        if declared(doc, n, i).is_none() {
-            let place = place_of(doc, bindings, n, i, order.as_slice());
-            order.insert(place, i)?;
+        if declared(doc, n, i).is_some() {
+            continue;
         }
+        let name = name_of_attribute(doc, bindings, n, i);
+        let place = place_of(name, names.as_slice());
+        names.insert(place, name)?;
+        order.insert(place, i)?;
     }
     Ok(order)
 }

@@ -79,12 +79,13 @@ impl<'d, 'a> Walk<'d, 'a> {
             || is_among q (map (λ b. b.prefix) (declarations (attributes_in (from_node self.now.doc.now.tree n.0)))))) }
     {
         for i in (0..self.doc.attr_count(n)).rev() {
-            if let Some(prefix) = declared(self.doc, n, i) {
-                let mut namespace = String::new(self.alloc);
-                self.doc.put_attr(n, i, &mut namespace)?;
-                bindings.bind(prefix, namespace)?;
-                prefixes.push(prefix)?;
-            }
+            let Some(prefix) = declared(self.doc, n, i) else {
+                continue;
+            };
+            let mut namespace = String::new(self.alloc);
+            self.doc.put_attr(n, i, &mut namespace)?;
+            bindings.bind(prefix, namespace)?;
+            prefixes.push(prefix)?;
         }
         Ok(())
     }
@@ -114,15 +115,21 @@ impl<'d, 'a> Walk<'d, 'a> {
         Ok(())
     }
 
-    /// Appends attribute i of node n.
-    fn put_attribute(&self, n: NodeNo, i: usize, out: &mut Vec<u8>) -> Result<(), NoMemory>
+    /// Appends attribute i of node n. `value` is room for its value.
+    fn put_attribute(
+        &self,
+        n: NodeNo,
+        i: usize,
+        value: &mut String,
+        out: &mut Vec<u8>,
+    ) -> Result<(), NoMemory>
         requires there { IsSome (attribute_at self.now.doc.now.tree n.0 i) }
         requires names { HasNames self.now.doc.now.tree }
         ensures { IfSome (attribute_at self.now.doc.now.tree n.0 i) (λ a.
             OnOk result (out.new.items ≡ out.old.items ++ print_attribute a.name a.value)) }
     {
-        let mut value = String::new(self.alloc);
-        self.doc.put_attr(n, i, &mut value)?;
+        value.clear();
+        self.doc.put_attr(n, i, value)?;
         out.push(b' ')?;
         put_attribute_name(self.doc, n, i, out)?;
         out.extend_from_slice(b"=\"")?;
@@ -144,8 +151,9 @@ impl<'d, 'a> Walk<'d, 'a> {
             (written_attributes (in_force bindings.now.scope) (attributes_in (from_node self.now.doc.now.tree n.0)))) }
     {
         let order = attribute_order(self.alloc, self.doc, bindings, n)?;
+        let mut value = String::new(self.alloc);
         for i in &order {
-            self.put_attribute(n, *i, out)?;
+            self.put_attribute(n, *i, &mut value, out)?;
         }
         Ok(())
     }

@@ -1,38 +1,19 @@
 -- What the program's table and levels say of a scope, and how they change.
-use Rattle.std.proofs.Common.{◌≡◌, ℕ, zero, suc, ◌+◌, ◌-◌, ◌<◌, ◌≤◌, Bool, true, false, cond, List, [], ◌∷◌, ◌++◌, length, get_or, take, drop, map, string_bytes, Vec, String, Option, Some, None, IsSome, MatchOption, refl, sym, ap, ◌∙◌, subst, append_assoc, add-one, arith}
-use Rattle.std.specs.List.{AllByRecursion, slice_get}
+use Rattle.std.proofs.Common.{◌≡◌, ℕ, zero, suc, ◌+◌, ◌-◌, ◌<◌, ◌≤◌, Bool, true, false, cond, List, [], ◌∷◌, ◌++◌, length, get_or, take, drop, map, Option, Some, None, IsSome, MatchOption, refl, sym, ap, ◌∙◌, subst, append_assoc, arith}
+use Rattle.std.specs.List.{AllByRecursion, slice_get, list_any}
 use Rattle.std.specs.Option.{option_or}
 use Rattle.std.specs.Map.{lookup}
 use Rattle.std.specs.Str.{bytes_eq}
-use Rattle.std.specs.declared.alloc.Global.{Global}
-use Rattle.std.proofs.lemmas.List.{get_or_append_left, append-nil, length-drop, length-map, length_push, get_or_push, take_more, map-append}
+use Rattle.std.proofs.lemmas.List.{get_or_append_left, append-nil, length-drop, length-append, take_more, map-append}
 use Rattle.std.proofs.lemmas.List.Elements.{filter_map-append}
 use Rattle.namespace_scope.specs.Levels.{Pair, Level, lookup_of, declared_in}
 use Rattle.xml_spec.specs.Names.{Scope, bound, binding_of, declarations, xmlns_namespace}
-use Rattle.saml_tree.specs.Spaces.{texts, binding_at, bindings_of, AreNumbered, IsReady, Grows, Binds}
+use Rattle.saml_tree.specs.Tables.{added}
+use Rattle.saml_tree.specs.Spaces.{binding_at, bindings_of, AreNumbered, IsReady, Grows, Binds}
+use Rattle.saml_tree.proofs.TableIndexing.{found_still, found_is, found_within, found_value}
 use Rattle.xml_tokens.specs.Views.{attribute_view}
 use Rattle.xml_tokens.specs.declared.token.Attribute.{Attribute}
 use Rattle.saml_tree.specs.declared.spaces.Spaces.{Spaces}
-
--- what is found in a table stays where the table grows
-pub found_still : {X : Type 0} (xs ys : List X) (n : ℕ) (x : X) → slice_get xs n ≡ Some x → slice_get (xs ++ ys) n ≡ Some x
-found_still [] ys n x h = absurd (let clash : None ≡ Some x = h in cc)
-found_still (y ∷ xs) ys zero x h = h
-found_still (y ∷ xs) ys (suc n) x h = found_still xs ys n x h
-
-pub found_last : {X : Type 0} (xs : List X) (x : X) → slice_get (xs ++ x ∷ []) (length xs) ≡ Some x
-found_last [] x = refl
-found_last (y ∷ xs) x = found_last xs x
-
-pub found_is : {X : Type 0} (xs : List X) (n : ℕ) (d : X) → n < length xs → slice_get xs n ≡ Some (get_or xs n d)
-found_is [] n d h = absurd (omega arith)
-found_is (x ∷ xs) zero d h = refl
-found_is (x ∷ xs) (suc n) d h = found_is xs n d (omega arith)
-
-pub found_within : {X : Type 0} (xs : List X) (n : ℕ) (x : X) → slice_get xs n ≡ Some x → n < length xs
-found_within [] n x h = absurd (let clash : None ≡ Some x = h in cc)
-found_within (y ∷ xs) zero x h = omega arith
-found_within (y ∷ xs) (suc n) x h = let less = found_within xs n x h in omega arith
 
 -- what a look-up gives leads to what the prefix is bound to
 abbrev pub LeadsTo : List (List ℕ) → Option ℕ → Option (List ℕ) → Type 0
@@ -115,33 +96,41 @@ drop_more all part next is popped some =
 
 -- a level ends
 pub ready_popped : (before after : Spaces) → IsReady before → 1 < length before.scope → after.scope ≡ drop 1 before.scope →
-    after.namespaces ≡ before.namespaces → after.levels ≡ before.levels - 1 → IsReady after
+    after.table ≡ before.table → after.levels ≡ before.levels - 1 → IsReady after
 ready_popped before after ready more scope table levels =
-    let same : texts after.namespaces.items ≡ texts before.namespaces.items = ap (λ (v : Vec (String Global) Global). texts v.items) table in
+    let same = table in
     let shorter : length after.scope ≡ length before.scope - 1 = ap length scope ∙ length-drop 1 before.scope in
     let count = ready.count in
     record {
       numbered =
           subst (λ n. AreNumbered n after.scope) (sym (ap length same))
-          (subst (AreNumbered (length (texts before.namespaces.items))) (sym scope) (numbered_drop (length (texts before.namespaces.items)) 1 before.scope ready.numbered));
+          (subst (AreNumbered (length before.table)) (sym scope) (numbered_drop (length before.table) 1 before.scope ready.numbered));
       count = omega arith;
       some = omega arith;
       none = ap (λ t. slice_get t 0) same ∙ ready.none;
       xmlns = ap (λ t. slice_get t 2) same ∙ ready.xmlns;
     }
 
--- one more pair in the innermost level
-bound_one : (table : List (List ℕ)) (p text : List ℕ) (levels : List Level) → AreNumbered (length table) levels → 0 < length levels →
-    bindings_of (table ++ text ∷ []) (declared_in p (length table) levels) ≡ record { prefix = p; namespace = text } ∷ bindings_of table levels
-bound_one table p text [] h some = absurd (omega arith)
-bound_one table p text (level ∷ outer) h some =
-    (λ i. record { prefix = p; namespace = get_or_push table text [] (length table) refl i }
-    ∷ same_bindings table (text ∷ []) (level ∷ outer) h i)
+-- a table grows by a text or stays
+pub grows_added : (table : List (List ℕ)) (text : List ℕ) → Grows table (added table text)
+grows_added table text = by_test (list_any (λ t. bytes_eq t text) table)
+  where
+    by_test : (b : Bool) → Grows table (cond b table (table ++ text ∷ []))
+    by_test true = grows_not table
+    by_test false = (text ∷ [], refl)
 
-numbered_one : (n : ℕ) (p : List ℕ) (levels : List Level) → AreNumbered n levels → AreNumbered (suc n) (declared_in p n levels)
-numbered_one n p [] h = tt
-numbered_one n p (level ∷ outer) h =
-    ((omega arith, more_in_level n (suc n) level (omega arith) h.0), more_numbered n (suc n) outer (omega arith) h.1)
+-- one more pair in the innermost level
+bound_one : (table more : List (List ℕ)) (p text : List ℕ) (n : ℕ) (levels : List Level) → AreNumbered (length table) levels → 0 < length levels →
+    slice_get (table ++ more) n ≡ Some text →
+    bindings_of (table ++ more) (declared_in p n levels) ≡ record { prefix = p; namespace = text } ∷ bindings_of table levels
+bound_one table more p text n [] h some found = absurd (omega arith)
+bound_one table more p text n (level ∷ outer) h some found =
+    (λ i. record { prefix = p; namespace = found_value (table ++ more) n text [] found i }
+    ∷ same_bindings table more (level ∷ outer) h i)
+
+numbered_one : (n m k : ℕ) (p : List ℕ) (levels : List Level) → n ≤ m → k < m → AreNumbered n levels → AreNumbered m (declared_in p k levels)
+numbered_one n m k p [] le less h = tt
+numbered_one n m k p (level ∷ outer) le less h = ((less, more_in_level n m level le h.0), more_numbered n m outer le h.1)
 
 outer_same : (p : List ℕ) (n : ℕ) (levels : List Level) → drop 1 (declared_in p n levels) ≡ drop 1 levels
 outer_same p n [] = refl
@@ -151,36 +140,36 @@ declared_length : (p : List ℕ) (n : ℕ) (levels : List Level) → length (dec
 declared_length p n [] = refl
 declared_length p n (level ∷ outer) = refl
 
-pub binds_one : (before after : Spaces) (p text : List ℕ) (n : ℕ) → IsReady before →
-    texts after.namespaces.items ≡ texts before.namespaces.items ++ text ∷ [] → n ≡ length before.namespaces.items →
-    after.scope ≡ declared_in p n before.scope → after.levels ≡ before.levels → Binds before after (record { prefix = p; namespace = text } ∷ [])
-binds_one before after p text n ready table number scope levels =
-    let old = texts before.namespaces.items in
-    let at : n ≡ length old = number ∙ sym (length-map before.namespaces.items string_bytes) in
-    let made : after.scope ≡ declared_in p (length old) before.scope = scope ∙ ap (λ k. declared_in p k before.scope) at in
-    let longer : length (texts after.namespaces.items) ≡ suc (length old) = ap length table ∙ (length_push old text ∙ add-one (length old)) in
+pub binds_one : (before after : Spaces) (p text : List ℕ) (n : ℕ) → IsReady before → after.table ≡ added before.table text →
+    slice_get after.table n ≡ Some text → after.scope ≡ declared_in p n before.scope → after.levels ≡ before.levels →
+    Binds before after (record { prefix = p; namespace = text } ∷ [])
+binds_one before after p text n ready table found scope levels =
+    let grown = grows_added before.table text in
+    let more = grown.0 in
+    let is : after.table ≡ before.table ++ more = table ∙ grown.1 in
+    let longer : length before.table ≤ length after.table = omega (arith, ap length is, length-append before.table more) in
+    let within : n < length after.table = found_within after.table n text found in
     let count = ready.count in
     let lengths : length after.scope ≡ length before.scope = ap length scope ∙ declared_length p n before.scope in
     let some = ready.some in
     record {
       ready = record {
-        numbered =
-            subst (λ k. AreNumbered k after.scope) (sym longer)
-            (subst (AreNumbered (suc (length old))) (sym made) (numbered_one (length old) p before.scope ready.numbered));
+        numbered = subst (AreNumbered (length after.table)) (sym scope) (numbered_one (length before.table) (length after.table) n p before.scope longer within ready.numbered);
         count = omega arith;
         some = omega arith;
-        none = ap (λ t. slice_get t 0) table ∙ found_still old (text ∷ []) 0 [] ready.none;
-        xmlns = ap (λ t. slice_get t 2) table ∙ found_still old (text ∷ []) 2 xmlns_namespace ready.xmlns;
+        none = ap (λ t. slice_get t 0) is ∙ found_still before.table more 0 [] ready.none;
+        xmlns = ap (λ t. slice_get t 2) is ∙ found_still before.table more 2 xmlns_namespace ready.xmlns;
       };
       bound =
-          (λ i. bindings_of (table i) (made i)) ∙ bound_one old p text before.scope ready.numbered ready.some;
+          (λ i. bindings_of (is i) (scope i))
+          ∙ bound_one before.table more p text n before.scope ready.numbered ready.some (subst (λ t. slice_get t n ≡ Some text) is found);
       outer = ap (drop 1) scope ∙ outer_same p n before.scope;
-      grows = (text ∷ [], table);
+      grows = (more, is);
     }
 
 -- what is bound in steps
 pub binds_none : (before : Spaces) → IsReady before → Binds before before []
-binds_none before ready = record { ready = ready; bound = refl; outer = refl; grows = grows_not (texts before.namespaces.items) }
+binds_none before ready = record { ready = ready; bound = refl; outer = refl; grows = grows_not before.table }
 
 -- the declarations of one more attribute, in front of those that are bound
 pub bound_more : (attributes : List Attribute) (i : ℕ) (x : Attribute) (before after : Scope) → 0 < i → i ≤ length attributes →

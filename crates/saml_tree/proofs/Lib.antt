@@ -29,3 +29,4 @@ pub mod Indexing
 pub mod OwnIds
 pub mod RowIds
 pub mod ElementsFound
+pub mod TableIndexing

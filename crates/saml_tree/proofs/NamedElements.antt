@@ -10,11 +10,14 @@ use Rattle.xml_spec.specs.Tree.{Attribute}
 use Rattle.xml_spec.specs.Names.{Scope, Binding, ExpandedName, is_declaration, declared_prefix, declarations, proper_attributes, attribute_name, IsInScope, AreDistinct, IsBinding, IsNamed, xmlns_namespace}
 use Rattle.xml_spec.specs.Canonical.{declaration_name}
 use Rattle.xml_spec.proofs.NameBytes.{name_is_not_empty}
+use Rattle.xml_spec.proofs.Ends.{neither}
 use Rattle.xml_spec.proofs.Tests.{both_true, and_true}
 use Rattle.saml_tree.specs.RowTests.{are_apart}
 use Rattle.saml_tree.specs.Resolved.{IsWellElement, IsWellAttribute, Listed, listed, attribute_namespace, is_proper_same, are_apart_expanded, expanded_view, AreInTable, AreExpanded}
+use Rattle.xml_tokens.specs.declared.token.Attribute as row
+use Rattle.xml_tokens.specs.Views.{attribute_view}
 use Rattle.saml_tree.specs.declared.names.Expanded.{Expanded}
-use Rattle.saml_tree.proofs.Bindings.{found_is}
+use Rattle.saml_tree.proofs.TableIndexing.{found_is}
 
 -- the test says that no two names are equal
 others_differ : (name : List ℕ) (names : List (List ℕ)) → list_any (λ other. bytes_eq other name) names ≡ false →
@@ -295,6 +298,65 @@ expanded_are_apart scope name attributes n =
     expanded_apart (map (listed scope) attributes) (subst AreDistinct (sym (proper_names_are scope attributes)) n.expanded_once)
 
 -- the numbers of the names lead to their namespaces
+-- where no name has a prefix, expanded names differ as the names do
+own_local : (name : List ℕ) → is_some (at_colon name) ≡ false → local_of name ≡ name
+own_local name h = by_colon (at_colon name) h
+  where
+    by_colon : (o : Option (List ℕ × List ℕ)) → is_some o ≡ false → unwrap_or (option_map (λ (parts : List ℕ × List ℕ). parts.1) o) name ≡ name
+    by_colon None e = refl
+    by_colon (Some parts) e = absurd (let clash : true ≡ false = e in cc)
+
+not_both : (a b : Bool) → (a && (false && b)) ≡ false
+not_both true b = refl
+not_both false b = refl
+
+local_differs : (scope : Scope) (a b : Attribute) → is_some (at_colon a.name) ≡ false → is_some (at_colon b.name) ≡ false →
+    bytes_eq b.name a.name ≡ false → is_proper_same (listed scope a).1 (listed scope b) ≡ false
+local_differs scope a b none other h =
+    let apart : bytes_eq (local_of a.name) (local_of b.name) ≡ false =
+    false_from_ne_true (bytes_eq (local_of a.name) (local_of b.name)) (λ e.
+    let same : a.name ≡ b.name = sym (own_local a.name none) ∙ (bytes_eq-Decides (local_of a.name) (local_of b.name)).0 e ∙ own_local b.name other in
+    let clash : true ≡ false = sym ((bytes_eq-Decides b.name a.name).1 (sym same)) ∙ h in cc) in
+    ap (λ t. (listed scope b).0 && (t && bytes_eq (listed scope a).1.namespace (listed scope b).1.namespace)) apart
+    ∙ not_both (listed scope b).0 (bytes_eq (listed scope a).1.namespace (listed scope b).1.namespace)
+
+none_has_its_local : (scope : Scope) (a : Attribute) (attributes : List Attribute) → is_some (at_colon a.name) ≡ false →
+    list_any (λ (b : Attribute). is_some (at_colon b.name)) attributes ≡ false →
+    list_any (λ other. bytes_eq other a.name) (map (λ (b : Attribute). b.name) attributes) ≡ false →
+    list_any (is_proper_same (listed scope a).1) (map (listed scope) attributes) ≡ false
+none_has_its_local scope a [] none all h = refl
+none_has_its_local scope a (b ∷ attributes) none all h =
+    let own = neither (is_some (at_colon b.name)) (list_any (λ (c : Attribute). is_some (at_colon c.name)) attributes) all in
+    let differs = neither (bytes_eq b.name a.name) (list_any (λ other. bytes_eq other a.name) (map (λ (c : Attribute). c.name) attributes)) h in
+    ap (λ t. t || list_any (is_proper_same (listed scope a).1) (map (listed scope) attributes)) (local_differs scope a b none own.0 differs.0)
+    ∙ none_has_its_local scope a attributes none own.1 differs.1
+
+-- of attributes as the program keeps them
+pub no_prefixes : (kept : List row.Attribute) → list_any (λ (a : row.Attribute). is_some (at_colon a.name.now)) kept ≡ false →
+    list_any (λ (a : Attribute). is_some (at_colon a.name)) (map attribute_view kept) ≡ false
+no_prefixes [] h = refl
+no_prefixes (a ∷ kept) h =
+    let own = neither (is_some (at_colon a.name.now)) (list_any (λ (b : row.Attribute). is_some (at_colon b.name.now)) kept) h in
+    ap (λ t. t || list_any (λ (b : Attribute). is_some (at_colon b.name)) (map attribute_view kept)) own.0 ∙ no_prefixes kept own.1
+
+pub apart_without_prefixes : (scope : Scope) (attributes : List Attribute) →
+    list_any (λ (a : Attribute). is_some (at_colon a.name)) attributes ≡ false →
+    are_apart (map (λ (a : Attribute). a.name) attributes) ≡ true → are_apart_expanded (map (listed scope) attributes) ≡ true
+apart_without_prefixes scope [] all h = refl
+apart_without_prefixes scope (a ∷ attributes) all h =
+    let own = neither (is_some (at_colon a.name)) (list_any (λ (b : Attribute). is_some (at_colon b.name)) attributes) all in
+    let both = both_true (not (list_any (λ other. bytes_eq other a.name) (map (λ (b : Attribute). b.name) attributes)))
+    (are_apart (map (λ (b : Attribute). b.name) attributes)) h in
+    let free = none_has_its_local scope a attributes own.0 own.1
+    (not_true (list_any (λ other. bytes_eq other a.name) (map (λ (b : Attribute). b.name) attributes)) both.0) in
+    ap (λ t. not ((listed scope a).0 && t) && are_apart_expanded (map (listed scope) attributes)) free
+    ∙ and_true (not ((listed scope a).0 && false)) (are_apart_expanded (map (listed scope) attributes))
+    (never (listed scope a).0) (apart_without_prefixes scope attributes own.1 both.1)
+  where
+    never : (b : Bool) → not (b && false) ≡ true
+    never true = refl
+    never false = refl
+
 numbers_lead : (table : List (List ℕ)) (list : List Expanded) → AreInTable table list →
     map (slice_get table) (map (λ (e : Expanded). e.namespace) list) ≡ map (λ (x : Listed). Some x.1.namespace) (map (expanded_view table) list)
 numbers_lead table [] h = refl

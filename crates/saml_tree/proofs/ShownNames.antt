@@ -11,7 +11,6 @@ use Rattle.saml_tree.specs.Documents.{kind_of, attributes_of}
 use Rattle.saml_tree.specs.NodeNames.{ShownName, shown, shown_name, name_at, attribute_at, shown_attribute_name, attribute_name_at}
 use Rattle.saml_tree.specs.Rows.{Shape, ElementShape, TextShape, CommentShape, InstructionShape, Row, node, nodes_at}
 use Rattle.saml_tree.specs.Kept.{IsShaped}
-use Rattle.saml_tree.specs.Spaces.{texts}
 use Rattle.saml_tree.specs.Resolved.{attribute_namespace, IsResolvedShape, AreResolved, no_row, kept_namespace, kept_attribute_namespace}
 use Rattle.saml_tree.specs.declared.node.NodeKind.TheVariants as kinds
 use Rattle.saml_tree.specs.declared.names.RowNames.{RowNames}
@@ -80,10 +79,10 @@ module _ (rows : List Row) (names : Names) (tree : Nodes) (shaped : IsShaped row
   row_node k less = ap (λ t. from_node t k) (sym is) ∙ node_is rows shaped k less
 
   row_resolved : (k : ℕ) (found : RowNames) → ((d : RowNames) → get_or names.rows.items k d ≡ found) → k < length rows →
-      IsResolvedShape (texts names.namespaces.items) (scope_at outermost tree k) (get_or rows k no_row).shape found
+      IsResolvedShape names.table (scope_at outermost tree k) (get_or rows k no_row).shape found
   row_resolved k found at less =
-      subst (λ t. IsResolvedShape (texts names.namespaces.items) (scope_at outermost t k) (get_or rows k no_row).shape found) is
-      (subst (IsResolvedShape (texts names.namespaces.items) (scope_at outermost (nodes_at 0 rows) k) (get_or rows k no_row).shape) (at found) (resolved.each k found less))
+      subst (λ t. IsResolvedShape names.table (scope_at outermost t k) (get_or rows k no_row).shape found) is
+      (subst (IsResolvedShape names.table (scope_at outermost (nodes_at 0 rows) k) (get_or rows k no_row).shape) (at found) (resolved.each k found less).leads)
 
   pub namespace_kept : (k : ℕ) → kind_of (from_node tree k) ≡ Some kinds.Element → kept_namespace names k ≡ option_map space_of (name_at tree k)
   namespace_kept k e =
@@ -94,8 +93,8 @@ module _ (rows : List Row) (names : Names) (tree : Nodes) (shaped : IsShaped row
       let kids = nodes_at (suc row.depth) (drop (suc k) rows) in
       let rest = nodes_at row.depth (drop (suc k) rows) in
       let here = row_node k less in
-      ap (option_and_then (λ (r : RowNames). slice_get (texts names.namespaces.items) r.element)) found.1
-      ∙ shape_namespace (texts names.namespaces.items) scope row.shape kids rest found.0 (sym (ap kind_of here) ∙ e)
+      ap (option_and_then (λ (r : RowNames). slice_get names.table r.element)) found.1
+      ∙ shape_namespace names.table scope row.shape kids rest found.0 (sym (ap kind_of here) ∙ e)
       (row_resolved k found.0 found.2 less)
       ∙ ap (λ nodes. option_map space_of (shown_name scope nodes)) (sym here)
 
@@ -109,8 +108,8 @@ module _ (rows : List Row) (names : Names) (tree : Nodes) (shaped : IsShaped row
       let kids = nodes_at (suc row.depth) (drop (suc k) rows) in
       let rest = nodes_at row.depth (drop (suc k) rows) in
       let here = row_node k less in
-      ap (option_and_then (λ (r : RowNames). option_and_then (slice_get (texts names.namespaces.items)) (slice_get r.attributes.items i))) found.1
-      ∙ shape_attribute_namespace (texts names.namespaces.items) scope row.shape kids rest found.0 i
+      ap (option_and_then (λ (r : RowNames). option_and_then (slice_get names.table) (slice_get r.attributes.items i))) found.1
+      ∙ shape_attribute_namespace names.table scope row.shape kids rest found.0 i
       (subst (λ nodes. IsSome (attribute_in nodes i)) here some) (row_resolved k found.0 found.2 less)
       ∙ ap (λ nodes. option_map space_of (attribute_name_in scope nodes i)) (sym here)
     where
@@ -179,3 +178,17 @@ shown_attribute tree k i some = by_case (attributes_of (from_node tree k)) some
         IsSome (option_map space_of (option_and_then (λ attributes. option_map (shown_attribute_name (inner_scope attributes (scope_at outermost tree k))) (slice_get attributes i)) o))
     by_case None h = h
     by_case (Some attributes) h = by_found attributes (slice_get attributes i) h
+
+-- an element has as many attributes as are counted
+some_there : {X : Type 0} (xs : List X) (i : ℕ) → i < length xs → IsSome (slice_get xs i)
+some_there [] i h = absurd (omega arith)
+some_there (x ∷ xs) zero h = refl
+some_there (x ∷ xs) (suc i) h = some_there xs i (omega arith)
+
+pub attribute_there : (o : Option (List Attribute)) (n i : ℕ) → option_map length o ≡ Some n → i < n →
+    IsSome (option_and_then (λ attributes. slice_get attributes i) o)
+attribute_there None n i count h = absurd (let clash : None ≡ Some n = count in cc)
+attribute_there (Some attributes) n i count h =
+    let both : Some (length attributes) ≡ Some n = count in
+    let same : length attributes ≡ n = cc in
+    some_there attributes i (omega arith)

@@ -1,8 +1,11 @@
 -- Texts of characters that XML allows.
-use Rattle.std.proofs.Common.{◌≡◌, ℕ, ◌<◌, ◌≤◌, Bool, true, false, cond, ◌&&◌, List, [], ◌∷◌, ltb, leb, IsTrue, ◌↔◌, inl, inr, refl, sym, ◌∙◌, subst, arith}
+use Rattle.std.proofs.Common.{◌≡◌, ℕ, ◌<◌, ◌≤◌, Bool, true, false, cond, ◌&&◌, List, [], ◌∷◌, ◌++◌, nat_lt, ltb, leb, IsTrue, ◌↔◌, inl, inr, refl, sym, ap, ◌∙◌, subst, arith}
 use Rattle.std.specs.List.{list_all}
 use Rattle.std.specs.Str.{IsUtf8, chars}
 use Rattle.std.proofs.Math.Utf8.{encodes, scalar, scalars}
+use Rattle.std.proofs.lemmas.Str.{encode_ascii}
+use borrow.Author.Tests.{ltb-true}
+use Rattle.saml_tree.specs.AsciiTexts.{is_ascii_char}
 use lib.Utf8.{low_scalar}
 use borrow.Author.Tests.{le-leb}
 use Rattle.std.proofs.lemmas.Bool.{lt-ltb}
@@ -49,3 +52,20 @@ text_tested s r u t =
           let same : chars s ≡ text.characters = encodes_same (chars s) text.characters (spelled ∙ text.spelled) in
           t ∙ subst (λ cs. list_all is_char cs ≡ true) (sym same) text.allowed,
     )
+
+ascii_encodes : (bytes : List ℕ) → list_all is_ascii_char bytes ≡ true → encodes bytes ≡ bytes
+ascii_encodes [] h = refl
+ascii_encodes (b ∷ bytes) h =
+    let both = both_true (is_ascii_char b) (list_all is_ascii_char bytes) h in
+    let small = ltb-true b 128 (both_true (nat_lt b 128) (is_char b) both.0).0 in
+    ap (λ z. z ++ encodes bytes) (encode_ascii b small) ∙ ap (λ z. b ∷ z) (ascii_encodes bytes both.1)
+
+ascii_allowed : (bytes : List ℕ) → list_all is_ascii_char bytes ≡ true → list_all is_char bytes ≡ true
+ascii_allowed [] h = refl
+ascii_allowed (b ∷ bytes) h =
+    let both = both_true (is_ascii_char b) (list_all is_ascii_char bytes) h in
+    and_true (is_char b) (list_all is_char bytes) (both_true (nat_lt b 128) (is_char b) both.0).1 (ascii_allowed bytes both.1)
+
+-- allowed characters of ASCII are their own UTF-8
+pub ascii_text : (bytes : List ℕ) → list_all is_ascii_char bytes ≡ true → IsText bytes
+ascii_text bytes h = record { characters = bytes; allowed = ascii_allowed bytes h; spelled = sym (ascii_encodes bytes h) }

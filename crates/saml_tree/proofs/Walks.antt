@@ -1,8 +1,7 @@
 -- The walk over the rows of a tree, with the namespaces in force.
-use Rattle.std.proofs.Common.{◌≡◌, ℕ, zero, suc, ◌-◌, ◌<◌, ◌≤◌, cond, List, [], ◌∷◌, ◌++◌, length, get_or, drop, map, Vec, String, Some, refl, sym, ap, ◌∙◌, subst, inl, inr, arith}
+use Rattle.std.proofs.Common.{◌≡◌, ℕ, zero, suc, ◌-◌, ◌<◌, ◌≤◌, cond, List, [], ◌∷◌, ◌++◌, length, get_or, drop, map, Some, refl, sym, ap, ◌∙◌, subst, inl, inr, arith}
 use Rattle.std.specs.Bool.{⊤}
 use Rattle.std.specs.List.{slice_get}
-use Rattle.std.specs.declared.alloc.Global.{Global}
 use Rattle.std.proofs.Math.Seq.{drop-cons}
 use Rattle.std.proofs.lemmas.Bool.{cases_lt}
 use Rattle.std.proofs.lemmas.List.{append-nil, get_or_append_left, get_or_push, length_push, length-drop}
@@ -11,12 +10,13 @@ use Rattle.xml_spec.specs.Tree.{Attribute}
 use Rattle.xml_spec.specs.Names.{Scope, outermost, declarations, inner_scope, element_name, HasNames}
 use Rattle.saml_tree.specs.Rows.{Shape, ElementShape, TextShape, CommentShape, InstructionShape, Row, nodes_at}
 use Rattle.saml_tree.specs.Kept.{is_element, IsShaped}
-use Rattle.saml_tree.specs.Spaces.{texts, bindings_of, scope_of, AreNumbered, IsReady, Grows, Enters}
+use Rattle.saml_tree.specs.Spaces.{bindings_of, scope_of, AreNumbered, IsReady, Grows, Enters}
 use Rattle.saml_tree.specs.Resolved.{attribute_namespace, IsNamedShape, IsResolvedElement, IsResolvedShape, Moves, AreResolved, no_row}
 use Rattle.saml_tree.specs.declared.spaces.Spaces.{Spaces}
 use Rattle.saml_tree.specs.declared.names.RowNames.{RowNames}
 use Rattle.saml_tree.specs.declared.names.Names.{Names}
-use Rattle.saml_tree.proofs.Bindings.{found_still, same_bindings}
+use Rattle.saml_tree.proofs.TableIndexing.{found_still}
+use Rattle.saml_tree.proofs.Bindings.{same_bindings}
 use Rattle.saml_tree.proofs.Places.{Steps, steps_of}
 use Rattle.saml_tree.proofs.Scopes.{Scopes, behind_shape, behind_kids, behind_other, scopes_from, scope_of_row, first_scopes, scopes_step, scope_is, names_of_rows, row_has_names}
 
@@ -90,40 +90,40 @@ pub record Leaves (before after : Spaces) (depth : ℕ) : Type 0 where
   pub ready : IsReady after
   pub scope : after.scope ≡ drop (length before.scope - suc depth) before.scope
   pub count : length after.scope ≡ suc depth
-  pub table : after.namespaces ≡ before.namespaces
+  pub table : after.table ≡ before.table
 
-same_table : (before after : Spaces) (depth : ℕ) → Leaves before after depth → texts after.namespaces.items ≡ texts before.namespaces.items
-same_table before after depth h = ap (λ (v : Vec (String Global) Global). texts v.items) h.table
+same_table : (before after : Spaces) (depth : ℕ) → Leaves before after depth → after.table ≡ before.table
+same_table before after depth h = h.table
 
 fits_left : (scopes : Scopes) (before after : Spaces) (depth : ℕ) → Leaves before after depth →
-    Fits (texts before.namespaces.items) scopes before.scope → Fits (texts after.namespaces.items) scopes after.scope
+    Fits before.table scopes before.scope → Fits after.table scopes after.scope
 fits_left scopes before after depth h f =
     subst (λ table. Fits table scopes after.scope) (sym (same_table before after depth h))
-    (subst (Fits (texts before.namespaces.items) scopes) (sym h.scope)
-    (fits_drop (texts before.namespaces.items) scopes (length before.scope - suc depth) before.scope f))
+    (subst (Fits before.table scopes) (sym h.scope)
+    (fits_drop before.table scopes (length before.scope - suc depth) before.scope f))
 
 -- the namespaces in force behind a row
 pub record Moved (scopes : Scopes) (before after : Spaces) (top : ℕ) : Type 0 where
   pub ready : IsReady after
-  pub fits : Fits (texts after.namespaces.items) scopes after.scope
+  pub fits : Fits after.table scopes after.scope
   pub top_is : length after.scope - 1 ≡ top
-  pub grows : Grows (texts before.namespaces.items) (texts after.namespaces.items)
+  pub grows : Grows before.table after.table
 
 unmoved : (scopes : Scopes) (before after : Spaces) (depth : ℕ) → IsReady before → length before.scope ≡ suc depth →
-    Fits (texts before.namespaces.items) scopes before.scope → after ≡ before → Moved scopes before after depth
+    Fits before.table scopes before.scope → after ≡ before → Moved scopes before after depth
 unmoved scopes before after depth ready count f e =
     subst (λ (s : Spaces). Moved scopes before s depth) (sym e)
-    (record { ready = ready; fits = f; top_is = omega arith; grows = ([], sym (append-nil (texts before.namespaces.items))) })
+    (record { ready = ready; fits = f; top_is = omega arith; grows = ([], sym (append-nil before.table)) })
 
 entered : (scopes : Scopes) (before after : Spaces) (depth : ℕ) (name : List ℕ) (attributes : List Attribute) → IsReady before →
-    length before.scope ≡ suc depth → Fits (texts before.namespaces.items) scopes before.scope → Enters before after (declarations attributes) →
+    length before.scope ≡ suc depth → Fits before.table scopes before.scope → Enters before after (declarations attributes) →
     Moved (behind_shape scopes depth (ElementShape name attributes)) before after (suc depth)
 entered scopes before after depth name attributes ready count f h =
     let inside = behind_shape scopes depth (ElementShape name attributes) in
-    let table = texts before.namespaces.items in
+    let table = before.table in
     let more = h.grows.0 in
     let some = h.ready.some in
-    let kept : Fits (texts after.namespaces.items) inside before.scope =
+    let kept : Fits after.table inside before.scope =
     subst (λ t. Fits t inside before.scope) (sym h.grows.1)
     (fits_kept table more scopes inside before.scope ready.numbered
     (λ d less. behind_other scopes depth (ElementShape name attributes) d (λ e. omega arith)) f) in
@@ -132,13 +132,13 @@ entered scopes before after depth name attributes ready count f h =
     ∙ sym (behind_kids scopes depth name attributes) in
     record {
       ready = h.ready;
-      fits = fits_entered (texts after.namespaces.items) inside after.scope before.scope (suc depth) some h.outer count bound kept;
+      fits = fits_entered after.table inside after.scope before.scope (suc depth) some h.outer count bound kept;
       top_is = omega (arith, ap length h.outer, length-drop 1 after.scope);
       grows = h.grows;
     }
 
 pub moved : (scopes : Scopes) (before after : Spaces) (depth : ℕ) (shape : Shape) → IsReady before → length before.scope ≡ suc depth →
-    Fits (texts before.namespaces.items) scopes before.scope → Moves before after shape →
+    Fits before.table scopes before.scope → Moves before after shape →
     Moved (behind_shape scopes depth shape) before after (cond (is_element shape) (suc depth) depth)
 moved scopes before after depth (ElementShape name attributes) ready count f h = entered scopes before after depth name attributes ready count f h
 moved scopes before after depth (TextShape text) ready count f h = unmoved scopes before after depth ready count f h
@@ -148,12 +148,12 @@ moved scopes before after depth (InstructionShape target value) ready count f h 
 -- in front of row k: the names so far keep the rules, and what is kept of them leads to their namespaces
 pub record Walk (rows : List Row) (k : ℕ) (spaces : Spaces) (named : List RowNames) : Type 0 where
   pub ready : IsReady spaces
-  pub fits : Fits (texts spaces.namespaces.items) (scopes_from first_scopes rows k) spaces.scope
+  pub fits : Fits spaces.table (scopes_from first_scopes rows k) spaces.scope
   pub steps : Steps (length spaces.scope - 1) (drop k rows)
   pub count : length named ≡ k
   pub keeps : (j : ℕ) → j < k → IsNamedShape (scope_of_row first_scopes rows j) (get_or rows j no_row).shape
   pub leads : (j : ℕ) (d : RowNames) → j < k →
-      IsResolvedShape (texts spaces.namespaces.items) (scope_of_row first_scopes rows j) (get_or rows j no_row).shape (get_or named j d)
+      IsResolvedShape spaces.table (scope_of_row first_scopes rows j) (get_or rows j no_row).shape (get_or named j d)
 
 pub walk_first : (rows : List Row) (spaces : Spaces) → IsShaped rows → IsReady spaces → length spaces.scope ≡ 1 → scope_of spaces ≡ outermost →
     Walk rows 0 spaces []
@@ -161,7 +161,7 @@ walk_first rows spaces shaped ready one scope =
     let top : 0 ≡ length spaces.scope - 1 = omega arith in
     record {
       ready = ready;
-      fits = fits_one (texts spaces.namespaces.items) spaces.scope one scope;
+      fits = fits_one spaces.table spaces.scope one scope;
       steps = subst (λ n. Steps n rows) top (steps_of rows shaped);
       count = refl;
       keeps = λ j less. absurd (omega arith);
@@ -185,7 +185,7 @@ walk_scope : (rows : List Row) (k : ℕ) (spaces left : Spaces) (named : List Ro
 walk_scope rows k spaces left named w h =
     let scopes = scopes_from first_scopes rows k in
     let depth = (get_or rows k no_row).depth in
-    fits_top (texts left.namespaces.items) scopes left.scope depth (fits_left scopes spaces left depth h w.fits) h.count
+    fits_top left.table scopes left.scope depth (fits_left scopes spaces left depth h w.fits) h.count
 
 pub walk_refused : (rows : List Row) (k : ℕ) (spaces left : Spaces) (named : List RowNames) (row : Row) → Walk rows k spaces named →
     k < length rows → get_or rows k no_row ≡ row → IsShaped rows → Leaves spaces left row.depth → HasNames (nodes_at 0 rows) →
@@ -197,19 +197,19 @@ walk_refused rows k spaces left named row w less is shaped =
 
 walk_more : (rows : List Row) (k : ℕ) (spaces left after : Spaces) (named : List RowNames) (names : RowNames) → Walk rows k spaces named →
     k < length rows → Leaves spaces left (get_or rows k no_row).depth → IsNamedShape (scope_of left) (get_or rows k no_row).shape →
-    IsResolvedShape (texts after.namespaces.items) (scope_of left) (get_or rows k no_row).shape names →
+    IsResolvedShape after.table (scope_of left) (get_or rows k no_row).shape names →
     Moves left after (get_or rows k no_row).shape → Walk rows (suc k) after (named ++ names ∷ [])
 walk_more rows k spaces left after named names w less h keeps leads moves =
     let scopes = scopes_from first_scopes rows k in
     let row = get_or rows k no_row in
     let m = moved scopes left after row.depth row.shape h.ready h.count (fits_left scopes spaces left row.depth h w.fits) moves in
     let scope = walk_scope rows k spaces left named w h in
-    let grows : Grows (texts spaces.namespaces.items) (texts after.namespaces.items) =
+    let grows : Grows spaces.table after.table =
     (m.grows.0, m.grows.1 ∙ ap (λ t. t ++ m.grows.0) (same_table spaces left row.depth h)) in
     let count = w.count in
     record {
       ready = m.ready;
-      fits = subst (λ (s : Scopes). Fits (texts after.namespaces.items) s after.scope) (sym (scopes_step first_scopes rows k less)) m.fits;
+      fits = subst (λ (s : Scopes). Fits after.table s after.scope) (sym (scopes_step first_scopes rows k less)) m.fits;
       steps = subst (λ n. Steps n (drop (suc k) rows)) (sym m.top_is) (walk_steps rows k spaces named w less).1;
       count = omega (arith, length_push named names);
       keeps = λ j low. elim (cases_lt j k) [
@@ -221,26 +221,26 @@ walk_more rows k spaces left after named names w less h keeps leads moves =
       ];
       leads = λ j d low. elim (cases_lt j k) [
         | inl before ↦
-            subst (IsResolvedShape (texts after.namespaces.items) (scope_of_row first_scopes rows j) (get_or rows j no_row).shape)
+            subst (IsResolvedShape after.table (scope_of_row first_scopes rows j) (get_or rows j no_row).shape)
             (sym (get_or_append_left named (names ∷ []) d j (omega arith)))
-            (grown_still (texts spaces.namespaces.items) (texts after.namespaces.items) (scope_of_row first_scopes rows j) (get_or rows j no_row).shape (get_or named j d) grows
+            (grown_still spaces.table after.table (scope_of_row first_scopes rows j) (get_or rows j no_row).shape (get_or named j d) grows
             (w.leads j d before))
         | inr other ↦
             let here : k ≡ j = omega arith in
-            subst (IsResolvedShape (texts after.namespaces.items) (scope_of_row first_scopes rows j) (get_or rows j no_row).shape)
+            subst (IsResolvedShape after.table (scope_of_row first_scopes rows j) (get_or rows j no_row).shape)
             (sym (get_or_push named names d j (count ∙ here)))
-            (subst (λ (i : ℕ). IsResolvedShape (texts after.namespaces.items) (scope_of_row first_scopes rows i) (get_or rows i no_row).shape names) here
-            (subst (λ (s : Scope). IsResolvedShape (texts after.namespaces.items) s row.shape names) scope leads))
+            (subst (λ (i : ℕ). IsResolvedShape after.table (scope_of_row first_scopes rows i) (get_or rows i no_row).shape names) here
+            (subst (λ (s : Scope). IsResolvedShape after.table s row.shape names) scope leads))
       ];
     }
 
 pub walk_on : (rows : List Row) (k : ℕ) (spaces left after : Spaces) (named : List RowNames) (names : RowNames) (row : Row) → Walk rows k spaces named →
     k < length rows → get_or rows k no_row ≡ row → Leaves spaces left row.depth → IsNamedShape (scope_of left) row.shape →
-    IsResolvedShape (texts after.namespaces.items) (scope_of left) row.shape names → Moves left after row.shape →
+    IsResolvedShape after.table (scope_of left) row.shape names → Moves left after row.shape →
     Walk rows (suc k) after (named ++ names ∷ [])
 walk_on rows k spaces left after named names row w less is =
     subst (λ (r : Row). Leaves spaces left r.depth → IsNamedShape (scope_of left) r.shape →
-    IsResolvedShape (texts after.namespaces.items) (scope_of left) r.shape names → Moves left after r.shape →
+    IsResolvedShape after.table (scope_of left) r.shape names → Moves left after r.shape →
     Walk rows (suc k) after (named ++ names ∷ [])) is
     (walk_more rows k spaces left after named names w less)
 
@@ -249,12 +249,14 @@ pub walked_names : (rows : List Row) (k : ℕ) (spaces : Spaces) (named : List R
 walked_names rows k spaces named w all = names_of_rows rows (λ j less. w.keeps j (omega arith))
 
 pub walked : (rows : List Row) (spaces : Spaces) (names : Names) → IsShaped rows → Walk rows (length rows) spaces names.rows.items →
-    names.namespaces ≡ spaces.namespaces → AreResolved rows names
+    names.table ≡ spaces.table → AreResolved rows names
 walked rows spaces names shaped w table = record {
   count = w.count;
-  each = λ j d less.
-      subst (λ (s : Scope). IsResolvedShape (texts names.namespaces.items) s (get_or rows j no_row).shape (get_or names.rows.items j d))
-      (sym (scope_is rows j shaped less))
-      (subst (λ (v : Vec (String Global) Global). IsResolvedShape (texts v.items) (scope_of_row first_scopes rows j) (get_or rows j no_row).shape (get_or names.rows.items j d)) (sym table)
-      (w.leads j d less));
+  each = λ j d less. record {
+    leads =
+        subst (λ (s : Scope). IsResolvedShape names.table s (get_or rows j no_row).shape (get_or names.rows.items j d))
+        (sym (scope_is rows j shaped less))
+        (subst (λ table. IsResolvedShape table (scope_of_row first_scopes rows j) (get_or rows j no_row).shape (get_or names.rows.items j d)) (sym table)
+        (w.leads j d less));
+  };
 }

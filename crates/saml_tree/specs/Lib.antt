@@ -11,3 +11,5 @@ pub mod Reads
 pub mod NodeNames
 pub mod Spaces
 pub mod Resolved
+pub mod Tables
+pub mod AsciiTexts

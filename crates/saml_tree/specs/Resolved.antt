@@ -8,7 +8,7 @@ use Rattle.xml_spec.specs.Tree.{Attribute}
 use Rattle.xml_spec.specs.Names.{Scope, ExpandedName, IsInScope, IsBinding, IsNamed, is_declaration, binding_of, declarations, inner_scope, outermost, attribute_name, element_name, xmlns_namespace}
 use Rattle.xml_spec.specs.Canonical.{scope_at}
 use Rattle.saml_tree.specs.Rows.{Shape, ElementShape, TextShape, CommentShape, InstructionShape, Row, nodes_at}
-use Rattle.saml_tree.specs.Spaces.{texts, Enters}
+use Rattle.saml_tree.specs.Spaces.{Enters}
 use Rattle.saml_tree.specs.declared.spaces.Spaces.{Spaces}
 use Rattle.saml_tree.specs.declared.names.RowNames.{RowNames}
 use Rattle.saml_tree.specs.declared.names.Names.{Names}
@@ -93,19 +93,23 @@ Moves before after (InstructionShape target value) = after ≡ before
 abbrev pub no_row : Row
 no_row = record { depth = 0; start = 0; end = 0; shape = TextShape [] }
 
--- each row's numbers lead to the namespaces of its names
+-- a row's numbers lead to the namespaces of its names
+pub record IsResolvedRow (table : List (List ℕ)) (scope : Scope) (shape : Shape) (names : RowNames) : Type 0 where
+  pub leads : IsResolvedShape table scope shape names
+
+-- the numbers of each row do
 pub record AreResolved (rows : List Row) (names : Names) : Type 0 where
   pub count : length names.rows.items ≡ length rows
   pub each : (k : ℕ) (d : RowNames) → k < length rows →
-      IsResolvedShape (texts names.namespaces.items) (scope_at outermost (nodes_at 0 rows) k) (slice_index_or rows k no_row).shape
+      IsResolvedRow names.table (scope_at outermost (nodes_at 0 rows) k) (slice_index_or rows k no_row).shape
       (slice_index_or names.rows.items k d)
 
 -- the namespace that is kept of an element's name, and that of the name of its attribute i
 abbrev pub kept_namespace : Names → ℕ → Option (List ℕ)
 kept_namespace names k =
-    option_and_then (λ (row : RowNames). slice_get (texts names.namespaces.items) row.element) (slice_get names.rows.items k)
+    option_and_then (λ (row : RowNames). slice_get names.table row.element) (slice_get names.rows.items k)
 
 abbrev pub kept_attribute_namespace : Names → ℕ → ℕ → Option (List ℕ)
 kept_attribute_namespace names k i =
-    option_and_then (λ (row : RowNames). option_and_then (slice_get (texts names.namespaces.items)) (slice_get row.attributes.items i))
+    option_and_then (λ (row : RowNames). option_and_then (slice_get names.table) (slice_get row.attributes.items i))
     (slice_get names.rows.items k)

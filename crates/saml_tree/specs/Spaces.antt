@@ -1,15 +1,10 @@
 -- Which namespace each prefix is bound to at a place of a document, as the program keeps it: a table of namespaces,
 -- and levels of prefixes with numbers into the table.
-use Rattle.std.specs.Prelude.{◌≡◌, ℕ, ◌<◌, List, [], ◌∷◌, ◌++◌, length, drop, map, string_bytes, String, Some, slice_get, slice_index_or, ⊤}
+use Rattle.std.specs.Prelude.{◌≡◌, ℕ, ◌<◌, List, [], ◌∷◌, ◌++◌, length, drop, map, Some, slice_get, slice_index_or, ⊤}
 use Rattle.std.specs.List.{AllByRecursion}
-use Rattle.std.specs.declared.alloc.Global.{Global}
 use Rattle.namespace_scope.specs.Levels.{Pair, Level}
 use Rattle.xml_spec.specs.Names.{Binding, Scope, xmlns_namespace}
 use Rattle.saml_tree.specs.declared.spaces.Spaces.{Spaces}
-
--- the table's texts
-abbrev pub texts : List (String Global) → List (List ℕ)
-texts namespaces = map string_bytes namespaces
 
 -- the binding that a prefix with a number stands for
 abbrev pub binding_at : List (List ℕ) → Pair → Binding
@@ -21,7 +16,7 @@ bindings_of table [] = []
 bindings_of table (level ∷ outer) = map (binding_at table) level ++ bindings_of table outer
 
 abbrev pub scope_of : Spaces → Scope
-scope_of s = bindings_of (texts s.namespaces.items) s.scope
+scope_of s = bindings_of s.table s.scope
 
 -- each number of the levels is below this one
 abbrev pub AreNumbered : ℕ → List Level → Type 0
@@ -30,11 +25,11 @@ AreNumbered count (level ∷ outer) = AllByRecursion (λ (pair : Pair). pair.1 <
 
 -- each number has its namespace, the levels are counted, number 0 is no namespace and number 2 that of xmlns
 pub record IsReady (s : Spaces) : Type 0 where
-  pub numbered : AreNumbered (length (texts s.namespaces.items)) s.scope
+  pub numbered : AreNumbered (length s.table) s.scope
   pub count : s.levels ≡ length s.scope
   pub some : 0 < length s.scope
-  pub none : slice_get (texts s.namespaces.items) 0 ≡ Some []
-  pub xmlns : slice_get (texts s.namespaces.items) 2 ≡ Some xmlns_namespace
+  pub none : slice_get s.table 0 ≡ Some []
+  pub xmlns : slice_get s.table 2 ≡ Some xmlns_namespace
 
 -- the table has more behind what it had
 abbrev pub Grows : List (List ℕ) → List (List ℕ) → Type 0
@@ -45,11 +40,11 @@ pub record Binds (before after : Spaces) (bindings : List Binding) : Type 0 wher
   pub ready : IsReady after
   pub bound : scope_of after ≡ bindings ++ scope_of before
   pub outer : drop 1 after.scope ≡ drop 1 before.scope
-  pub grows : Grows (texts before.namespaces.items) (texts after.namespaces.items)
+  pub grows : Grows before.table after.table
 
 -- an element begins: these bindings are added in a new level
 pub record Enters (before after : Spaces) (bindings : List Binding) : Type 0 where
   pub ready : IsReady after
   pub bound : scope_of after ≡ bindings ++ scope_of before
   pub outer : drop 1 after.scope ≡ before.scope
-  pub grows : Grows (texts before.namespaces.items) (texts after.namespaces.items)
+  pub grows : Grows before.table after.table

@@ -89,7 +89,7 @@ impl<'a> Builder<'a> {
         ensures err { IfErr result (λ e. e ≡ TreeFault.NoMemory) }
     {
         if !self.open_elements.is_empty() {
-            put_translated(text, &mut self.text)?;
+            put_line_ends(text, &mut self.text)?;
         }
         self.place += len;
         Ok(())
@@ -243,23 +243,12 @@ impl<'a> Builder<'a> {
     }
 }
 
-// Appends a text with its line ends translated (XML 1.0, 2.11).
-fn put_translated(text: &str, out: &mut String) -> Result<(), TreeFault>
-    ensures ok { OnOk result (string_bytes out.new ≡ string_bytes out.old ++ line_ends text.now) }
-    ensures err { IfErr result (λ e. e ≡ TreeFault.NoMemory) }
-{
-    match put_line_ends(text, out) {
-        Ok(()) => Ok(()),
-        Err(_) => Err(TreeFault::NoMemory),
-    }
-}
-
 // A text with its line ends translated.
 fn translated(alloc: Global, text: &str) -> Result<String, TreeFault>
     ensures ok { IfOk result (λ out. string_bytes out ≡ line_ends text.now) }
     ensures err { IfErr result (λ e. e ≡ TreeFault.NoMemory) }
 {
     let mut out = String::new(alloc);
-    put_translated(text, &mut out)?;
+    put_line_ends(text, &mut out)?;
     Ok(out)
 }

@@ -13,6 +13,7 @@ mod qualified;
 mod read;
 mod row;
 mod spaces;
+mod table;
 #[cfg(test)]
 mod tests;
 mod text;

@@ -1,7 +1,8 @@
 // The names of a document: whether they keep the rules of Namespaces in XML 1.0, and which namespace each is in.
 
-ghost use Rattle.std.specs.Prelude.{◌≡◌, ◌<◌, ◌^◌, ◌⊎◌, length, map, Some, MatchOption, IsSome, IfOk, IfErr, OnOk, slice_get};
+ghost use Rattle.std.specs.Prelude.{◌≡◌, ◌<◌, ◌^◌, ◌⊎◌, length, map, Some, MatchOption, IsSome, IsTrue, is_some, IfOk, IfErr, OnOk, slice_get};
 ghost use Rattle.std.specs.List.{list_any, AllByRecursion};
+ghost use Rattle.xml_spec.specs.Characters.{at_colon};
 ghost use Rattle.std.specs.Str.{bytes_eq};
 ghost use Rattle.xml_spec.specs.Names.{HasNames, IsNamed, IsInScope, element_name, attribute_name};
 ghost use Rattle.saml_tree.specs.Rows.{nodes_at};
@@ -10,13 +11,14 @@ ghost use Rattle.saml_tree.specs.RowTests.{are_apart};
 ghost use Rattle.saml_tree.specs.NodeNames.{shown};
 ghost use Rattle.saml_tree.specs.Views.{shape_view, row_views, name_view};
 ghost use Rattle.xml_tokens.specs.Views.{attribute_view};
-ghost use Rattle.saml_tree.specs.Spaces.{texts, scope_of, IsReady};
+ghost use Rattle.saml_tree.specs.Spaces.{scope_of, IsReady};
 ghost use Rattle.saml_tree.specs.Resolved.{IsWellElement, IsWellAttribute, IsExpanded, AreExpanded, AreInTable, listed, expanded_view, is_proper_same, are_apart_expanded, IsNamedShape, Moves, IsResolvedElement, IsResolvedShape, AreResolved, kept_namespace, kept_attribute_namespace};
 
 use crate::node::{Name, TreeFault};
-use crate::qualified::{declared_prefix, is_binding, is_qualified, local_of, prefix_of};
+use crate::qualified::{declared_prefix, has_colon, is_binding, is_qualified, local_of, prefix_of};
 use crate::row::{Attribute, Row, Shape};
 use crate::spaces::{NONE, Spaces, XMLNS};
+use crate::table::Table;
 use std::alloc::{AllocError, Global};
 
 /// The numbers of the namespaces of an element's name and of those of its attributes. Those of another node say nothing.
@@ -29,7 +31,7 @@ pub(crate) struct RowNames {
 /// The namespaces of a document's names: a table, and the numbers of each row.
 #[derive(Debug, Drop)]
 pub(crate) struct Names {
-    pub(crate) namespaces: Vec<String>,
+    pub(crate) table: Table,
     pub(crate) rows: Vec<RowNames>,
 }
 
@@ -47,7 +49,7 @@ impl Names {
         requires { IsSome (kept_namespace self.now k) }
         ensures { kept_namespace self.now k ≡ Some result.now }
     {
-        self.namespaces[self.rows[k].element as usize].as_str()
+        self.table.text(self.rows[k].element)
     }
 
     /// The namespace of the name of an attribute.
@@ -55,7 +57,7 @@ impl Names {
         requires { IsSome (kept_attribute_namespace self.now k i) }
         ensures { kept_attribute_namespace self.now k i ≡ Some result.now }
     {
-        self.namespaces[self.rows[k].attributes[i] as usize].as_str()
+        self.table.text(self.rows[k].attributes[i])
     }
 }
 
@@ -75,7 +77,7 @@ fn element_number(spaces: &Spaces<'_>, name: &str) -> Option<u32>
     requires { IsReady spaces.now }
     ensures { MatchOption result (¬ (IsWellElement (scope_of spaces.now) name.now))
         (λ n. IsWellElement (scope_of spaces.now) name.now
-        × (slice_get (texts spaces.now.namespaces.items) n ≡ Some (element_name (scope_of spaces.now) name.now).namespace)) }
+        × (slice_get spaces.now.table n ≡ Some (element_name (scope_of spaces.now) name.now).namespace)) }
 {
     let prefix = prefix_of(name);
     if !is_qualified(name) || prefix == "xmlns" {
@@ -93,7 +95,7 @@ fn proper_number(spaces: &Spaces<'_>, name: &str) -> Option<u32>
     requires { IsReady spaces.now }
     ensures { MatchOption result (¬ (IsInScope (scope_of spaces.now) name.now))
         (λ n. IsInScope (scope_of spaces.now) name.now
-        × (slice_get (texts spaces.now.namespaces.items) n ≡ Some (attribute_name (scope_of spaces.now) name.now).namespace)) }
+        × (slice_get spaces.now.table n ≡ Some (attribute_name (scope_of spaces.now) name.now).namespace)) }
 {
     let prefix = prefix_of(name);
     if prefix.is_empty() {
@@ -108,7 +110,7 @@ fn expand<'a>(spaces: &Spaces<'_>, attribute: &Attribute<'a>) -> Option<Expanded
     requires { IsReady spaces.now }
     ensures { MatchOption result (¬ (IsWellAttribute (scope_of spaces.now) (attribute_view attribute.now)))
         (λ e. IsWellAttribute (scope_of spaces.now) (attribute_view attribute.now)
-        × IsExpanded (texts spaces.now.namespaces.items) (listed (scope_of spaces.now) (attribute_view attribute.now)) e) }
+        × IsExpanded spaces.now.table (listed (scope_of spaces.now) (attribute_view attribute.now)) e) }
 {
     if !is_qualified(attribute.name) {
         return None;
@@ -140,7 +142,7 @@ fn expand_all<'a>(
 ) -> Result<Vec<Expanded<'a>>, TreeFault>
     requires { IsReady spaces.now }
     ensures well { OnOk result (AllByRecursion (IsWellAttribute (scope_of spaces.now)) (map attribute_view attributes.now)) }
-    ensures ok { IfOk result (λ list. AreExpanded (texts spaces.now.namespaces.items) (map (listed (scope_of spaces.now)) (map attribute_view attributes.now)) list.items) }
+    ensures ok { IfOk result (λ list. AreExpanded spaces.now.table (map (listed (scope_of spaces.now)) (map attribute_view attributes.now)) list.items) }
     ensures err { IfErr result (λ e. (e ≡ TreeFault.NoMemory)
         ⊎ ((e ≡ TreeFault.BadNames) × ¬ (AllByRecursion (IsWellAttribute (scope_of spaces.now)) (map attribute_view attributes.now)))) }
 {
@@ -156,19 +158,19 @@ fn expand_all<'a>(
 
 /// Whether two names are proper ones and the same.
 fn is_same(spaces: &Spaces<'_>, one: &Expanded<'_>, other: &Expanded<'_>) -> bool
-    requires one { one.now.namespace < length (texts spaces.now.namespaces.items) }
-    requires other { other.now.namespace < length (texts spaces.now.namespaces.items) }
-    ensures { result ≡ is_proper_same (expanded_view (texts spaces.now.namespaces.items) one.now).1 (expanded_view (texts spaces.now.namespaces.items) other.now) }
+    requires one { one.now.namespace < length spaces.now.table }
+    requires other { other.now.namespace < length spaces.now.table }
+    ensures { result ≡ is_proper_same (expanded_view spaces.now.table one.now).1 (expanded_view spaces.now.table other.now) }
 {
     other.is_proper
         && one.local == other.local
-        && spaces.text(one.namespace) == spaces.text(other.namespace)
+        && spaces.table.is_same(one.namespace, other.namespace)
 }
 
 // Each pair is compared: of 128 attributes there are 8128.
 fn are_apart_expanded(spaces: &Spaces<'_>, names: &[Expanded<'_>]) -> bool
-    requires { AreInTable (texts spaces.now.namespaces.items) names.now }
-    ensures { result ≡ are_apart_expanded (map (expanded_view (texts spaces.now.namespaces.items)) names.now) }
+    requires { AreInTable spaces.now.table names.now }
+    ensures { result ≡ are_apart_expanded (map (expanded_view spaces.now.table) names.now) }
 {
     let mut rest = names;
     while let [first, others @ ..] = rest {
@@ -181,9 +183,9 @@ fn are_apart_expanded(spaces: &Spaces<'_>, names: &[Expanded<'_>]) -> bool
 }
 
 fn is_expanded_among(spaces: &Spaces<'_>, name: &Expanded<'_>, names: &[Expanded<'_>]) -> bool
-    requires one { name.now.namespace < length (texts spaces.now.namespaces.items) }
-    requires others { AreInTable (texts spaces.now.namespaces.items) names.now }
-    ensures { result ≡ list_any (is_proper_same (expanded_view (texts spaces.now.namespaces.items) name.now).1) (map (expanded_view (texts spaces.now.namespaces.items)) names.now) }
+    requires one { name.now.namespace < length spaces.now.table }
+    requires others { AreInTable spaces.now.table names.now }
+    ensures { result ≡ list_any (is_proper_same (expanded_view spaces.now.table name.now).1) (map (expanded_view spaces.now.table) names.now) }
 {
     for other in names {
         if is_same(spaces, name, other) {
@@ -191,6 +193,30 @@ fn is_expanded_among(spaces: &Spaces<'_>, name: &Expanded<'_>, names: &[Expanded
         }
     }
     false
+}
+
+/// Whether a name of these has a prefix.
+fn has_prefix(attributes: &[Attribute<'_>]) -> bool
+    ensures { result ≡ list_any (λ a. is_some (at_colon a.name.now)) attributes.now }
+{
+    attributes.iter().any(|attribute| has_colon(attribute.name))
+}
+
+/// Whether no two of an element's attributes, whose names differ, have one expanded name. Without prefixes they do not,
+/// and no pairs are compared.
+fn are_expanded_apart(
+    spaces: &Spaces<'_>,
+    attributes: &[Attribute<'_>],
+    names: &[Expanded<'_>],
+) -> bool
+    requires names { AreExpanded spaces.now.table (map (listed (scope_of spaces.now)) (map attribute_view attributes.now)) names.now }
+    requires apart { IsTrue (are_apart (map (λ a. a.name) (map attribute_view attributes.now))) }
+    ensures { result ≡ are_apart_expanded (map (expanded_view spaces.now.table) names.now) }
+{
+    if !has_prefix(attributes) {
+        return true;
+    }
+    are_apart_expanded(spaces, names)
 }
 
 fn numbers_of(alloc: Global, names: &[Expanded<'_>]) -> Result<Vec<u32>, AllocError>
@@ -208,7 +234,7 @@ fn element_names(
 ) -> Result<RowNames, TreeFault>
     requires { IsReady spaces.now }
     ensures named { OnOk result (IsNamed (scope_of spaces.now) name.now (map attribute_view attributes.now)) }
-    ensures resolved { IfOk result (λ names. IsResolvedElement (texts spaces.now.namespaces.items) (scope_of spaces.now) name.now (map attribute_view attributes.now) names) }
+    ensures resolved { IfOk result (λ names. IsResolvedElement spaces.now.table (scope_of spaces.now) name.now (map attribute_view attributes.now) names) }
     ensures err { IfErr result (λ e. (e ≡ TreeFault.NoMemory)
         ⊎ ((e ≡ TreeFault.BadNames) × ¬ (IsNamed (scope_of spaces.now) name.now (map attribute_view attributes.now)))) }
 {
@@ -219,7 +245,7 @@ fn element_names(
     if !are_apart(attributes) {
         return Err(TreeFault::BadNames);
     }
-    if !are_apart_expanded(spaces, &list) {
+    if !are_expanded_apart(spaces, attributes, &list) {
         return Err(TreeFault::BadNames);
     }
     let attributes = numbers_of(alloc, &list)?;
@@ -238,7 +264,7 @@ fn row_names<'a>(
     requires ready { IsReady spaces.old }
     requires few { spaces.old.levels < 2 ^ 33 }
     ensures named { OnOk result (IsNamedShape (scope_of spaces.old) (shape_view row.now.shape)) }
-    ensures resolved { IfOk result (λ names. IsResolvedShape (texts spaces.new.namespaces.items) (scope_of spaces.old) (shape_view row.now.shape) names) }
+    ensures resolved { IfOk result (λ names. IsResolvedShape spaces.new.table (scope_of spaces.old) (shape_view row.now.shape) names) }
     ensures moves { OnOk result (Moves spaces.old spaces.new (shape_view row.now.shape)) }
     ensures err { IfErr result (λ e. (e ≡ TreeFault.NoMemory)
         ⊎ ((e ≡ TreeFault.BadNames) × ¬ (IsNamedShape (scope_of spaces.old) (shape_view row.now.shape)))) }
@@ -275,7 +301,7 @@ pub(crate) fn resolve<'a>(alloc: Global, rows: &[Row<'a>]) -> Result<Names, Tree
         named.push(names)?;
     }
     Ok(Names {
-        namespaces: spaces.namespaces,
+        table: spaces.table,
         rows: named,
     })
 }

@@ -1,6 +1,6 @@
 // Names in two parts, and what a name declares (Namespaces in XML 1.0, 3 to 5).
 
-ghost use Rattle.std.specs.Prelude.{◌≡◌, ◌↔◌, IsTrue};
+ghost use Rattle.std.specs.Prelude.{◌≡◌, ◌↔◌, IsTrue, is_some};
 ghost use Rattle.std.specs.Option.{option_map};
 ghost use Rattle.xml_spec.specs.Characters.{IsNoColonName, IsQualifiedName, at_colon, prefix_of, local_of};
 ghost use Rattle.xml_spec.specs.Names.{is_scheme_byte, scheme_goes_on, is_absolute, declared_prefix, IsBinding};
@@ -18,6 +18,13 @@ fn split_colon<'a>(name: &'a str) -> Option<(&'a str, &'a str)>
     ensures { option_map (λ parts. (parts.0.now, parts.1.now)) result ≡ at_colon name.now }
 {
     name.split_once(':')
+}
+
+/// Whether a name has a colon.
+pub(crate) fn has_colon(name: &str) -> bool
+    ensures { result ≡ is_some (at_colon name.now) }
+{
+    split_colon(name).is_some()
 }
 
 /// The prefix of a name, empty where it has none.

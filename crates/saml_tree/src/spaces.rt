@@ -5,6 +5,7 @@ ghost use Rattle.std.specs.Prelude.{◌≡◌, suc, ◌-◌, ◌<◌, ◌^◌, �
 use crate::node::TreeFault;
 use crate::qualified::{XML_NAMESPACE, XMLNS_NAMESPACE, declared_prefix};
 use crate::row::Attribute;
+use crate::table::Table;
 use namespace_scope::{NoMemory, Scope};
 use std::alloc::Global;
 
@@ -29,32 +30,18 @@ pub(crate) const XMLNS: u32 = 2;
 #[derive(Drop)]
 pub(crate) struct Spaces<'a> {
     // no namespace, that of the prefix xml, that of xmlns, and then that of each declaration
-    pub(crate) namespaces: Vec<String>,
+    pub(crate) table: Table,
     // a level for the document, and one for each open element
     pub(crate) scope: Scope<'a>,
     // how many levels there are
     pub(crate) levels: usize,
 }
 
-/// One more namespace in the table, and its number.
-fn add(alloc: Global, namespaces: &mut Vec<String>, namespace: &str) -> Result<u32, TreeFault>
-    ensures number { IfOk result (λ n. n ≡ length namespaces.old.items) }
-    ensures table { OnOk result (map string_bytes namespaces.new.items ≡ map string_bytes namespaces.old.items ++ namespace.now ∷ []) }
-    ensures err { IfErr result (λ e. e ≡ TreeFault.NoMemory) }
-{
-    let Ok(number) = u32::try_from(namespaces.len()) else {
-        return Err(TreeFault::NoMemory);
-    };
-    let text = String::from_str(alloc, namespace)?;
-    namespaces.push(text)?;
-    Ok(number)
-}
-
 impl<'a> Spaces<'a> {
     ghost use Rattle.std.specs.Prelude.{None, IsSome, MatchOption, slice_get, slice_index_or};
     ghost use Rattle.xml_spec.specs.Names.{bound, outermost, declarations};
     ghost use Rattle.xml_tokens.specs.Views.{attribute_view};
-    ghost use Rattle.saml_tree.specs.Spaces.{texts, scope_of, IsReady, Binds, Enters};
+    ghost use Rattle.saml_tree.specs.Spaces.{scope_of, IsReady, Binds, Enters};
 
     /// Those of a document, outside its root.
     pub(crate) fn new(alloc: Global) -> Result<Spaces<'a>, TreeFault>
@@ -63,15 +50,15 @@ impl<'a> Spaces<'a> {
         ensures scope { IfOk result (λ s. scope_of s ≡ outermost) }
         ensures err { IfErr result (λ e. e ≡ TreeFault.NoMemory) }
     {
-        let mut namespaces = Vec::new(alloc);
-        let _none = add(alloc, &mut namespaces, "")?;
-        let xml = add(alloc, &mut namespaces, XML_NAMESPACE)?;
-        let _xmlns = add(alloc, &mut namespaces, XMLNS_NAMESPACE)?;
+        let mut table = Table::new(alloc);
+        let _none = table.add(alloc, "")?;
+        let xml = table.add(alloc, XML_NAMESPACE)?;
+        let _xmlns = table.add(alloc, XMLNS_NAMESPACE)?;
         let mut scope = Scope::new(alloc);
         scope.push()?;
         scope.declare("xml", xml)?;
         Ok(Spaces {
-            namespaces,
+            table,
             scope,
             levels: 1,
         })
@@ -84,7 +71,7 @@ impl<'a> Spaces<'a> {
         ensures ready { IsReady self.new }
         ensures scope { self.new.scope ≡ drop (length self.old.scope - suc depth) self.old.scope }
         ensures count { length self.new.scope ≡ suc depth }
-        ensures table { self.new.namespaces ≡ self.old.namespaces }
+        ensures table { self.new.table ≡ self.old.table }
     {
         while self.levels > depth as usize + 1 {
             self.scope.pop();
@@ -127,7 +114,7 @@ impl<'a> Spaces<'a> {
     {
         match declared_prefix(attribute.name) {
             Some(prefix) => {
-                let number = add(alloc, &mut self.namespaces, attribute.value.as_str())?;
+                let number = self.table.add(alloc, attribute.value.as_str())?;
                 self.scope.declare(prefix, number)?;
                 Ok(())
             }
@@ -139,16 +126,8 @@ impl<'a> Spaces<'a> {
     pub(crate) fn number_of(&self, prefix: &str) -> Option<u32>
         requires { IsReady self.now }
         ensures { MatchOption result (bound (scope_of self.now) prefix.now ≡ None)
-            (λ n. IsSome (bound (scope_of self.now) prefix.now) × (slice_get (texts self.now.namespaces.items) n ≡ bound (scope_of self.now) prefix.now)) }
+            (λ n. IsSome (bound (scope_of self.now) prefix.now) × (slice_get self.now.table n ≡ bound (scope_of self.now) prefix.now)) }
     {
         self.scope.lookup(prefix)
-    }
-
-    /// The namespace of a number.
-    pub(crate) fn text(&self, number: u32) -> &str
-        requires { number < length (texts self.now.namespaces.items) }
-        ensures { result.now ≡ slice_index_or (texts self.now.namespaces.items) number [] }
-    {
-        self.namespaces[number as usize].as_str()
     }
 }

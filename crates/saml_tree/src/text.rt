@@ -1,7 +1,9 @@
 // Which bytes are a text.
 
 ghost use Rattle.std.specs.Prelude.{◌≡◌, ◌↔◌, IsTrue, IfNone, IfSome};
+ghost use Rattle.std.specs.List.{list_all};
 ghost use Rattle.xml_spec.specs.Characters.{IsText};
+ghost use Rattle.saml_tree.specs.AsciiTexts.{is_ascii_char};
 
 use xml_chars::is_char;
 
@@ -13,7 +15,20 @@ pub(crate) fn text_of(bytes: &[u8]) -> Option<&str>
     let Ok(text) = str::from_utf8(bytes) else {
         return None;
     };
+    // most texts are of ASCII alone, which is told faster
+    if are_ascii_chars(bytes) {
+        return Some(text);
+    }
     if are_chars(text) { Some(text) } else { None }
+}
+
+// Whether each byte is ASCII, and a character that XML allows.
+fn are_ascii_chars(bytes: &[u8]) -> bool
+    ensures { result ≡ list_all is_ascii_char bytes.now }
+{
+    bytes
+        .iter()
+        .all(|b| matches!(*b, b'\t' | b'\n' | b'\r' | b' '..=0x7F))
 }
 
 // Whether XML allows each character.

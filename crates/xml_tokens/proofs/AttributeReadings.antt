@@ -1,5 +1,5 @@
 -- Readings of a name, an equals sign and an attribute are one, and what refuses them.
-use Rattle.std.proofs.Common.{◌≡◌, ℕ, ◌<◌, Bool, true, false, ◌==◌, nat_lt, List, [], ◌∷◌, ◌++◌, length, get_or, drop, IsFalse, refl, sym, ◌∙◌, ap, subst, arith}
+use Rattle.std.proofs.Common.{◌≡◌, ℕ, ◌<◌, Bool, true, false, ◌==◌, nat_lt, List, [], ◌∷◌, ◌++◌, length, get_or, IsFalse, refl, sym, ◌∙◌, ap, subst, arith}
 use Rattle.std.specs.List.{list_all}
 use Rattle.std.specs.Str.{IsAscii}
 use Rattle.std.proofs.lemmas.Str.{encodes-IsAscii}
@@ -40,12 +40,13 @@ ascii_name first others l s h = record {
   spelled = sym (encodes-IsAscii (first ∷ others) (IsAscii-cons first others l (all_ascii others h)));
 }
 
--- the same of a text, by its first byte and the others
-pub ascii_name_of : (text : List ℕ) (starts goes_on : Bool) → 0 < length text → (starts ≡ true → get_or text 0 0 < 128) →
+-- the same of a text, by the test of its first byte
+pub ascii_name_of : (text : List ℕ) (starts : Bool) → 0 < length text → (starts ≡ true → get_or text 0 0 < 128) →
     (get_or text 0 0 < 128 → starts ≡ is_name_start (get_or text 0 0)) → starts ≡ true →
-    (goes_on ≡ true → AllPass is_ascii_name_byte (drop 1 text)) → goes_on ≡ true → IsName text
-ascii_name_of [] starts goes_on l low named s others g = absurd (omega arith)
-ascii_name_of (b ∷ text) starts goes_on l low named s others g = ascii_name b text (low s) (sym (named (low s)) ∙ s) (others g)
+    AllPass is_ascii_name_byte text → IsName text
+ascii_name_of [] starts l low named s passes = absurd (omega arith)
+ascii_name_of (b ∷ text) starts l low named s passes =
+    ascii_name b text (low s) (sym (named (low s)) ∙ s) (both_true (is_ascii_name_byte b) (list_all is_ascii_name_byte text) passes).1
 
 -- two readings of a name
 pub same_name : (bytes n m x y : List ℕ) → NameAt bytes n x → NameAt bytes m y → (n ≡ m) × (x ≡ y)

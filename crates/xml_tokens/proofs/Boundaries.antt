@@ -1,16 +1,18 @@
 -- A text may be cut where a run of bytes ends, and behind a reference.
-use Rattle.std.proofs.Common.{◌≡◌, ℕ, zero, suc, ◌+◌, ◌-◌, ◌<◌, ◌≤◌, Bool, true, false, ◌&&◌, List, [], ◌∷◌, ◌++◌, length, take, drop, get_or, IsFalse, refl, sym, ◌∙◌, ap, subst, arith, add-one, drop-cons, length-append, length-drop, append_assoc}
+use Rattle.std.proofs.Common.{◌≡◌, ℕ, zero, suc, ◌+◌, ◌-◌, ◌<◌, ◌≤◌, Bool, true, false, ◌&&◌, nat_lt, List, [], ◌∷◌, ◌++◌, length, take, drop, get_or, IsFalse, refl, sym, ◌∙◌, ap, subst, arith, add-one, drop-cons, length-append, length-drop, append_assoc}
 use Rattle.std.specs.List.{list_all}
 use Rattle.std.specs.Str.{IsUtf8, IsCharBoundary}
 use Rattle.std.proofs.lemmas.Str.{IsCharBoundary-after_ascii, IsCharBoundary-start}
 use Rattle.std.proofs.lemmas.List.Folds.{list_all_more}
+use borrow.Author.Tests.{ltb-true}
 use Rattle.xml_spec.specs.Ascii.{semicolon}
 use Rattle.xml_spec.specs.Bytes.{AllPass, begins_with}
+use Rattle.xml_spec.specs.Characters.{is_name_char}
 use Rattle.xml_spec.specs.Syntax.{is_white, Reference, LessThan, GreaterThan, Ampersand, Apostrophe, QuotationMark, Decimal, Hexadecimal, print_reference}
 use Rattle.xml_spec.proofs.Tests.{both_true}
 use Rattle.xml_tokens.specs.declared.class.Class.{Class}
 use Rattle.xml_tokens.specs.declared.class.Class.TheVariants.{Name, White, Characters, Value, Kept}
-use Rattle.xml_tokens.specs.Lexing.{is_name_byte, is_character_byte, is_value_byte, is_kept_byte, is_in, IsCut}
+use Rattle.xml_tokens.specs.Lexing.{is_name_byte, is_ascii_name_byte, is_character_byte, is_value_byte, is_kept_byte, is_in, IsCut}
 
 -- what ends a run, by its place
 stop_fails : (P : ℕ → Bool) (bytes : List ℕ) (n : ℕ) → begins_with P (drop n bytes) ≡ false → n < length bytes → P (get_or bytes n 0) ≡ false
@@ -56,6 +58,13 @@ run_boundary Characters bytes n cut u within passes stops = before is_character_
 run_boundary (Value quote) bytes n cut u within passes stops =
     before (is_value_byte quote) bytes n (λ b h. value_stop quote b cut h) within stops
 run_boundary Kept bytes n cut u within passes stops = before is_kept_byte bytes n kept_stop within stops
+
+ascii_low : (b : ℕ) → is_ascii_name_byte b ≡ true → b < 128
+ascii_low b h = ltb-true b 128 (both_true (nat_lt b 128) (is_name_char b) h).0
+
+-- behind a name of ASCII
+pub ascii_boundary : (bytes : List ℕ) (n : ℕ) → IsUtf8 bytes → n ≤ length bytes → AllPass is_ascii_name_byte (take n bytes) → IsCharBoundary bytes n
+ascii_boundary bytes n u within passes = behind is_ascii_name_byte bytes n ascii_low u within passes
 
 -- what a reference is without its semicolon
 abbrev unclosed : Reference → List ℕ

@@ -3,7 +3,7 @@ use Rattle.std.proofs.Common.{◌≡◌, ℕ, ◌+◌, ◌<◌, true, false, Lis
 use Rattle.std.specs.List.{flat_map, AllByRecursion}
 use Rattle.std.proofs.lemmas.List.{map-append}
 use Rattle.std.proofs.lemmas.List.Concat.{flat_map-append}
-use Rattle.xml_spec.specs.Ascii.{equals_sign}
+use Rattle.xml_spec.specs.Ascii.{equals_sign, greater_than}
 use Rattle.xml_spec.specs.Bytes.{AllPass, begins_with}
 use Rattle.xml_spec.specs.Tree as tree
 use Rattle.xml_spec.specs.Syntax.{is_white, print_piece, Assignment, print_assignment, IsAssignment, Tag}
@@ -64,6 +64,11 @@ all_read whole read rest space at far e white stops ends = record {
   not_white = stops;
   not_name = ends;
 }
+
+-- no attribute stands in front of the sign that closes a tag
+pub none_at_close : (given behind : List ℕ) → given ≡ greater_than ∷ behind → AttributesAt given [] given
+none_at_close given behind e =
+    all_read given [] given [] given (none_so_far given) refl refl (ap (begins_with is_white) e) (ap (begins_with is_name_byte) e)
 
 not_both_ways : (z x : List ℕ) → z ≡ x → begins_with is_name_byte z ≡ true → begins_with is_name_byte x ≡ false → ⊥
 not_both_ways z x e begins stops =

@@ -2,7 +2,7 @@
 
 ghost use Rattle.std.specs.Prelude.{◌≡◌, ◌≤◌, ◌++◌, length, take, drop, IsFalse};
 ghost use Rattle.xml_spec.specs.Bytes.{AllPass, begins_with};
-ghost use Rattle.xml_tokens.specs.Lexing.{is_in, IsCut};
+ghost use Rattle.xml_tokens.specs.Lexing.{is_name_byte, is_in, IsCut};
 
 /// A class of bytes. A run of them ends where a text may be cut.
 #[derive(Clone, Copy, Debug, PartialEq, Eq)]
@@ -25,23 +25,24 @@ impl Class {
         ensures { result ≡ is_in self byte }
     {
         match self {
-            Class::Name => !matches!(
-                byte,
-                b' ' | b'\t'
-                    | b'\r'
-                    | b'\n'
-                    | b'='
-                    | b'/'
-                    | b'>'
-                    | b'?'
-                    | b'<'
-                    | b'&'
-                    | b'"'
-                    | b'\''
-                    | b'!'
-                    | b';'
-                    | b'#'
-            ),
+            Class::Name => byte != b'>'
+                && !matches!(
+                    byte,
+                    b' ' | b'\t'
+                        | b'\r'
+                        | b'\n'
+                        | b'='
+                        | b'/'
+                        | b'>'
+                        | b'?'
+                        | b'<'
+                        | b'&'
+                        | b'"'
+                        | b'\''
+                        | b'!'
+                        | b';'
+                        | b'#'
+                ),
             Class::White => matches!(byte, b' ' | b'\t' | b'\r' | b'\n'),
             Class::Characters => !matches!(byte, b'<' | b'&'),
             Class::Value(quote) => byte != b'<' && byte != b'&' && byte != quote,
@@ -73,4 +74,14 @@ pub(crate) fn split_run<'a>(rest: &'a str, class: Class) -> (&'a str, &'a str)
 {
     let len = run_len(rest.as_bytes(), class);
     rest.split_at(len)
+}
+
+/// Whether the text begins with a byte that may stand in a name.
+pub(crate) fn begins_name(rest: &str) -> bool
+    ensures { result ≡ begins_with is_name_byte rest.now }
+{
+    match rest.as_bytes() {
+        [first, ..] => Class::Name.has(*first),
+        [] => false,
+    }
 }

@@ -1,7 +1,7 @@
 // Names, equals signs and attributes at the front of a text: each reader takes what is left of the text, and gives
 // what it read and what follows it.
 
-ghost use Rattle.std.specs.Prelude.{◌≡◌, ℕ, ◌<◌, ◌↔◌, List, ◌∷◌, ◌++◌, length, IsTrue, IsFalse};
+ghost use Rattle.std.specs.Prelude.{◌≡◌, ℕ, ◌<◌, ◌≤◌, List, ◌∷◌, ◌++◌, length, take, IsTrue, IsFalse, IfSome};
 ghost use Rattle.std.specs.Option.{MatchOption};
 ghost use Rattle.std.specs.Result.{IfOk, IfErr};
 ghost use Rattle.xml_spec.specs.Bytes.{AllPass, begins_with};
@@ -10,7 +10,7 @@ ghost use Rattle.xml_spec.specs.Syntax.{is_white};
 ghost use Rattle.xml_tokens.specs.Views.{attribute_view};
 ghost use Rattle.xml_tokens.specs.Lexing.{is_ascii_name_byte, NameAt, EqualsAt, AssignedAt, AssignmentAt, NoName, NoEquals, NoAssigned, NoAssignment, IsFaultFor};
 
-use crate::class::{Class, split_run};
+use crate::class::{Class, begins_name, split_run};
 use crate::marks::strip_byte;
 use crate::token::{Attribute, TokenFault};
 use crate::values::value;
@@ -21,7 +21,7 @@ fn is_name_start_byte(byte: u8) -> bool
     ensures ascii { IsTrue result → byte < 128 }
     ensures starts { byte < 128 → result ≡ is_name_start byte }
 {
-    matches!(byte, b':' | b'A'..=b'Z' | b'_' | b'a'..=b'z')
+    matches!(byte, b'a'..=b'z') || matches!(byte, b'A'..=b'Z' | b'_' | b':')
 }
 
 /// Whether the byte is ASCII and may stand in a name.
@@ -29,48 +29,70 @@ fn is_name_char_byte(byte: u8) -> bool
     ensures ascii { IsTrue result → byte < 128 }
     ensures stands { byte < 128 → result ≡ is_name_char byte }
 {
-    matches!(byte, b'-' | b'.' | b'0'..=b'9') || is_name_start_byte(byte)
+    is_name_start_byte(byte) || matches!(byte, b'0'..=b'9' | b'-' | b'.')
 }
 
-/// Whether each byte is ASCII and may stand in a name.
-fn all_name_chars(bytes: &[u8]) -> bool
-    ensures { IsTrue result → AllPass is_ascii_name_byte bytes.now }
+/// How many of the first bytes are ASCII and may stand in a name.
+fn ascii_len(bytes: &[u8]) -> usize
+    ensures within { result ≤ length bytes.now }
+    ensures passes { AllPass is_ascii_name_byte (take result bytes.now) }
 {
-    for byte in bytes {
+    for (i, byte) in bytes.iter().enumerate() {
         if !is_name_char_byte(*byte) {
-            return false;
+            return i;
         }
     }
-    true
+    bytes.len()
 }
 
-/// Whether the text is a name of ASCII alone.
+/// Whether the text, of ASCII that may stand in a name, is one.
 fn is_ascii_name(text: &str) -> bool
+    requires passes { AllPass is_ascii_name_byte text.now }
     ensures { IsTrue result → IsName text.now }
 {
     match text.as_bytes() {
+        [first, ..] => is_name_start_byte(*first),
         [] => false,
-        [first, others @ ..] => is_name_start_byte(*first) && all_name_chars(others),
     }
 }
 
-/// Whether the text is a name (XML 1.0, production 5).
-fn is_name(text: &str) -> bool
-    ensures { IsTrue result ↔ IsName text.now }
+/// A name of ASCII alone, and what follows it. `None` says nothing.
+#[inline(always)]
+fn ascii_name<'a>(rest: &'a str) -> Option<(&'a str, &'a str)>
+    ensures { IfSome result (λ found. NameAt rest.now found.0.now found.1.now) }
 {
-    is_ascii_name(text) || xml_chars::is_name(text)
-}
-
-/// A name, and what follows it.
-pub(crate) fn name<'a>(rest: &'a str) -> Option<(&'a str, &'a str)>
-    ensures { MatchOption result (NoName rest.now) (λ found. NameAt rest.now found.0.now found.1.now) }
-{
-    let (name, behind) = split_run(rest, Class::Name);
-    if is_name(name) {
+    let (name, behind) = rest.split_at(ascii_len(rest.as_bytes()));
+    if is_ascii_name(name) && !begins_name(behind) {
         Some((name, behind))
     } else {
         None
     }
+}
+
+/// A name of any characters, and what follows it.
+#[cold]
+#[inline(never)]
+fn any_name<'a>(rest: &'a str) -> Option<(&'a str, &'a str)>
+    ensures { MatchOption result (NoName rest.now) (λ found. NameAt rest.now found.0.now found.1.now) }
+{
+    let (name, behind) = split_run(rest, Class::Name);
+    if xml_chars::is_name(name) {
+        Some((name, behind))
+    } else {
+        None
+    }
+}
+
+/// A name, and what follows it.
+#[inline(always)]
+pub(crate) fn name<'a>(rest: &'a str) -> Option<(&'a str, &'a str)>
+    ensures { MatchOption result (NoName rest.now) (λ found. NameAt rest.now found.0.now found.1.now) }
+{
+    if let Some(found) = ascii_name(rest) {
+        return Some(found);
+    }
+    let (name, behind) = any_name(rest)?;
+    Some((name, behind))
 }
 
 /// What follows an equals sign and the white space round it.

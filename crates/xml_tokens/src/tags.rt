@@ -1,27 +1,28 @@
 // Tags.
 
-ghost use Rattle.std.specs.Prelude.{◌≡◌, ℕ, ◌<◌, List, ◌∷◌, ◌++◌, map, codes};
+ghost use Rattle.std.specs.Prelude.{◌≡◌, ℕ, ◌<◌, List, ◌∷◌, ◌++◌, map, codes, IsTrue, IsFalse};
 ghost use Rattle.std.specs.Option.{MatchOption};
 ghost use Rattle.std.specs.Result.{IfOk, IfErr};
 ghost use Rattle.xml_spec.specs.Ascii.{less_than};
 ghost use Rattle.xml_spec.specs.Bytes.{begins_with};
-ghost use Rattle.xml_spec.specs.Syntax.{Token};
+ghost use Rattle.xml_spec.specs.Syntax.{is_white, Token};
 ghost use Rattle.xml_spec.specs.Laws.{BeginsWith};
 ghost use Rattle.xml_tokens.specs.Views.{attribute_view, Shows};
-ghost use Rattle.xml_tokens.specs.Lexing.{is_name_byte, BeginsTag, AttributesAt, TagAt, EndAt, NoAttributes, NoTag, NoEnd, NoToken, IsFaultFor};
+ghost use Rattle.xml_tokens.specs.Lexing.{is_name_byte, BeginsTag, NameAt, AttributesAt, EndAt, NoAttributes, NoEnd, NoToken, IsFaultFor};
 
-use crate::class::{Class, split_run};
+use crate::class::{Class, begins_name, split_run};
 use crate::marks::strip_byte;
 use crate::parts::{assignment, name};
 use crate::token::{Attribute, Markup, TokenFault};
 use std::alloc::Global;
 
-/// Whether the text begins with a byte that may stand in a name.
-fn begins_name(rest: &str) -> bool
-    ensures { result ≡ begins_with is_name_byte rest.now }
+/// Whether the text begins with a sign that closes a tag.
+fn begins_close(rest: &str) -> bool
+    ensures white { IsTrue result → IsFalse (begins_with is_white rest.now) }
+    ensures name { IsTrue result → IsFalse (begins_with is_name_byte rest.now) }
 {
     match rest.as_bytes() {
-        [first, ..] => Class::Name.has(*first),
+        [first, ..] => *first == b'>' || *first == b'/',
         [] => false,
     }
 }
@@ -31,10 +32,8 @@ fn begins_name(rest: &str) -> bool
 /// # Errors
 ///
 /// `Invalid`: what stands there is no such list. `NoMemory`.
-fn attributes<'a>(
-    alloc: Global,
-    whole: &'a str,
-) -> Result<(Vec<Attribute<'a>>, &'a str), TokenFault>
+#[inline(never)]
+fn listed<'a>(alloc: Global, whole: &'a str) -> Result<(Vec<Attribute<'a>>, &'a str), TokenFault>
     ensures reading { IfOk result (λ found. AttributesAt whole.now (map attribute_view found.0.items) found.1.now) }
     ensures refused { IfErr result (IsFaultFor (NoAttributes whole.now)) }
 {
@@ -51,23 +50,23 @@ fn attributes<'a>(
     }
 }
 
-/// The name and the attributes of a tag, and what follows them and the white space behind them.
+/// The attributes of a tag, and what follows them and the white space behind them: there are none where the tag closes.
 ///
 /// # Errors
 ///
-/// `Invalid`: what stands there is no such thing. `NoMemory`.
-fn tag<'a>(
+/// `Invalid`: what stands there is no such list. `NoMemory`.
+#[inline(always)]
+fn attributes<'a>(
     alloc: Global,
-    rest: &'a str,
-) -> Result<(&'a str, Vec<Attribute<'a>>, &'a str), TokenFault>
-    ensures reading { IfOk result (λ found. TagAt rest.now found.0.now (map attribute_view found.1.items) found.2.now) }
-    ensures refused { IfErr result (IsFaultFor (NoTag rest.now)) }
+    whole: &'a str,
+) -> Result<(Vec<Attribute<'a>>, &'a str), TokenFault>
+    ensures reading { IfOk result (λ found. AttributesAt whole.now (map attribute_view found.0.items) found.1.now) }
+    ensures refused { IfErr result (IsFaultFor (NoAttributes whole.now)) }
 {
-    let Some((name, given)) = name(rest) else {
-        return Err(TokenFault::Invalid);
-    };
-    let (attributes, close) = attributes(alloc, given)?;
-    Ok((name, attributes, close))
+    if begins_close(whole) {
+        return Ok((Vec::new(alloc), whole));
+    }
+    listed(alloc, whole)
 }
 
 /// What follows the sign that closes the tag of an empty element.
@@ -76,6 +75,32 @@ fn strip_empty_close<'a>(rest: &'a str) -> Option<&'a str>
 {
     let sign = strip_byte(rest, b'/')?;
     strip_byte(sign, b'>')
+}
+
+/// The tag of this name, which stands behind `<` and in front of the given text, and what follows it.
+///
+/// # Errors
+///
+/// `Invalid`: no valid token is written so. `NoMemory`.
+#[inline(never)]
+fn named_tag<'a>(
+    alloc: Global,
+    name: &'a str,
+    given: &'a str,
+) -> Result<(Markup<'a>, &'a str), TokenFault>
+    requires named { NameAt (name.now ++ given.now) name.now given.now }
+    requires begins { BeginsTag (name.now ++ given.now) }
+    ensures reading { IfOk result (λ found. (token : Token) × Shows token found.0 × BeginsWith (less_than ∷ (name.now ++ given.now)) token found.1.now) }
+    ensures refused { IfErr result (IsFaultFor (NoToken (less_than ∷ (name.now ++ given.now)))) }
+{
+    let (attributes, close) = attributes(alloc, given)?;
+    if let Some(behind) = strip_byte(close, b'>') {
+        return Ok((Markup::Start { name, attributes }, behind));
+    }
+    match strip_empty_close(close) {
+        Some(behind) => Ok((Markup::Empty { name, attributes }, behind)),
+        None => Err(TokenFault::Invalid),
+    }
 }
 
 /// The start tag or the tag of an empty element behind `<`, and what follows it.
@@ -91,14 +116,15 @@ pub(crate) fn open_tag<'a>(
     ensures reading { IfOk result (λ found. (token : Token) × Shows token found.0 × BeginsWith (less_than ∷ rest.now) token found.1.now) }
     ensures refused { IfErr result (IsFaultFor (NoToken (less_than ∷ rest.now))) }
 {
-    let (name, attributes, close) = tag(alloc, rest)?;
-    if let Some(behind) = strip_byte(close, b'>') {
+    let Some((name, given)) = name(rest) else {
+        return Err(TokenFault::Invalid);
+    };
+    if let Some(behind) = strip_byte(given, b'>') {
+        let attributes = Vec::new(alloc);
         return Ok((Markup::Start { name, attributes }, behind));
     }
-    match strip_empty_close(close) {
-        Some(behind) => Ok((Markup::Empty { name, attributes }, behind)),
-        None => Err(TokenFault::Invalid),
-    }
+    let (token, behind) = named_tag(alloc, name, given)?;
+    Ok((token, behind))
 }
 
 /// The name of the end tag behind `</`, and what follows it.

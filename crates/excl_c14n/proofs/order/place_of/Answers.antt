@@ -1,29 +1,41 @@
-use Rattle.std.proofs.Common.{length, below_more, sym, ap, ◌∙◌, arith}
+use Rattle.std.proofs.Common.{◌≡◌, ◌+◌, ◌-◌, ◌/◌, sym, ap, subst, ◌∙◌, arith, slice_index_or, true, false}
 use Rattle.std.specs.Ordering.{is_le}
 use Rattle.xml_spec.specs.Canonical.{expanded_order}
-use Rattle.excl_c14n.specs.Levels.{in_force}
-use Rattle.excl_c14n.specs.NodeByNode.{namespace_by_prefix, number_order}
-use Rattle.excl_c14n.proofs.Sorting.{insert_is_inserted}
+use Rattle.excl_c14n.specs.Shown.{expanded_of}
+use Rattle.excl_c14n.proofs.Placing.{all_above, at_any}
 use Rattle.excl_c14n.proofs.order.place_of.Goals as goal
 
 pub compare-requires : goal.compare-requires
-compare-requires c same =
-    c.name_of_attribute-name.ensures.prefix ∙ ap (namespace_by_prefix (in_force c.args.bindings.now.scope)) same ∙ sym c.name_of_attribute.ensures.prefix
+compare-requires c = c.requires.prefixes _ _ (omega arith)
 
-pub loop-place-preserved : goal.loop-place-preserved
-loop-place-preserved c =
-    below_more _ _ c.loop-place.invariant
-    ((λ i. is_le (expanded_order (sym c.name_of_attribute-name.ensures.name i) (sym c.name_of_attribute.ensures.name i)))
-    ∙ ap is_le (sym c.compare.ensures) ∙ sym c.is_le.ensures ∙ c.if-is_le.false)
+pub loop-low-preserved-then-is_le : goal.loop-low-preserved-then-is_le
+loop-low-preserved-then-is_le c =
+    let middle = c.loop-low.low + (c.loop-low.high - c.loop-low.low) / 2 in
+    record {
+      between = omega arith;
+      within = omega arith;
+      above = c.loop-low.invariant.above;
+      place =
+          λ d h. at_any (λ kept. is_le (expanded_order (expanded_of c.args.name) (expanded_of kept)) ≡ true) c.args.names.now middle _ d h
+          (ap is_le (sym c.compare.ensures) ∙ sym c.is_le.ensures ∙ c.if-is_le.true);
+    }
 
-pub returns-then-is_le-clause-place : goal.returns-then-is_le-clause-place
-returns-then-is_le-clause-place c =
-    insert_is_inserted (number_order (in_force c.args.bindings.now.scope) c.args.doc.now.tree c.args.n.0) c.args.i c.args.order.now c.loop-place.place 0
-    (omega arith) c.loop-place.invariant
-    (λ h. (λ i. is_le (expanded_order (sym c.name_of_attribute-name.ensures.name i) (sym c.name_of_attribute.ensures.name i)))
-    ∙ ap is_le (sym c.compare.ensures) ∙ sym c.is_le.ensures ∙ c.if-is_le.true)
+pub loop-low-preserved : goal.loop-low-preserved
+loop-low-preserved c =
+    let middle = c.loop-low.low + (c.loop-low.high - c.loop-low.low) / 2 in
+    record {
+      between = omega arith;
+      within = c.loop-low.invariant.within;
+      above =
+          λ k d h. all_above c.args.name c.args.names.now middle c.requires.order (omega arith)
+          (λ e. at_any (λ kept. is_le (expanded_order (expanded_of c.args.name) (expanded_of kept)) ≡ false) c.args.names.now middle _ e (omega arith)
+          (ap is_le (sym c.compare.ensures) ∙ sym c.is_le.ensures ∙ c.if-is_le.false))
+          k d (omega arith);
+      place = c.loop-low.invariant.place;
+    }
 
 pub returns-clause-place : goal.returns-clause-place
-returns-clause-place c =
-    insert_is_inserted (number_order (in_force c.args.bindings.now.scope) c.args.doc.now.tree c.args.n.0) c.args.i c.args.order.now (length c.args.order.now) 0
-    (omega arith) (λ k h. c.loop-place.invariant k (omega arith)) (λ h. absurd (omega arith))
+returns-clause-place c d h =
+    let met : c.loop-low.high ≡ c.loop-low.low = omega arith in
+    subst (λ k. is_le (expanded_order (expanded_of c.args.name) (expanded_of (slice_index_or c.args.names.now k d))) ≡ true) met
+    (c.loop-low.invariant.place d (omega arith))

@@ -2,7 +2,7 @@ use Rattle.std.proofs.Common.{◌≡◌, true, false, List, map, inl, inr, refl,
 use Rattle.std.proofs.lemmas.Result.{err_from_is_err_and}
 use Rattle.saml_tree.specs.RowTests.{are_apart}
 use Rattle.xml_tokens.specs.Views.{attribute_view}
-use Rattle.saml_tree.specs.Spaces.{texts, scope_of}
+use Rattle.saml_tree.specs.Spaces.{scope_of}
 use Rattle.saml_tree.specs.Resolved.{listed, expanded_view, are_apart_expanded}
 use Rattle.saml_tree.specs.declared.names.Expanded.{Expanded}
 use Rattle.saml_tree.proofs.NamedElements.{named_from, well_attributes, names_apart, expanded_are_apart, numbers_resolve}
@@ -10,20 +10,20 @@ use Rattle.saml_tree.proofs.names.element_names.Goals as goal
 
 pub returns-clause-named : goal.returns-clause-named
 returns-clause-named c =
-    let table = texts c.args.spaces.now.namespaces.items in
+    let table = c.args.spaces.now.table in
     let attributes = map attribute_view c.args.attributes.now in
     let apart : are_apart (map (λ a. a.name) attributes) ≡ true = cc in
-    let tested : c.are_apart_expanded.result ≡ true = cc in
+    let tested : c.are_expanded_apart.result ≡ true = cc in
     named_from (scope_of c.args.spaces.now) c.args.name.now attributes c.in-Some.ensures.0 c.in_ok-list.ensures.well apart
     (sym (ap are_apart_expanded c.in_ok-list.ensures.ok.are)
     ∙ ap (λ (list : List Expanded). are_apart_expanded (map (expanded_view table) list)) (sym c.deref.ensures.value)
-    ∙ sym c.are_apart_expanded.ensures ∙ tested)
+    ∙ sym c.are_expanded_apart.ensures ∙ tested)
 
 pub returns-clause-resolved : goal.returns-clause-resolved
 returns-clause-resolved c = record {
   element = c.in-Some.ensures.1;
   each_attribute =
-      numbers_resolve (texts c.args.spaces.now.namespaces.items) (scope_of c.args.spaces.now) (map attribute_view c.args.attributes.now)
+      numbers_resolve c.args.spaces.now.table (scope_of c.args.spaces.now) (map attribute_view c.args.attributes.now)
       c.in_ok-list.list.items c.in_ok-attributes.attributes.items c.in_ok-list.ensures.ok
       (c.in_ok-attributes.ensures ∙ ap (map (λ (e : Expanded). e.namespace)) c.deref-2.ensures.value);
 }
@@ -42,14 +42,14 @@ returns-then-not-are_apart-clause-err c =
     let found : are_apart (map (λ a. a.name) attributes) ≡ false = cc in
     inr (refl, λ n. absurd (let clash : true ≡ false = sym (names_apart (scope_of c.args.spaces.now) c.args.name.now attributes n) ∙ found in cc))
 
-pub returns-then-not-are_apart_expanded-clause-err : goal.returns-then-not-are_apart_expanded-clause-err
-returns-then-not-are_apart_expanded-clause-err c =
-    let table = texts c.args.spaces.now.namespaces.items in
+pub returns-then-not-are_expanded_apart-clause-err : goal.returns-then-not-are_expanded_apart-clause-err
+returns-then-not-are_expanded_apart-clause-err c =
+    let table = c.args.spaces.now.table in
     let attributes = map attribute_view c.args.attributes.now in
     let scope = scope_of c.args.spaces.now in
-    let tested : c.are_apart_expanded.result ≡ false = cc in
+    let tested : c.are_expanded_apart.result ≡ false = cc in
     let found : are_apart_expanded (map (listed scope) attributes) ≡ false =
     sym (ap are_apart_expanded c.in_ok-list.ensures.ok.are)
     ∙ ap (λ (list : List Expanded). are_apart_expanded (map (expanded_view table) list)) (sym c.deref.ensures.value)
-    ∙ sym c.are_apart_expanded.ensures ∙ tested in
+    ∙ sym c.are_expanded_apart.ensures ∙ tested in
     inr (refl, λ n. absurd (let clash : true ≡ false = sym (expanded_are_apart scope c.args.name.now attributes n) ∙ found in cc))

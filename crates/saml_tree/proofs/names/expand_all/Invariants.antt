@@ -1,13 +1,13 @@
 use Rattle.std.proofs.Common.{map, take}
 use Rattle.std.specs.List.{AllByRecursion}
 use Rattle.xml_tokens.specs.Views.{attribute_view}
-use Rattle.saml_tree.specs.Spaces.{texts, scope_of}
+use Rattle.saml_tree.specs.Spaces.{scope_of}
 use Rattle.saml_tree.specs.Resolved.{IsWellAttribute, AreExpanded, listed}
 use Rattle.saml_tree.proofs.names.expand_all.Given as goal
 
 abbrev pub invariant-loop-attribute : goal.invariant-loop-attribute
 invariant-loop-attribute l = record {
   well : AllByRecursion (IsWellAttribute (scope_of l.spaces)) (map attribute_view (take l.attribute-index l.attributes));
-  expanded : AreExpanded (texts l.spaces.namespaces.items)
+  expanded : AreExpanded l.spaces.table
       (map (listed (scope_of l.spaces)) (map attribute_view (take l.attribute-index l.attributes))) l.list.items;
 }

@@ -63,5 +63,5 @@ pub returns-clause-resolved : goal.returns-clause-resolved
 returns-clause-resolved c =
     let rows = c.args.rows.now in
     let count : c.loop-row.row-index ≡ length (row_views rows) = omega (arith, length-map rows row_view) in
-    walked (row_views rows) c.loop-row.spaces (record { namespaces = c.loop-row.spaces.namespaces; rows = c.loop-row.named }) c.requires
+    walked (row_views rows) c.loop-row.spaces (record { table = c.loop-row.spaces.table; rows = c.loop-row.named }) c.requires
     (subst (λ n. Walk (row_views rows) n c.loop-row.spaces c.loop-row.named.items) count c.loop-row.invariant) refl

@@ -1,40 +1,28 @@
-use Rattle.std.proofs.Common.{◌∷◌, map, inr, refl}
+use Rattle.std.proofs.Common.{[], ◌∷◌, map, inr, refl, sym, ◌∙◌, ap, subst}
 use Rattle.std.proofs.lemmas.Result.{err_from_is_err_and}
-use Rattle.xml_spec.specs.Syntax.{EmptyTag, Alone, StartTag}
+use Rattle.xml_spec.specs.Syntax.{StartTag}
 use Rattle.xml_tokens.specs.Views.{attribute_view}
-use Rattle.xml_tokens.specs.Lexing.{NoTag, NoToken}
-use Rattle.xml_tokens.proofs.Faults.{fault_for}
-use Rattle.xml_tokens.proofs.TokenReadings.{untagged_no_token, unclosed_no_token, start_begins, empty_begins}
+use Rattle.xml_tokens.specs.Lexing.{NoToken, IsFaultFor}
+use Rattle.xml_tokens.proofs.TagReadings.{unnamed_no_tag, tag_from, none_at_close}
+use Rattle.xml_tokens.proofs.TokenReadings.{untagged_no_token, start_begins}
 use Rattle.xml_tokens.proofs.tags.open_tag.Goals as goal
 
-pub returns-in_err-name-clause-refused : goal.returns-in_err-name-clause-refused
-returns-in_err-name-clause-refused c =
-    let p = err_from_is_err_and c.from_residual.result c.from_residual.ensures.1 in
-    rw (p.1, p.2) (fault_for (NoTag c.args.rest.now) (NoToken (60 ∷ c.args.rest.now)) c.in_err-name.field-0.0
-    (untagged_no_token c.args.rest.now c.requires.begins) c.in_err-name.ensures.refused)
+pub returns-in_default-clause-refused : goal.returns-in_default-clause-refused
+returns-in_default-clause-refused c =
+    inr (refl, untagged_no_token c.args.rest.now c.requires.begins (unnamed_no_tag c.args.rest.now c.in_default.ensures))
 
-pub returns-in-Some-clause-reading : goal.returns-in-Some-clause-reading
-returns-in-Some-clause-reading c =
-    let at = c.in_ok-name.ensures.reading in (
+pub returns-in-Some-strip_byte-clause-reading : goal.returns-in-Some-strip_byte-clause-reading
+returns-in-Some-strip_byte-clause-reading c =
+    let given = c.in-Some.given.now in
+    let behind = c.in-Some-strip_byte.behind.now in
+    let closes = c.in-Some-strip_byte.ensures in
+    let at = tag_from c.args.rest.now c.in-Some.name.now given [] given c.in-Some.ensures (none_at_close given behind closes) in (
       StartTag at.tag,
-      (at.named, at.mean),
-      start_begins c.args.rest.now c.in_ok-name.name.now (map attribute_view c.in_ok-name.attributes.items) c.in_ok-name.close.now c.in-Some.behind.now at c.in-Some.ensures,
+      (at.named, ap (map attribute_view) c.new-attributes.ensures.items ∙ at.mean),
+      start_begins c.args.rest.now c.in-Some.name.now [] given behind at closes,
     )
 
-pub returns-in-Some-strip_empty_close-clause-reading :
-    goal.returns-in-Some-strip_empty_close-clause-reading
-returns-in-Some-strip_empty_close-clause-reading c =
-    let at = c.in_ok-name.ensures.reading in (
-      Alone (EmptyTag at.tag),
-      (at.named, at.mean),
-      empty_begins c.args.rest.now c.in_ok-name.name.now (map attribute_view c.in_ok-name.attributes.items) c.in_ok-name.close.now
-          c.in-Some-strip_empty_close.behind.now at c.in-Some-strip_empty_close.ensures,
-    )
-
-pub returns-clause-refused : goal.returns-clause-refused
-returns-clause-refused c =
-    inr (
-      refl,
-      unclosed_no_token c.args.rest.now c.in_ok-name.name.now (map attribute_view c.in_ok-name.attributes.items) c.in_ok-name.close.now
-          c.requires.begins c.in_ok-name.ensures.reading c.in_default.ensures c.in-None.ensures,
-    )
+pub returns-in_err-token-clause-refused : goal.returns-in_err-token-clause-refused
+returns-in_err-token-clause-refused c =
+    let p = err_from_is_err_and c.from_residual.result c.from_residual.ensures.1 in
+    rw (p.1, p.2) (subst (λ bytes. IsFaultFor (NoToken (60 ∷ bytes)) c.in_err-token.field-0.0) (sym c.in-Some.ensures.split) c.in_err-token.ensures.refused)

@@ -5,7 +5,7 @@ use Rattle.excl_c14n.proofs.bindings.Bindings.bind.Goals as goal
 
 pub invariant_of-self : goal.invariant_of-self
 invariant_of-self c =
-    let names = c.self.inside.names.items in
+    let names = c.self.inside.names.list.items in
     still_numbered_scope c.declare.result (length names) c.self.inside.scope c.self.inside.rendered c.declare.new.self c.args.prefix.now c.in-Some.number
     c.declare.ensures.ok c.declare.ensures.err c.self.invariant
     (found_below (length names) c.self.inside.rendered c.args.prefix.now c.in-Some.number c.self.invariant.rendered_below c.in-Some.ensures.found)
@@ -13,8 +13,8 @@ invariant_of-self c =
 pub invariant_of-self-in-None : goal.invariant_of-self-in-None
 invariant_of-self-in-None c =
     let made = c.in_ok-new-in-None.ensures.ok in
-    let names = c.self.inside.names.items in
-    let new = c.number.new.names.items in
+    let names = c.self.inside.names.list.items in
+    let new = c.add.new.self.list.items in
     still_numbered_scope c.declare-in-None.result (length new) c.self.inside.scope c.self.inside.rendered c.declare-in-None.new.self c.args.prefix.now
     c.in_ok-new-in-None.new c.declare-in-None.ensures.ok c.declare-in-None.ensures.err
     (numbered_more names new c.args.namespace c.self.inside.scope c.self.inside.rendered made.0 c.self.invariant).0
@@ -24,6 +24,6 @@ pub returns-in_ok-new-in-None : goal.returns-in_ok-new-in-None
 returns-in_ok-new-in-None c =
     let made = c.in_ok-new-in-None.ensures.ok in
     on_ok_too c.kept-in-None.result c.declare-in-None.result c.kept-in-None.ensures
-    (bound_anew c.self.inside.names.items c.number.new.names.items c.args.namespace c.self.inside.scope c.self.inside.rendered c.declare-in-None.new.self
+    (bound_anew c.self.inside.names.list.items c.add.new.self.list.items c.args.namespace c.self.inside.scope c.self.inside.rendered c.declare-in-None.new.self
     c.args.self.now c.args.prefix.now c.in_ok-new-in-None.new c.self.view_is c.self.invariant made.0 made.1)
     c.declare-in-None.ensures.ok

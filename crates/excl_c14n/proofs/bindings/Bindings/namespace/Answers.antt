@@ -7,6 +7,6 @@ use Rattle.excl_c14n.proofs.bindings.Bindings.namespace.Goals as goal
 
 pub returns : goal.returns
 returns c =
-    c.name_in.ensures ∙ ap (name_of_number c.self.inside.names.items) c.lookup.ensures
-    ∙ sym (namespace_found c.self.inside.names.items c.self.inside.scope c.args.prefix.now)
+    c.name.ensures ∙ ap (name_of_number c.self.inside.names.list.items) c.lookup.ensures
+    ∙ sym (namespace_found c.self.inside.names.list.items c.self.inside.scope c.args.prefix.now)
     ∙ ap (λ (v : BindingsView). namespace_of (in_force v.scope) c.args.prefix.now) c.self.view_is

@@ -26,8 +26,8 @@ pub bind-requires : goal.bind-requires
 bind-requires c =
     bound_level c.args.bindings.now c.loop-i.bindings c.args.self.now.doc.now.tree c.args.n.0 c.loop-i.i c.loop-i.invariant.bound c.requires.level
 
-pub loop-i-preserved : goal.loop-i-preserved
-loop-i-preserved c =
+pub loop-i-preserved-in_default : goal.loop-i-preserved-in_default
+loop-i-preserved-in_default c =
     let tree = c.args.self.now.doc.now.tree in
     let i = c.loop-i.i - 1 in
     let on : c.loop-i.i ≡ i + 1 = omega arith in
@@ -41,8 +41,8 @@ loop-i-preserved c =
           declared_passed (texts c.args.prefixes.now.items) (texts c.loop-i.prefixes.items) tree c.args.n.0 i c.loop-i.i none on c.loop-i.invariant.declared;
     }
 
-pub loop-i-preserved-in-Continue-branch-3 : goal.loop-i-preserved-in-Continue-branch-3
-loop-i-preserved-in-Continue-branch-3 c =
+pub loop-i-preserved : goal.loop-i-preserved
+loop-i-preserved c =
     let tree = c.args.self.now.doc.now.tree in
     let i = c.loop-i.i - 1 in
     let on : c.loop-i.i ≡ i + 1 = omega arith in

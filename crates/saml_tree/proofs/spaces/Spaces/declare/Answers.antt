@@ -1,8 +1,9 @@
-use Rattle.std.proofs.Common.{[], ◌∷◌, ◌++◌, Option, string_bytes, ap, subst, refl, ◌∙◌}
+use Rattle.std.proofs.Common.{[], Option, Some, string_bytes, ap, subst, refl, ◌∙◌}
 use Rattle.std.specs.List.{cons_option}
 use Rattle.std.specs.Option.{option_map}
 use Rattle.xml_spec.specs.Names.{Binding}
-use Rattle.saml_tree.specs.Spaces.{texts, Binds}
+use Rattle.saml_tree.specs.Spaces.{Binds}
+use Rattle.saml_tree.specs.Tables.{added}
 use Rattle.saml_tree.proofs.Bindings.{binds_one}
 use Rattle.saml_tree.proofs.spaces.Spaces.declare.Goals as goal
 
@@ -11,8 +12,8 @@ returns-in_ok-declare-in-Some-clause-ok c =
     let before = c.args.self.now in
     let value = string_bytes c.args.attribute.now.value in
     let named = c.in-Some.ensures in
-    subst (λ (o : Option Binding). Binds before (record { namespaces = c.add.new.namespaces; scope = c.declare.new.self; levels = before.levels }) (cons_option o []))
+    subst (λ (o : Option Binding). Binds before (record { table = c.add.new.self; scope = c.declare.new.self; levels = before.levels }) (cons_option o []))
     (ap (option_map (λ p. record { prefix = p; namespace = value })) named)
-    (binds_one before (record { namespaces = c.add.new.namespaces; scope = c.declare.new.self; levels = before.levels }) c.in-Some.prefix.now value c.in_ok-number-in-Some.number
-    c.requires.ready (c.in_ok-number-in-Some.ensures.table ∙ ap (λ t. texts before.namespaces.items ++ t ∷ []) c.as_str.ensures.value)
-    c.in_ok-number-in-Some.ensures.number c.in_ok-declare-in-Some.ensures.ok refl)
+    (binds_one before (record { table = c.add.new.self; scope = c.declare.new.self; levels = before.levels }) c.in-Some.prefix.now value c.in_ok-number-in-Some.number
+    c.requires.ready (c.in_ok-number-in-Some.ensures.table ∙ ap (added before.table) c.as_str.ensures.value)
+    (c.in_ok-number-in-Some.ensures.number ∙ ap Some c.as_str.ensures.value) c.in_ok-declare-in-Some.ensures.ok refl)

@@ -1,5 +1,5 @@
 use Rattle.std.proofs.Common.{◌∙◌}
-use Rattle.saml_tree.specs.Spaces.{texts, scope_of}
+use Rattle.saml_tree.specs.Spaces.{scope_of}
 use Rattle.saml_tree.proofs.Bindings.{bound_more, grows_twice}
 use Rattle.saml_tree.proofs.spaces.Spaces.declare_all.Goals as goal
 
@@ -16,6 +16,6 @@ loop-i-preserved c =
           ∙ c.loop-i.invariant.bound;
       outer = one.outer ∙ c.loop-i.invariant.outer;
       grows =
-          grows_twice (texts c.args.self.now.namespaces.items) (texts before.namespaces.items) (texts after.namespaces.items)
+          grows_twice c.args.self.now.table before.table after.table
           c.loop-i.invariant.grows one.grows;
     }

@@ -1,7 +1,7 @@
 use Rattle.std.proofs.Common.{◌≡◌, ◌++◌, take, drop, map}
 use Rattle.xml_spec.specs.Names.{declarations}
 use Rattle.xml_tokens.specs.Views.{attribute_view}
-use Rattle.saml_tree.specs.Spaces.{texts, scope_of, IsReady, Grows}
+use Rattle.saml_tree.specs.Spaces.{scope_of, IsReady, Grows}
 use Rattle.saml_tree.proofs.spaces.Spaces.declare_all.Given as goal
 
 -- what is left is still to be bound
@@ -11,5 +11,5 @@ invariant-loop-i l = record {
   bound : declarations (map attribute_view (take l.i l.attributes)) ++ scope_of l.self
       ≡ declarations (map attribute_view l.attributes) ++ scope_of l.initial.self;
   outer : drop 1 l.self.scope ≡ drop 1 l.initial.self.scope;
-  grows : Grows (texts l.initial.self.namespaces.items) (texts l.self.namespaces.items);
+  grows : Grows l.initial.self.table l.self.table;
 }

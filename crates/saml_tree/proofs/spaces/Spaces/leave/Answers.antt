@@ -11,7 +11,7 @@ loop-self-preserved c =
     let shorter : length c.pop.new.self ≡ length before.scope - 1 = ap length c.pop.ensures ∙ length-drop 1 before.scope in
     record {
       ready =
-          ready_popped before (record { namespaces = before.namespaces; scope = c.pop.new.self; levels = before.levels - 1 })
+          ready_popped before (record { table = before.table; scope = c.pop.new.self; levels = before.levels - 1 })
           c.loop-self.invariant.ready (omega arith) c.pop.ensures refl refl;
       deep = omega arith;
       scope = drop_more c.args.self.now.scope before.scope c.pop.new.self c.loop-self.invariant.scope c.pop.ensures (omega arith);

@@ -7,7 +7,7 @@ invariant-loop-self l = record {
   ready : IsReady l.self;
   deep : l.depth < length l.self.scope;
   scope : l.self.scope ≡ drop (length l.initial.self.scope - length l.self.scope) l.initial.self.scope;
-  table : l.self.namespaces ≡ l.initial.self.namespaces;
+  table : l.self.table ≡ l.initial.self.table;
 }
 
 abbrev pub decreases-loop-self : goal.decreases-loop-self

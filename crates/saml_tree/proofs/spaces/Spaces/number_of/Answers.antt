@@ -1,11 +1,11 @@
 use Rattle.std.proofs.Common.{ℕ, Option, sym, subst}
 use Rattle.xml_spec.specs.Names.{bound}
-use Rattle.saml_tree.specs.Spaces.{texts, scope_of}
+use Rattle.saml_tree.specs.Spaces.{scope_of}
 use Rattle.saml_tree.proofs.Bindings.{LeadsTo, looked_up}
 use Rattle.saml_tree.proofs.spaces.Spaces.number_of.Goals as goal
 
 pub returns : goal.returns
 returns c =
     let here = c.args.self.now in
-    subst (λ (o : Option ℕ). LeadsTo (texts here.namespaces.items) o (bound (scope_of here) c.args.prefix.now)) (sym c.lookup.ensures)
-    (looked_up (texts here.namespaces.items) c.args.prefix.now here.scope c.requires.numbered)
+    subst (λ (o : Option ℕ). LeadsTo here.table o (bound (scope_of here) c.args.prefix.now)) (sym c.lookup.ensures)
+    (looked_up here.table c.args.prefix.now here.scope c.requires.numbered)

@@ -1,7 +1,7 @@
 use Rattle.std.proofs.Common.{◌≡◌, true, false}
 use Rattle.xml_spec.specs.Characters.{IsName}
 use Rattle.xml_tokens.proofs.AttributeReadings.{no_name}
-use Rattle.xml_tokens.proofs.parts.name.Goals as goal
+use Rattle.xml_tokens.proofs.parts.any_name.Goals as goal
 
 pub returns-else-is_name : goal.returns-else-is_name
 returns-else-is_name c =

@@ -1,0 +1,19 @@
+-- A table of texts, each once, and the numbers that its texts have.
+use Rattle.std.specs.Prelude.{◌≡◌, ℕ, List, [], ◌∷◌, ◌++◌, String, Some, if◌then◌else◌, slice_get}
+use Rattle.std.specs.List.{list_any}
+use Rattle.std.specs.declared.alloc.Global.{Global}
+use Rattle.std.specs.BTreeMap.{BTreeMap, get_by_text}
+use Rattle.std.specs.Str.{bytes_eq}
+
+-- the table with a text, at the end where it was not there before
+abbrev pub added : List (List ℕ) → List ℕ → List (List ℕ)
+added table text = if list_any (λ t. bytes_eq t text) table then table else table ++ text ∷ []
+
+-- the number of each text
+abbrev pub Index : Type 0
+Index = BTreeMap (String Global) ℕ
+
+-- the index has just the table's texts, each with its one place
+pub record IsIndexed (table : List (List ℕ)) (numbers : Index) : Type 0 where
+  pub leads : (text : List ℕ) (n : ℕ) → get_by_text numbers text ≡ Some n → slice_get table n ≡ Some text
+  pub finds : (text : List ℕ) (n : ℕ) → slice_get table n ≡ Some text → get_by_text numbers text ≡ Some n
