@@ -9,7 +9,7 @@ use Rattle.xml_spec.specs.Numbering.{from_node}
 use Rattle.xml_spec.specs.Names.{Binding, declared_prefix, declarations}
 use Rattle.saml_tree.specs.Documents.{attributes_of}
 use Rattle.saml_tree.specs.NodeNames.{attribute_at}
-use Rattle.excl_c14n.specs.Elements.{attributes_in}
+use Rattle.saml_tree.specs.Elements.{attributes_in}
 use Rattle.excl_c14n.specs.Levels.{BindingsView, with_binding, with_bindings, is_among}
 use Rattle.excl_c14n.proofs.Needed.{shown_attribute}
 use Rattle.excl_c14n.proofs.Nesting.{declared_next, passed_next, length-with_bindings}

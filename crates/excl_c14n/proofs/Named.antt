@@ -9,7 +9,7 @@ use Rattle.xml_spec.specs.Names.{Scope, outermost, inner_scope, AreNamed, HasNam
 use Rattle.xml_spec.specs.Canonical.{scope_at}
 use Rattle.saml_tree.specs.Documents.{attributes_of}
 use Rattle.saml_tree.specs.NodeNames.{ShownName, shown_name, name_at, attribute_at}
-use Rattle.excl_c14n.specs.Elements.{name_in}
+use Rattle.saml_tree.specs.Elements.{name_in}
 use Rattle.excl_c14n.specs.Shown.{joined_name, prefix_declared_by}
 use Rattle.excl_c14n.proofs.Parts.{joined_parts, declared_by_parts}
 

@@ -20,7 +20,7 @@ use Rattle.xml_spec.specs.Laws.{IsAscending, times_declared}
 use Rattle.xml_spec.proofs.Declared.{declarations_ascend, declared_as_needed}
 use Rattle.saml_tree.specs.Documents.{attributes_of}
 use Rattle.saml_tree.specs.NodeNames.{attribute_at}
-use Rattle.excl_c14n.specs.Elements.{attributes_in}
+use Rattle.saml_tree.specs.Elements.{attributes_in}
 use Rattle.excl_c14n.specs.Texts.{texts}
 use Rattle.excl_c14n.specs.Levels.{is_among, binding_in, AreListedRendered}
 use Rattle.excl_c14n.specs.NodeByNode.{wanted_prefixes, IsWanted}

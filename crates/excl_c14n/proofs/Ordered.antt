@@ -13,7 +13,7 @@ use Rattle.xml_spec.specs.Names.{Scope, ExpandedName, namespace_of, declared_pre
 use Rattle.xml_spec.specs.Canonical.{byte_order, expanded_order, inserted, sorted, written_attributes}
 use Rattle.saml_tree.specs.Documents.{attributes_of}
 use Rattle.saml_tree.specs.NodeNames.{attribute_at}
-use Rattle.excl_c14n.specs.Elements.{attributes_in}
+use Rattle.saml_tree.specs.Elements.{attributes_in}
 use Rattle.excl_c14n.specs.NodeByNode.{attribute_order_in, number_order, is_proper_number}
 use Rattle.excl_c14n.proofs.Sorting.{map-sorted}
 

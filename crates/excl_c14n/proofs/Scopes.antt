@@ -9,7 +9,7 @@ use Rattle.xml_spec.specs.Canonical.{scope_at}
 use Rattle.saml_tree.specs.Documents.{kind_of}
 use Rattle.saml_tree.specs.declared.node.NodeKind.TheVariants as kinds
 use Rattle.saml_tree.specs.declared.node.NodeNo.{NodeNo}
-use Rattle.excl_c14n.specs.Elements.{attributes_in}
+use Rattle.saml_tree.specs.Elements.{attributes_in}
 
 -- a node that stands in the list itself is in the list's scope
 pub scope_outside : (scope : Scope) (nodes : Nodes) (k : ℕ) → parent_of nodes k ≡ None → scope_at scope nodes k ≡ scope

@@ -9,7 +9,7 @@ use Rattle.xml_spec.specs.Names.{Scope, inner_scope}
 use Rattle.xml_spec.specs.Canonical.{escape_text, print_instruction, print_end}
 use Rattle.saml_tree.specs.Documents.{kind_of, text_of}
 use Rattle.saml_tree.specs.declared.node.NodeKind.TheVariants as kinds
-use Rattle.excl_c14n.specs.Elements.{name_in, attributes_in}
+use Rattle.saml_tree.specs.Elements.{name_in, attributes_in}
 use Rattle.excl_c14n.specs.NodeByNode.{is_skipped, written_in, start_in, nodes_form, node_form}
 use Rattle.excl_c14n.proofs.Walking.{form_from, node_then}
 

@@ -1,4 +1,3 @@
-pub mod Elements
 pub mod Escapes
 pub mod Texts
 pub mod Levels

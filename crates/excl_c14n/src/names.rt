@@ -6,7 +6,7 @@ ghost use Rattle.xml_spec.specs.Numbering.{from_node};
 ghost use Rattle.xml_spec.specs.Names.{HasNames, declared_prefix};
 ghost use Rattle.saml_tree.specs.Documents.{name_of};
 ghost use Rattle.saml_tree.specs.NodeNames.{attribute_at};
-ghost use Rattle.excl_c14n.specs.Elements.{IsElement, name_in};
+ghost use Rattle.saml_tree.specs.Elements.{IsElement, name_in};
 ghost use Rattle.excl_c14n.specs.Shown.{joined_name, prefix_declared_by};
 
 use saml_outside::NoMemory;

@@ -6,7 +6,7 @@ ghost use Rattle.xml_spec.specs.Numbering.{from_node};
 ghost use Rattle.xml_spec.specs.Canonical.{expanded_order, written_attributes};
 ghost use Rattle.xml_spec.specs.Laws.{IsNonDescending};
 ghost use Rattle.saml_tree.specs.NodeNames.{attribute_at};
-ghost use Rattle.excl_c14n.specs.Elements.{IsElement, attributes_in};
+ghost use Rattle.saml_tree.specs.Elements.{IsElement, attributes_in};
 ghost use Rattle.excl_c14n.specs.Levels.{in_force};
 ghost use Rattle.excl_c14n.specs.NodeByNode.{attribute_name_of, namespace_by_prefix};
 ghost use Rattle.excl_c14n.specs.Shown.{expanded_of};

@@ -7,7 +7,7 @@ ghost use Rattle.xml_spec.specs.Numbering.{size, from_node};
 ghost use Rattle.xml_spec.specs.Canonical.{scope_at, escape_text, canonical, print_attribute, print_binding, print_start, print_instruction, print_end, written_attributes};
 ghost use Rattle.saml_tree.specs.Documents.{name_of, text_of};
 ghost use Rattle.saml_tree.specs.NodeNames.{attribute_at};
-ghost use Rattle.excl_c14n.specs.Elements.{IsElement, name_in, attributes_in};
+ghost use Rattle.saml_tree.specs.Elements.{IsElement, name_in, attributes_in};
 ghost use Rattle.excl_c14n.specs.Texts.{texts};
 ghost use Rattle.excl_c14n.specs.Levels.{in_force, with_bindings, binding_in, is_among, AreListedRendered};
 ghost use Rattle.excl_c14n.specs.NodeByNode.{written_in, start_in, is_skipped, node_form};

@@ -5,7 +5,7 @@ ghost use Rattle.xml_spec.specs.Laws.{IsAscending};
 ghost use Rattle.xml_spec.specs.Names.{HasNames};
 ghost use Rattle.xml_spec.specs.Numbering.{from_node};
 ghost use Rattle.xml_spec.specs.Canonical.{byte_order, used_prefixes, is_rendered_anew};
-ghost use Rattle.excl_c14n.specs.Elements.{IsElement, name_in, attributes_in};
+ghost use Rattle.saml_tree.specs.Elements.{IsElement, name_in, attributes_in};
 ghost use Rattle.excl_c14n.specs.Texts.{texts};
 ghost use Rattle.excl_c14n.specs.Levels.{in_force, is_among, AreListedRendered};
 ghost use Rattle.excl_c14n.specs.NodeByNode.{wanted_prefixes, IsWanted};

@@ -1,12 +1,11 @@
 -- What the program keeps while it reads, and what it answers.
-use Rattle.std.proofs.Common.{◌≡◌, ℕ, suc, ◌-◌, Bool, true, false, ◌&&◌, ◌==◌, ◌⊎◌, inl, inr, List, [], ◌∷◌, ◌++◌, length, map, refl, sym, ◌∙◌, ap, subst, arith, length-append}
-use Rattle.std.proofs.lemmas.List.{length-map, length-reverse}
+use Rattle.std.proofs.Common.{◌≡◌, ℕ, suc, ◌-◌, Bool, true, false, ◌&&◌, ◌==◌, ◌⊎◌, inl, inr, List, [], ◌∷◌, ◌++◌, length, refl, sym, ◌∙◌, ap, subst, arith, length-append, append-nil, append_assoc}
+use Rattle.std.proofs.lemmas.List.{length-reverse}
 use Rattle.xml_spec.specs.Characters.{IsText}
 use Rattle.xml_spec.specs.Tree.{Nodes, IsWithinLimits}
 use Rattle.xml_spec.specs.Syntax.{Token, print_token}
 use Rattle.xml_spec.specs.Document.{Spells}
 use Rattle.xml_spec.specs.Laws.{BeginsWith}
-use Rattle.xml_spec.proofs.Tests.{both_true}
 use Rattle.xml_tokens.specs.Markup.{NoTokens}
 use Rattle.xml_tokens.specs.Heads.{HasHead}
 use Rattle.xml_tokens.specs.declared.token.TokenFault.{TokenFault}
@@ -18,40 +17,51 @@ use Rattle.saml_tree.specs.Outlines as outlines
 use Rattle.saml_tree.specs.Outlines.{is_complete}
 use Rattle.saml_tree.specs.Kept.{IsRead}
 use Rattle.saml_tree.specs.Documents.{IsRefused}
-use Rattle.saml_tree.specs.Reads.{fault_of, IsNotKept}
-use Rattle.saml_tree.specs.Views.{row_views, builder_view, outline_view}
+use Rattle.saml_tree.specs.Reads.{fault_of, IsNotKept, IsFaultBeyond}
+use Rattle.saml_tree.specs.Views.{row_views, builder_view}
 use Rattle.saml_tree.specs.declared.build.Builder.{Builder}
-use Rattle.saml_tree.specs.declared.outline.Outline.{Outline}
 use Rattle.saml_tree.specs.declared.node.TreeFault.{TreeFault}
 use Rattle.saml_tree.specs.declared.node.TreeFault.TheVariants as faults
 use Rattle.saml_tree.proofs.Bounds.{small_is_within}
 use Rattle.saml_tree.proofs.Completing.{run_append}
 use Rattle.saml_tree.proofs.Counting.{are_small, step_grows}
+use Rattle.saml_tree.proofs.ReadingOn.{spells_nothing, progress_on}
 use Rattle.saml_tree.proofs.Reading.{start, after, Progress, whole_shaped, read_whole}
 
--- the builder has all rows, as long as they are within the limits
-pub record Follows (within : Bool) (builder : Builder) (s : State) : Type 0 where
-  pub small : are_small s.rows ≡ within
-  pub view : within ≡ true → builder_view builder ≡ s
+-- the builder has all rows, and they are within the limits
+pub record Follows (builder : Builder) (s : State) : Type 0 where
+  pub small : are_small s.rows ≡ true
+  pub view : builder_view builder ≡ s
+
+-- whether the rows are within the limits, one more token read
+pub more_small : (text rest : List ℕ) (ts : List Token) (t : Token) (small : Bool) → are_small (after text rest ts).rows ≡ true →
+    is_small_token (length (after text rest ts).open_elements) t ≡ small → are_small (after text rest (ts ++ t ∷ [])).rows ≡ small
+more_small text rest ts t small f e =
+    ap (λ (s : State). are_small s.rows) (run_append ts (t ∷ []) (first_state (start text rest)))
+    ∙ (step_grows (after text rest ts) t).small ∙ (λ i. f i && e i)
+
+-- once they are not, they stay so
+pub never_small : (text rest : List ℕ) (us ts : List Token) → are_small (after text rest ts).rows ≡ false →
+    are_small (after text rest (ts ++ us)).rows ≡ false
+never_small text rest [] ts f = ap (λ zs. are_small (after text rest zs).rows) (append-nil ts) ∙ f
+never_small text rest (u ∷ us) ts f =
+    ap (λ zs. are_small (after text rest zs).rows) (sym (append_assoc ts (u ∷ []) us))
+    ∙ never_small text rest us (ts ++ u ∷ [])
+    (ap (λ (s : State). are_small s.rows) (run_append ts (u ∷ []) (first_state (start text rest)))
+    ∙ (step_grows (after text rest ts) u).small ∙ ap (λ b. b && is_small_token (length (after text rest ts).open_elements) u) f)
 
 -- one more token
-pub more_follows : (text rest : List ℕ) (ts : List Token) (t : Token) (within small : Bool) (before behind : Builder) →
-    Follows within before (after text rest ts) → is_small_token (length (after text rest ts).open_elements) t ≡ small →
-    ((within && small) ≡ true → step (builder_view before) t ≡ builder_view behind) →
-    Follows (within && small) behind (after text rest (ts ++ t ∷ []))
-more_follows text rest ts t within small before behind f e h =
-    let s = after text rest ts in
-    subst (Follows (within && small) behind) (sym (run_append ts (t ∷ []) (first_state (start text rest)))) (record {
-      small = (step_grows s t).small ∙ (λ i. f.small i && e i);
-      view = λ w. sym (h w) ∙ ap (λ z. step z t) (f.view (both_true within small w).0);
-    })
+pub more_follows : (text rest : List ℕ) (ts : List Token) (t : Token) (before behind : Builder) →
+    Follows before (after text rest ts) → is_small_token (length (after text rest ts).open_elements) t ≡ true →
+    step (builder_view before) t ≡ builder_view behind → Follows behind (after text rest (ts ++ t ∷ []))
+more_follows text rest ts t before behind f e h = record {
+  small = more_small text rest ts t true f.small e;
+  view = sym h ∙ ap (λ z. step z t) f.view ∙ sym (run_append ts (t ∷ []) (first_state (start text rest)));
+}
 
 -- how many elements are open
 pub builder_depth : (b : Builder) (s : State) → builder_view b ≡ s → length b.open_elements.items ≡ length s.open_elements
 builder_depth b s e = sym (length-reverse b.open_elements.items) ∙ ap (λ (z : State). length z.open_elements) e
-
-pub outline_depth : (o : Outline) → length (outline_view o).names ≡ length o.names.items
-outline_depth o = length-reverse (map (λ name. name.now) o.names.items) ∙ length-map o.names.items (λ name. name.now)
 
 -- how long a token is that stands in front of the rest
 pub token_length : (rest behind : List ℕ) (t : Token) → BeginsWith rest t behind → length rest - length behind ≡ length (print_token t)
@@ -76,33 +86,43 @@ pub out_of_memory : (text : List ℕ) (e : TreeFault) → e ≡ faults.NoMemory 
 out_of_memory text e memory = subst (IsNotKept text) (sym memory) tt
 
 -- all was read
-module _ (text rest left : List ℕ) (ts : List Token) (o : outlines.Outline) (within : Bool) (builder : Builder)
-    (p : Progress text rest left ts o) (f : Follows within builder (after text rest ts))
+module _ (text rest left : List ℕ) (ts : List Token) (o : outlines.Outline) (p : Progress text rest left ts o)
     (ended : left ≡ []) (complete : is_complete o ≡ true) where
   whole : Progress text rest [] ts o
   whole = subst (λ z. Progress text rest z ts o) ended p
 
-  same_rows : within ≡ true → (after text rest ts).rows ≡ row_views builder.rows.items
-  same_rows w = ap (λ (s : State). s.rows) (sym (f.view w))
+  pub rows_read : (builder : Builder) → Follows builder (after text rest ts) → HasHead text rest → IsText text →
+      IsRead text (row_views builder.rows.items)
+  rows_read builder f head characters =
+      subst (IsRead text) (ap (λ (s : State). s.rows) (sym f.view)) (read_whole text rest ts o head whole complete characters)
 
-  pub rows_read : HasHead text rest → within ≡ true → IsText text → IsRead text (row_views builder.rows.items)
-  rows_read head w characters = subst (IsRead text) (same_rows w) (read_whole text rest ts o head whole complete characters)
+  pub rows_within : (builder : Builder) → Follows builder (after text rest ts) → IsWithinLimits (nodes_at 0 (row_views builder.rows.items))
+  rows_within builder f =
+      subst (λ rows. IsWithinLimits (nodes_at 0 rows)) (ap (λ (s : State). s.rows) (sym f.view))
+      ((small_is_within (after text rest ts).rows (whole_shaped text rest ts o whole complete)).0 f.small)
 
-  pub rows_within : within ≡ true → IsWithinLimits (nodes_at 0 (row_views builder.rows.items))
-  rows_within w =
-      subst (λ rows. IsWithinLimits (nodes_at 0 rows)) (same_rows w)
-      ((small_is_within (after text rest ts).rows (whole_shaped text rest ts o whole complete)).0 (f.small ∙ w))
-
-  pub rows_beyond : HasHead text rest → within ≡ false → IsNotKept text faults.XmlLimit
-  rows_beyond head w characters = (
+  pub rows_beyond : are_small (after text rest ts).rows ≡ false → HasHead text rest → IsNotKept text faults.XmlLimit
+  rows_beyond beyond head characters = (
     (after text rest ts).rows,
     read_whole text rest ts o head whole complete characters,
     λ limits.
         let small : are_small (after text rest ts).rows ≡ true =
         (small_is_within (after text rest ts).rows (whole_shaped text rest ts o whole complete)).1 limits in
-        let clash : false ≡ true = sym w ∙ sym f.small ∙ small in
+        let clash : false ≡ true = sym beyond ∙ small in
         cc,
   )
+
+-- the fault of the rest of a text, behind a token that went beyond the limits, is that of the text
+pub not_kept : (text rest now : List ℕ) (ts : List Token) (o : outlines.Outline) (e : TreeFault) → HasHead text rest → Progress text rest now ts o →
+    are_small (after text rest ts).rows ≡ false → IsFaultBeyond o now e → IsNotKept text e
+not_kept text rest now ts o faults.BadXml head p beyond none = spells_nothing text rest now ts o head p none
+not_kept text rest now ts o faults.XmlLimit head p beyond found =
+    let us = found.0 in
+    rows_beyond text rest [] (ts ++ us) found.1 (progress_on text rest us now ts o found.1 p found.2 found.3) refl found.4
+    (never_small text rest us ts beyond) head
+not_kept text rest now ts o faults.BadNames head p beyond h = absurd h
+not_kept text rest now ts o faults.DuplicateId head p beyond h = absurd h
+not_kept text rest now ts o faults.NoMemory head p beyond h = tt
 
 -- a text that is not kept is refused
 pub refused_of : (text : List ℕ) (e : TreeFault) → IsText text → IsNotKept text e → IsRefused text e

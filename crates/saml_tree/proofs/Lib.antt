@@ -3,6 +3,8 @@ pub mod Completing
 pub mod Outlines
 pub mod Roots
 pub mod Reading
+pub mod ReadingOn
+pub mod NamePlaces
 pub mod Following
 pub mod Building
 pub mod Counting

@@ -23,12 +23,12 @@ use Rattle.saml_tree.proofs.Counting.{count, step_grows, token_some, step_level}
 use Rattle.saml_tree.proofs.Roots.{root_nodes, have_ranges, root_shaped}
 
 -- one more token is read
-reads_more : (ts : List Token) (text middle rest : List ℕ) (t : Token) → Reads text ts middle → BeginsWith middle t rest →
+pub reads_more : (ts : List Token) (text middle rest : List ℕ) (t : Token) → Reads text ts middle → BeginsWith middle t rest →
     Reads text (ts ++ t ∷ []) rest
 reads_more [] text middle rest t e b = (rest, subst (λ z. BeginsWith z t rest) (sym e) b, refl)
 reads_more (u ∷ ts) text middle rest t r b = (r.0, r.1, reads_more ts r.0 middle rest t r.2 b)
 
-reads_printed : (ts : List Token) (text rest : List ℕ) → Reads text ts rest → text ≡ print_tokens ts ++ rest
+pub reads_printed : (ts : List Token) (text rest : List ℕ) → Reads text ts rest → text ≡ print_tokens ts ++ rest
 reads_printed [] text rest e = e
 reads_printed (t ∷ ts) text rest r =
     (r.1).printed ∙ ap (λ z. print_token t ++ z) (reads_printed ts r.0 rest r.2)
@@ -69,13 +69,13 @@ reads_valid [] text rest r = tt
 reads_valid (t ∷ ts) text rest r = ((r.1).valid, reads_valid ts r.0 rest r.2)
 
 -- what a text that was read in part is written as goes through what was read
-record GoesOn (ts us : List Token) (rest : List ℕ) : Type 0 where
-  later : List Token
-  joined : us ≡ ts ++ later
-  valid : AreTokens later
-  printed : rest ≡ print_tokens later
+pub record GoesOn (ts us : List Token) (rest : List ℕ) : Type 0 where
+  pub later : List Token
+  pub joined : us ≡ ts ++ later
+  pub valid : AreTokens later
+  pub printed : rest ≡ print_tokens later
 
-first_of : (t : Token) (text middle : List ℕ) (us : List Token) → BeginsWith text t middle → AreTokens us → text ≡ print_tokens us →
+pub first_of : (t : Token) (text middle : List ℕ) (us : List Token) → BeginsWith text t middle → AreTokens us → text ≡ print_tokens us →
     (vs : List Token) × (us ≡ t ∷ vs) × AreTokens vs × (middle ≡ print_tokens vs)
 first_of t text middle [] b v e = absurd (token_is_not_empty t middle b.valid (sym b.printed ∙ e))
 first_of t text middle (u ∷ us) b v e =
@@ -86,7 +86,7 @@ first_of t text middle (u ∷ us) b v e =
       same.behind,
     )
 
-reads_go_on : (ts us : List Token) (text rest : List ℕ) → Reads text ts rest → AreTokens us → text ≡ print_tokens us → GoesOn ts us rest
+pub reads_go_on : (ts us : List Token) (text rest : List ℕ) → Reads text ts rest → AreTokens us → text ≡ print_tokens us → GoesOn ts us rest
 reads_go_on [] us text rest r v e = record { later = us; joined = refl; valid = v; printed = sym r ∙ e }
 reads_go_on (t ∷ ts) us text rest r v e =
     let first = first_of t text r.0 us r.1 v e in
@@ -94,13 +94,13 @@ reads_go_on (t ∷ ts) us text rest r v e =
     record { later = onward.later; joined = first.1 ∙ ap (λ z. t ∷ z) onward.joined; valid = onward.valid; printed = onward.printed }
 
 -- what a text spells: tokens that are read to their end
-record IsWritten (rest : List ℕ) : Type 0 where
-  tokens : List Token
-  valid : AreTokens tokens
-  printed : rest ≡ print_tokens tokens
-  complete : outline_of first_outline tokens ≡ Some (outline [] true)
+pub record IsWritten (rest : List ℕ) : Type 0 where
+  pub tokens : List Token
+  pub valid : AreTokens tokens
+  pub printed : rest ≡ print_tokens tokens
+  pub complete : outline_of first_outline tokens ≡ Some (outline [] true)
 
-written_of : (text rest : List ℕ) (tree : Nodes) → HasHead text rest → Spells text tree → IsWritten rest
+pub written_of : (text rest : List ℕ) (tree : Nodes) → HasHead text rest → Spells text tree → IsWritten rest
 written_of text rest tree head s =
     let d = s.document in
     record {
@@ -110,7 +110,7 @@ written_of text rest tree head s =
       complete = document_outline d.content s.writes.valid.shape;
     }
 
-none_some : {X : Type 0} (x : X) → None ≡ Some x → ⊥
+pub none_some : {X : Type 0} (x : X) → None ≡ Some x → ⊥
 none_some x e = cc
 
 -- where the first tokens begin
@@ -190,11 +190,11 @@ no_tokens text rest now ts o head p none tree spelled =
     let onward = reads_go_on ts w.tokens rest now p.reads w.valid w.printed in
     none onward.later onward.valid onward.printed
 
-nothing_left : (vs : List Token) → AreTokens vs → [] ≡ print_tokens vs → vs ≡ []
+pub nothing_left : (vs : List Token) → AreTokens vs → [] ≡ print_tokens vs → vs ≡ []
 nothing_left [] v e = refl
 nothing_left (u ∷ vs) v e = absurd (token_is_not_empty u (print_tokens vs) v.each.0 (sym e))
 
-nothing : {X : Type 0} (xs : List X) → xs ++ [] ≡ xs
+pub nothing : {X : Type 0} (xs : List X) → xs ++ [] ≡ xs
 nothing [] = refl
 nothing (x ∷ xs) = ap (λ z. x ∷ z) (nothing xs)
 

@@ -13,3 +13,5 @@ pub mod Spaces
 pub mod Resolved
 pub mod Tables
 pub mod AsciiTexts
+pub mod Elements
+pub mod NamePlaces

@@ -1,12 +1,13 @@
 -- Tokens read one after the other, and what reading them answers.
-use Rattle.std.specs.Prelude.{◌≡◌, ℕ, List, [], ◌∷◌}
+use Rattle.std.specs.Prelude.{◌≡◌, ℕ, List, [], ◌∷◌, true, Some, IsTrue}
 use Rattle.xml_spec.specs.Characters.{IsText}
 use Rattle.xml_spec.specs.Tree.{Nodes, IsWithinLimits}
-use Rattle.xml_spec.specs.Syntax.{Token}
+use Rattle.xml_spec.specs.Syntax.{Token, AreTokens, print_tokens}
 use Rattle.xml_spec.specs.Document.{Spells}
 use Rattle.xml_spec.specs.Laws.{BeginsWith}
 use Rattle.xml_tokens.specs.declared.token.TokenFault.{TokenFault}
 use Rattle.xml_tokens.specs.declared.token.TokenFault.TheVariants as tokens
+use Rattle.saml_tree.specs.Outlines.{Outline, outline_of, is_complete}
 use Rattle.saml_tree.specs.Rows.{Row, nodes_at}
 use Rattle.saml_tree.specs.Kept.{IsRead}
 use Rattle.saml_tree.specs.declared.node.TreeFault.{TreeFault}
@@ -29,3 +30,17 @@ IsNotKept text faults.XmlLimit = IsText text → (rows : List Row) × IsRead tex
 IsNotKept text faults.BadNames = ⊥
 IsNotKept text faults.DuplicateId = ⊥
 IsNotKept text faults.NoMemory = Unit {0}
+
+-- no valid tokens that are written so make the outline one of a whole document
+abbrev pub NoneComplete : Outline → List ℕ → Type 0
+NoneComplete o rest = (tokens : List Token) → AreTokens tokens → rest ≡ print_tokens tokens →
+    ¬ (outline_of o tokens ≡ Some (record { names = []; begun = true }))
+
+-- what a fault says of the rest of a text, behind a token that went beyond the limits and made this outline
+abbrev pub IsFaultBeyond : Outline → List ℕ → TreeFault → Type 0
+IsFaultBeyond o rest faults.BadXml = NoneComplete o rest
+IsFaultBeyond o rest faults.XmlLimit = (tokens : List Token) × (last : Outline) × Reads rest tokens []
+    × (outline_of o tokens ≡ Some last) × IsTrue (is_complete last)
+IsFaultBeyond o rest faults.BadNames = ⊥
+IsFaultBeyond o rest faults.DuplicateId = ⊥
+IsFaultBeyond o rest faults.NoMemory = Unit {0}

@@ -34,7 +34,7 @@ builder_view b = record {
 }
 
 abbrev pub outline_view : Outline → outlines.Outline
-outline_view o = record { names = reverse (map (λ name. name.now) o.names.items); begun = o.begun }
+outline_view o = record { names = reverse o.names.names; begun = o.begun }
 
 abbrev pub name_view : Name → ShownName
 name_view name = record { prefix = name.prefix.now; local = name.local.now; namespace = name.namespace.now }

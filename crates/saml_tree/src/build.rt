@@ -1,6 +1,6 @@
 // What is made of a document's tokens: rows, one token after the other.
 
-ghost use Rattle.std.specs.Prelude.{◌≡◌, ◌<◌, ◌+◌, ◌^◌, ◌++◌, [], length, string_bytes, vec_len, map, IfOk, IfErr, OnOk, IsTrue};
+ghost use Rattle.std.specs.Prelude.{◌≡◌, ◌<◌, ◌+◌, ◌^◌, ◌++◌, [], length, string_bytes, vec_len, map, IfOk, IfErr, OnOk};
 ghost use Rattle.std.specs.Char.{encode_utf8};
 ghost use Rattle.xml_spec.specs.Syntax.{Token, print_token};
 ghost use Rattle.xml_spec.specs.Meaning.{line_ends};
@@ -218,27 +218,6 @@ impl<'a> Builder<'a> {
             }
             Markup::Start { name, attributes } => self.open(alloc, name, attributes, len),
             Markup::End { .. } => self.close(alloc, len),
-        }
-    }
-
-    /// Adds a token of this many bytes to a document that is within the limits. Of others no more rows are kept.
-    pub(crate) fn take_if(
-        &mut self,
-        within: bool,
-        alloc: Global,
-        markup: Markup<'a>,
-        len: usize,
-    ) -> Result<(), TreeFault>
-        requires fits { IsTrue within → self.old.place + len < 2 ^ 64 }
-        requires few { IsTrue within → vec_len self.old.open_elements < 2 ^ 32 }
-        ensures ok { OnOk result (IsTrue within → (token : Token) → Shows token markup.entry → len ≡ length (print_token token) →
-            step (builder_view self.old) token ≡ builder_view self.new) }
-        ensures err { IfErr result (λ e. e ≡ TreeFault.NoMemory) }
-    {
-        if within {
-            self.take(alloc, markup, len)
-        } else {
-            Ok(())
         }
     }
 }

@@ -1,6 +1,7 @@
 //! Documents: the tree that bytes spell, read in one pass and addressed by node numbers.
 #![tactic(auto)]
 
+mod beyond;
 mod build;
 mod doc;
 mod ids;
@@ -8,6 +9,7 @@ mod limits;
 mod links;
 mod names;
 mod node;
+mod open_names;
 mod outline;
 mod qualified;
 mod read;

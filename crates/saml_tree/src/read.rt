@@ -10,6 +10,7 @@ ghost use Rattle.saml_tree.specs.Documents.{IsSpelled, IsRefused};
 ghost use Rattle.saml_tree.specs.Reads.{IsNotKept};
 ghost use Rattle.saml_tree.specs.Views.{row_views};
 
+use crate::beyond::fault_beyond;
 use crate::build::Builder;
 use crate::doc::Doc;
 use crate::ids::index_of;
@@ -50,22 +51,21 @@ pub(crate) fn read_rows<'a>(
     ensures few { IfOk result (λ rows. vec_len rows ≤ length text.now) }
     ensures err { IfErr result (λ fault. IsNotKept text.now fault) }
 {
-    let mut outline = Outline::new(alloc);
+    let mut outline = Outline::new(alloc, rest);
     let mut builder = Builder::new(alloc, text.len() - rest.len());
     let mut left = rest;
-    let mut within = true;
     'tokens: while !left.is_empty() {
         let (markup, behind) = next_token(alloc, left)?;
-        within &= is_small(&markup, outline.depth());
-        outline.take(&markup)?;
-        builder.take_if(within, alloc, markup, left.len() - behind.len())?;
+        let small = is_small(&markup, outline.depth());
+        outline.take(&markup, left)?;
+        if !small {
+            return Err(fault_beyond(alloc, outline, behind));
+        }
+        builder.take(alloc, markup, left.len() - behind.len())?;
         left = behind;
     }
     if !outline.is_complete() {
         return Err(TreeFault::BadXml);
-    }
-    if !within {
-        return Err(TreeFault::XmlLimit);
     }
     Ok(builder.rows)
 }

@@ -22,13 +22,22 @@ pub(crate) fn text_of(bytes: &[u8]) -> Option<&str>
     if are_chars(text) { Some(text) } else { None }
 }
 
-// Whether each byte is ASCII, and a character that XML allows.
+// Whether the byte is ASCII, and a character that XML allows.
+fn is_ascii_char(byte: u8) -> bool
+    ensures { result ≡ is_ascii_char byte }
+{
+    matches!(byte, b'\t' | b'\n' | b'\r' | b' '..=0x7F)
+}
+
+// Whether each byte is ASCII, and a character that XML allows. All are looked at, so that many are at once.
 fn are_ascii_chars(bytes: &[u8]) -> bool
     ensures { result ≡ list_all is_ascii_char bytes.now }
 {
-    bytes
-        .iter()
-        .all(|b| matches!(*b, b'\t' | b'\n' | b'\r' | b' '..=0x7F))
+    let mut all = true;
+    for byte in bytes {
+        all &= is_ascii_char(*byte);
+    }
+    all
 }
 
 // Whether XML allows each character.

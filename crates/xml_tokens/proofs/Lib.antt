@@ -1,4 +1,5 @@
 pub mod AttributeReadings
+mod BareTags
 pub mod Boundaries
 pub mod Documents
 pub mod Faults

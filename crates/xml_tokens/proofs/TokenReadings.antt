@@ -53,7 +53,7 @@ open_kind (b ∷ rest) h =
 empty_parts : (tag : Tag) (x : List ℕ) → print_token (Alone (EmptyTag tag)) ++ x ≡ less_than ∷ (print_tag tag ++ (codes "/>" ++ x))
 empty_parts tag x = ap (λ z. less_than ∷ z) (append_assoc (print_tag tag) (codes "/>") x)
 
-start_parts : (tag : Tag) (x : List ℕ) → print_token (StartTag tag) ++ x ≡ less_than ∷ (print_tag tag ++ (greater_than ∷ x))
+pub start_parts : (tag : Tag) (x : List ℕ) → print_token (StartTag tag) ++ x ≡ less_than ∷ (print_tag tag ++ (greater_than ∷ x))
 start_parts tag x = ap (λ z. less_than ∷ z) (append_assoc (print_tag tag) (greater_than ∷ []) x)
 
 end_parts : (name space x : List ℕ) → print_token (EndTag name space) ++ x ≡ codes "</" ++ (name ++ (space ++ (greater_than ∷ x)))

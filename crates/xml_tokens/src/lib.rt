@@ -17,4 +17,5 @@ mod values;
 pub use head::behind_head;
 pub use lex::next_token;
 pub use lines::put_line_ends;
+pub use tags::bare_start;
 pub use token::{Attribute, Markup, TokenFault};

@@ -29,7 +29,8 @@ fn is_name_char_byte(byte: u8) -> bool
     ensures ascii { IsTrue result → byte < 128 }
     ensures stands { byte < 128 → result ≡ is_name_char byte }
 {
-    is_name_start_byte(byte) || matches!(byte, b'0'..=b'9' | b'-' | b'.')
+    // the sign behind most names is told first
+    byte != b'>' && (is_name_start_byte(byte) || matches!(byte, b'0'..=b'9' | b'-' | b'.'))
 }
 
 /// How many of the first bytes are ASCII and may stand in a name.

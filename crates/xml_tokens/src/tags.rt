@@ -9,6 +9,7 @@ ghost use Rattle.xml_spec.specs.Syntax.{is_white, Token};
 ghost use Rattle.xml_spec.specs.Laws.{BeginsWith};
 ghost use Rattle.xml_tokens.specs.Views.{attribute_view, Shows};
 ghost use Rattle.xml_tokens.specs.Lexing.{is_name_byte, BeginsTag, NameAt, AttributesAt, EndAt, NoAttributes, NoEnd, NoToken, IsFaultFor};
+ghost use Rattle.xml_tokens.specs.Markup.{bare_tag, NoBareStart};
 
 use crate::class::{Class, begins_name, split_run};
 use crate::marks::strip_byte;
@@ -125,6 +126,17 @@ pub(crate) fn open_tag<'a>(
     }
     let (token, behind) = named_tag(alloc, name, given)?;
     Ok((token, behind))
+}
+
+/// The start tag at the front of a text that holds a name alone, without attributes and white space: its name, and what
+/// follows the tag.
+pub fn bare_start<'a>(rest: &'a str) -> Option<(&'a str, &'a str)>
+    ensures { MatchOption result (NoBareStart rest.now) (λ found. BeginsWith rest.now (bare_tag found.0.now) found.1.now) }
+{
+    let tag = strip_byte(rest, b'<')?;
+    let (name, close) = name(tag)?;
+    let behind = strip_byte(close, b'>')?;
+    Some((name, behind))
 }
 
 /// The name of the end tag behind `</`, and what follows it.

@@ -3,7 +3,7 @@ use Rattle.std.specs.Option.{is_some}
 use Rattle.std.proofs.lemmas.Bool.{and_left, and_right}
 use Rattle.xml_spec.specs.Bytes.{is_empty}
 use Rattle.xml_spec.specs.Numbering.{from_node}
-use Rattle.excl_c14n.specs.Elements.{name_in}
+use Rattle.saml_tree.specs.Elements.{name_in}
 use Rattle.excl_c14n.specs.Texts.{texts}
 use Rattle.excl_c14n.specs.Levels.{in_force}
 use Rattle.excl_c14n.proofs.Needed.{empty_by_length, attribute_wanted, attribute_passed}

@@ -1,7 +1,7 @@
 use Rattle.std.proofs.Common.{take}
 use Rattle.xml_spec.specs.Numbering.{from_node}
 use Rattle.xml_spec.specs.Canonical.{used_prefixes}
-use Rattle.excl_c14n.specs.Elements.{name_in, attributes_in}
+use Rattle.saml_tree.specs.Elements.{name_in, attributes_in}
 use Rattle.excl_c14n.specs.Texts.{texts}
 use Rattle.excl_c14n.specs.Levels.{in_force}
 use Rattle.excl_c14n.specs.NodeByNode.{IsWanted}

@@ -1,11 +1,34 @@
-use Rattle.std.proofs.Common.{rules, ◌≡◌, ◌∷◌, ◌++◌, [], length, sym, ◌∙◌, ap, subst, arith}
+use Rattle.std.proofs.Common.{rules, ◌≡◌, false, ◌∷◌, ◌++◌, [], length, sym, ◌∙◌, ap, subst, arith}
 use Rattle.std.proofs.lemmas.Result.{err_from_is_err_and}
-use Rattle.xml_spec.proofs.Tests.{both_true}
 use Rattle.saml_tree.specs.RowTests.{is_small_token}
 use Rattle.saml_tree.specs.Views.{outline_view}
-use Rattle.saml_tree.proofs.Reading.{after, Progress, more_progress, no_place, no_tokens, not_complete}
-use Rattle.saml_tree.proofs.Following.{more_follows, builder_depth, outline_depth, token_length, empty_list, no_token, not_taken, rows_read, rows_within, rows_beyond}
+use Rattle.xml_spec.specs.Syntax.{print_tokens}
+use Rattle.saml_tree.proofs.Reading.{after, Progress, reads_more, reads_printed, more_progress, no_place, no_tokens, not_complete}
+use Rattle.saml_tree.proofs.Following.{more_small, more_follows, builder_depth, token_length, empty_list, no_token, not_taken, rows_read, rows_within, not_kept}
 use Rattle.saml_tree.proofs.read.read_rows.Goals as goal
+
+pub take-requires-clause-tail : goal.take-requires-clause-tail
+take-requires-clause-tail c =
+    let read = c.tokens.invariant.read in
+    (print_tokens read.0, c.tokens.invariant.outline ∙ reads_printed read.0 c.args.rest.now c.tokens.left.now read.1.reads)
+
+pub take-requires-clause-token : goal.take-requires-clause-token
+take-requires-clause-token c =
+    let found = c.in_ok-markup.ensures.read in
+    (found.0, found.1, c.in_ok-markup.behind.now, found.2.printed)
+
+pub fault_beyond-requires : goal.fault_beyond-requires
+fault_beyond-requires c =
+    let read = c.tokens.invariant.read in
+    let found = c.in_ok-markup.ensures.read in
+    record {
+      tail = (
+        print_tokens (read.0 ++ found.0 ∷ []),
+        c.take.ensures.text ∙ c.tokens.invariant.outline
+            ∙ reads_printed (read.0 ++ found.0 ∷ []) c.args.rest.now c.in_ok-markup.behind.now
+            (reads_more read.0 c.args.rest.now c.tokens.left.now c.in_ok-markup.behind.now found.0 read.1.reads found.2),
+      );
+    }
 
 pub returns-in_err-markup-clause-err : goal.returns-in_err-markup-clause-err
 returns-in_err-markup-clause-err c =
@@ -25,15 +48,30 @@ returns-in_err-take-clause-err c =
     (λ none. no_place c.args.text.now c.args.rest.now left c.in_ok-markup.behind.now read.0 (outline_view c.tokens.outline) found.0
     c.requires.head read.1 found.2 (none found.0 found.1)))
 
-pub take_if-requires-clause-few : goal.take_if-requires-clause-few
-take_if-requires-clause-few c = λ w.
+pub returns-then-not-small-clause-err : goal.returns-then-not-small-clause-err
+returns-then-not-small-clause-err c =
+    let text = c.args.text.now in
+    let rest = c.args.rest.now in
+    let read = c.tokens.invariant.read in
+    let ts = read.0 in
+    let behind = c.in_ok-markup.behind.now in
+    let found = c.in_ok-markup.ensures.read in
+    let depth : length (after text rest ts).open_elements ≡ c.depth.result = sym read.1.level ∙ sym c.depth.ensures in
+    let beyond = more_small text rest ts found.0 false read.2.small
+    (ap (λ d. is_small_token d found.0) depth ∙ c.is_small-small.ensures found.0 found.1 ∙ c.if-not-small.true) in
+    not_kept text rest behind (ts ++ found.0 ∷ []) (outline_view c.take.new.self) c.fault_beyond.result c.requires.head
+    (more_progress text rest c.tokens.left.now behind ts (outline_view c.tokens.outline) (outline_view c.take.new.self) found.0
+    read.1 found.2 (c.in_ok-take.ensures.ok found.0 found.1)) beyond c.fault_beyond.ensures
+
+pub take-requires-in-tokens-clause-few : goal.take-requires-in-tokens-clause-few
+take-requires-in-tokens-clause-few c =
     let read = c.tokens.invariant.read in
     let progress = read.1 in
     let stack = progress.stack in
     let place = progress.place in
     let builder = c.tokens.builder in
     let small = c.requires.small in
-    let depth = builder_depth builder (after c.args.text.now c.args.rest.now read.0) (read.2.view (both_true c.tokens.within c.is_small-within.result w).0) in
+    let depth = builder_depth builder (after c.args.text.now c.args.rest.now read.0) read.2.view in
     omega (arith, builder.open_elements.ok.0)
 
 pub tokens-preserved : goal.tokens-preserved
@@ -42,20 +80,18 @@ tokens-preserved c =
     let left = c.tokens.left.now in
     let behind = c.in_ok-markup.behind.now in
     let found = c.in_ok-markup.ensures.read in
-    let progress = read.1 in
-    let level = progress.level in
-    let names = c.tokens.outline.names in
     let depth : length (after c.args.text.now c.args.rest.now read.0).open_elements ≡ c.depth.result =
-    omega (arith, outline_depth c.tokens.outline, c.depth.ensures, names.ok.0) in
+    sym read.1.level ∙ sym c.depth.ensures in
     record {
       utf8 = search rules;
+      outline = c.take.ensures.text ∙ c.tokens.invariant.outline;
       read = (
         read.0 ++ found.0 ∷ [],
         more_progress c.args.text.now c.args.rest.now left behind read.0 (outline_view c.tokens.outline) (outline_view c.take.new.self) found.0
             read.1 found.2 (c.in_ok-take.ensures.ok found.0 found.1),
-        more_follows c.args.text.now c.args.rest.now read.0 found.0 c.tokens.within c.is_small-within.result c.tokens.builder c.take_if.new.self
-            read.2 (ap (λ d. is_small_token d found.0) depth ∙ c.is_small-within.ensures found.0 found.1)
-            (λ w. c.in_ok-take_if.ensures.ok w found.0 found.1 (token_length left behind found.0 found.2)),
+        more_follows c.args.text.now c.args.rest.now read.0 found.0 c.tokens.builder c.take-in-tokens.new.self
+            read.2 (ap (λ d. is_small_token d found.0) depth ∙ c.is_small-small.ensures found.0 found.1 ∙ c.if-not-small.false)
+            (c.in_ok-take-2.ensures.ok found.0 found.1 (token_length left behind found.0 found.2)),
       );
     }
 
@@ -67,23 +103,16 @@ returns-then-not-is_complete-clause-err c =
     (subst (λ z. Progress c.args.text.now c.args.rest.now z read.0 (outline_view c.tokens.outline)) ended read.1)
     (sym c.is_complete.ensures ∙ c.if-not-is_complete.true)
 
-pub returns-then-not-within-clause-err : goal.returns-then-not-within-clause-err
-returns-then-not-within-clause-err c =
-    let read = c.tokens.invariant.read in
-    let ended : c.tokens.left.now ≡ [] = empty_list c.tokens.left.now (sym c.is_empty.ensures ∙ c.tokens-test.false) in
-    rows_beyond c.args.text.now c.args.rest.now c.tokens.left.now read.0 (outline_view c.tokens.outline) c.tokens.within c.tokens.builder read.1 read.2
-    ended (sym c.is_complete.ensures ∙ c.if-not-is_complete.false) c.requires.head c.if-not-within.true
-
 pub returns-clause-ok : goal.returns-clause-ok
 returns-clause-ok c =
     let read = c.tokens.invariant.read in
     let ended : c.tokens.left.now ≡ [] = empty_list c.tokens.left.now (sym c.is_empty.ensures ∙ c.tokens-test.false) in
-    rows_read c.args.text.now c.args.rest.now c.tokens.left.now read.0 (outline_view c.tokens.outline) c.tokens.within c.tokens.builder read.1 read.2
-    ended (sym c.is_complete.ensures ∙ c.if-not-is_complete.false) c.requires.head c.if-not-within.false
+    rows_read c.args.text.now c.args.rest.now c.tokens.left.now read.0 (outline_view c.tokens.outline) read.1 ended
+    (sym c.is_complete.ensures ∙ c.if-not-is_complete.false) c.tokens.builder read.2 c.requires.head
 
 pub returns-clause-limits : goal.returns-clause-limits
 returns-clause-limits c =
     let read = c.tokens.invariant.read in
     let ended : c.tokens.left.now ≡ [] = empty_list c.tokens.left.now (sym c.is_empty.ensures ∙ c.tokens-test.false) in
-    rows_within c.args.text.now c.args.rest.now c.tokens.left.now read.0 (outline_view c.tokens.outline) c.tokens.within c.tokens.builder read.1 read.2
-    ended (sym c.is_complete.ensures ∙ c.if-not-is_complete.false) c.if-not-within.false
+    rows_within c.args.text.now c.args.rest.now c.tokens.left.now read.0 (outline_view c.tokens.outline) read.1 ended
+    (sym c.is_complete.ensures ∙ c.if-not-is_complete.false) c.tokens.builder read.2

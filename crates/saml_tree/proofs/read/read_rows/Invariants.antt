@@ -1,4 +1,4 @@
-use Rattle.std.proofs.Common.{List, length}
+use Rattle.std.proofs.Common.{◌≡◌, List, length}
 use denote.Text.{Utf8}
 use denote.Shadow.{shadow}
 use Rattle.xml_spec.specs.Syntax.{Token}
@@ -11,7 +11,8 @@ use Rattle.saml_tree.proofs.read.read_rows.Given as goal
 abbrev pub invariant-tokens : goal.invariant-tokens
 invariant-tokens l = record {
   utf8 : shadow (Utf8 l.left);
-  read : (ts : List Token) × Progress l.fn.text l.fn.rest l.left ts (outline_view l.outline) × Follows l.within l.builder (after l.fn.text l.fn.rest ts);
+  outline : l.outline.names.text ≡ l.fn.rest;
+  read : (ts : List Token) × Progress l.fn.text l.fn.rest l.left ts (outline_view l.outline) × Follows l.builder (after l.fn.text l.fn.rest ts);
 }
 
 abbrev pub decreases-tokens : goal.decreases-tokens

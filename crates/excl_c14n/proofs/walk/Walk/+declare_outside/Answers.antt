@@ -1,7 +1,7 @@
 use Rattle.std.proofs.Common.{◌++◌, sym, ap, ◌∙◌, arith}
 use Rattle.xml_spec.specs.Numbering.{from_node}
 use Rattle.xml_spec.specs.Names.{outermost, declarations}
-use Rattle.excl_c14n.specs.Elements.{attributes_in}
+use Rattle.saml_tree.specs.Elements.{attributes_in}
 use Rattle.excl_c14n.specs.Texts.{texts}
 use Rattle.excl_c14n.proofs.Nesting.{bound_now, bound_level, bound_kept}
 use Rattle.excl_c14n.proofs.Scopes.{element_around, none_around}

@@ -3,7 +3,7 @@ use Rattle.std.proofs.lemmas.List.{append-nil}
 use Rattle.xml_spec.specs.Numbering.{from_node}
 use Rattle.xml_spec.specs.Names.{declarations, inner_scope}
 use Rattle.saml_tree.specs.declared.node.NodeNo.{NodeNo}
-use Rattle.excl_c14n.specs.Elements.{name_in, attributes_in}
+use Rattle.saml_tree.specs.Elements.{name_in, attributes_in}
 use Rattle.excl_c14n.specs.Levels.{BindingsView, in_force}
 use Rattle.excl_c14n.specs.NodeByNode.{written_in, node_form}
 use Rattle.excl_c14n.proofs.Answering.{on_ok_anyway}

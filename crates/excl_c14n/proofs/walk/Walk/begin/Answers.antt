@@ -2,7 +2,7 @@ use Rattle.std.proofs.Common.{List, sym, ap, ◌∙◌, subst}
 use Rattle.std.proofs.lemmas.Result.{on_ok_weaker}
 use Rattle.xml_spec.specs.Numbering.{from_node}
 use Rattle.xml_spec.specs.Names.{declarations}
-use Rattle.excl_c14n.specs.Elements.{name_in, attributes_in}
+use Rattle.saml_tree.specs.Elements.{name_in, attributes_in}
 use Rattle.excl_c14n.specs.Texts.{texts}
 use Rattle.excl_c14n.specs.Levels.{in_force, AreListedRendered}
 use Rattle.excl_c14n.proofs.Answering.{on_ok_anyway}

@@ -3,7 +3,7 @@ use Rattle.std.specs.List.{flat_map}
 use Rattle.xml_spec.specs.Numbering.{from_node}
 use Rattle.xml_spec.specs.Canonical.{written_attributes}
 use Rattle.saml_tree.specs.NodeNames.{attribute_at}
-use Rattle.excl_c14n.specs.Elements.{attributes_in}
+use Rattle.saml_tree.specs.Elements.{attributes_in}
 use Rattle.excl_c14n.specs.Levels.{in_force}
 use Rattle.excl_c14n.proofs.Tags.{print_of, LeadTo}
 use Rattle.excl_c14n.proofs.walk.Walk.put_attributes.Given as goal
