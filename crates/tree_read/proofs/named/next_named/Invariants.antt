@@ -1,0 +1,17 @@
+use Rattle.std.proofs.Common.{◌≡◌, ◌<◌, IfSome}
+use Rattle.xml_spec.specs.Numbering.{size}
+use Rattle.tree_read.specs.Siblings.{named_from, IsFrom}
+use Rattle.tree_read.proofs.Walking.{number_of, left_at}
+use Rattle.tree_read.proofs.named.next_named.Given as goal
+
+abbrev pub invariant-loop-next : goal.invariant-loop-next
+invariant-loop-next l = record {
+  same :
+      named_from l.doc.tree (record { namespace = l.namespace; local = l.local }) (number_of l.initial.next)
+      ≡ named_from l.doc.tree (record { namespace = l.namespace; local = l.local }) (number_of l.next);
+  there : IfSome (number_of l.next) (λ k. k < size l.doc.tree);
+  behind : IfSome (number_of l.next) (λ k. IsFrom (number_of l.initial.next) k);
+}
+
+abbrev pub decreases-loop-next : goal.decreases-loop-next
+decreases-loop-next l = left_at l.doc.tree (number_of l.next)
