@@ -1,0 +1,16 @@
+//! Elements that are made: each is written as its exclusive canonical form.
+#![tactic(auto)]
+
+mod element;
+mod laws;
+mod names;
+mod piece;
+mod scope;
+mod tag;
+#[cfg(test)]
+mod tests;
+mod writing;
+
+pub use element::Made;
+pub use laws::a_made_element_spells_its_tree;
+pub use names::Ns;
