@@ -1,0 +1,16 @@
+mod Digests
+mod Examples
+mod MadeNames
+mod MadeScopes
+pub mod OneSignature
+mod OwnForm
+mod Parting
+mod Places
+mod Shapes
+mod SignatureMade
+mod SignedNodes
+mod SignedRoot
+mod SignedVouched
+mod Standing
+mod Walking
+mod Writable

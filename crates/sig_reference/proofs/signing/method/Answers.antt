@@ -1,0 +1,9 @@
+use Rattle.std.proofs.Common.{refl}
+use Rattle.std.specs.Char.{encode_utf8}
+use Rattle.std.specs.Str.{chars}
+use Rattle.xml_spec.proofs.Valid.{name_shown}
+use Rattle.sig_reference.proofs.signing.method.Goals as goal
+
+pub attr-requires-clause-name : goal.attr-requires-clause-name
+unfolding chars encode_utf8
+attr-requires-clause-name c = (name_shown _ refl, refl)

@@ -1,0 +1,48 @@
+-- When an element is vouched for with a key: SAML Core 5.4, XML Signature, 3.2 (core validation).
+use Rattle.std.specs.Prelude.{◌≡◌, ◌≢◌, ℕ, List, [], ◌∷◌, codes, None, Some}
+use Rattle.sha2.specs.Sha256.{sha256}
+use Rattle.hmac_sha256.specs.Hmac.{hmac}
+use Rattle.xml_spec.specs.Tree.{Nodes}
+use Rattle.xml_spec.specs.Identifiers.{IsSingle}
+use Rattle.xml_spec.specs.Canonical.{canonical}
+use Rattle.tree_read.specs.Texts.{attribute_text}
+use Rattle.sig_reference.specs.Form.{Parts, HasForm}
+use Rattle.sig_reference.specs.declared.fault.SigFault.{SigFault}
+use Rattle.sig_reference.specs.declared.fault.SigFault.TheVariants as faults
+
+-- '#'
+abbrev pub number_sign : ℕ
+number_sign = 35
+
+-- SAML Core 5.4.2: the reference is to the ID of the element that the signature stands in
+pub record IsReferredTo (tree : Nodes) (e : ℕ) (parts : Parts) : Type 0 where
+  pub id : List ℕ
+  pub given : attribute_text tree e (codes "ID") ≡ Some id
+  pub some : id ≢ []
+  pub uri : parts.uri ≡ Some (number_sign ∷ id)
+
+-- XML Signature, 3.2.2 and 6.3.1: the SignatureValue is the HMAC of the canonical form of SignedInfo
+abbrev pub IsTagged : List ℕ → Nodes → Parts → Type 0
+IsTagged key tree parts = parts.tag ≡ hmac key (canonical tree parts.signed_info None parts.info_prefixes)
+
+-- XML Signature, 3.2.1: the DigestValue is the hash of the canonical form of the element without its Signature
+abbrev pub IsDigested : Nodes → ℕ → Parts → Type 0
+IsDigested tree e parts = parts.digest ≡ sha256 (canonical tree e (Some parts.signature) parts.element_prefixes)
+
+-- element e of the tree is vouched for with the key, by the signature with these parts
+pub record Vouches (key : List ℕ) (tree : Nodes) (e : ℕ) (parts : Parts) : Type 0 where
+  pub single : IsSingle tree
+  pub form : HasForm tree e parts
+  pub reference : IsReferredTo tree e parts
+  pub tag : IsTagged key tree parts
+  pub digest : IsDigested tree e parts
+
+-- what a fault says: the first of these conditions that does not hold
+abbrev pub IsUnvouched : List ℕ → Nodes → ℕ → SigFault → Type 0
+IsUnvouched key tree e faults.BadSignatureForm = (parts : Parts) → ¬ (HasForm tree e parts)
+IsUnvouched key tree e faults.BadReference = (parts : Parts) × HasForm tree e parts × ¬ (IsReferredTo tree e parts)
+IsUnvouched key tree e faults.TagDiffers =
+    (parts : Parts) × HasForm tree e parts × IsReferredTo tree e parts × ¬ (IsTagged key tree parts)
+IsUnvouched key tree e faults.DigestDiffers =
+    (parts : Parts) × HasForm tree e parts × IsReferredTo tree e parts × IsTagged key tree parts × ¬ (IsDigested tree e parts)
+IsUnvouched key tree e faults.NoMemory = Unit {0}

@@ -1,0 +1,73 @@
+// Base64 of 32 bytes in the text of an element (RFC 4648, 4; XML Signature, 4.2 and 4.3.3.6).
+
+ghost use Rattle.std.specs.Prelude.{◌≡◌, ℕ, List, [], ◌∷◌, ◌++◌, not, filter, length, IfOk, IfErr};
+ghost use Rattle.xml_spec.specs.Syntax.{is_white};
+ghost use Rattle.saml_tree.specs.Elements.{IsElement};
+ghost use Rattle.tree_read.specs.Texts.{text_of};
+ghost use Rattle.sig_reference.specs.Faults.{IsFormFault};
+ghost use Rattle.sig_reference.specs.Form.{IsBase64};
+
+use crate::fault::FormFault;
+use crate::words::is_white;
+use base64::DecodeAllocError;
+use base64::engine::general_purpose::STANDARD;
+use saml_outside::NoMemory;
+use saml_tree::{Doc, NodeNo};
+use std::alloc::Global;
+use tree_read::{At, text_of};
+
+/// The bytes that are no white space.
+fn without_white(alloc: Global, bytes: &[u8]) -> Result<Vec<u8>, NoMemory>
+    ensures { IfOk result (λ kept. kept.items ≡ filter (λ b. not (is_white b)) bytes.now) }
+{
+    let kept = bytes
+        .iter()
+        .filter(|byte| !is_white(**byte))
+        .copied()
+        .collect(alloc)?;
+    Ok(kept)
+}
+
+/// The 32 bytes that there are.
+fn digest_of(bytes: &[u8]) -> Result<[u8; 32], FormFault>
+    ensures ok { IfOk result (λ digest. (digest ≡ bytes.now) × (length bytes.now ≡ 32)) }
+    ensures differs { IfErr result (λ fault. IsFormFault fault (¬ (length bytes.now ≡ 32))) }
+{
+    if bytes.len() != 32 {
+        return Err(FormFault::Differs);
+    }
+    let mut digest = [0; 32];
+    digest.copy_from_slice(bytes);
+    Ok(digest)
+}
+
+/// The 32 bytes whose base64 the text is, white space left out.
+///
+/// # Errors
+///
+/// `Differs`, exactly where it is that of no 32 bytes.
+fn decoded(alloc: Global, text: &[u8]) -> Result<[u8; 32], FormFault>
+    ensures ok { IfOk result (λ digest. IsBase64 text.now digest) }
+    ensures differs { IfErr result (λ fault. IsFormFault fault ((digest : List ℕ) → ¬ (IsBase64 text.now digest))) }
+{
+    let symbols = without_white(alloc, text)?;
+    match STANDARD.decode(alloc, symbols.as_slice()) {
+        Ok(bytes) => digest_of(bytes.as_slice()),
+        Err(DecodeAllocError::OutOfMemory) => Err(FormFault::NoMemory),
+        Err(DecodeAllocError::DecodeError(_)) => Err(FormFault::Differs),
+    }
+}
+
+/// The 32 bytes whose base64 the text of an element is.
+///
+/// # Errors
+///
+/// `Differs`, exactly where it is that of no 32 bytes.
+pub(crate) fn read_digest(alloc: Global, doc: &Doc<'_>, node: NodeNo) -> Result<[u8; 32], FormFault>
+    requires { IsElement doc.now.tree node.0 }
+    ensures ok { IfOk result (λ digest. IsBase64 (text_of doc.now.tree node.0) digest) }
+    ensures differs { IfErr result (λ fault. IsFormFault fault ((digest : List ℕ) → ¬ (IsBase64 (text_of doc.now.tree node.0) digest))) }
+{
+    let text = text_of(alloc, At { doc, node })?;
+    decoded(alloc, text.as_str().as_bytes())
+}

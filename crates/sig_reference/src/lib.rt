@@ -1,0 +1,21 @@
+//! Signed elements: which elements of a document a signature vouches for (SAML Core 5.4, XML Signature).
+#![tactic(auto)]
+
+mod encoded;
+mod fault;
+mod form;
+mod kids;
+pub mod laws;
+mod methods;
+mod signing;
+#[cfg(test)]
+mod tests;
+mod uris;
+mod validation;
+mod vouched;
+mod words;
+
+pub use fault::SigFault;
+pub use signing::sign;
+pub use validation::verify;
+pub use vouched::Vouched;

@@ -1,0 +1,119 @@
+// Whether a signature vouches for an element (SAML Core 5.4; XML Signature, 3.2).
+
+ghost use Rattle.std.specs.Prelude.{◌≡◌, ◌≢◌, ◌↔◌, ◌<◌, [], ◌∷◌, IfOk, IfErr, IsTrue};
+ghost use Rattle.saml_tree.specs.Elements.{IsElement};
+ghost use Rattle.sig_reference.specs.Signature.{number_sign, IsReferredTo, IsTagged, IsDigested, IsUnvouched};
+ghost use Rattle.sig_reference.specs.Views.{parts_of};
+ghost use Rattle.sig_reference.specs.Vouching.{IsVouchedWith};
+
+use crate::fault::SigFault;
+use crate::form::{Signature, read_form};
+use crate::vouched::Vouched;
+use excl_c14n::{ByteList, canon_into};
+use hmac_sha256::{hmac, same_tag};
+use saml_outside::NoMemory;
+use saml_tree::{Doc, NodeNo};
+use sha2::{Digest, Sha256};
+use std::alloc::Global;
+use tree_read::{At, attr_text};
+
+/// Whether the URI is a reference to this ID, which is not empty.
+fn refers_to(uri: &str, id: &str) -> bool
+    ensures { IsTrue result ↔ ((id.now ≢ []) × (uri.now ≡ number_sign ∷ id.now)) }
+{
+    let Some((first, rest)) = uri.as_bytes().split_first() else {
+        return false;
+    };
+    *first == b'#' && !rest.is_empty() && rest == id.as_bytes()
+}
+
+/// Whether the Reference is to the ID of the element (SAML Core 5.4.2).
+fn is_referred_to(
+    alloc: Global,
+    doc: &Doc<'_>,
+    node: NodeNo,
+    signature: &Signature,
+) -> Result<bool, NoMemory>
+    requires { IsElement doc.now.tree node.0 }
+    ensures { IfOk result (λ is. IsTrue is ↔ IsReferredTo doc.now.tree node.0 (parts_of signature.now)) }
+{
+    let Some(id) = attr_text(alloc, At { doc, node }, "ID")? else {
+        return Ok(false);
+    };
+    match &signature.info.reference.uri {
+        Some(uri) => Ok(refers_to(uri.as_str(), id.as_str())),
+        None => Ok(false),
+    }
+}
+
+/// Whether the SignatureValue is the HMAC of SignedInfo under the key (XML Signature, 3.2.2).
+fn is_tagged(
+    alloc: Global,
+    doc: &Doc<'_>,
+    signature: &Signature,
+    key: &[u8],
+) -> Result<bool, NoMemory>
+    requires { IsElement doc.now.tree signature.now.info.node.0 }
+    ensures { IfOk result (λ is. IsTrue is ↔ IsTagged key.now doc.now.tree (parts_of signature.now)) }
+{
+    let info = &signature.info;
+    let mut form = ByteList::new(alloc);
+    canon_into(alloc, doc, info.node, None, &info.prefixes, &mut form)?;
+    Ok(same_tag(&signature.tag, &hmac(key, form.as_slice())))
+}
+
+/// Whether the DigestValue is the hash of the element without its Signature (XML Signature, 3.2.1).
+fn is_digested(
+    alloc: Global,
+    doc: &Doc<'_>,
+    node: NodeNo,
+    signature: &Signature,
+) -> Result<bool, NoMemory>
+    requires element { IsElement doc.now.tree node.0 }
+    requires below { node.0 < signature.now.node.0 }
+    ensures { IfOk result (λ is. IsTrue is ↔ IsDigested doc.now.tree node.0 (parts_of signature.now)) }
+{
+    let reference = &signature.info.reference;
+    let mut form = ByteList::new(alloc);
+    canon_into(
+        alloc,
+        doc,
+        node,
+        Some(signature.node),
+        &reference.prefixes,
+        &mut form,
+    )?;
+    Ok(same_tag(&reference.digest, &Sha256::digest(form.as_slice())))
+}
+
+/// Whether a signature vouches for an element under the key, which may have any length.
+///
+/// # Errors
+///
+/// The first of `BadSignatureForm`, `BadReference`, `TagDiffers` and `DigestDiffers` that holds. `NoMemory` may come in
+/// place of any other answer.
+pub fn verify<'d, 'a>(
+    alloc: Global,
+    doc: &'d Doc<'a>,
+    node: NodeNo,
+    key: &[u8],
+) -> Result<Vouched<'d, 'a>, SigFault>
+    requires element { IsElement doc.now.tree node.0 }
+    ensures vouched { IfOk result (IsVouchedWith key.now) }
+    ensures place { IfOk result (λ vouched. (vouched.document ≡ doc.now) × (vouched.node ≡ node.0)) }
+    ensures err { IfErr result (IsUnvouched key.now doc.now.tree node.0) }
+{
+    // The document has each ID once, which its root tells.
+    let _ = doc.root();
+    let signature = read_form(alloc, doc, node)?;
+    if !is_referred_to(alloc, doc, node, &signature)? {
+        return Err(SigFault::BadReference);
+    }
+    if !is_tagged(alloc, doc, &signature, key)? {
+        return Err(SigFault::TagDiffers);
+    }
+    if !is_digested(alloc, doc, node, &signature)? {
+        return Err(SigFault::DigestDiffers);
+    }
+    Ok(Vouched::of(doc, node, signature.node))
+}
