@@ -11,10 +11,18 @@ use Rattle.saml_outside.specs.declared.reading.FileRead.TheVariants as answers
 use Rattle.saml_tree.specs.declared.node.TreeFault.{TreeFault}
 use Rattle.saml_tree.specs.declared.node.TreeFault.TheVariants as faults
 use Rattle.saml_tree.specs.Documents.{IsSpelled, IsRefused}
-use Rattle.samld.specs.declared.run.Status.{Status}
-use Rattle.samld.specs.declared.run.Status.TheVariants as statuses
+use Rattle.samld.specs.declared.ending.Status.{Status}
+use Rattle.samld.specs.declared.ending.Status.TheVariants as statuses
 use Rattle.samld.specs.Canon.{verdict_of, node_of, IsCanonical, IsMissing, IsRefusedWith}
-use Rattle.samld.specs.Running.{Command, document_limit, AnswersFile, Answers, Accepts}
+use Rattle.sig_reference.specs.declared.fault.SigFault.{SigFault}
+use Rattle.sig_reference.specs.declared.fault.SigFault.TheVariants as sigs
+use Rattle.sig_reference.specs.Form.{Parts}
+use Rattle.sig_reference.specs.Signature.{IsReferredTo, IsTagged, IsDigested, Vouches, IsUnvouched}
+use Rattle.sig_reference.proofs.OneSignature.{one_signature}
+use Rattle.samld.specs.Canon.{IsFormAnswer}
+use Rattle.samld.specs.Vouch as vouch
+use Rattle.samld.specs.Vouch.{least_key, IsVouched, IsNotVouched, IsVouchAnswer}
+use Rattle.samld.specs.Running.{Command, Canon, Vouch, AnswersRead, AnswersFile, AnswersCommand, Answers, Holds, AcceptsCommand, Accepts}
 
 -- a text that is spelled under all rules is refused for none
 spelled_not_refused : (bytes : List ℕ) (tree : Nodes) (fault : TreeFault) (verdict : Verdict) → IsSpelled bytes tree → IsRefused bytes fault →
@@ -50,31 +58,90 @@ too_long None bytes limit e h k = cc
 too_long (Some b) bytes limit e h k = let same : b ≡ bytes = cc in let longer : limit < length bytes = subst (λ (z : List ℕ). limit < length z) same k in
     absurd (omega arith)
 
--- what reading an accepted file answers can have this status
-of_file : (files : List File) (command : Command) (bytes printed : List ℕ) (answer : FileRead) (into : List ℕ) (status : Status) (text : List ℕ) →
-    bytes_of files command.file ≡ Some bytes → length bytes ≤ document_limit → IsCanonical bytes command.id printed →
-    Reads (Some files) command.file document_limit answer into → AnswersFile command answer into status text → status ≡ statuses.Done
-of_file files command bytes printed answers.Whole into statuses.Done text e h c r a = refl
-of_file files command bytes printed answers.Whole into statuses.Refused text e h c r a =
-    absurd (not_refused bytes command.id printed a.0 c (subst (λ (z : List ℕ). IsRefusedWith z command.id a.0) (some_is_one into bytes (bytes_of files command.file) r.1 e) a.1))
-of_file files command bytes printed answers.Whole into statuses.Usage text e h c r a = absurd a
-of_file files command bytes printed answers.Whole into statuses.BadInput text e h c r a = absurd a
-of_file files command bytes printed answers.Whole into statuses.ReadFault text e h c r a = absurd a
-of_file files command bytes printed answers.Whole into statuses.WriteFault text e h c r a = absurd a
-of_file files command bytes printed answers.Whole into statuses.DiskFault text e h c r a = absurd a
-of_file files command bytes printed answers.Whole into statuses.LinkFault text e h c r a = absurd a
-of_file files command bytes printed answers.Whole into statuses.NoMemory text e h c r a = absurd a
-of_file files command bytes printed answers.Whole into statuses.ForeignJournal text e h c r a = absurd a
-of_file files command bytes printed answers.Absent into status text e h c r a = absurd (none_is_not_some bytes (bytes_of files command.file) e r.1)
-of_file files command bytes printed answers.TooLong into status text e h c r a = absurd (too_long (bytes_of files command.file) bytes document_limit e h r.1)
-of_file files command bytes printed answers.Failed into status text e h c r a = absurd a
-of_file files command bytes printed answers.NoMemory into status text e h c r a = absurd a
+-- bytes that have a canonical form are answered with it
+form_done : (id : Option (List ℕ)) (bytes printed : List ℕ) (status : Status) (text : List ℕ) → IsCanonical bytes id printed →
+    IsFormAnswer id bytes status text → status ≡ statuses.Done
+form_done id bytes printed statuses.Done text c a = refl
+form_done id bytes printed statuses.Refused text c a = absurd (not_refused bytes id printed a.0 c a.1)
+form_done id bytes printed statuses.Usage text c a = absurd a
+form_done id bytes printed statuses.BadInput text c a = absurd a
+form_done id bytes printed statuses.ReadFault text c a = absurd a
+form_done id bytes printed statuses.WriteFault text c a = absurd a
+form_done id bytes printed statuses.DiskFault text c a = absurd a
+form_done id bytes printed statuses.LinkFault text c a = absurd a
+form_done id bytes printed statuses.NoMemory text c a = absurd a
+form_done id bytes printed statuses.ForeignJournal text c a = absurd a
+
+-- an element that is vouched for is not refused
+vouched_not_unvouched : (key : List ℕ) (tree : Nodes) (node : ℕ) (parts : Parts) (fault : SigFault) (verdict : Verdict) → Vouches key tree node parts →
+    IsUnvouched key tree node fault → vouch.verdict_of fault ≡ Some verdict → ⊥
+vouched_not_unvouched key tree node parts sigs.BadSignatureForm verdict v u e = u parts v.form
+vouched_not_unvouched key tree node parts sigs.BadReference verdict v u e =
+    u.2 (subst (IsReferredTo tree node) (one_signature tree node parts u.0 v.form u.1) v.reference)
+vouched_not_unvouched key tree node parts sigs.TagDiffers verdict v u e =
+    u.3 (subst (IsTagged key tree) (one_signature tree node parts u.0 v.form u.1) v.tag)
+vouched_not_unvouched key tree node parts sigs.DigestDiffers verdict v u e =
+    u.4 (subst (IsDigested tree node) (one_signature tree node parts u.0 v.form u.1) v.digest)
+vouched_not_unvouched key tree node parts sigs.NoMemory verdict v u e = cc
+
+vouched_not_refused : (bytes id key : List ℕ) (verdict : Verdict) → IsVouched bytes id key → IsNotVouched bytes id key verdict → ⊥
+vouched_not_refused bytes id key verdict v r =
+    let same = one_tree bytes v.tree r.tree v.spelled.spells r.spelled.spells in
+    let refused = subst (λ t. vouch.IsNotVouchedIn t id key verdict) (sym same) r.refused in
+    let node : refused.node ≡ v.vouched.node = some_is_one refused.node v.vouched.node _ refused.found v.vouched.found in
+    vouched_not_unvouched key v.tree v.vouched.node v.vouched.parts refused.fault verdict v.vouched.vouches
+    (subst (λ n. IsUnvouched key v.tree n refused.fault) node refused.unvouched) refused.told
+
+vouched_not_refused_with : (bytes id key : List ℕ) (verdict : Verdict) → IsVouched bytes id key → IsRefusedWith bytes (Some id) verdict → ⊥
+vouched_not_refused_with bytes id key verdict v r = elim r [
+  | inl fault ↦ spelled_not_refused bytes v.tree fault.0 verdict v.spelled fault.1 fault.2
+  | inr missing ↦ found_not_missing bytes (Some id) v.tree v.vouched.node v.spelled v.vouched.found missing.0
+]
+
+-- and is answered so
+vouch_done : (id key_file bytes key : List ℕ) (status : Status) (text : List ℕ) → least_key ≤ length key → IsVouched bytes id key →
+    IsVouchAnswer id key_file bytes key status text → status ≡ statuses.Done
+vouch_done id key_file bytes key statuses.Done text long v a = refl
+vouch_done id key_file bytes key statuses.Refused text long v a = absurd (elim a.1.1 [
+  | inl refused ↦ vouched_not_refused_with bytes id key a.1.0 v refused
+  | inr unvouched ↦ vouched_not_refused bytes id key a.1.0 v unvouched
+])
+vouch_done id key_file bytes key statuses.BadInput text long v a = let short = a.0 in absurd (omega arith)
+vouch_done id key_file bytes key statuses.Usage text long v a = absurd a
+vouch_done id key_file bytes key statuses.ReadFault text long v a = absurd a
+vouch_done id key_file bytes key statuses.WriteFault text long v a = absurd a
+vouch_done id key_file bytes key statuses.DiskFault text long v a = absurd a
+vouch_done id key_file bytes key statuses.LinkFault text long v a = absurd a
+vouch_done id key_file bytes key statuses.NoMemory text long v a = absurd a
+vouch_done id key_file bytes key statuses.ForeignJournal text long v a = absurd a
+
+-- a file that can be used is answered by what its bytes ask for
+file_done : (meaning : List ℕ → Status → List ℕ → Type 0) (files : List File) (file : List ℕ) (limit : ℕ) (bytes : List ℕ) (status : Status) (text : List ℕ) →
+    Holds files file limit bytes → (meaning bytes status text → status ≡ statuses.Done) → AnswersFile meaning (Some files) file limit status text →
+    status ≡ statuses.Done
+file_done meaning files file limit bytes status text h done a = read a.0 a.1 a.2 a.3
+  where
+    read : (answer : FileRead) (into : List ℕ) → Reads (Some files) file limit answer into → AnswersRead meaning file answer into status text →
+        status ≡ statuses.Done
+    read answers.Whole into r m = done (subst (λ z. meaning z status text) (some_is_one into bytes (bytes_of files file) r.1 h.held) m)
+    read answers.Absent into r m = absurd (none_is_not_some bytes (bytes_of files file) h.held r.1)
+    read answers.TooLong into r m = absurd (too_long (bytes_of files file) bytes limit h.held h.short r.1)
+    read answers.Failed into r m = absurd m
+    read answers.NoMemory into r m = absurd m
+
+command_done : (files : List File) (command : Command) (status : Status) (text : List ℕ) → AcceptsCommand files command →
+    AnswersCommand (Some files) command status text → status ≡ statuses.Done
+command_done files (Canon file id) status text h a =
+    file_done (IsFormAnswer id) files file _ h.0 status text h.1 (form_done id h.0 h.2.0 status text h.2.1) a
+command_done files (Vouch file id key_file) status text h a =
+    let key = h.2 in
+    file_done (λ bytes. AnswersFile (IsVouchAnswer id key_file bytes) (Some files) key_file _) files file _ h.0 status text h.1
+    (file_done (IsVouchAnswer id key_file h.0) files key_file _ key.0 status text key.1 (vouch_done id key_file h.0 key.0 status text key.2 key.3)) a
 
 -- the words and files that are accepted ask for no other status
 pub answers_done : (words : List (List ℕ)) (told : Option (List File)) (status : Status) (text : List ℕ) → Accepts words told → Answers words told status text →
     status ≡ statuses.Done
 answers_done words told status text h a =
     let onward = subst (λ (o : Option Command). MatchOption o ((status ≡ statuses.Usage) × (text ≡ codes "usage\n"))
-    (λ c. (answer : FileRead) × (b : List ℕ) × Reads told c.file document_limit answer b × AnswersFile c answer b status text)) h.named a in
-    of_file h.files h.command h.bytes h.printed onward.0 onward.1 status text h.held h.short h.accepted
-    (subst (λ (o : Option (List File)). Reads o h.command.file document_limit onward.0 onward.1) h.tells onward.2) onward.3
+    (λ c. AnswersCommand told c status text)) h.named a in
+    command_done h.files h.command status text h.accepted (subst (λ (o : Option (List File)). AnswersCommand o h.command status text) h.tells onward)

@@ -1,19 +1,16 @@
 -- What `canon FILE` and `canon FILE ID` print of a file's bytes.
-use Rattle.std.specs.Prelude.{◌≡◌, ℕ, ◌⊎◌, List, [], ◌++◌, Option, Some, None, codes}
-use Rattle.std.specs.Fmt.{decimal}
+use Rattle.std.specs.Prelude.{◌≡◌, ℕ, ◌⊎◌, List, [], Option, Some, None}
 use Rattle.xml_spec.specs.Tree.{Nodes}
 use Rattle.xml_spec.specs.Identifiers.{identifiers, node_with}
 use Rattle.xml_spec.specs.Canonical.{canonical}
-use Rattle.saml_outside.specs.Codes.{number_of, name_of}
 use Rattle.saml_outside.specs.declared.codes.Verdict.{Verdict}
 use Rattle.saml_outside.specs.declared.codes.Verdict.TheVariants as verdicts
 use Rattle.saml_tree.specs.declared.node.TreeFault.{TreeFault}
 use Rattle.saml_tree.specs.declared.node.TreeFault.TheVariants as faults
 use Rattle.saml_tree.specs.Documents.{IsSpelled, IsRefused}
-
--- the line of a refusal: its number and its name
-abbrev pub refusal : Verdict → List ℕ
-refusal verdict = codes "refused " ++ decimal (number_of verdict) ++ codes " " ++ name_of verdict ++ codes "\n"
+use Rattle.samld.specs.declared.ending.Status.{Status}
+use Rattle.samld.specs.declared.ending.Status.TheVariants as statuses
+use Rattle.samld.specs.Lines.{refusal}
 
 -- the verdict for a fault of the reader; none for want of memory
 abbrev pub verdict_of : TreeFault → Option Verdict
@@ -47,3 +44,9 @@ abbrev pub IsRefusedWith : List ℕ → Option (List ℕ) → Verdict → Type 0
 IsRefusedWith bytes id verdict =
     ((fault : TreeFault) × IsRefused bytes fault × (verdict_of fault ≡ Some verdict))
     ⊎ (IsMissing bytes id × (verdict ≡ verdicts.BadReference))
+
+-- the status and the text for a file's bytes
+abbrev pub IsFormAnswer : Option (List ℕ) → List ℕ → Status → List ℕ → Type 0
+IsFormAnswer id bytes statuses.Done text = IsCanonical bytes id text
+IsFormAnswer id bytes statuses.Refused text = (verdict : Verdict) × IsRefusedWith bytes id verdict × (text ≡ refusal verdict)
+IsFormAnswer id bytes status text = ⊥

@@ -2,4 +2,6 @@ pub mod Canon
 pub mod Exit
 pub mod Running
 pub mod Streams
-pub mod Printing
+pub mod Lines
+pub mod Vouch
+pub mod Views

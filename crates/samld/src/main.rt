@@ -4,21 +4,29 @@
 //! `Status` that `run` gives.
 #![tactic(auto)]
 
+mod command;
+mod ending;
+mod form;
 mod fs_files;
+mod judging;
+mod printing;
 mod run;
 #[cfg(test)]
 mod run_tests;
 mod stdout_sink;
 #[cfg(test)]
 mod tests;
+#[cfg(test)]
+mod vouch_tests;
 
 ghost use Rattle.std.specs.Prelude.{◌≡◌, drop, map, string_bytes, IfOk};
 ghost use Rattle.std.specs.Vec.Iter.{into_iter_items};
 ghost use Rattle.std.specs.Process.{exit_status};
 ghost use Rattle.samld.specs.Exit.{exit_number};
 
+use ending::Status;
 use fs_files::FsFiles;
-use run::{Status, run};
+use run::run;
 use saml_outside::{NoMemory, Text};
 use std::alloc::Global;
 use std::env::Args;

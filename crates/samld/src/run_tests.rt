@@ -1,5 +1,6 @@
 //! What no clause says: what the program prints over known documents, and that there is memory for it.
-use crate::run::{Status, run};
+use crate::ending::Status;
+use crate::run::run;
 use saml_outside::{MemFiles, MemSink, NoMemory, SteadyFiles, Text};
 use std::alloc::Global;
 use std::test::Fail;

@@ -1,9 +1,9 @@
 use Rattle.std.proofs.Common.{◌≡◌, ℕ, List, ◌∷◌, ◌++◌, [], codes, ◌∙◌}
 use Rattle.std.specs.Fmt.{decimal}
 use Rattle.saml_outside.specs.Codes.{number_of, name_of}
-use Rattle.samld.specs.Canon.{refusal}
+use Rattle.samld.specs.Lines.{refusal}
 use Rattle.samld.proofs.Answering.{if_ok_map, line_is}
-use Rattle.samld.proofs.run.refusal.Goals as goal
+use Rattle.samld.proofs.printing.refusal.Goals as goal
 
 pub returns : goal.returns
 returns c =
