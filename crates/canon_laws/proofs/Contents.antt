@@ -6,7 +6,7 @@ use Rattle.std.proofs.lemmas.List.{append-nil}
 use Rattle.xml_spec.specs.Ascii.{carriage_return, ampersand, less_than, greater_than}
 use Rattle.xml_spec.specs.Bytes.{AllPass, begins_with, no_two, has}
 use Rattle.xml_spec.specs.Tree.{Nodes, NoNodes, Element, Text, Comment, Instruction, with_text}
-use Rattle.xml_spec.specs.Syntax.{Reference, IsReference, is_white, IsTag, Characters, Refers, Section, Remark, Processing, EmptyTag, IsProcessing, EndTag, is_run, IsToken, print_tokens, AreTokens, Content, NoContent, Then, Pair, tokens_of}
+use Rattle.xml_spec.specs.Syntax.{Reference, IsReference, is_white, IsTag, Characters, Refers, Section, CommentItem, ProcessingInstruction, EmptyTag, IsProcessingInstruction, EndTag, is_run, IsToken, print_tokens, AreTokens, Content, NoContent, Then, Pair, tokens_of}
 use Rattle.xml_spec.specs.Meaning.{line_ends, nodes_of}
 use Rattle.xml_spec.specs.Canonical.{escape_text_byte, escape_text}
 use Rattle.xml_spec.proofs.Tests.{both_true, and_true}
@@ -36,8 +36,8 @@ character_printed b NoContent = refl
 character_printed b (Then (Characters bytes) rest) = refl
 character_printed b (Then (Refers r) rest) = refl
 character_printed b (Then (Section bytes) rest) = refl
-character_printed b (Then (Remark bytes) rest) = refl
-character_printed b (Then (Processing target space value) rest) = refl
+character_printed b (Then (CommentItem bytes) rest) = refl
+character_printed b (Then (ProcessingInstruction target space value) rest) = refl
 character_printed b (Then (EmptyTag tag) rest) = refl
 character_printed b (Pair tag inner space rest) = refl
 
@@ -84,8 +84,8 @@ character_means b (Then (Characters bytes) rest) h =
     ap (λ z. with_text z (nodes_of rest)) (line_ends_on b bytes h) ∙ text_in_parts (b ∷ []) (line_ends bytes) (nodes_of rest)
 character_means b (Then (Refers r) rest) h = alone_means b (nodes_of (Then (Refers r) rest)) h
 character_means b (Then (Section bytes) rest) h = alone_means b (nodes_of (Then (Section bytes) rest)) h
-character_means b (Then (Remark bytes) rest) h = alone_means b (nodes_of (Then (Remark bytes) rest)) h
-character_means b (Then (Processing target space value) rest) h = alone_means b (nodes_of (Then (Processing target space value) rest)) h
+character_means b (Then (CommentItem bytes) rest) h = alone_means b (nodes_of (Then (CommentItem bytes) rest)) h
+character_means b (Then (ProcessingInstruction target space value) rest) h = alone_means b (nodes_of (Then (ProcessingInstruction target space value) rest)) h
 character_means b (Then (EmptyTag tag) rest) h = alone_means b (nodes_of (Then (EmptyTag tag) rest)) h
 character_means b (Pair tag inner space rest) h = alone_means b (nodes_of (Pair tag inner space rest)) h
 
@@ -112,8 +112,8 @@ IsWell (Then (Characters bytes) rest) =
     (0 < length bytes) × AllPass is_plain_text bytes × IsFalse (begins_with_run rest) × IsWell rest
 IsWell (Then (Refers r) rest) = IsReference r × IsWell rest
 IsWell (Then (Section bytes) rest) = ⊥
-IsWell (Then (Remark bytes) rest) = ⊥
-IsWell (Then (Processing target space value) rest) = IsProcessing target space value × IsWell rest
+IsWell (Then (CommentItem bytes) rest) = ⊥
+IsWell (Then (ProcessingInstruction target space value) rest) = IsProcessingInstruction target space value × IsWell rest
 IsWell (Then (EmptyTag tag) rest) = ⊥
 IsWell (Pair tag inner space rest) = IsTag tag × AllPass is_white space × IsWell inner × IsWell rest
 
@@ -122,8 +122,8 @@ character_well b NoContent h w = (omega arith, and_true _ _ h refl, refl, w)
 character_well b (Then (Characters bytes) rest) h w = (omega arith, and_true _ _ h w.1, w.2, w.3)
 character_well b (Then (Refers r) rest) h w = (omega arith, and_true _ _ h refl, refl, w)
 character_well b (Then (Section bytes) rest) h w = absurd w
-character_well b (Then (Remark bytes) rest) h w = absurd w
-character_well b (Then (Processing target space value) rest) h w = (omega arith, and_true _ _ h refl, refl, w)
+character_well b (Then (CommentItem bytes) rest) h w = absurd w
+character_well b (Then (ProcessingInstruction target space value) rest) h w = (omega arith, and_true _ _ h refl, refl, w)
 character_well b (Then (EmptyTag tag) rest) h w = absurd w
 character_well b (Pair tag inner space rest) h w = (omega arith, and_true _ _ h refl, refl, w)
 
@@ -178,8 +178,8 @@ tokens_each NoContent w = tt
 tokens_each (Then (Characters bytes) rest) w = ((w.0, plain_are_characters bytes w.1, plain_has_no_end bytes w.1), tokens_each rest w.3)
 tokens_each (Then (Refers r) rest) w = (w.0, tokens_each rest w.1)
 tokens_each (Then (Section bytes) rest) w = absurd w
-tokens_each (Then (Remark bytes) rest) w = absurd w
-tokens_each (Then (Processing target space value) rest) w = (w.0, tokens_each rest w.1)
+tokens_each (Then (CommentItem bytes) rest) w = absurd w
+tokens_each (Then (ProcessingInstruction target space value) rest) w = (w.0, tokens_each rest w.1)
 tokens_each (Then (EmptyTag tag) rest) w = absurd w
 tokens_each (Pair tag inner space rest) w = (
   w.0,
@@ -201,8 +201,8 @@ run_begins NoContent = refl
 run_begins (Then (Characters bytes) rest) = refl
 run_begins (Then (Refers r) rest) = refl
 run_begins (Then (Section bytes) rest) = refl
-run_begins (Then (Remark bytes) rest) = refl
-run_begins (Then (Processing target space value) rest) = refl
+run_begins (Then (CommentItem bytes) rest) = refl
+run_begins (Then (ProcessingInstruction target space value) rest) = refl
 run_begins (Then (EmptyTag tag) rest) = refl
 run_begins (Pair tag inner space rest) = refl
 
@@ -212,8 +212,8 @@ tokens_whole NoContent w = refl
 tokens_whole (Then (Characters bytes) rest) w = and_true _ _ (ap not (run_begins rest ∙ w.2)) (tokens_whole rest w.3)
 tokens_whole (Then (Refers r) rest) w = tokens_whole rest w.1
 tokens_whole (Then (Section bytes) rest) w = absurd w
-tokens_whole (Then (Remark bytes) rest) w = absurd w
-tokens_whole (Then (Processing target space value) rest) w = tokens_whole rest w.1
+tokens_whole (Then (CommentItem bytes) rest) w = absurd w
+tokens_whole (Then (ProcessingInstruction target space value) rest) w = tokens_whole rest w.1
 tokens_whole (Then (EmptyTag tag) rest) w = absurd w
 tokens_whole (Pair tag inner space rest) w =
     no_two_append is_run (tokens_of inner) (EndTag tag.name space) (tokens_of rest) (tokens_whole inner w.2) refl (tokens_whole rest w.3)

@@ -4,7 +4,7 @@ use Rattle.std.specs.Char.{encode_utf8}
 use Rattle.std.specs.List.{list_all, AllByRecursion}
 use Rattle.xml_spec.specs.Characters.{IsText}
 use Rattle.xml_spec.specs.Tree.{Nodes, NoNodes, Element, Text, Comment, Instruction, with_text}
-use Rattle.xml_spec.specs.Syntax.{is_white, character_of, Assignment, IsAssignment, Item, Characters, Refers, Section, Remark, Processing, EmptyTag, IsProcessing, Token, Alone, EndTag, IsToken, print_tokens, Content, NoContent, Then, Pair, tokens_of}
+use Rattle.xml_spec.specs.Syntax.{is_white, character_of, Assignment, IsAssignment, Item, Characters, Refers, Section, CommentItem, ProcessingInstruction, EmptyTag, IsProcessingInstruction, Token, Alone, EndTag, IsToken, print_tokens, Content, NoContent, Then, Pair, tokens_of}
 use Rattle.xml_spec.specs.Meaning.{line_ends, attribute_of, with_item, nodes_of}
 use Rattle.xml_spec.specs.Document.{is_document, root_of, print_head, Spells}
 use Rattle.xml_spec.proofs.Tests.{both_true}
@@ -27,7 +27,7 @@ attributes_writable : (ones : List Assignment) → AllByRecursion IsAssignment o
 attributes_writable [] v t = tt
 attributes_writable (a ∷ ones) v t = (record { name = v.0.name; value = t.0 }, attributes_writable ones v.1 t.1)
 
-instruction_writable : (target space value : List ℕ) → IsProcessing target space value → IsText value → IsWritableInstruction target (line_ends value)
+instruction_writable : (target space value : List ℕ) → IsProcessingInstruction target space value → IsText value → IsWritableInstruction target (line_ends value)
 instruction_writable target space value v t = record {
   named = v.named;
   not_xml = v.not_xml;
@@ -59,8 +59,8 @@ item_writable : (item : Item) (nodes : Nodes) → IsGood (Alone item) → IsWrit
 item_writable (Characters bytes) nodes g w = with_text_writable (line_ends bytes) nodes (lines_text bytes g.text) w
 item_writable (Refers r) nodes g w = with_text_writable (encode_utf8 (character_of r)) nodes (reference_text r g.valid) w
 item_writable (Section bytes) nodes g w = with_text_writable (line_ends bytes) nodes (lines_text bytes g.text) w
-item_writable (Remark bytes) nodes g w = w
-item_writable (Processing target space value) nodes g w = (instruction_writable target space value g.valid g.text, w)
+item_writable (CommentItem bytes) nodes g w = w
+item_writable (ProcessingInstruction target space value) nodes g w = (instruction_writable target space value g.valid g.text, w)
 item_writable (EmptyTag tag) nodes g w = (g.valid.name, attributes_writable tag.assignments g.valid.assignments g.text, tt, w)
 
 nodes_writable : (content : Content) → AllByRecursion IsGood (tokens_of content) → IsWritable (nodes_of content)
@@ -76,8 +76,8 @@ root_writable NoContent g = tt
 root_writable (Then (Characters bytes) rest) g = root_writable rest g.1
 root_writable (Then (Refers r) rest) g = root_writable rest g.1
 root_writable (Then (Section bytes) rest) g = root_writable rest g.1
-root_writable (Then (Remark bytes) rest) g = root_writable rest g.1
-root_writable (Then (Processing target space value) rest) g = root_writable rest g.1
+root_writable (Then (CommentItem bytes) rest) g = root_writable rest g.1
+root_writable (Then (ProcessingInstruction target space value) rest) g = root_writable rest g.1
 root_writable (Then (EmptyTag tag) rest) g = (g.0.valid.name, attributes_writable tag.assignments g.0.valid.assignments g.0.text, tt, tt)
 root_writable (Pair tag inner space rest) g =
     let inside = front_good (tokens_of inner) (EndTag tag.name space ∷ tokens_of rest) g.1 in
@@ -90,8 +90,8 @@ content_begins_low NoContent h v = refl
 content_begins_low (Then (Characters bytes) rest) h v = white_first bytes _ v.0.0 (both_true (list_all is_white bytes) _ h).0
 content_begins_low (Then (Refers r) rest) h v = absurd (let clash : false ≡ true = h in cc)
 content_begins_low (Then (Section bytes) rest) h v = refl
-content_begins_low (Then (Remark bytes) rest) h v = refl
-content_begins_low (Then (Processing target space value) rest) h v = refl
+content_begins_low (Then (CommentItem bytes) rest) h v = refl
+content_begins_low (Then (ProcessingInstruction target space value) rest) h v = refl
 content_begins_low (Then (EmptyTag tag) rest) h v = refl
 content_begins_low (Pair tag inner space rest) h v = refl
 

@@ -10,7 +10,7 @@ use Rattle.xml_spec.specs.Bytes.{AllPass}
 use Rattle.xml_spec.specs.Tree.{Attribute, Nodes, NoNodes, Element, Text, Comment, Instruction, with_text}
 use Rattle.xml_spec.specs.Numbering.{from_node}
 use Rattle.xml_spec.specs.Names.{Scope, outermost, inner_scope}
-use Rattle.xml_spec.specs.Syntax.{is_white, Tag, Processing, IsProcessing, EndTag, print_token, print_tag, Content, NoContent, Then, Pair, tokens_of}
+use Rattle.xml_spec.specs.Syntax.{is_white, Tag, ProcessingInstruction, IsProcessingInstruction, EndTag, print_token, print_tag, Content, NoContent, Then, Pair, tokens_of}
 use Rattle.xml_spec.specs.Meaning.{line_ends, nodes_of}
 use Rattle.xml_spec.specs.Document.{Spells}
 use Rattle.xml_spec.specs.Canonical.{written_declarations, written_attributes, escape_text, print_end, print_instruction, canonical_nodes, scope_at, canonical}
@@ -39,7 +39,7 @@ content_of listed scope rendered (Element name attributes kids rest) =
 content_of listed scope rendered (Text text rest) = with_written text (content_of listed scope rendered rest)
 content_of listed scope rendered (Comment text rest) = content_of listed scope rendered rest
 content_of listed scope rendered (Instruction target value rest) =
-    Then (Processing target (space_before value) value) (content_of listed scope rendered rest)
+    Then (ProcessingInstruction target (space_before value) value) (content_of listed scope rendered rest)
 
 regroup : (s i e r : List ℕ) → s ++ (i ++ (e ++ r)) ≡ s ++ i ++ e ++ r
 regroup s i e r = sym (append_assoc (s ++ i) e r ∙ append_assoc s i (e ++ r))
@@ -95,7 +95,7 @@ content_means listed scope rendered (Instruction target value rest) w =
     λ i. Instruction target (ends_kept value w.0.line_ends i) (content_means listed scope rendered rest w.1 i)
 
 -- an instruction as it is written
-processing_valid : (target value : List ℕ) → IsWritableInstruction target value → IsProcessing target (space_before value) value
+processing_valid : (target value : List ℕ) → IsWritableInstruction target value → IsProcessingInstruction target (space_before value) value
 processing_valid target value w = record {
   named = w.named;
   not_xml = w.not_xml;

@@ -6,7 +6,7 @@ use Rattle.std.specs.Char.{is_ascii_digit, is_ascii_hexdigit, encode_utf8}
 use Rattle.xml_spec.specs.Ascii.{quotation_mark, equals_sign, semicolon, less_than, ampersand, greater_than}
 use Rattle.xml_spec.specs.Bytes.{AllPass, begins_with, no_two}
 use Rattle.xml_spec.specs.Characters.{IsText}
-use Rattle.xml_spec.specs.Syntax.{is_white, is_quote, Reference, LessThan, GreaterThan, Ampersand, Apostrophe, QuotationMark, Decimal, Hexadecimal, print_reference, character_of, IsReference, Piece, Literal, Referred, print_piece, is_literal, IsPiece, Assignment, IsAssignment, Tag, print_tag, IsTag, Characters, Refers, Section, Remark, Processing, EmptyTag, IsProcessing, Token, Alone, StartTag, EndTag, is_run, IsToken, print_token, print_tokens}
+use Rattle.xml_spec.specs.Syntax.{is_white, is_quote, Reference, LessThan, GreaterThan, Ampersand, Apostrophe, QuotationMark, Decimal, Hexadecimal, print_reference, character_of, IsReference, Piece, Literal, Referred, print_piece, is_literal, IsPiece, Assignment, IsAssignment, Tag, print_tag, IsTag, Characters, Refers, Section, CommentItem, ProcessingInstruction, EmptyTag, IsProcessingInstruction, Token, Alone, StartTag, EndTag, is_run, IsToken, print_token, print_tokens}
 use Rattle.xml_spec.specs.Meaning.{line_ends, as_blank, piece_value, attribute_of}
 use Rattle.xml_spec.proofs.Tests.{both_true, and_true}
 use Rattle.xml_spec.proofs.Values.{reference_begins, closed_value, first_not}
@@ -146,8 +146,8 @@ abbrev pub HasText : Token → Type 0
 HasText (Alone (Characters bytes)) = IsText bytes
 HasText (Alone (Refers r)) = ⊤
 HasText (Alone (Section bytes)) = IsText bytes
-HasText (Alone (Remark bytes)) = ⊤
-HasText (Alone (Processing target space value)) = IsText value
+HasText (Alone (CommentItem bytes)) = ⊤
+HasText (Alone (ProcessingInstruction target space value)) = IsText value
 HasText (Alone (EmptyTag tag)) = HasValues tag
 HasText (StartTag tag) = HasValues tag
 HasText (EndTag name space) = ⊤
@@ -162,8 +162,8 @@ from_space_low [] [] x w apart = refl
 from_space_low [] (b ∷ value) x w apart = absurd (let none : 0 < length {A = ℕ} [] = apart (omega arith) in omega arith)
 from_space_low (b ∷ space) value x w apart = white_low b (both_true (is_white b) (list_all is_white space) w).0
 
-processing_text : (target space value x : List ℕ) → IsProcessing target space value →
-    IsText (print_token (Alone (Processing target space value)) ++ x) → AreTexts value x
+processing_text : (target space value x : List ℕ) → IsProcessingInstruction target space value →
+    IsText (print_token (Alone (ProcessingInstruction target space value)) ++ x) → AreTexts value x
 processing_text target space value x v t =
     let named = behind_low (codes "<?") (target ++ from_space space value x) (subst IsText (processing_parts target space value x) t) refl in
     let spaced = cut target (from_space space value x) named (from_space_low space value x v.white v.apart) in
@@ -185,10 +185,10 @@ token_text (Alone (Refers r)) x v f t = record { here = tt; back = behind_refere
 token_text (Alone (Section bytes)) x v f t =
     let parts = marked_text bytes (codes "]]>") x refl refl (behind_low (codes "<![CDATA[") ((bytes ++ codes "]]>") ++ x) t refl) in
     record { here = parts.front; back = parts.back }
-token_text (Alone (Remark bytes)) x v f t =
+token_text (Alone (CommentItem bytes)) x v f t =
     let parts = marked_text bytes (codes "-->") x refl refl (behind_low (codes "<!--") ((bytes ++ codes "-->") ++ x) t refl) in
     record { here = tt; back = parts.back }
-token_text (Alone (Processing target space value)) x v f t =
+token_text (Alone (ProcessingInstruction target space value)) x v f t =
     let parts = processing_text target space value x v t in
     record { here = parts.front; back = parts.back }
 token_text (Alone (EmptyTag tag)) x v f t =
@@ -211,8 +211,8 @@ markup_low : (t : Token) (x : List ℕ) → is_run t ≡ false → begins_low (p
 markup_low (Alone (Characters bytes)) x h = absurd (let clash : true ≡ false = h in cc)
 markup_low (Alone (Refers r)) x h = ap begins_low (reference_begins r x)
 markup_low (Alone (Section bytes)) x h = refl
-markup_low (Alone (Remark bytes)) x h = refl
-markup_low (Alone (Processing target space value)) x h = refl
+markup_low (Alone (CommentItem bytes)) x h = refl
+markup_low (Alone (ProcessingInstruction target space value)) x h = refl
 markup_low (Alone (EmptyTag tag)) x h = refl
 markup_low (StartTag tag) x h = refl
 markup_low (EndTag name space) x h = refl

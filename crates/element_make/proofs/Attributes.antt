@@ -1,17 +1,19 @@
 -- The attributes of an element: looked for, and in order.
-use Rattle.std.proofs.Common.{◌≡◌, ℕ, ◌+◌, ◌<◌, ◌≤◌, Bool, true, false, cond, List, ◌∷◌, ◌++◌, length, take, drop, get_or, append_assoc, Some, None, string_bytes, slice_index_or, refl, sym, ap, ◌∙◌, arith}
+use Rattle.std.proofs.Common.{◌≡◌, ℕ, ◌+◌, ◌<◌, ◌≤◌, Bool, true, false, cond, List, ◌∷◌, ◌++◌, length, drop, get_or, Some, None, string_bytes, slice_index_or, refl, sym, ap, ◌∙◌, subst}
 use Rattle.std.specs.List.{insert, flat_map}
 use Rattle.std.specs.Str.{bytes_eq}
 use Rattle.std.specs.Ordering.{is_le}
-use Rattle.std.proofs.lemmas.List.{take_all, length-map, get_or_default}
+use Rattle.std.proofs.lemmas.List.{get_or_default}
 use Rattle.xml_spec.specs.Tree.{Attribute}
 use Rattle.xml_spec.specs.Canonical.{byte_order, inserted, print_attribute}
+use Rattle.canon_octets.specs.Places.{IsAppending, AppendsPart}
+use Rattle.canon_octets.proofs.Underway.{IsUnderway, further, broken_off}
 use Rattle.element_make.specs.Made.{value_of}
 use Rattle.element_make.specs.Views.{attribute_view, attribute_views, lent_view, lent_views}
 use Rattle.element_make.specs.Writing.{by_name}
 use Rattle.element_make.specs.declared.piece.Attribute as declared
 use Rattle.element_make.specs.declared.tag.Lent.{Lent}
-use Rattle.element_make.proofs.Lists.{next_shown, none_shown, taken_shown, flat_map_more, map_inserted, insert_is_inserted}
+use Rattle.element_make.proofs.Lists.{next_shown, none_shown, map_inserted, insert_is_inserted}
 
 module _ (name : List ℕ) (kept : List declared.Attribute) (i : ℕ) where
   looked_at : (a : declared.Attribute) → i < length kept → a ≡ get_or kept i a → (b : Bool) → bytes_eq a.name.now name ≡ b →
@@ -51,20 +53,24 @@ one_more_in_order kept i next a lent order lent_order now place on h is shown so
 abbrev pub print_of : Attribute → List ℕ
 print_of a = print_attribute a.name a.value
 
--- one more attribute is written
-pub one_more_put : (kept : List Lent) (i : ℕ) (d : Lent) (start now next : List ℕ) → i < length kept →
-    now ≡ start ++ flat_map print_of (take i (lent_views kept)) →
-    next ≡ now ++ print_attribute (get_or kept i d).name.now (get_or kept i d).value.now →
-    next ≡ start ++ flat_map print_of (take (i + 1) (lent_views kept))
-one_more_put kept i d start now next h so_far put =
-    let lent = get_or kept i d in
-    put ∙ ap (λ xs. xs ++ print_of (lent_view lent)) so_far
-    ∙ append_assoc start (flat_map print_of (take i (lent_views kept))) (print_of (lent_view lent))
-    ∙ ap (λ xs. start ++ xs)
-    (sym (flat_map_more print_of (take i (lent_views kept)) (lent_view lent))
-    ∙ ap (flat_map print_of) (sym (taken_shown lent_view kept i lent h (get_or_default kept i d lent h))))
+-- what is written of an attribute, and of those behind it
+next_written : (kept : List Lent) (i : ℕ) (d : Lent) → i < length kept →
+    flat_map print_of (drop i (lent_views kept)) ≡ print_of (lent_view (get_or kept i d)) ++ flat_map print_of (drop (i + 1) (lent_views kept))
+next_written kept i d h =
+    ap (flat_map print_of) (next_shown lent_view kept i (get_or kept i d) h (get_or_default kept i d (get_or kept i d) h))
 
-pub all_put : (kept : List Lent) (i : ℕ) (start now : List ℕ) (written : List Attribute) → length kept ≤ i → lent_views kept ≡ written →
-    now ≡ start ++ flat_map print_of (take i (lent_views kept)) → now ≡ start ++ flat_map print_of written
-all_put kept i start now written h are so_far =
-    so_far ∙ ap (λ xs. start ++ flat_map print_of xs) (take_all i (lent_views kept) (omega (arith, length-map kept lent_view)) ∙ are)
+module _ {S : Type 0} {R : S → S → List ℕ → Type 0} (law : IsAppending R) (kept : List Lent) (start now next : S) (i : ℕ) (d : Lent) where
+  -- one more attribute is written
+  pub one_more_put : i < length kept → IsUnderway R start now (flat_map print_of (drop i (lent_views kept))) (flat_map print_of (lent_views kept)) →
+      R now next (print_of (lent_view (get_or kept i d))) →
+      IsUnderway R start next (flat_map print_of (drop (i + 1) (lent_views kept))) (flat_map print_of (lent_views kept))
+  one_more_put h so_far put =
+      further law start now next (print_of (lent_view (get_or kept i d))) (flat_map print_of (drop (i + 1) (lent_views kept))) _ _ (next_written kept i d h) so_far put
+
+  -- a part of one
+  pub one_broken_off : (written : List Attribute) → lent_views kept ≡ written → i < length kept →
+      IsUnderway R start now (flat_map print_of (drop i (lent_views kept))) (flat_map print_of (lent_views kept)) →
+      AppendsPart R now next (print_of (lent_view (get_or kept i d))) → AppendsPart R start next (flat_map print_of written)
+  one_broken_off written are h so_far part =
+      subst (λ (xs : List Attribute). AppendsPart R start next (flat_map print_of xs)) are
+      (broken_off law start now next (print_of (lent_view (get_or kept i d))) (flat_map print_of (drop (i + 1) (lent_views kept))) _ _ (next_written kept i d h) so_far part)

@@ -1,13 +1,12 @@
 -- Lists that are gone through, and lists in order.
-use Rattle.std.proofs.Common.{◌≡◌, ℕ, zero, suc, ◌+◌, ◌<◌, ◌≤◌, Bool, true, false, cond, List, [], ◌∷◌, ◌++◌, ◌==◌, Result, Ok, Err, OnErr, length, take, drop, map, get_or, refl, sym, ap, ◌∙◌, arith}
-use Rattle.std.specs.List.{insert, flat_map}
+use Rattle.std.proofs.Common.{◌≡◌, ℕ, zero, suc, ◌+◌, ◌<◌, ◌≤◌, Bool, true, false, cond, List, [], ◌∷◌, ◌==◌, Result, Ok, Err, OnErr, length, drop, map, get_or, refl, sym, ap, ◌∙◌, arith}
+use Rattle.std.specs.List.{insert}
 use Rattle.std.specs.Ordering.{is_le}
 use Rattle.std.specs.declared.cmp.Ordering.{Ordering}
 use Rattle.std.proofs.Math.Seq.{drop-cons}
 use Rattle.std.proofs.lemmas.Bool.{cond-true, cond-false}
 use Rattle.std.proofs.lemmas.Bool.Decides.{nat_tests}
-use Rattle.std.proofs.lemmas.List.{drop-map, take-map, take_more, drop_all, length-map, map-append, append-nil}
-use Rattle.std.proofs.lemmas.List.Concat.{flat_map-append}
+use Rattle.std.proofs.lemmas.List.{drop-map, drop_all, length-map}
 use Rattle.xml_spec.specs.Canonical.{inserted}
 
 module _ {X Y : Type 0} (f : X → Y) (xs : List X) where
@@ -50,17 +49,6 @@ insert_is_inserted R x (y ∷ ys) zero d fits before at = sym (cond-true (is_le 
 insert_is_inserted R x (y ∷ ys) (suc p) d fits before at =
     ap (λ zs. y ∷ zs) (insert_is_inserted R x ys p d (omega arith) (λ k h. before (suc k) (omega arith)) (λ h. at (omega arith)))
     ∙ sym (cond-false (is_le (R x y)) _ _ (before 0 (omega arith)))
-
--- what is shown up to a place, with one more
-pub taken_shown : {X Y : Type 0} (f : X → Y) (xs : List X) (i : ℕ) (x : X) → i < length xs → x ≡ get_or xs i x →
-    take (i + 1) (map f xs) ≡ take i (map f xs) ++ f x ∷ []
-taken_shown f xs i x h is =
-    take-map f (i + 1) xs ∙ ap (map f) (take_more xs i x h ∙ ap (λ y. take i xs ++ y ∷ []) (sym is))
-    ∙ map-append f (take i xs) (x ∷ []) ∙ ap (λ ys. ys ++ f x ∷ []) (sym (take-map f i xs))
-
--- what is written of each, with one more
-pub flat_map_more : {X Y : Type 0} (f : X → List Y) (xs : List X) (x : X) → flat_map f (xs ++ x ∷ []) ≡ flat_map f xs ++ f x
-flat_map_more f xs x = flat_map-append f xs (x ∷ []) ∙ ap (λ ys. flat_map f xs ++ ys) (append-nil (f x))
 
 pub no_item : {X : Type 0} (xs : List X) → length xs ≡ 0 → xs ≡ []
 no_item [] e = refl

@@ -1,9 +1,10 @@
 -- The open elements, of which the innermost is kept last.
-use Rattle.std.proofs.Common.{◌≡◌, ℕ, zero, suc, ◌-◌, List, [], ◌∷◌, ◌++◌, length, map, reverse, Some, None, refl, sym, ap, ◌∙◌, arith}
-use Rattle.std.specs.List.{slice_get}
+use Rattle.std.proofs.Common.{◌≡◌, ℕ, zero, suc, ◌-◌, List, [], ◌∷◌, ◌++◌, length, map, drop, reverse, Some, None, refl, sym, ap, ◌∙◌, arith}
+use Rattle.std.specs.List.{slice_get, flat_map}
 use Rattle.std.proofs.lemmas.List.{map-append, reverse-append}
 use Rattle.element_make.specs.Views.{open_view, open_views}
-use Rattle.element_make.specs.Writing.{inside_of, nothing_declared}
+use Rattle.element_make.specs.Writing.{inside_of, nothing_declared, end_tag, innermost_end}
+use Rattle.element_make.specs.Writing as writing
 use Rattle.element_make.specs.declared.tag.Open.{Open}
 
 behind : {X : Type 0} (y : X) (xs : List X) (x : X) → ((front : List X) × (xs ≡ front ++ x ∷ [])) →
@@ -38,3 +39,13 @@ inside_last kept element is =
 
 pub inside_none : (kept : List Open) → None ≡ slice_get kept (length kept - 1) → nothing_declared ≡ inside_of (open_views kept)
 inside_none kept is = sym (ap (λ xs. inside_of (open_views xs)) (none_last kept (length kept - 1) refl (sym is)))
+
+-- the end tag of the element that is kept last
+pub innermost_last : (kept front : List Open) (element : Open) → kept ≡ front ++ element ∷ [] →
+    end_tag (open_view element) ≡ innermost_end (open_views kept)
+innermost_last kept front element is = sym (ap (λ xs. innermost_end (open_views xs)) is ∙ ap innermost_end (open_views_more front element))
+
+-- the end tags of all open elements
+pub ends_written : (elements : List writing.Open) → flat_map end_tag elements ≡ innermost_end elements ++ flat_map end_tag (drop 1 elements)
+ends_written [] = refl
+ends_written (element ∷ elements) = refl

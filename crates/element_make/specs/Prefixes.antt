@@ -1,5 +1,6 @@
 -- The prefixes and namespaces of the messages: SAML Core 1.1 and 3.1, Metadata 1.1, XML Signature 1.2.
 use Rattle.std.specs.Prelude.{ℕ, Bool, true, false, List, codes}
+use Rattle.saml_names.specs.Names.{saml_namespace, samlp_namespace, ds_namespace, md_namespace}
 use Rattle.element_make.specs.declared.names.Ns.{Ns}
 use Rattle.element_make.specs.declared.names.Ns.TheVariants.{Saml, Samlp, Ds, Md}
 
@@ -10,10 +11,10 @@ prefix Ds = codes "ds"
 prefix Md = codes "md"
 
 abbrev pub namespace : Ns → List ℕ
-namespace Saml = codes "urn:oasis:names:tc:SAML:2.0:assertion"
-namespace Samlp = codes "urn:oasis:names:tc:SAML:2.0:protocol"
-namespace Ds = codes "http://www.w3.org/2000/09/xmldsig#"
-namespace Md = codes "urn:oasis:names:tc:SAML:2.0:metadata"
+namespace Saml = saml_namespace
+namespace Samlp = samlp_namespace
+namespace Ds = ds_namespace
+namespace Md = md_namespace
 
 abbrev pub same : Ns → Ns → Bool
 same Saml Saml = true

@@ -61,12 +61,18 @@ abbrev pub innermost_end : List Open → List ℕ
 innermost_end [] = []
 innermost_end (element ∷ elements) = end_tag element
 
--- what is written of the pieces inside these open elements, the innermost first, and of the ends of those that are
--- open behind them
+-- what is written of one piece inside these open elements, the innermost first, and which are open behind it
+abbrev pub piece_form : List Open → Piece → List ℕ
+piece_form elements (StartPiece ns local attributes) = start_tag (inside_of elements) ns local attributes
+piece_form elements (TextPiece text) = escape_text text
+piece_form elements EndPiece = innermost_end elements
+
+abbrev pub open_behind : List Open → Piece → List Open
+open_behind elements (StartPiece ns local attributes) = opened (inside_of elements) ns local ∷ elements
+open_behind elements (TextPiece text) = elements
+open_behind elements EndPiece = drop 1 elements
+
+-- what is written of the pieces inside these open elements, and of the ends of those that are open behind them
 abbrev pub written_pieces : List Open → List Piece → List ℕ
 written_pieces elements [] = flat_map end_tag elements
-written_pieces elements (StartPiece ns local attributes ∷ pieces) =
-    start_tag (inside_of elements) ns local attributes
-    ++ written_pieces (opened (inside_of elements) ns local ∷ elements) pieces
-written_pieces elements (TextPiece text ∷ pieces) = escape_text text ++ written_pieces elements pieces
-written_pieces elements (EndPiece ∷ pieces) = innermost_end elements ++ written_pieces (drop 1 elements) pieces
+written_pieces elements (piece ∷ pieces) = piece_form elements piece ++ written_pieces (open_behind elements piece) pieces

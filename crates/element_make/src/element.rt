@@ -3,14 +3,16 @@ ghost use Rattle.std.specs.Prelude.{◌≡◌, ◌≢◌, ℕ, [], ◌∷◌, �
 ghost use Rattle.std.specs.List.{AllByRecursion};
 ghost use Rattle.std.specs.Option.{option_map};
 ghost use Rattle.xml_spec.specs.Characters.{IsText, IsNoColonName};
+ghost use Rattle.canon_octets.specs.Places.{AppendsPart};
 ghost use Rattle.element_make.specs.Made.{IsMade, NothingMade, MadeText, alone, joined, with_second, IsAny, value_of, written};
 ghost use Rattle.element_make.specs.Pieces.{pieces_of};
 ghost use Rattle.element_make.specs.Views.{piece_views};
 
 use crate::names::Ns;
 use crate::piece::{Attribute, Piece, Tag, first_length, put_at};
-use crate::writing::form_of;
-use saml_outside::NoMemory;
+use crate::writing::put_form;
+use canon_octets::Octets;
+use owned_values::NoMemory;
 use std::alloc::Global;
 use std::marker::Model;
 
@@ -124,6 +126,21 @@ impl Made {
         None
     }
 
+    /// Appends the element as it is written: its exclusive canonical form (Exclusive C14N 1.0, 3). It goes piece by piece
+    /// into a place that takes bytes, so that a hash of it gathers nothing.
+    ///
+    /// # Errors
+    ///
+    /// `NoMemory`: a part of it from the first byte on may have been appended.
+    pub fn put_into<O: Octets>(&self, out: &mut O) -> Result<(), NoMemory>
+        // The element is one that can be made.
+        ensures made { IsMade self.now }
+        ensures ok { OnOk result (O.appends out.old out.new (written self.now)) }
+        ensures err { OnErr result (AppendsPart O.appends out.old out.new (written self.now)) }
+    {
+        put_form(&self.tag, self.content.as_slice(), out)
+    }
+
     /// Appends the element as it is written: its exclusive canonical form (Exclusive C14N 1.0, 3). Where memory runs
     /// out, a part of it from the first byte on may have been appended.
     pub fn put(&self, out: &mut Vec<u8>) -> Result<(), NoMemory>
@@ -132,8 +149,6 @@ impl Made {
         ensures ok { OnOk result (out.new.items ≡ out.old.items ++ written self.now) }
         ensures err { OnErr result ((n : ℕ) × (out.new.items ≡ out.old.items ++ take n (written self.now))) }
     {
-        let form = form_of(*out.allocator(), &self.tag, self.content.as_slice())?;
-        out.extend_from_slice(form.as_slice())?;
-        Ok(())
+        self.put_into(out)
     }
 }

@@ -2,6 +2,8 @@
 ghost use Rattle.std.specs.Prelude.{◌≡◌};
 ghost use Rattle.element_make.specs.Prefixes.{prefix, namespace};
 
+use saml_names::{DS, MD, SAML, SAMLP};
+
 /// A namespace that messages use. Each has one prefix: `saml`, `samlp`, `ds`, `md`.
 #[derive(Clone, Copy, Debug, PartialEq, Eq)]
 pub enum Ns {
@@ -33,10 +35,10 @@ impl Ns {
         ensures { result.now ≡ namespace self }
     {
         match self {
-            Ns::Saml => "urn:oasis:names:tc:SAML:2.0:assertion",
-            Ns::Samlp => "urn:oasis:names:tc:SAML:2.0:protocol",
-            Ns::Ds => "http://www.w3.org/2000/09/xmldsig#",
-            Ns::Md => "urn:oasis:names:tc:SAML:2.0:metadata",
+            Ns::Saml => SAML,
+            Ns::Samlp => SAMLP,
+            Ns::Ds => DS,
+            Ns::Md => MD,
         }
     }
 }

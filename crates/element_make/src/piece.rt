@@ -5,7 +5,7 @@ ghost use Rattle.element_make.specs.Pieces.{first_length};
 ghost use Rattle.element_make.specs.Views.{piece_views};
 
 use crate::names::Ns;
-use saml_outside::NoMemory;
+use owned_values::NoMemory;
 
 /// An attribute. Its name has no prefix.
 #[derive(Debug, Drop)]

@@ -1,19 +1,20 @@
 // Tags as they are written: Canonical XML 1.0, 2.3.
-ghost use Rattle.std.specs.Prelude.{◌≡◌, ◌≤◌, ◌<◌, ℕ, [], ◌∷◌, ◌++◌, length, true, false, slice_index_or, IfOk, OnOk};
+ghost use Rattle.std.specs.Prelude.{◌≡◌, ◌≤◌, ◌<◌, ℕ, [], ◌∷◌, length, true, false, slice_index_or, if◌then◌else◌, IfOk, OnOk, OnErr};
 ghost use Rattle.std.specs.List.{flat_map};
 ghost use Rattle.std.specs.Ordering.{is_le};
-ghost use Rattle.xml_spec.specs.Canonical.{byte_order, escape_value, print_attribute, print_binding};
-ghost use Rattle.xml_spec.specs.Ascii.{equals_sign, quotation_mark};
+ghost use Rattle.xml_spec.specs.Canonical.{byte_order, print_attribute, print_binding};
+ghost use Rattle.canon_octets.specs.Places.{AppendsPart};
+ghost use Rattle.canon_octets.specs.Names.{joined_name};
 ghost use Rattle.element_make.specs.Made.{qualified};
 ghost use Rattle.element_make.specs.Views.{attribute_views, lent_views, open_view};
 ghost use Rattle.element_make.specs.declared.tag.Lent.{Lent};
-ghost use Rattle.element_make.specs.Writing.{binding, by_name, start_tag, end_tag, opened};
+ghost use Rattle.element_make.specs.Writing.{binding, by_name, declares, start_tag, end_tag, opened};
 
 use crate::names::Ns;
 use crate::piece::{Attribute, Tag};
 use crate::scope::Declared;
-use excl_c14n::escape_value;
-use saml_outside::NoMemory;
+use canon_octets::{Octets, QualifiedName};
+use owned_values::NoMemory;
 use std::alloc::Global;
 
 /// An element that is open: its name, and what is declared inside it.
@@ -37,44 +38,35 @@ impl Open {
     }
 
     /// Appends its end tag.
-    pub(crate) fn put_end(&self, out: &mut Vec<u8>) -> Result<(), NoMemory>
-        ensures { OnOk result (out.new.items ≡ out.old.items ++ end_tag (open_view self.now)) }
+    pub(crate) fn put_end<O: Octets>(&self, out: &mut O) -> Result<(), NoMemory>
+        ensures ok { OnOk result (O.appends out.old out.new (end_tag (open_view self.now))) }
+        ensures err { OnErr result (AppendsPart O.appends out.old out.new (end_tag (open_view self.now))) }
     {
-        out.extend_from_slice(b"</")?;
-        put_name(self.ns, self.local, out)?;
-        out.push(b'>')?;
-        Ok(())
+        let name = name_of(self.ns, self.local);
+        canon_octets::put_end(name, out)
     }
 }
 
-/// Appends a qualified name.
-fn put_name(ns: Ns, local: &str, out: &mut Vec<u8>) -> Result<(), NoMemory>
-    ensures { OnOk result (out.new.items ≡ out.old.items ++ qualified ns local.now) }
+/// A qualified name.
+fn name_of<'d>(ns: Ns, local: &'d str) -> QualifiedName<'d>
+    ensures { joined_name result.prefix.now result.local.now ≡ qualified ns local.now }
 {
-    out.extend_from_slice(ns.prefix().as_bytes())?;
-    out.push(b':')?;
-    out.extend_from_slice(local.as_bytes())?;
-    Ok(())
+    QualifiedName {
+        prefix: ns.prefix(),
+        local,
+    }
 }
 
-/// Appends the value of an attribute, in quotation marks and behind an equals sign.
-fn put_value(value: &str, out: &mut Vec<u8>) -> Result<(), NoMemory>
-    ensures { OnOk result (out.new.items ≡ out.old.items
-        ++ equals_sign ∷ quotation_mark ∷ escape_value value.now ++ quotation_mark ∷ []) }
+/// Appends the declaration of a namespace, unless the elements outside declare it.
+fn put_declaration<O: Octets>(ns: Ns, outside: Declared, out: &mut O) -> Result<(), NoMemory>
+    ensures ok { OnOk result (O.appends out.old out.new (flat_map print_binding (if declares outside ns then [] else binding ns ∷ []))) }
+    ensures err { OnErr result (AppendsPart O.appends out.old out.new
+        (flat_map print_binding (if declares outside ns then [] else binding ns ∷ []))) }
 {
-    out.extend_from_slice(b"=\"")?;
-    escape_value(value, out)?;
-    out.push(b'"')?;
-    Ok(())
-}
-
-/// Appends the declaration of a namespace.
-fn put_declaration(ns: Ns, out: &mut Vec<u8>) -> Result<(), NoMemory>
-    ensures { OnOk result (out.new.items ≡ out.old.items ++ print_binding (binding ns)) }
-{
-    out.extend_from_slice(b" xmlns:")?;
-    out.extend_from_slice(ns.prefix().as_bytes())?;
-    put_value(ns.name(), out)
+    if outside.has(ns) {
+        return Ok(());
+    }
+    canon_octets::put_declaration(ns.prefix(), ns.name(), out)
 }
 
 /// An attribute that is lent.
@@ -85,12 +77,15 @@ struct Lent<'a> {
 }
 
 /// Appends an attribute.
-fn put_attribute(attribute: Lent<'_>, out: &mut Vec<u8>) -> Result<(), NoMemory>
-    ensures { OnOk result (out.new.items ≡ out.old.items ++ print_attribute attribute.entry.name.now attribute.entry.value.now) }
+fn put_attribute<O: Octets>(attribute: Lent<'_>, out: &mut O) -> Result<(), NoMemory>
+    ensures ok { OnOk result (O.appends out.old out.new (print_attribute attribute.entry.name.now attribute.entry.value.now)) }
+    ensures err { OnErr result (AppendsPart O.appends out.old out.new (print_attribute attribute.entry.name.now attribute.entry.value.now)) }
 {
-    out.push(b' ')?;
-    out.extend_from_slice(attribute.name.as_bytes())?;
-    put_value(attribute.value, out)
+    let name = QualifiedName {
+        prefix: "",
+        local: attribute.name,
+    };
+    canon_octets::put_attribute(name, attribute.value, out)
 }
 
 /// Where an attribute goes among these ones: in front of the first whose name is not below its name.
@@ -128,11 +123,17 @@ fn in_order(alloc: Global, attributes: &[Attribute]) -> Result<Vec<Lent<'_>>, No
 }
 
 /// Appends the attributes of an element in order.
-fn put_attributes(attributes: &[Attribute], out: &mut Vec<u8>) -> Result<(), NoMemory>
-    ensures { OnOk result (out.new.items ≡ out.old.items
-        ++ flat_map (λ a. print_attribute a.name a.value) (by_name (attribute_views attributes.now))) }
+fn put_attributes<O: Octets>(
+    alloc: Global,
+    attributes: &[Attribute],
+    out: &mut O,
+) -> Result<(), NoMemory>
+    ensures ok { OnOk result (O.appends out.old out.new
+        (flat_map (λ a. print_attribute a.name a.value) (by_name (attribute_views attributes.now)))) }
+    ensures err { OnErr result (AppendsPart O.appends out.old out.new
+        (flat_map (λ a. print_attribute a.name a.value) (by_name (attribute_views attributes.now)))) }
 {
-    let order = in_order(*out.allocator(), attributes)?;
+    let order = in_order(alloc, attributes)?;
     for attribute in &order {
         put_attribute(*attribute, out)?;
     }
@@ -140,16 +141,20 @@ fn put_attributes(attributes: &[Attribute], out: &mut Vec<u8>) -> Result<(), NoM
 }
 
 /// Appends the start tag of an element inside others that declare these namespaces.
-pub(crate) fn put_start(tag: &Tag, outside: Declared, out: &mut Vec<u8>) -> Result<(), NoMemory>
-    ensures { OnOk result (out.new.items ≡ out.old.items
-        ++ start_tag outside tag.now.ns tag.now.local.now (attribute_views tag.now.attributes.items)) }
+pub(crate) fn put_start<O: Octets>(
+    tag: &Tag,
+    outside: Declared,
+    out: &mut O,
+) -> Result<(), NoMemory>
+    ensures ok { OnOk result (O.appends out.old out.new
+        (start_tag outside tag.now.ns tag.now.local.now (attribute_views tag.now.attributes.items))) }
+    ensures err { OnErr result (AppendsPart O.appends out.old out.new
+        (start_tag outside tag.now.ns tag.now.local.now (attribute_views tag.now.attributes.items))) }
 {
-    out.push(b'<')?;
-    put_name(tag.ns, tag.local, out)?;
-    if !outside.has(tag.ns) {
-        put_declaration(tag.ns, out)?;
-    }
-    put_attributes(tag.attributes.as_slice(), out)?;
-    out.push(b'>')?;
-    Ok(())
+    let name = name_of(tag.ns, tag.local);
+    let alloc = *tag.attributes.allocator();
+    canon_octets::put_start(name, out)?;
+    put_declaration(tag.ns, outside, out)?;
+    put_attributes(alloc, tag.attributes.as_slice(), out)?;
+    out.put(b">")
 }

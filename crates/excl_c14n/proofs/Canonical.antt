@@ -131,12 +131,10 @@ kept_form listed tree n (Some skip) scope rendered behind =
     one_less listed skip n (skip - n) scope rendered (alone (from_node tree n)) (omega arith)
     ∙ alone_form listed (Some skip) n scope rendered (from_node tree n)
 
--- a form that was written where nothing was before, in the scope of the node, with nothing rendered
-pub form_is_canonical : (listed : List (List ℕ)) (tree : Nodes) (n : ℕ) (skip : Option ℕ) (scope rendered : Scope) (form before : List ℕ) →
-    IfSome skip (λ s. n ≤ s) → scope ≡ scope_at outermost tree n → rendered ≡ [] → before ≡ [] →
-    form ≡ before ++ node_form listed skip n scope rendered (from_node tree n) →
-    form ≡ canonical tree n skip listed
-form_is_canonical listed tree n skip scope rendered form before behind place nothing none written =
-    written ∙ ap (λ xs. xs ++ node_form listed skip n scope rendered (from_node tree n)) none
-    ∙ (λ i. node_form listed skip n (place i) (nothing i) (from_node tree n))
+-- the form of an element, in the scope in which it stands, with nothing rendered
+pub form_is_canonical : (listed : List (List ℕ)) (tree : Nodes) (n : ℕ) (skip : Option ℕ) (scope rendered : Scope) →
+    IfSome skip (λ s. n ≤ s) → scope ≡ scope_at outermost tree n → rendered ≡ [] →
+    node_form listed skip n scope rendered (from_node tree n) ≡ canonical tree n skip listed
+form_is_canonical listed tree n skip scope rendered behind place nothing =
+    (λ i. node_form listed skip n (place i) (nothing i) (from_node tree n))
     ∙ sym (kept_form listed tree n skip (scope_at outermost tree n) [] behind)

@@ -1,8 +1,8 @@
 pub mod Answering
 pub mod Ascending
+pub mod Below
 pub mod Canonical
 pub mod Declaring
-pub mod Escaping
 pub mod Listing
 pub mod Named
 pub mod Needed

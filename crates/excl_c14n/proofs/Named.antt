@@ -10,7 +10,8 @@ use Rattle.xml_spec.specs.Canonical.{scope_at}
 use Rattle.saml_tree.specs.Documents.{attributes_of}
 use Rattle.saml_tree.specs.NodeNames.{ShownName, shown_name, name_at, attribute_at}
 use Rattle.saml_tree.specs.Elements.{name_in}
-use Rattle.excl_c14n.specs.Shown.{joined_name, prefix_declared_by}
+use Rattle.canon_octets.specs.Names.{joined_name}
+use Rattle.excl_c14n.specs.Shown.{prefix_declared_by}
 use Rattle.excl_c14n.proofs.Parts.{joined_parts, declared_by_parts}
 
 -- the nodes from node k on are named well in the scope in which they stand

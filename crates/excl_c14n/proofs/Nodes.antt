@@ -13,11 +13,11 @@ from_first (Text text rest) = refl
 from_first (Comment text rest) = refl
 from_first (Instruction target value rest) = refl
 
-in_kids : (name : List ℕ) (attributes : List Attribute) (kids rest : Nodes) (k : ℕ) → k < size kids →
+pub in_kids : (name : List ℕ) (attributes : List Attribute) (kids rest : Nodes) (k : ℕ) → k < size kids →
     from_node (Element name attributes kids rest) (suc k) ≡ from_node kids k
 in_kids name attributes kids rest k h = cond-true (ltb k (size kids)) _ _ (lt-ltb _ _ h)
 
-in_rest : (name : List ℕ) (attributes : List Attribute) (kids rest : Nodes) (k : ℕ) → size kids ≤ k →
+pub in_rest : (name : List ℕ) (attributes : List Attribute) (kids rest : Nodes) (k : ℕ) → size kids ≤ k →
     from_node (Element name attributes kids rest) (suc k) ≡ from_node rest (k - size kids)
 in_rest name attributes kids rest k h = cond-false (ltb k (size kids)) _ _ (le-ltb _ _ h)
 
@@ -95,14 +95,14 @@ rest_at (Text text rest) = from_first rest
 rest_at (Comment text rest) = from_first rest
 rest_at (Instruction target value rest) = from_first rest
 
-some_kids : (nodes : Nodes) → 0 < size (kids_of nodes) → 1 < size nodes
+pub some_kids : (nodes : Nodes) → 0 < size (kids_of nodes) → 1 < size nodes
 some_kids NoNodes h = absurd (omega arith)
 some_kids (Element name attributes kids rest) h = omega arith
 some_kids (Text text rest) h = absurd (omega arith)
 some_kids (Comment text rest) h = absurd (omega arith)
 some_kids (Instruction target value rest) h = absurd (omega arith)
 
-some_rest : (nodes : Nodes) → 0 < size (rest_of nodes) → suc (size (kids_of nodes)) < size nodes
+pub some_rest : (nodes : Nodes) → 0 < size (rest_of nodes) → suc (size (kids_of nodes)) < size nodes
 some_rest NoNodes h = absurd (omega arith)
 some_rest (Element name attributes kids rest) h = omega arith
 some_rest (Text text rest) h = omega arith

@@ -1,7 +1,7 @@
 -- An element begins: what is bound, what is written and what is rendered then.
 use Rattle.std.proofs.Common.{◌≡◌, ℕ, ◌<◌, ◌||◌, List, [], ◌∷◌, ◌++◌, map, length, drop, sym, ap, ◌∙◌, subst, arith}
 use Rattle.xml_spec.specs.Tree.{Attribute}
-use Rattle.xml_spec.specs.Names.{Binding, declarations}
+use Rattle.xml_spec.specs.Names.{Binding, Scope, inner_scope, declarations}
 use Rattle.xml_spec.specs.Canonical.{print_start, written_attributes}
 use Rattle.excl_c14n.specs.Levels.{BindingsView, in_force, with_bindings, binding_in, is_among, AreListedRendered}
 use Rattle.excl_c14n.specs.NodeByNode.{wanted_prefixes, written_in, start_in}
@@ -50,12 +50,10 @@ module _ (listed : List (List ℕ)) (before now : BindingsView) (name : List ℕ
       ∙ (λ i. map (binding_in (scope_in before now (declarations attributes) is i))
       (wanted_prefixes listed (scope_in before now (declarations attributes) is i) (rendered_in before now (declarations attributes) is i) name attributes))
 
-  pub start_put : (out then : List ℕ) →
-      then ≡ out ++ print_start name (map (binding_in (in_force now.scope)) wanted) (written_attributes (in_force now.scope) attributes) →
-      then ≡ out ++ start_in listed (in_force before.scope) (in_force before.rendered) name attributes
-  start_put out then put =
-      put
-      ∙ (λ i. out ++ print_start name (bindings_wanted i) (written_attributes (scope_in before now (declarations attributes) is i) attributes))
+  pub start_is : (inside : Scope) → inside ≡ inner_scope attributes (in_force before.scope) →
+      print_start name (map (binding_in (in_force now.scope)) wanted) (written_attributes inside attributes)
+      ≡ start_in listed (in_force before.scope) (in_force before.rendered) name attributes
+  start_is inside same = λ i. print_start name (bindings_wanted i) (written_attributes (same i) attributes)
 
   pub all_rendered : (new : BindingsView) →
       new ≡ record { scope = now.scope; rendered = with_bindings (map (binding_in (in_force now.scope)) wanted) now.rendered } →

@@ -9,12 +9,12 @@ use Rattle.std.specs.Ordering.{ordering_then}
 use Rattle.std.proofs.lemmas.Cmp.{nat_list_cmp_total, tied_itself}
 use Rattle.xml_spec.specs.Characters.{prefix_of, local_of}
 use Rattle.xml_spec.specs.Bytes.{is_empty}
-use Rattle.xml_spec.specs.Names.{Scope, ExpandedName, namespace_of, declared_prefix, is_declaration, proper_attributes, attribute_name}
-use Rattle.xml_spec.specs.Canonical.{byte_order, expanded_order, inserted, sorted, written_attributes}
+use Rattle.xml_spec.specs.Names.{Scope, ExpandedName, outermost, inner_scope, xmlns_namespace, namespace_of, declared_prefix, is_declaration, proper_attributes, attribute_name}
+use Rattle.xml_spec.specs.Canonical.{scope_at, byte_order, expanded_order, inserted, sorted, written_attributes}
 use Rattle.saml_tree.specs.Documents.{attributes_of}
-use Rattle.saml_tree.specs.NodeNames.{attribute_at}
+use Rattle.saml_tree.specs.NodeNames.{ShownName, attribute_at, attribute_name_at, shown_attribute_name}
 use Rattle.saml_tree.specs.Elements.{attributes_in}
-use Rattle.excl_c14n.specs.NodeByNode.{attribute_order_in, number_order, is_proper_number}
+use Rattle.excl_c14n.specs.NodeByNode.{scope_inside, attribute_order_in, number_order, is_proper_number}
 use Rattle.excl_c14n.proofs.Sorting.{map-sorted}
 
 -- the numbers from `from` up to the count whose attributes declare nothing, sorted
@@ -152,3 +152,36 @@ expanded_parts scope (Some a) prefix local namespace there parts is =
 pub same_namespace : (one other : List ℕ) (order : Ordering) → one ≡ other → ordering_then (byte_order one other) order ≡ order
 same_namespace one other order same =
     ap (λ space. ordering_then (byte_order one space) order) (sym same) ∙ ap (λ o. ordering_then o order) (tied_itself nat_list_cmp_total one)
+
+-- the namespace that is shown of the name of an attribute that declares nothing
+pub shown_namespace : (tree : Nodes) (n i : ℕ) (name : ShownName) → IsSome (attribute_at tree n i) →
+    IfSome (attribute_at tree n i) (λ a. declared_prefix a.name ≡ None) → attribute_name_at tree n i ≡ Some name →
+    (name.namespace ≡ cond (is_empty name.prefix) [] (namespace_of (scope_inside tree n) name.prefix))
+    × IfSome (attribute_at tree n i) (λ a. (name.prefix ≡ prefix_of a.name) × (name.local ≡ local_of a.name))
+shown_namespace tree n i name there proper is = which (attributes_of (from_node tree n)) refl there proper is
+  where
+    the_name : {X : Type 0} (x y : X) → Some x ≡ Some y → x ≡ y
+    the_name x y e = cc
+
+    which : (o : Option (List Attribute)) → attributes_of (from_node tree n) ≡ o → IsSome (option_and_then (λ attributes. slice_get attributes i) o) →
+        IfSome (option_and_then (λ attributes. slice_get attributes i) o) (λ a. declared_prefix a.name ≡ None) →
+        option_and_then (λ attributes. option_map (shown_attribute_name (inner_scope attributes (scope_at outermost tree n))) (slice_get attributes i)) o ≡ Some name →
+        (name.namespace ≡ cond (is_empty name.prefix) [] (namespace_of (inner_scope (unwrap_or o []) (scope_at outermost tree n)) name.prefix))
+        × IfSome (option_and_then (λ attributes. slice_get attributes i) o) (λ a. (name.prefix ≡ prefix_of a.name) × (name.local ≡ local_of a.name))
+    which None here there proper is = absurd (let clash : None ≡ Some name = is in cc)
+    which (Some attributes) here there proper is = at (slice_get attributes i) there proper is
+      where
+        at : (o : Option Attribute) → IsSome o → IfSome o (λ a. declared_prefix a.name ≡ None) →
+            option_map (shown_attribute_name (inner_scope attributes (scope_at outermost tree n))) o ≡ Some name →
+            (name.namespace ≡ cond (is_empty name.prefix) [] (namespace_of (inner_scope attributes (scope_at outermost tree n)) name.prefix))
+            × IfSome o (λ a. (name.prefix ≡ prefix_of a.name) × (name.local ≡ local_of a.name))
+        at None there proper is = absurd (let clash : None ≡ Some name = is in cc)
+        at (Some a) there proper is =
+            let inner = inner_scope attributes (scope_at outermost tree n) in
+            let same : shown_attribute_name inner a ≡ name = the_name (shown_attribute_name inner a) name is in
+            let prefix : prefix_of a.name ≡ name.prefix = ap (λ (s : ShownName). s.prefix) same in (
+              sym (ap (λ (s : ShownName). s.namespace) same)
+                  ∙ ap (λ d. cond (is_some d) xmlns_namespace (attribute_name inner a.name).namespace) proper
+                  ∙ ap (λ p. cond (is_empty p) [] (namespace_of inner p)) prefix,
+              (sym prefix, sym (ap (λ (s : ShownName). s.local) same)),
+            )

@@ -8,7 +8,8 @@ use Rattle.xml_spec.specs.Ascii.{colon}
 use Rattle.xml_spec.specs.Characters.{IsQualifiedName, at_colon, prefix_of, local_of}
 use Rattle.xml_spec.specs.Names.{declared_prefix}
 use Rattle.xml_spec.proofs.NameBytes.{name_is_not_empty}
-use Rattle.excl_c14n.specs.Shown.{joined_name, prefix_declared_by}
+use Rattle.canon_octets.specs.Names.{joined_name}
+use Rattle.excl_c14n.specs.Shown.{prefix_declared_by}
 
 abbrev front_of : Option (List ℕ × List ℕ) → List ℕ
 front_of o = unwrap_or (option_map (λ (parts : List ℕ × List ℕ). parts.0) o) []

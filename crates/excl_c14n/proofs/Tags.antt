@@ -1,10 +1,12 @@
--- Start tags, written piece by piece.
-use Rattle.std.proofs.Common.{◌≡◌, ℕ, ◌+◌, ◌<◌, ◌≤◌, List, [], ◌∷◌, ◌++◌, length, map, take, drop, get_or, Option, Some, None, IsSome, IfSome, Bor, sym, ap, ◌∙◌, subst, arith}
+-- Start tags, put piece by piece.
+use Rattle.std.proofs.Common.{◌≡◌, ℕ, ◌+◌, ◌<◌, ◌≤◌, List, [], ◌++◌, length, map, drop, get_or, Option, Some, None, IsSome, IfSome, Bor, sym, ap, ◌∙◌, subst, arith}
 use Rattle.std.specs.List.{flat_map}
 use Rattle.std.specs.Option.{is_some}
-use Rattle.std.proofs.lemmas.List.{append-nil, length-map, get_or-map, take_more, take_all, drop_more, drop_all, map-append, flat_map_more}
+use Rattle.std.proofs.lemmas.List.{length-map, get_or-map, drop_more, drop_all}
+use Rattle.canon_octets.specs.Places.{IsAppending, AppendsPart}
+use Rattle.canon_octets.proofs.Underway.{IsUnderway, further, complete, broken_off}
 use Rattle.xml_spec.specs.Tree.{Attribute}
-use Rattle.xml_spec.specs.Names.{Binding, Scope}
+use Rattle.xml_spec.specs.Names.{Scope}
 use Rattle.xml_spec.specs.Canonical.{print_attribute, print_binding}
 use Rattle.excl_c14n.specs.Texts.{texts}
 use Rattle.excl_c14n.proofs.Nesting.{length-with_bindings}
@@ -32,46 +34,56 @@ module _ (at : ℕ → Option Attribute) (order : List ℕ) (attributes : List A
   pub is_found : (k : ℕ) → k < length order → IsSome (at (get_or order k 0))
   is_found k h = ap is_some (attribute_found k h)
 
-  pub one_more_put : (start now then : List ℕ) (k : ℕ) → k < length order → now ≡ start ++ flat_map print_of (take k attributes) →
-      IfSome (at (get_or order k 0)) (λ a. then ≡ now ++ print_of a) →
-      then ≡ start ++ flat_map print_of (take (k + 1) attributes)
-  one_more_put start now then k h so_far put =
-      let one : then ≡ now ++ print_of (get_or attributes k no_attribute) =
-      subst (λ (o : Option Attribute). IfSome o (λ a. then ≡ now ++ print_of a)) (attribute_found k h) put in
-      one ∙ ap (λ xs. xs ++ print_of (get_or attributes k no_attribute)) so_far
-      ∙ flat_map_more print_of start (take k attributes) (get_or attributes k no_attribute)
-      ∙ ap (λ xs. start ++ flat_map print_of xs) (sym (take_more attributes k no_attribute (omega (arith, as_many))))
+  next_written : (k : ℕ) → k < length order →
+      flat_map print_of (drop k attributes) ≡ print_of (get_or attributes k no_attribute) ++ flat_map print_of (drop (k + 1) attributes)
+  next_written k h = ap (flat_map print_of) (drop_more attributes k no_attribute (omega (arith, as_many)))
 
-  pub all_put : (start now : List ℕ) (k : ℕ) → length order ≤ k → now ≡ start ++ flat_map print_of (take k attributes) →
-      now ≡ start ++ flat_map print_of attributes
-  all_put start now k end so_far =
-      so_far ∙ ap (λ xs. start ++ flat_map print_of xs) (take_all k attributes (omega (arith, as_many)))
+  module _ {S : Type 0} {R : S → S → List ℕ → Type 0} (law : IsAppending R) (start now next : S) where
+    pub one_more_put : (k : ℕ) → k < length order → IsUnderway R start now (flat_map print_of (drop k attributes)) (flat_map print_of attributes) →
+        IfSome (at (get_or order k 0)) (λ a. R now next (print_of a)) →
+        IsUnderway R start next (flat_map print_of (drop (k + 1) attributes)) (flat_map print_of attributes)
+    one_more_put k h so_far put =
+        further law start now next (print_of (get_or attributes k no_attribute)) (flat_map print_of (drop (k + 1) attributes)) _ _ (next_written k h) so_far
+        (subst (λ (o : Option Attribute). IfSome o (λ a. R now next (print_of a))) (attribute_found k h) put)
 
--- the declarations of the first k prefixes
-abbrev pub declared_until : Scope → List (Bor (List ℕ)) → ℕ → List ℕ
-declared_until scope wanted k = flat_map print_binding (map (binding_in scope) (texts (take k wanted)))
+    pub one_put_partly : (k : ℕ) → k < length order → IsUnderway R start now (flat_map print_of (drop k attributes)) (flat_map print_of attributes) →
+        IfSome (at (get_or order k 0)) (λ a. AppendsPart R now next (print_of a)) → AppendsPart R start next (flat_map print_of attributes)
+    one_put_partly k h so_far put =
+        broken_off law start now next (print_of (get_or attributes k no_attribute)) (flat_map print_of (drop (k + 1) attributes)) _ _ (next_written k h) so_far
+        (subst (λ (o : Option Attribute). IfSome o (λ a. AppendsPart R now next (print_of a))) (attribute_found k h) put)
 
-pub none_declared : (scope : Scope) (wanted : List (Bor (List ℕ))) (now : List ℕ) → now ≡ now ++ declared_until scope wanted 0
-none_declared scope wanted now = sym (append-nil now)
+    pub all_put : (k : ℕ) → length order ≤ k → IsUnderway R start now (flat_map print_of (drop k attributes)) (flat_map print_of attributes) →
+        R start now (flat_map print_of attributes)
+    all_put k end so_far =
+        complete law start now (flat_map print_of (drop k attributes)) (flat_map print_of attributes)
+        (ap (flat_map print_of) (drop_all k attributes (omega (arith, as_many)))) so_far
 
-pub one_more_declared : (scope : Scope) (wanted : List (Bor (List ℕ))) (k : ℕ) (d : Bor (List ℕ)) (start now then namespace : List ℕ) → k < length wanted →
-    now ≡ start ++ declared_until scope wanted k → namespace ≡ (binding_in scope (get_or wanted k d).now).namespace →
-    then ≡ now ++ print_binding (record { prefix = (get_or wanted k d).now; namespace = namespace }) →
-    then ≡ start ++ declared_until scope wanted (k + 1)
-one_more_declared scope wanted k d start now then namespace h so_far is put =
-    let b : Binding = binding_in scope (get_or wanted k d).now in
-    put ∙ ap (λ ns. now ++ print_binding (record { prefix = (get_or wanted k d).now; namespace = ns })) is
-    ∙ ap (λ xs. xs ++ print_binding b) so_far
-    ∙ flat_map_more print_binding start (map (binding_in scope) (texts (take k wanted))) b
-    ∙ ap (λ bs. start ++ flat_map print_binding bs)
-    (sym (ap (λ xs. map (binding_in scope) (texts xs)) (take_more wanted k d h)
-    ∙ ap (map (binding_in scope)) (map-append (λ (t : Bor (List ℕ)). t.now) (take k wanted) (get_or wanted k d ∷ []))
-    ∙ map-append (binding_in scope) (texts (take k wanted)) ((get_or wanted k d).now ∷ [])))
+-- the declarations of these prefixes
+abbrev pub declared_in : Scope → List (Bor (List ℕ)) → List ℕ
+declared_in scope wanted = flat_map print_binding (map (binding_in scope) (texts wanted))
 
-pub all_declared : (scope : Scope) (wanted : List (Bor (List ℕ))) (k : ℕ) (start now : List ℕ) → length wanted ≤ k →
-    now ≡ start ++ declared_until scope wanted k → now ≡ start ++ flat_map print_binding (map (binding_in scope) (texts wanted))
-all_declared scope wanted k start now end so_far =
-    so_far ∙ ap (λ xs. start ++ flat_map print_binding (map (binding_in scope) (texts xs))) (take_all k wanted end)
+module _ (scope : Scope) (wanted : List (Bor (List ℕ))) (k : ℕ) (d : Bor (List ℕ)) (namespace : List ℕ) (h : k < length wanted)
+    (is : namespace ≡ (binding_in scope (get_or wanted k d).now).namespace) where
+  next_declared : declared_in scope (drop k wanted)
+      ≡ print_binding (record { prefix = (get_or wanted k d).now; namespace = namespace }) ++ declared_in scope (drop (k + 1) wanted)
+  next_declared =
+      ap (declared_in scope) (drop_more wanted k d h)
+      ∙ ap (λ ns. print_binding (record { prefix = (get_or wanted k d).now; namespace = ns }) ++ declared_in scope (drop (k + 1) wanted)) (sym is)
+
+  module _ {S : Type 0} {R : S → S → List ℕ → Type 0} (law : IsAppending R) (start now next : S)
+      (so_far : IsUnderway R start now (declared_in scope (drop k wanted)) (declared_in scope wanted)) where
+    pub one_more_declared : R now next (print_binding (record { prefix = (get_or wanted k d).now; namespace = namespace })) →
+        IsUnderway R start next (declared_in scope (drop (k + 1) wanted)) (declared_in scope wanted)
+    one_more_declared put = further law start now next _ (declared_in scope (drop (k + 1) wanted)) _ _ next_declared so_far put
+
+    pub one_declared_partly : AppendsPart R now next (print_binding (record { prefix = (get_or wanted k d).now; namespace = namespace })) →
+        AppendsPart R start next (declared_in scope wanted)
+    one_declared_partly put = broken_off law start now next _ (declared_in scope (drop (k + 1) wanted)) _ _ next_declared so_far put
+
+pub all_declared : {S : Type 0} {R : S → S → List ℕ → Type 0} (law : IsAppending R) (scope : Scope) (wanted : List (Bor (List ℕ))) (k : ℕ) (start now : S) →
+    length wanted ≤ k → IsUnderway R start now (declared_in scope (drop k wanted)) (declared_in scope wanted) → R start now (declared_in scope wanted)
+all_declared law scope wanted k start now end so_far =
+    complete law start now (declared_in scope (drop k wanted)) (declared_in scope wanted) (ap (declared_in scope) (drop_all k wanted end)) so_far
 
 -- the bindings where the prefixes from number k on were rendered
 abbrev pub rendered_from : BindingsView → Scope → List (Bor (List ℕ)) → ℕ → BindingsView
@@ -105,5 +117,17 @@ pub leads_to : (at : ℕ → Option Attribute) (seen order : List ℕ) (attribut
     LeadTo at seen attributes
 leads_to at seen order attributes same found = record { found = ap (map at) same ∙ found }
 
-pub none_put : (attributes : List Attribute) (now : List ℕ) → now ≡ now ++ flat_map print_of (take 0 attributes)
-none_put attributes now = sym (append-nil now)
+-- what is said of the name and the value of an attribute
+pub if_some_named : (o : Option Attribute) (P : List ℕ → List ℕ → Type 0) (name value : List ℕ) → IfSome o (λ a. name ≡ a.name) →
+    IfSome o (λ a. value ≡ a.value) → P name value → IfSome o (λ a. P a.name a.value)
+if_some_named None P name value named valued is = tt
+if_some_named (Some a) P name value named valued is = subst (λ v. P a.name v) valued (subst (λ n. P n value) named is)
+
+pub if_some_each : {X : Type 0} {P : X → Type 0} (o : Option X) → ((x : X) → P x) → IfSome o P
+if_some_each None each = tt
+if_some_each (Some x) each = each x
+
+-- what is said of a text
+pub if_some_text : (o : Option (List ℕ)) (P : List ℕ → Type 0) (text : List ℕ) → IfSome o (λ t. text ≡ t) → P text → IfSome o P
+if_some_text None P text is p = tt
+if_some_text (Some t) P text is p = subst P is p

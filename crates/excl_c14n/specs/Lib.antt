@@ -1,4 +1,3 @@
-pub mod Escapes
 pub mod Texts
 pub mod Levels
 pub mod Tables

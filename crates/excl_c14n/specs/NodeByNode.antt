@@ -5,12 +5,13 @@ use Rattle.std.specs.Prelude.{◌≡◌, ℕ, suc, ◌+◌, Bool, false, not, �
 use Rattle.std.specs.Option.{option_map_or}
 use Rattle.std.specs.declared.cmp.Ordering.{Ordering}
 use Rattle.xml_spec.specs.Tree.{Attribute, Nodes, NoNodes, Element, Text, Comment, Instruction}
-use Rattle.xml_spec.specs.Numbering.{size}
+use Rattle.xml_spec.specs.Numbering.{size, from_node}
 use Rattle.xml_spec.specs.Bytes.{is_empty}
-use Rattle.xml_spec.specs.Names.{Binding, Scope, namespace_of, attribute_name, inner_scope, is_declaration}
-use Rattle.xml_spec.specs.Canonical.{escape_text, byte_order, expanded_order, sorted, once, used_prefixes, listed_prefix, is_rendered_anew, written_declarations, written_attributes, print_start, print_end, print_instruction}
+use Rattle.xml_spec.specs.Names.{Binding, Scope, outermost, namespace_of, attribute_name, inner_scope, is_declaration}
+use Rattle.xml_spec.specs.Canonical.{scope_at, escape_text, byte_order, expanded_order, sorted, once, used_prefixes, listed_prefix, is_rendered_anew, written_declarations, written_attributes, print_start, print_end, print_instruction}
 use Rattle.xml_spec.specs.Laws.{IsAscending}
 use Rattle.saml_tree.specs.NodeNames.{attribute_at}
+use Rattle.saml_tree.specs.Elements.{attributes_in}
 use Rattle.excl_c14n.specs.Levels.{is_among}
 
 -- the prefixes that are declared at an element, in order
@@ -38,6 +39,10 @@ number_order scope tree n i j =
 -- attribute i of node n declares nothing
 abbrev pub is_proper_number : Nodes → ℕ → ℕ → Bool
 is_proper_number tree n i = option_map_or (λ (a : Attribute). not (is_declaration a)) (attribute_at tree n i) false
+
+-- the scope inside element n, with its own declarations
+abbrev pub scope_inside : Nodes → ℕ → Scope
+scope_inside tree n = inner_scope (attributes_in (from_node tree n)) (scope_at outermost tree n)
 
 -- node n is the one that is left out
 abbrev pub is_skipped : Option ℕ → ℕ → Bool

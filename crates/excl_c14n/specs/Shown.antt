@@ -1,15 +1,9 @@
 -- Names in two parts.
-use Rattle.std.specs.Prelude.{ℕ, List, [], ◌∷◌, ◌++◌, ◌&&◌, codes, Option, Some, None, if◌then◌else◌}
+use Rattle.std.specs.Prelude.{ℕ, List, [], ◌&&◌, codes, Option, Some, None, if◌then◌else◌}
 use Rattle.std.specs.Str.{bytes_eq}
-use Rattle.xml_spec.specs.Ascii.{colon}
 use Rattle.xml_spec.specs.Bytes.{is_empty}
 use Rattle.xml_spec.specs.Names.{ExpandedName}
 use Rattle.excl_c14n.specs.declared.order.Expanded.{Expanded}
-
--- a name as it is written, of its prefix and its local part
-abbrev pub joined_name : List ℕ → List ℕ → List ℕ
-joined_name [] local = local
-joined_name (b ∷ bytes) local = (b ∷ bytes) ++ colon ∷ local
 
 -- the prefix that an attribute declares whose name has this prefix and this local part
 abbrev pub prefix_declared_by : List ℕ → List ℕ → Option (List ℕ)

@@ -7,7 +7,7 @@ ghost use Rattle.excl_c14n.specs.Tables.{name_numbered, name_of_number};
 ghost use Rattle.namespace_scope.specs.Levels.{lookup_of};
 
 use namespace_scope::Scope;
-use saml_outside::NoMemory;
+use owned_values::NoMemory;
 use std::alloc::Global;
 use std::marker::Model;
 

@@ -5,7 +5,7 @@ ghost use Rattle.excl_c14n.specs.Levels.{is_among};
 
 use crate::bindings::kept;
 use namespace_scope::Scope;
-use saml_outside::{NoMemory, Texts};
+use owned_values::{NoMemory, Texts};
 use std::alloc::Global;
 use std::marker::Model;
 

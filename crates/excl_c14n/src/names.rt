@@ -1,5 +1,5 @@
 //! The names of elements and attributes.
-ghost use Rattle.std.specs.Prelude.{◌≡◌, ◌++◌, IsSome, IfSome, OnOk};
+ghost use Rattle.std.specs.Prelude.{◌≡◌, IsSome, IfSome};
 ghost use Rattle.std.specs.Option.{option_map};
 ghost use Rattle.xml_spec.specs.Characters.{prefix_of, local_of};
 ghost use Rattle.xml_spec.specs.Numbering.{from_node};
@@ -7,46 +7,33 @@ ghost use Rattle.xml_spec.specs.Names.{HasNames, declared_prefix};
 ghost use Rattle.saml_tree.specs.Documents.{name_of};
 ghost use Rattle.saml_tree.specs.NodeNames.{attribute_at};
 ghost use Rattle.saml_tree.specs.Elements.{IsElement, name_in};
-ghost use Rattle.excl_c14n.specs.Shown.{joined_name, prefix_declared_by};
+ghost use Rattle.canon_octets.specs.Names.{joined_name};
+ghost use Rattle.excl_c14n.specs.Shown.{prefix_declared_by};
 
-use saml_outside::NoMemory;
+use canon_octets::QualifiedName;
 use saml_tree::{Doc, NodeNo};
 
-/// Appends the name of this prefix and this local part.
-fn put_parts(prefix: &str, local: &str, out: &mut Vec<u8>) -> Result<(), NoMemory>
-    ensures { OnOk result (out.new.items ≡ out.old.items ++ joined_name prefix.now local.now) }
-{
-    if !prefix.is_empty() {
-        out.extend_from_slice(prefix.as_bytes())?;
-        out.push(b':')?;
-    }
-    out.extend_from_slice(local.as_bytes())?;
-    Ok(())
-}
-
-/// Appends the name of an element, or the target of an instruction.
-pub(crate) fn put_node_name(doc: &Doc<'_>, n: NodeNo, out: &mut Vec<u8>) -> Result<(), NoMemory>
+/// The name of an element, or the target of an instruction, as it is written.
+pub(crate) fn node_name<'d>(doc: &'d Doc<'_>, n: NodeNo) -> QualifiedName<'d>
     requires named { IsSome (name_of (from_node doc.now.tree n.0)) }
     requires names { HasNames doc.now.tree }
-    ensures { OnOk result (out.new.items ≡ out.old.items ++ name_in (from_node doc.now.tree n.0)) }
+    ensures { joined_name result.prefix.now result.local.now ≡ name_in (from_node doc.now.tree n.0) }
 {
     let name = doc.name(n);
-    put_parts(name.prefix, name.local, out)
+    QualifiedName {
+        prefix: name.prefix,
+        local: name.local,
+    }
 }
 
-/// Appends the name of attribute i of node n.
-pub(crate) fn put_attribute_name(
-    doc: &Doc<'_>,
-    n: NodeNo,
-    i: usize,
-    out: &mut Vec<u8>,
-) -> Result<(), NoMemory>
+/// The name of attribute i of node n, as it is written.
+pub(crate) fn attribute_name<'d>(doc: &'d Doc<'_>, n: NodeNo, i: usize) -> QualifiedName<'d>
     requires there { IsSome (attribute_at doc.now.tree n.0 i) }
     requires names { HasNames doc.now.tree }
-    ensures { IfSome (attribute_at doc.now.tree n.0 i) (λ a. OnOk result (out.new.items ≡ out.old.items ++ a.name)) }
+    ensures { IfSome (attribute_at doc.now.tree n.0 i) (λ a. joined_name result.prefix.now result.local.now ≡ a.name) }
 {
     let (prefix, local) = attribute_parts(doc, n, i);
-    put_parts(prefix, local, out)
+    QualifiedName { prefix, local }
 }
 
 /// The prefix of an element's name.

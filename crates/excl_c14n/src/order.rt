@@ -1,20 +1,18 @@
 //! The order in which attributes are written.
-ghost use Rattle.std.specs.Prelude.{◌≡◌, ℕ, ◌<◌, ◌≤◌, map, length, slice_index_or, true, false, Some, IsSome, IfOk};
+ghost use Rattle.std.specs.Prelude.{◌≡◌, ℕ, ◌<◌, ◌≤◌, map, length, slice_index_or, true, false, Some, None, IsSome, IfSome, IfOk};
 ghost use Rattle.std.specs.Ordering.{is_le};
-ghost use Rattle.xml_spec.specs.Names.{HasNames, attribute_name};
+ghost use Rattle.xml_spec.specs.Names.{HasNames, declared_prefix, attribute_name};
 ghost use Rattle.xml_spec.specs.Numbering.{from_node};
 ghost use Rattle.xml_spec.specs.Canonical.{expanded_order, written_attributes};
 ghost use Rattle.xml_spec.specs.Laws.{IsNonDescending};
 ghost use Rattle.saml_tree.specs.NodeNames.{attribute_at};
 ghost use Rattle.saml_tree.specs.Elements.{IsElement, attributes_in};
-ghost use Rattle.excl_c14n.specs.Levels.{in_force};
-ghost use Rattle.excl_c14n.specs.NodeByNode.{attribute_name_of, namespace_by_prefix};
+ghost use Rattle.excl_c14n.specs.NodeByNode.{attribute_name_of, namespace_by_prefix, scope_inside};
 ghost use Rattle.excl_c14n.specs.Shown.{expanded_of};
 ghost use Rattle.excl_c14n.specs.declared.order.Expanded.{Expanded};
 
-use crate::bindings::Bindings;
-use crate::names::{attribute_parts, declared};
-use saml_outside::NoMemory;
+use crate::names::declared;
+use owned_values::NoMemory;
 use saml_tree::{Doc, NodeNo};
 use std::alloc::Global;
 use std::cmp::Ordering;
@@ -40,28 +38,19 @@ fn compare(a: Expanded<'_>, b: Expanded<'_>) -> Ordering
     a.namespace.cmp(b.namespace).then(a.local.cmp(b.local))
 }
 
-/// The expanded name of attribute i of node n.
-fn name_of_attribute<'d>(
-    doc: &'d Doc<'_>,
-    bindings: &'d Bindings<'_>,
-    n: NodeNo,
-    i: usize,
-) -> Expanded<'d>
-    requires { IsSome (attribute_at doc.now.tree n.0 i) }
+/// The expanded name of attribute i of node n, which declares nothing.
+fn name_of_attribute<'d>(doc: &'d Doc<'_>, n: NodeNo, i: usize) -> Expanded<'d>
+    requires there { IsSome (attribute_at doc.now.tree n.0 i) }
+    requires proper { IfSome (attribute_at doc.now.tree n.0 i) (λ a. declared_prefix a.name ≡ None) }
     ensures name { record { namespace = result.namespace.now; local = result.local.now }
-        ≡ attribute_name (in_force bindings.now.scope) (attribute_name_of doc.now.tree n.0 i) }
-    ensures prefix { result.namespace.now ≡ namespace_by_prefix (in_force bindings.now.scope) result.prefix.now }
+        ≡ attribute_name (scope_inside doc.now.tree n.0) (attribute_name_of doc.now.tree n.0 i) }
+    ensures prefix { result.namespace.now ≡ namespace_by_prefix (scope_inside doc.now.tree n.0) result.prefix.now }
 {
-    let (prefix, local) = attribute_parts(doc, n, i);
-    let namespace = if prefix.is_empty() {
-        ""
-    } else {
-        bindings.namespace(prefix)
-    };
+    let name = doc.attr_name(n, i);
     Expanded {
-        prefix,
-        namespace,
-        local,
+        prefix: name.prefix,
+        namespace: name.namespace,
+        local: name.local,
     }
 }
 
@@ -95,13 +84,12 @@ fn place_of(name: Expanded<'_>, names: &[Expanded<'_>]) -> usize
 pub(crate) fn attribute_order<'d>(
     alloc: Global,
     doc: &'d Doc<'_>,
-    bindings: &'d Bindings<'_>,
     n: NodeNo,
 ) -> Result<Vec<usize>, NoMemory>
     requires element { IsElement doc.now.tree n.0 }
     requires names { HasNames doc.now.tree }
     ensures { IfOk result (λ order. map (attribute_at doc.now.tree n.0) order.items
-        ≡ map Some (written_attributes (in_force bindings.now.scope) (attributes_in (from_node doc.now.tree n.0)))) }
+        ≡ map Some (written_attributes (scope_inside doc.now.tree n.0) (attributes_in (from_node doc.now.tree n.0)))) }
 {
     let mut order = Vec::new(alloc);
     let mut names = Vec::new(alloc);
@@ -109,7 +97,7 @@ pub(crate) fn attribute_order<'d>(
         if declared(doc, n, i).is_some() {
             continue;
         }
-        let name = name_of_attribute(doc, bindings, n, i);
+        let name = name_of_attribute(doc, n, i);
         let place = place_of(name, names.as_slice());
         names.insert(place, name)?;
         order.insert(place, i)?;

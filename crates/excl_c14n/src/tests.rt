@@ -1,11 +1,12 @@
 //! What no clause says: worked forms, and that there is memory for a call.
-ghost use Rattle.std.specs.Prelude.{◌≡◌, ◌<◌, Some, IfOk};
+ghost use Rattle.std.specs.Prelude.{◌≡◌, ◌<◌, ◌++◌, Some, IfOk, true};
+ghost use Rattle.canon_octets.specs.Composing.{appends_to_view};
 ghost use Rattle.xml_spec.specs.Numbering.{size, from_node};
 ghost use Rattle.saml_tree.specs.Documents.{kind_of};
 ghost use Rattle.saml_tree.specs.declared.node.NodeKind.TheVariants as kinds;
 
-use crate::{ByteList, canon_into, escape_text, escape_value};
-use saml_outside::{Text, Texts};
+use crate::{ByteList, HashOctets, MacOctets, Octets, canon_into};
+use owned_values::{NoMemory, Text, Texts};
 use saml_tree::{Doc, NodeKind, NodeNo, read_document};
 use std::alloc::Global;
 use std::test::Fail;
@@ -142,16 +143,69 @@ fn one_element_is_left_out(rt: HostRuntime) -> Result<(), Fail> {
     Ok(())
 }
 
+/// The hashes of the form `<a><?t d ?><?u?></a>`, of Python's hashlib and hmac, the latter under the key `key`.
+const SHA_256: [u8; 32] = [
+    0x5c, 0x33, 0x33, 0xe5, 0x8b, 0xb5, 0x09, 0xd5, 0x73, 0xa2, 0xcc, 0xad, 0xfa, 0x6c, 0x9f, 0xf7,
+    0xf5, 0xd7, 0x79, 0x9c, 0x6e, 0x31, 0xca, 0x14, 0x19, 0x50, 0x08, 0x12, 0xaa, 0x72, 0xe4, 0x61,
+];
+
+const HMAC_SHA_256: [u8; 32] = [
+    0xb4, 0x08, 0x33, 0x95, 0x89, 0x17, 0x4e, 0x04, 0x16, 0x76, 0x26, 0xdd, 0x62, 0x5e, 0x9d, 0xc8,
+    0x0d, 0xa0, 0x25, 0x67, 0x0c, 0xa5, 0x0f, 0xab, 0xa3, 0x7f, 0x36, 0x18, 0xab, 0x32, 0x54, 0x26,
+];
+
 #[test]
-fn characters_are_written_as_references(rt: HostRuntime) -> Result<(), Fail> {
-    let mut out = Vec::new(rt.alloc());
-    escape_text("a&<>\r\"\t\n", &mut out)?;
-    assert_eq!(rt; out.as_slice(), b"a&amp;&lt;&gt;&#xD;\"\t\n".as_slice());
-    out.clear();
-    escape_value("a&<>\r\"\t\n", &mut out)?;
-    assert_eq!(rt;
-        out.as_slice(),
-        b"a&amp;&lt;>&#xD;&quot;&#x9;&#xA;".as_slice()
-    );
+fn a_form_is_hashed_as_it_is_put(rt: HostRuntime) -> Result<(), Fail> {
+    let text = b"<a><!--c--><?t  d ?><?u?></a>".as_slice();
+    assert!(rt; text.len() <= 262_144);
+    let doc = read_document(rt.alloc(), text)?;
+    let prefixes = Texts::new(rt.alloc());
+    let mut hash = HashOctets::new();
+    canon_into(rt.alloc(), &doc, doc.root(), None, &prefixes, &mut hash)?;
+    assert_eq!(rt; hash.finish(), SHA_256);
+    let mut mac = MacOctets::new(b"key");
+    canon_into(rt.alloc(), &doc, doc.root(), None, &prefixes, &mut mac)?;
+    assert_eq!(rt; mac.finish(), HMAC_SHA_256);
+    Ok(())
+}
+
+/// Takes no piece of more than 64 bytes.
+#[derive(Drop)]
+struct SmallPieces {
+    bytes: Vec<u8>,
+}
+
+impl Octets for SmallPieces {
+    ghost appends = { λ before after bytes. after.bytes.items ≡ before.bytes.items ++ bytes };
+
+    ghost may_refuse = { true };
+
+    ghost composes = { appends_to_view (λ places. places.bytes.items) };
+
+    fn put(&mut self, bytes: &[u8]) -> Result<(), NoMemory> {
+        if bytes.len() > 64 {
+            return Err(NoMemory);
+        }
+        self.bytes.put(bytes)
+    }
+}
+
+#[test]
+fn many_kids_are_put_in_small_pieces(rt: HostRuntime) -> Result<(), Fail> {
+    let mut text = Vec::new(rt.alloc());
+    text.extend_from_slice(b"<a>")?;
+    for _ in 0..10_000 {
+        text.extend_from_slice(b"<b/>")?;
+    }
+    text.extend_from_slice(b"</a>")?;
+    let text = text.as_slice();
+    assert!(rt; text.len() <= 262_144);
+    let doc = read_document(rt.alloc(), text)?;
+    let prefixes = Texts::new(rt.alloc());
+    let mut out = SmallPieces {
+        bytes: Vec::new(rt.alloc()),
+    };
+    canon_into(rt.alloc(), &doc, doc.root(), None, &prefixes, &mut out)?;
+    assert_eq!(rt; out.bytes.len(), 70_007);
     Ok(())
 }

@@ -1,40 +1,45 @@
 //! The canonical form of an element, node by node in document order.
-ghost use Rattle.std.specs.Prelude.{◌≡◌, ℕ, ◌<◌, [], ◌∷◌, ◌++◌, ◌||◌, List, map, length, take, unwrap_or, Some, IsSome, IfSome, OnOk, OnErr};
+ghost use Rattle.std.specs.Prelude.{◌≡◌, ℕ, ◌<◌, [], ◌∷◌, ◌||◌, List, map, length, Some, IsSome, IfSome, OnOk, OnErr};
 ghost use Rattle.std.specs.List.{flat_map};
 ghost use Rattle.std.specs.Option.{option_map};
 ghost use Rattle.xml_spec.specs.Names.{HasNames, outermost, declarations};
 ghost use Rattle.xml_spec.specs.Numbering.{size, from_node};
 ghost use Rattle.xml_spec.specs.Canonical.{scope_at, escape_text, canonical, print_attribute, print_binding, print_start, print_instruction, print_end, written_attributes};
-ghost use Rattle.saml_tree.specs.Documents.{name_of, text_of};
+ghost use Rattle.canon_octets.specs.Places.{AppendsPart};
+ghost use Rattle.saml_tree.specs.Documents.{kind_of, text_of};
+ghost use Rattle.saml_tree.specs.declared.node.NodeKind.TheVariants as kinds;
 ghost use Rattle.saml_tree.specs.NodeNames.{attribute_at};
 ghost use Rattle.saml_tree.specs.Elements.{IsElement, name_in, attributes_in};
 ghost use Rattle.excl_c14n.specs.Texts.{texts};
 ghost use Rattle.excl_c14n.specs.Levels.{in_force, with_bindings, binding_in, is_among, AreListedRendered};
-ghost use Rattle.excl_c14n.specs.NodeByNode.{written_in, start_in, is_skipped, node_form};
+ghost use Rattle.excl_c14n.specs.NodeByNode.{scope_inside, written_in, start_in, is_skipped, node_form};
 
 use crate::bindings::Bindings;
-use crate::escape::{escape_text, escape_value};
 use crate::listed::Listed;
-use crate::names::{declared, put_attribute_name, put_node_name};
-use crate::octets::Octets;
+use crate::names::{attribute_name, declared, node_name};
 use crate::order::attribute_order;
 use crate::wanted::wanted_at;
-use saml_outside::{NoMemory, Texts};
+use canon_octets::{
+    Octets, escape_text, put_attribute, put_declaration, put_end, put_instruction, put_start,
+};
+use owned_values::{NoMemory, Texts};
 use saml_tree::{Doc, NodeKind, NodeNo};
 use std::alloc::Global;
 
-/// Appends the declaration of a prefix.
-fn put_declaration(prefix: &str, namespace: &str, out: &mut Vec<u8>) -> Result<(), NoMemory>
-    ensures { OnOk result (out.new.items ≡ out.old.items ++ print_binding (record { prefix = prefix.now; namespace = namespace.now })) }
+/// Appends the declarations of these prefixes.
+fn put_declarations<O: Octets>(
+    wanted: &[&str],
+    bindings: &Bindings<'_>,
+    out: &mut O,
+) -> Result<(), NoMemory>
+    ensures ok { OnOk result (O.appends out.old out.new
+        (flat_map print_binding (map (binding_in (in_force bindings.now.scope)) (texts wanted.now)))) }
+    ensures err { OnErr result (AppendsPart O.appends out.old out.new
+        (flat_map print_binding (map (binding_in (in_force bindings.now.scope)) (texts wanted.now)))) }
 {
-    out.extend_from_slice(b" xmlns")?;
-    if !prefix.is_empty() {
-        out.push(b':')?;
-        out.extend_from_slice(prefix.as_bytes())?;
+    for prefix in wanted {
+        put_declaration(prefix, bindings.namespace(prefix), out)?;
     }
-    out.extend_from_slice(b"=\"")?;
-    escape_value(namespace, out)?;
-    out.push(b'"')?;
     Ok(())
 }
 
@@ -115,88 +120,93 @@ impl<'d, 'a> Walk<'d, 'a> {
         Ok(())
     }
 
-    /// Appends attribute i of node n. `value` is room for its value.
-    fn put_attribute(
+    /// Appends attribute i of node n. `room` takes its value.
+    fn put_attribute<O: Octets>(
         &self,
         n: NodeNo,
         i: usize,
-        value: &mut String,
-        out: &mut Vec<u8>,
+        room: &mut String,
+        out: &mut O,
     ) -> Result<(), NoMemory>
         requires there { IsSome (attribute_at self.now.doc.now.tree n.0 i) }
         requires names { HasNames self.now.doc.now.tree }
-        ensures { IfSome (attribute_at self.now.doc.now.tree n.0 i) (λ a.
-            OnOk result (out.new.items ≡ out.old.items ++ print_attribute a.name a.value)) }
+        ensures ok { OnOk result (IfSome (attribute_at self.now.doc.now.tree n.0 i) (λ a.
+            O.appends out.old out.new (print_attribute a.name a.value))) }
+        ensures err { OnErr result (IfSome (attribute_at self.now.doc.now.tree n.0 i) (λ a.
+            AppendsPart O.appends out.old out.new (print_attribute a.name a.value))) }
     {
-        value.clear();
-        self.doc.put_attr(n, i, value)?;
-        out.push(b' ')?;
-        put_attribute_name(self.doc, n, i, out)?;
-        out.extend_from_slice(b"=\"")?;
-        escape_value(value.as_str(), out)?;
-        out.push(b'"')?;
-        Ok(())
+        room.clear();
+        self.doc.put_attr(n, i, room)?;
+        let name = attribute_name(self.doc, n, i);
+        put_attribute(name, room.as_str(), out)
     }
 
-    /// Appends the attributes of an element that declare nothing, in order.
-    fn put_attributes(
+    /// Appends the attributes of an element that declare nothing, in order. `room` takes their values.
+    fn put_attributes<O: Octets>(
         &self,
         n: NodeNo,
-        bindings: &Bindings<'d>,
-        out: &mut Vec<u8>,
+        room: &mut String,
+        out: &mut O,
     ) -> Result<(), NoMemory>
         requires element { IsElement self.now.doc.now.tree n.0 }
         requires names { HasNames self.now.doc.now.tree }
-        ensures { OnOk result (out.new.items ≡ out.old.items ++ flat_map (λ a. print_attribute a.name a.value)
-            (written_attributes (in_force bindings.now.scope) (attributes_in (from_node self.now.doc.now.tree n.0)))) }
+        ensures ok { OnOk result (O.appends out.old out.new (flat_map (λ a. print_attribute a.name a.value)
+            (written_attributes (scope_inside self.now.doc.now.tree n.0) (attributes_in (from_node self.now.doc.now.tree n.0))))) }
+        ensures err { OnErr result (AppendsPart O.appends out.old out.new (flat_map (λ a. print_attribute a.name a.value)
+            (written_attributes (scope_inside self.now.doc.now.tree n.0) (attributes_in (from_node self.now.doc.now.tree n.0))))) }
     {
-        let order = attribute_order(self.alloc, self.doc, bindings, n)?;
-        let mut value = String::new(self.alloc);
+        let order = attribute_order(self.alloc, self.doc, n)?;
         for i in &order {
-            self.put_attribute(n, *i, &mut value, out)?;
+            self.put_attribute(n, *i, room, out)?;
         }
         Ok(())
     }
 
     /// Appends the start tag of an element, with the declarations of these prefixes.
-    fn put_start(
+    fn put_start<O: Octets>(
         &self,
         n: NodeNo,
         wanted: &[&'d str],
         bindings: &Bindings<'d>,
-        out: &mut Vec<u8>,
+        room: &mut String,
+        out: &mut O,
     ) -> Result<(), NoMemory>
         requires element { IsElement self.now.doc.now.tree n.0 }
         requires names { HasNames self.now.doc.now.tree }
-        ensures { OnOk result (out.new.items ≡ out.old.items ++ print_start (name_in (from_node self.now.doc.now.tree n.0))
+        ensures ok { OnOk result (O.appends out.old out.new (print_start (name_in (from_node self.now.doc.now.tree n.0))
             (map (binding_in (in_force bindings.now.scope)) (texts wanted.now))
-            (written_attributes (in_force bindings.now.scope) (attributes_in (from_node self.now.doc.now.tree n.0)))) }
+            (written_attributes (scope_inside self.now.doc.now.tree n.0) (attributes_in (from_node self.now.doc.now.tree n.0))))) }
+        ensures err { OnErr result (AppendsPart O.appends out.old out.new (print_start (name_in (from_node self.now.doc.now.tree n.0))
+            (map (binding_in (in_force bindings.now.scope)) (texts wanted.now))
+            (written_attributes (scope_inside self.now.doc.now.tree n.0) (attributes_in (from_node self.now.doc.now.tree n.0))))) }
     {
-        out.push(b'<')?;
-        put_node_name(self.doc, n, out)?;
-        for prefix in wanted {
-            put_declaration(prefix, bindings.namespace(prefix), out)?;
-        }
-        self.put_attributes(n, bindings, out)?;
-        out.push(b'>')?;
-        Ok(())
+        let name = node_name(self.doc, n);
+        put_start(name, out)?;
+        put_declarations(wanted, bindings, out)?;
+        self.put_attributes(n, room, out)?;
+        out.put(b">")
     }
 
     /// Begins an element: binds what it declares, appends its start tag, and notes what that renders. `prefixes` are
     /// those that were declared since the last start tag was written.
-    fn begin(
+    fn begin<O: Octets>(
         &self,
         n: NodeNo,
         mut prefixes: Vec<&'d str>,
         bindings: &mut Bindings<'d>,
-        out: &mut Vec<u8>,
+        room: &mut String,
+        out: &mut O,
     ) -> Result<(), NoMemory>
         requires element { IsElement self.now.doc.now.tree n.0 }
         requires names { HasNames self.now.doc.now.tree }
+        requires scope { in_force bindings.old.scope ≡ scope_at outermost self.now.doc.now.tree n.0 }
         requires rendered { AreListedRendered self.now.listed (texts prefixes.items) (in_force bindings.old.scope) (in_force bindings.old.rendered) }
-        ensures start { OnOk result (out.new.items ≡ out.old.items
-            ++ start_in self.now.listed (in_force bindings.old.scope) (in_force bindings.old.rendered)
-            (name_in (from_node self.now.doc.now.tree n.0)) (attributes_in (from_node self.now.doc.now.tree n.0))) }
+        ensures start { OnOk result (O.appends out.old out.new
+            (start_in self.now.listed (in_force bindings.old.scope) (in_force bindings.old.rendered)
+            (name_in (from_node self.now.doc.now.tree n.0)) (attributes_in (from_node self.now.doc.now.tree n.0)))) }
+        ensures err { OnErr result (AppendsPart O.appends out.old out.new
+            (start_in self.now.listed (in_force bindings.old.scope) (in_force bindings.old.rendered)
+            (name_in (from_node self.now.doc.now.tree n.0)) (attributes_in (from_node self.now.doc.now.tree n.0)))) }
         ensures bound { OnOk result (bindings.new ≡ record {
           scope = with_bindings (declarations (attributes_in (from_node self.now.doc.now.tree n.0))) ([] ∷ bindings.old.scope);
           rendered = with_bindings (written_in self.now.listed (in_force bindings.old.scope) (in_force bindings.old.rendered)
@@ -213,51 +223,50 @@ impl<'d, 'a> Walk<'d, 'a> {
             n,
             prefixes.as_slice(),
         )?;
-        self.put_start(n, wanted.as_slice(), bindings, out)?;
+        self.put_start(n, wanted.as_slice(), bindings, room, out)?;
         render_all(wanted.as_slice(), bindings)
     }
 
     /// Appends the end tag of an element.
-    fn put_end(&self, n: NodeNo, out: &mut Vec<u8>) -> Result<(), NoMemory>
+    fn put_end<O: Octets>(&self, n: NodeNo, out: &mut O) -> Result<(), NoMemory>
         requires element { IsElement self.now.doc.now.tree n.0 }
         requires names { HasNames self.now.doc.now.tree }
-        ensures { OnOk result (out.new.items ≡ out.old.items ++ print_end (name_in (from_node self.now.doc.now.tree n.0))) }
+        ensures ok { OnOk result (O.appends out.old out.new (print_end (name_in (from_node self.now.doc.now.tree n.0)))) }
+        ensures err { OnErr result (AppendsPart O.appends out.old out.new (print_end (name_in (from_node self.now.doc.now.tree n.0)))) }
     {
-        out.extend_from_slice(b"</")?;
-        put_node_name(self.doc, n, out)?;
-        out.push(b'>')?;
-        Ok(())
+        let name = node_name(self.doc, n);
+        put_end(name, out)
     }
 
-    /// Appends a text.
-    fn put_text(&self, n: NodeNo, out: &mut Vec<u8>) -> Result<(), NoMemory>
+    /// Appends a text. `room` takes it.
+    fn put_text<O: Octets>(&self, n: NodeNo, room: &mut String, out: &mut O) -> Result<(), NoMemory>
         requires { IsSome (text_of (from_node self.now.doc.now.tree n.0)) }
-        ensures { IfSome (text_of (from_node self.now.doc.now.tree n.0)) (λ text.
-            OnOk result (out.new.items ≡ out.old.items ++ escape_text text)) }
+        ensures ok { OnOk result (IfSome (text_of (from_node self.now.doc.now.tree n.0)) (λ text.
+            O.appends out.old out.new (escape_text text))) }
+        ensures err { OnErr result (IfSome (text_of (from_node self.now.doc.now.tree n.0)) (λ text.
+            AppendsPart O.appends out.old out.new (escape_text text))) }
     {
-        let mut text = String::new(self.alloc);
-        self.doc.put_text(n, &mut text)?;
-        escape_text(text.as_str(), out)
+        room.clear();
+        self.doc.put_text(n, room)?;
+        escape_text(room.as_str(), out)
     }
 
-    /// Appends an instruction.
-    fn put_instruction(&self, n: NodeNo, out: &mut Vec<u8>) -> Result<(), NoMemory>
-        requires named { IsSome (name_of (from_node self.now.doc.now.tree n.0)) }
-        requires valued { IsSome (text_of (from_node self.now.doc.now.tree n.0)) }
-        requires names { HasNames self.now.doc.now.tree }
-        ensures { IfSome (text_of (from_node self.now.doc.now.tree n.0)) (λ value.
-            OnOk result (out.new.items ≡ out.old.items ++ print_instruction (name_in (from_node self.now.doc.now.tree n.0)) value)) }
+    /// Appends an instruction. `room` takes its value.
+    fn put_instruction<O: Octets>(
+        &self,
+        n: NodeNo,
+        room: &mut String,
+        out: &mut O,
+    ) -> Result<(), NoMemory>
+        requires { kind_of (from_node self.now.doc.now.tree n.0) ≡ Some kinds.Instruction }
+        ensures ok { OnOk result (IfSome (text_of (from_node self.now.doc.now.tree n.0)) (λ value.
+            O.appends out.old out.new (print_instruction (name_in (from_node self.now.doc.now.tree n.0)) value))) }
+        ensures err { OnErr result (IfSome (text_of (from_node self.now.doc.now.tree n.0)) (λ value.
+            AppendsPart O.appends out.old out.new (print_instruction (name_in (from_node self.now.doc.now.tree n.0)) value))) }
     {
-        let mut value = String::new(self.alloc);
-        self.doc.put_text(n, &mut value)?;
-        out.extend_from_slice(b"<?")?;
-        put_node_name(self.doc, n, out)?;
-        if !value.is_empty() {
-            out.push(b' ')?;
-            out.extend_from_slice(value.as_bytes())?;
-        }
-        out.extend_from_slice(b"?>")?;
-        Ok(())
+        room.clear();
+        self.doc.put_text(n, room)?;
+        put_instruction(self.doc.name(n).local, room.as_str(), out)
     }
 
     /// Whether the node is the one that is left out.
@@ -268,36 +277,41 @@ impl<'d, 'a> Walk<'d, 'a> {
     }
 
     /// Appends a node with all that is below it, and leaves the bindings as they were. `prefixes` are those that were
-    /// declared since the last start tag was written. A document's elements stand at most 64 deep, and so deep are the
-    /// calls.
-    fn put_node(
+    /// declared since the last start tag was written, and `room` takes a value at a time. A document's elements stand at
+    /// most 64 deep, and so deep are the calls.
+    fn put_node<O: Octets>(
         &self,
         n: NodeNo,
         prefixes: Vec<&'d str>,
         bindings: &mut Bindings<'d>,
-        out: &mut Vec<u8>,
+        room: &mut String,
+        out: &mut O,
     ) -> Result<(), NoMemory>
         requires there { n.0 < size self.now.doc.now.tree }
         requires names { HasNames self.now.doc.now.tree }
+        requires scope { in_force bindings.old.scope ≡ scope_at outermost self.now.doc.now.tree n.0 }
         requires rendered { AreListedRendered self.now.listed (texts prefixes.items) (in_force bindings.old.scope) (in_force bindings.old.rendered) }
-        ensures form { OnOk result (out.new.items ≡ out.old.items
-            ++ node_form self.now.listed (option_map (λ s. s.0) self.now.skip) n.0 (in_force bindings.old.scope) (in_force bindings.old.rendered)
-            (from_node self.now.doc.now.tree n.0)) }
+        ensures form { OnOk result (O.appends out.old out.new
+            (node_form self.now.listed (option_map (λ s. s.0) self.now.skip) n.0 (in_force bindings.old.scope) (in_force bindings.old.rendered)
+            (from_node self.now.doc.now.tree n.0))) }
+        ensures err { OnErr result (AppendsPart O.appends out.old out.new
+            (node_form self.now.listed (option_map (λ s. s.0) self.now.skip) n.0 (in_force bindings.old.scope) (in_force bindings.old.rendered)
+            (from_node self.now.doc.now.tree n.0))) }
         ensures same { OnOk result (bindings.new ≡ bindings.old) }
     {
         if self.skips(n) {
             return Ok(());
         }
         match self.doc.kind(n) {
-            NodeKind::Text => return self.put_text(n, out),
+            NodeKind::Text => return self.put_text(n, room, out),
             NodeKind::Comment => return Ok(()),
-            NodeKind::Instruction => return self.put_instruction(n, out),
+            NodeKind::Instruction => return self.put_instruction(n, room, out),
             NodeKind::Element => {}
         }
-        self.begin(n, prefixes, bindings, out)?;
+        self.begin(n, prefixes, bindings, room, out)?;
         let mut next = self.doc.first_kid(n);
         while let Some(kid) = next {
-            self.put_node(kid, Vec::new(self.alloc), bindings, out)?;
+            self.put_node(kid, Vec::new(self.alloc), bindings, room, out)?;
             next = self.doc.next(kid);
         }
         bindings.leave();
@@ -307,8 +321,9 @@ impl<'d, 'a> Walk<'d, 'a> {
 
 /// Appends the exclusive canonical form of an element, without comments and without the element `skip`, where
 /// `prefixes` is the PrefixList of InclusiveNamespaces (Exclusive C14N 1.0, 3 and 4). `skip` comes behind the element in
-/// document order; one that does not stand in it changes nothing. Where memory runs out, a part of the form from its
-/// first byte on may have been appended.
+/// document order; one that does not stand in it changes nothing. The form is put piece by piece, in document order, and no
+/// piece is longer than what it comes from; the memory that it takes is that of the longest value and of what is declared
+/// around a place. Where memory runs out, a part of the form from its first byte on may have been appended.
 pub fn canon_into<O: Octets>(
     alloc: Global,
     doc: &Doc<'_>,
@@ -319,10 +334,9 @@ pub fn canon_into<O: Octets>(
 ) -> Result<(), NoMemory>
     requires element { IsElement doc.now.tree node.0 }
     requires skipped { IfSome skip (λ s. node.0 < s.0) }
-    ensures ok { OnOk result (O.octets_of out.new
-        ≡ O.octets_of out.old ++ canonical doc.now.tree node.0 (option_map (λ s. s.0) skip) prefixes.now) }
-    ensures err { OnErr result ((n : ℕ) × (O.octets_of out.new
-        ≡ O.octets_of out.old ++ take n (canonical doc.now.tree node.0 (option_map (λ s. s.0) skip) prefixes.now))) }
+    ensures ok { OnOk result (O.appends out.old out.new (canonical doc.now.tree node.0 (option_map (λ s. s.0) skip) prefixes.now)) }
+    ensures err { OnErr result (AppendsPart O.appends out.old out.new
+        (canonical doc.now.tree node.0 (option_map (λ s. s.0) skip) prefixes.now)) }
 {
     // The document is named well, which its root tells.
     let _ = doc.root();
@@ -336,7 +350,6 @@ pub fn canon_into<O: Octets>(
     let mut bindings = Bindings::new(alloc)?;
     let mut declared = Vec::new(alloc);
     walk.declare_outside(node, &mut bindings, &mut declared)?;
-    let mut form = Vec::new(alloc);
-    walk.put_node(node, declared, &mut bindings, &mut form)?;
-    out.put(form.as_slice())
+    let mut room = String::new(alloc);
+    walk.put_node(node, declared, &mut bindings, &mut room, out)
 }

@@ -13,7 +13,7 @@ ghost use Rattle.excl_c14n.specs.NodeByNode.{wanted_prefixes, IsWanted};
 use crate::bindings::Bindings;
 use crate::listed::Listed;
 use crate::names::{attribute_parts, declared, element_prefix};
-use saml_outside::NoMemory;
+use owned_values::NoMemory;
 use saml_tree::{Doc, NodeNo};
 use std::alloc::Global;
 

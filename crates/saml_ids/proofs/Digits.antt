@@ -1,5 +1,5 @@
 -- Bytes below 256, and their digits.
-use Rattle.std.proofs.Common.{◌≡◌, ◌/◌, ◌%◌, ◌<◌, ◌^◌, ℕ, suc, zero, inl, inr, lit<, List, [], ◌∷◌, length, true, refl, ap, arith, slice_index}
+use Rattle.std.proofs.Common.{◌≡◌, ◌/◌, ◌%◌, ◌<◌, ◌^◌, ℕ, suc, zero, inl, inr, lit<, List, [], ◌∷◌, length, true, false, ◌≤◌, ◌⊎◌, ◌==◌, refl, ap, arith, slice_index}
 use Rattle.std.proofs.Math.Nat.{mod-lt}
 use Rattle.std.proofs.lemmas.Bool.Decides.{nat_tests}
 use Rattle.std.proofs.lemmas.List.Elements.{All-nil, All-cons, All-head, All-tail, All-get_or}
@@ -10,7 +10,10 @@ use Rattle.std.specs.Int.{w32, w64, to_le_bytes, to_be_bytes, byte_at, bytes_low
 use Rattle.std.specs.List.{All, AllPass}
 use Rattle.hex.specs.Hex.{encode_lower, encode_with, lower_digits, IsBytes, decode_of}
 use Rattle.hex.proofs.HexLemmas.{decode_of-encode_lower}
-use Rattle.saml_ids.specs.Names.{is_lower_hex, is_name_char}
+use Rattle.xml_spec.specs.Ascii.{colon}
+use Rattle.xml_spec.specs.Characters.{is_char, is_name_char, char_ranges, name_ranges}
+use Rattle.xml_spec.proofs.Classes.{true-in_ranges}
+use Rattle.saml_ids.specs.Names.{is_lower_hex}
 
 abbrev IsByte : ℕ → Type 0
 IsByte b = b < 256
@@ -71,9 +74,24 @@ encode_lower-injective xs ys all_xs all_ys same =
     let both : decode_of (encode_lower xs) ≡ decode_of (encode_lower ys) = ap decode_of same in
     cc
 
--- a lower hex digit is ASCII, and may stand in a name
+-- a lower hex digit is ASCII, and may stand in a name and in a text
 pub lower_hex_ascii : (c : ℕ) → is_lower_hex c ≡ true → c < 128
 lower_hex_ascii c digit = grind (arith, nat_tests)
 
+digit_or_letter : (c : ℕ) → is_lower_hex c ≡ true → ((48 ≤ c) × (c ≤ 57)) ⊎ ((97 ≤ c) × (c ≤ 122))
+digit_or_letter c digit = grind (arith, nat_tests)
+
 pub lower_hex_in_name : (c : ℕ) → is_lower_hex c ≡ true → is_name_char c ≡ true
-lower_hex_in_name c digit = grind (arith, nat_tests)
+lower_hex_in_name c digit = elim (digit_or_letter c digit) [
+  | inl is ↦ true-in_ranges name_ranges c (inr (inr (inl is)))
+  | inr is ↦ true-in_ranges name_ranges c (inr (inr (inr (inr (inr (inr (inr (inr (inr (inl is))))))))))
+]
+
+pub lower_hex_in_text : (c : ℕ) → is_lower_hex c ≡ true → is_char c ≡ true
+lower_hex_in_text c digit = elim (digit_or_letter c digit) [
+  | inl is ↦ true-in_ranges char_ranges c (inr (inr (inr (inl (omega arith, omega arith)))))
+  | inr is ↦ true-in_ranges char_ranges c (inr (inr (inr (inl (omega arith, omega arith)))))
+]
+
+pub lower_hex_no_colon : (c : ℕ) → is_lower_hex c ≡ true → (c == colon) ≡ false
+lower_hex_no_colon c digit = grind (arith, nat_tests)

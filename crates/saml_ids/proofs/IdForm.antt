@@ -1,21 +1,25 @@
 -- The form of an ID, and what it tells.
-use Rattle.std.proofs.Common.{◌≡◌, ◌+◌, ◌^◌, ◌<◌, ◌++◌, ◌*◌, ℕ, List, [], ◌∷◌, length, take, drop, true, refl, sym, ap, ◌∙◌, arith}
-use Rattle.std.proofs.lemmas.List.Elements.{All-head, All-tail, All-append, All-weaker}
+use Rattle.std.proofs.Common.{◌≡◌, ◌+◌, ◌^◌, ◌<◌, ◌++◌, ◌*◌, ℕ, List, [], ◌∷◌, length, take, drop, Bool, true, cond, Some, None, refl, subst, lit<, sym, ap, ◌∙◌, arith}
+use Rattle.std.proofs.lemmas.List.Elements.{All-head, All-tail, All-append}
 use Rattle.std.proofs.lemmas.List.{take_at, length-append}
 use Rattle.std.proofs.lemmas.Nat.{from_be_bytes-to_be_bytes_8}
 use Rattle.std.proofs.lemmas.Str.Ascii.{IsAscii-nil, IsAscii-cons}
-use Rattle.std.proofs.lemmas.Str.{IsUtf8-from_ascii}
+use Rattle.std.proofs.lemmas.Str.{IsUtf8-from_ascii, encode_ascii}
 use Rattle.std.specs.Int.{w64, to_be_bytes, from_be_bytes}
-use Rattle.std.specs.List.{AllPass}
+use Rattle.std.specs.List.{AllPass, list_all}
+use Rattle.std.specs.Option.{option_map}
+use Rattle.std.specs.Str.{encode_utf8_all}
+use Rattle.xml_spec.specs.Characters.{is_char, is_name_char, at_colon}
+use Rattle.xml_spec.proofs.Tests.{and_true}
 use Rattle.std.specs.Str.{IsAscii, IsUtf8}
 use Rattle.hex.specs.Hex.{encode_lower, lower_digits}
 use Rattle.hex.proofs.HexLemmas.{length-encode_with}
 use Rattle.rand_chacha.specs.ChaCha.{word_at, key_of}
-use Rattle.saml_ids.specs.Names.{is_lower_hex, is_name_char, IsName, IsIdForm}
+use Rattle.saml_ids.specs.Names.{is_lower_hex, IsIdForm}
 use Rattle.saml_ids.specs.IdText.{number_of, word_bytes, random_bytes, id_text}
-use Rattle.saml_ids.specs.Laws.{EveryIdIsAName, NumbersGiveTheirIds, KeyGivesAnIdOnce}
+use Rattle.saml_ids.specs.Laws.{IsUsableId, EveryIdIsUsable, NumbersGiveTheirIds, KeyGivesAnIdOnce}
 use Rattle.saml_ids.specs.declared.Kind.{Kind}
-use Rattle.saml_ids.proofs.Digits.{AllBytes, AllBytes-to_le_bytes, AllBytes-to_be_bytes, AllPass-encode_lower, encode_lower-injective, lower_hex_ascii, lower_hex_in_name}
+use Rattle.saml_ids.proofs.Digits.{AllBytes, AllBytes-to_le_bytes, AllBytes-to_be_bytes, AllPass-encode_lower, encode_lower-injective, lower_hex_ascii, lower_hex_in_name, lower_hex_in_text, lower_hex_no_colon}
 
 pub length-random_bytes : (key : List ℕ) (kind : Kind) (number : ℕ) → length (random_bytes key kind number) ≡ 20
 unfolding random_bytes
@@ -48,11 +52,57 @@ IsIdForm-id_text key kind number =
           (AllPass-encode_lower (random_bytes key kind number) (AllBytes-random_bytes key kind number)),
     )
 
--- a text of the form is a name
-pub IsName-form : (text : List ℕ) → IsIdForm text → IsName text
-IsName-form [] form = absurd form
-IsName-form (first ∷ digits) form =
-    (rw form.0 refl, All-weaker (λ c. is_lower_hex c ≡ true) (λ c. is_name_char c ≡ true) lower_hex_in_name digits form.2)
+-- digits are written as they are
+digits_spelled : (digits : List ℕ) → AllPass is_lower_hex digits → digits ≡ encode_utf8_all digits
+digits_spelled [] all = refl
+digits_spelled (c ∷ digits) all =
+    let small : c < 128 = lower_hex_ascii c (All-head (λ d. is_lower_hex d ≡ true) c digits all) in
+    ap (λ xs. c ∷ xs) (digits_spelled digits (All-tail (λ d. is_lower_hex d ≡ true) c digits all))
+    ∙ ap (λ xs. xs ++ encode_utf8_all digits) (sym (encode_ascii c small))
+
+digits_pass : (test : ℕ → Bool) → ((c : ℕ) → is_lower_hex c ≡ true → test c ≡ true) →
+    (digits : List ℕ) → AllPass is_lower_hex digits → list_all test digits ≡ true
+digits_pass test each [] all = refl
+digits_pass test each (c ∷ digits) all =
+    and_true (test c) (list_all test digits) (each c (All-head (λ d. is_lower_hex d ≡ true) c digits all))
+    (digits_pass test each digits (All-tail (λ d. is_lower_hex d ≡ true) c digits all))
+
+digits_no_colon : (digits : List ℕ) → AllPass is_lower_hex digits → at_colon digits ≡ None
+digits_no_colon [] all = refl
+digits_no_colon (c ∷ digits) all =
+    ap (λ b. cond b (Some ([], digits)) (option_map (λ parts. (c ∷ parts.0, parts.1)) (at_colon digits)))
+    (lower_hex_no_colon c (All-head (λ d. is_lower_hex d ≡ true) c digits all))
+    ∙ ap (option_map (λ parts. (c ∷ parts.0, parts.1))) (digits_no_colon digits (All-tail (λ d. is_lower_hex d ≡ true) c digits all))
+
+underscore_spelled : (digits : List ℕ) → AllPass is_lower_hex digits → 95 ∷ digits ≡ encode_utf8_all (95 ∷ digits)
+underscore_spelled digits all =
+    ap (λ xs. 95 ∷ xs) (digits_spelled digits all) ∙ ap (λ xs. xs ++ encode_utf8_all digits) (sym (encode_ascii 95 (lit< tt)))
+
+usable_digits : (digits : List ℕ) → IsIdForm (95 ∷ digits) → IsUsableId (95 ∷ digits)
+usable_digits digits form = record {
+  form = form;
+  name = (
+    record {
+      first = 95;
+      others = digits;
+      starts = refl;
+      goes_on = digits_pass is_name_char lower_hex_in_name digits form.2;
+      spelled = underscore_spelled digits form.2;
+    },
+    ap (option_map (λ parts. (95 ∷ parts.0, parts.1))) (digits_no_colon digits form.2),
+  );
+  text = record {
+    characters = 95 ∷ digits;
+    allowed = digits_pass is_char lower_hex_in_text digits form.2;
+    spelled = underscore_spelled digits form.2;
+  };
+}
+
+-- a text of the form is usable
+pub IsUsableId-form : (text : List ℕ) → IsIdForm text → IsUsableId text
+IsUsableId-form [] form = absurd form
+IsUsableId-form (first ∷ digits) form =
+    subst (λ b. IsUsableId (b ∷ digits)) (sym form.0) (usable_digits digits (refl, form.1, form.2))
 
 IsAscii-digits : (digits : List ℕ) → AllPass is_lower_hex digits → IsAscii digits
 IsAscii-digits [] all = IsAscii-nil
@@ -66,9 +116,8 @@ IsUtf8-form [] form = absurd form
 IsUtf8-form (first ∷ digits) form =
     IsUtf8-from_ascii (first ∷ digits) (IsAscii-cons first digits (omega (arith, form.0)) (IsAscii-digits digits form.2))
 
-pub every_id_is_a_name : EveryIdIsAName
-every_id_is_a_name key kind number =
-    let form = IsIdForm-id_text key kind number in (form, IsName-form (id_text key kind number) form)
+pub every_id_is_a_name : EveryIdIsUsable
+every_id_is_a_name key kind number = IsUsableId-form (id_text key kind number) (IsIdForm-id_text key kind number)
 
 -- an ID begins with its number
 starts : (key : List ℕ) (kind : Kind) (number : ℕ) → take 16 (drop 1 (id_text key kind number)) ≡ encode_lower (to_be_bytes w64 number)

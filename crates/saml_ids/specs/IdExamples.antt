@@ -1,22 +1,12 @@
 -- What the definitions say of a few texts.
-use Rattle.std.specs.Prelude.{◌≡◌, refl, codes, true, false, replicate}
+use Rattle.std.specs.Prelude.{◌≡◌, refl, codes, false, replicate}
 use Rattle.std.specs.Int.{w64, to_be_bytes}
 use Rattle.hex.specs.Hex.{encode_lower, encode_with}
 use Rattle.rand_core.specs.Steps.{u32_at}
 use Rattle.rand_chacha.specs.Block.{block_word, double_rounds, column_round, diagonal_round, quarter_round}
-use Rattle.saml_ids.specs.Names.{is_name_start, is_name_char, is_lower_hex}
+use Rattle.saml_ids.specs.Names.{is_lower_hex}
 use Rattle.saml_ids.specs.IdText.{id_text, random_bytes}
 use Rattle.saml_ids.specs.declared.Kind.TheVariants.{Request}
-
--- a name may begin with `_`, and neither with a digit nor with `-`, which may follow
-underscore_begins : is_name_start 95 ≡ true
-underscore_begins = refl
-
-digit_does_not_begin : is_name_start 48 ≡ false
-digit_does_not_begin = refl
-
-dash_follows : is_name_char 45 ≡ true
-dash_follows = refl
 
 -- `F` is no lower hex digit
 upper_is_no_digit : is_lower_hex 70 ≡ false

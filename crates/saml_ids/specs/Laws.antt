@@ -1,12 +1,19 @@
 -- Laws of the IDs.
 use Rattle.std.specs.Prelude.{◌≡◌, ◌≢◌, ◌<◌, ◌^◌, ℕ, List}
-use Rattle.saml_ids.specs.Names.{IsName, IsIdForm}
+use Rattle.xml_spec.specs.Characters.{IsText, IsNoColonName}
+use Rattle.saml_ids.specs.Names.{IsIdForm}
 use Rattle.saml_ids.specs.IdText.{id_text}
 use Rattle.saml_ids.specs.declared.Kind.{Kind}
 
--- an ID can be the value of an ID attribute: "Values of type ID must match the Name production" (XML 1.0, 3.3.1)
-abbrev pub EveryIdIsAName : Type 0
-EveryIdIsAName = (key : List ℕ) (kind : Kind) (number : ℕ) → IsIdForm (id_text key kind number) × IsName (id_text key kind number)
+-- what an ID is: of its form; a Name without a colon, so that it can be the value of an ID attribute ("Values of type ID must
+-- match the Name production", XML 1.0, 3.3.1; XML Schema's ID is an NCName); characters that a document may hold
+pub record IsUsableId (id : List ℕ) : Type 0 where
+  pub form : IsIdForm id
+  pub name : IsNoColonName id
+  pub text : IsText id
+
+abbrev pub EveryIdIsUsable : Type 0
+EveryIdIsUsable = (key : List ℕ) (kind : Kind) (number : ℕ) → IsUsableId (id_text key kind number)
 
 -- two numbers give two IDs, whatever the keys and the kinds
 abbrev pub NumbersGiveTheirIds : Type 0

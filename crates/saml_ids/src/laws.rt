@@ -1,10 +1,11 @@
 //! Laws of the IDs, each the contract of a function that does nothing.
 
-ghost use Rattle.saml_ids.specs.Laws.{EveryIdIsAName, NumbersGiveTheirIds, KeyGivesAnIdOnce};
+ghost use Rattle.saml_ids.specs.Laws.{EveryIdIsUsable, NumbersGiveTheirIds, KeyGivesAnIdOnce};
 
-/// An ID is `_` and 56 lower hex digits, and so a Name (XML 1.0, 2.3).
+/// An ID is `_` and 56 lower hex digits, and so a Name without a colon (Namespaces in XML 1.0, 3, NCName), and a text that
+/// a document may hold.
 pub fn every_id_is_a_name()
-    ensures { EveryIdIsAName }
+    ensures { EveryIdIsUsable }
 {}
 
 /// Two numbers below 2^64 give two IDs, whatever the keys and the kinds.

@@ -9,7 +9,7 @@
 
 ghost use Rattle.std.specs.Prelude.{◌≡◌};
 ghost use Rattle.saml_ids.specs.IdText.{id_text, random_bytes, number_of};
-ghost use Rattle.saml_ids.specs.Names.{IsName, IsIdForm};
+ghost use Rattle.saml_ids.specs.Laws.{IsUsableId};
 
 pub mod laws;
 #[cfg(test)]
@@ -75,8 +75,7 @@ impl Id {
     /// The 57 bytes as text.
     pub fn as_str(&self) -> &str
         ensures value { result.now ≡ self.now }
-        ensures form { IsIdForm result.now }
-        ensures name { IsName result.now }
+        ensures usable { IsUsableId result.now }
     {
         str::from_utf8(&self.text).unwrap()
     }

@@ -1,3 +1,1 @@
 pub mod FileLaws
-pub mod GivesLaws
-pub mod Rows

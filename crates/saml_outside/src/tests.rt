@@ -1,6 +1,5 @@
 //! What no clause says: that there is memory for a call, and that a trait's object works through its bound.
-use crate::laws::what_is_given_is_one_answer;
-use crate::{Blob, FileRead, Files, MemFiles, MemSink, Sink, SinkFailed, SteadyFiles, Text, Texts};
+use crate::{FileRead, Files, MemFiles, MemSink, Sink, SinkFailed, SteadyFiles};
 use std::test::Fail;
 
 fn read_of(files: &mut impl Files, name: &str, limit: u64, into: &mut Vec<u8>) -> (FileRead, u64) {
@@ -11,24 +10,6 @@ fn read_of(files: &mut impl Files, name: &str, limit: u64, into: &mut Vec<u8>) -
 fn put_in(sink: &mut impl Sink, bytes: &[u8]) -> (Result<(), SinkFailed>, u64) {
     let answer = sink.put(bytes);
     (answer, sink.faults())
-}
-
-#[test]
-fn texts_and_bytes_are_made_and_grow(rt: HostRuntime) -> Result<(), Fail> {
-    let mut text = Text::of(rt.alloc(), "ab")?;
-    text.push("c")?;
-    assert_eq!(rt; text.copy()?.as_str(), "abc");
-    let mut blob = Blob::of(rt.alloc(), b"ab")?;
-    blob.push(b"c")?;
-    assert_eq!(rt; blob.copy()?.as_slice(), b"abc".as_slice());
-    let mut texts = Texts::new(rt.alloc());
-    texts.push(text)?;
-    texts.push(Text::of(rt.alloc(), "d")?)?;
-    let copy = texts.copy()?;
-    assert_eq!(rt; copy.len(), 2);
-    assert_eq!(rt; copy.at(0).as_str(), "abc");
-    assert_eq!(rt; copy.at(1).as_str(), "d");
-    Ok(())
 }
 
 #[test]
@@ -80,9 +61,4 @@ fn a_sink_in_memory_takes_and_one_call_fails(rt: HostRuntime) -> Result<(), Fail
     assert_eq!(rt; put_in(&mut sink, b"d"), (Ok(()), 1));
     assert_eq!(rt; sink.bytes(), b"abd".as_slice());
     Ok(())
-}
-
-#[test]
-fn the_law_of_answers_can_be_called() {
-    what_is_given_is_one_answer::<u8, u16, bool, u8>();
 }

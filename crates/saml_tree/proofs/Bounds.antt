@@ -4,16 +4,17 @@ use Rattle.std.specs.List.{list_all}
 use Rattle.xml_spec.specs.Tree as tree
 use Rattle.xml_spec.specs.Tree.{Attribute, Nodes, NoNodes, Element, Text, Comment, Instruction, IsWithinLimits, most_attributes}
 use Rattle.xml_spec.proofs.Tests.{both_true, and_true}
+use Rattle.xml_spec.specs.declared.TheConstants.{MAX_DEPTH, MAX_ATTRIBUTES}
 use Rattle.saml_tree.specs.Rows.{Shape, ElementShape, TextShape, CommentShape, InstructionShape, Row, nodes_at}
 use Rattle.saml_tree.specs.Kept.{IsShaped}
 use Rattle.saml_tree.specs.RowTests.{is_small}
 use Rattle.saml_tree.proofs.Elements.{EachElement, HoldsOf, EachRow, rows_to_tree, tree_to_rows}
 
 abbrev IsSmall : ℕ → List ℕ → List Attribute → Type 0
-IsSmall depth name attributes = (depth < 64) × (length attributes ≤ 128)
+IsSmall depth name attributes = (depth < MAX_DEPTH) × (length attributes ≤ MAX_ATTRIBUTES)
 
-greatest : (depth : ℕ) (nodes : Nodes) → depth ≤ 64 → EachElement IsSmall depth nodes →
-    (depth + tree.depth nodes ≤ 64) × (most_attributes nodes ≤ 128)
+greatest : (depth : ℕ) (nodes : Nodes) → depth ≤ MAX_DEPTH → EachElement IsSmall depth nodes →
+    (depth + tree.depth nodes ≤ MAX_DEPTH) × (most_attributes nodes ≤ MAX_ATTRIBUTES)
 greatest depth NoNodes h each = (omega arith, omega arith)
 greatest depth (Element name attributes kids rest) h each =
     let deep = each.0.0 in
@@ -25,7 +26,7 @@ greatest depth (Text text rest) h each = greatest depth rest h each
 greatest depth (Comment text rest) h each = greatest depth rest h each
 greatest depth (Instruction target value rest) h each = greatest depth rest h each
 
-each_small : (depth : ℕ) (nodes : Nodes) → depth + tree.depth nodes ≤ 64 → most_attributes nodes ≤ 128 → EachElement IsSmall depth nodes
+each_small : (depth : ℕ) (nodes : Nodes) → depth + tree.depth nodes ≤ MAX_DEPTH → most_attributes nodes ≤ MAX_ATTRIBUTES → EachElement IsSmall depth nodes
 each_small depth NoNodes h k = tt
 each_small depth (Element name attributes kids rest) h k =
     ((omega arith, omega arith), each_small (suc depth) kids (omega arith) (omega arith), each_small depth rest (omega arith) (omega arith))
@@ -35,7 +36,7 @@ each_small depth (Instruction target value rest) h k = each_small depth rest h k
 
 small_shape : (depth : ℕ) (shape : Shape) → is_small depth shape ≡ true → HoldsOf IsSmall depth shape
 small_shape depth (ElementShape name attributes) h =
-    let both = both_true (nat_lt depth 64) (nat_le (length attributes) 128) h in
+    let both = both_true (nat_lt depth MAX_DEPTH) (nat_le (length attributes) MAX_ATTRIBUTES) h in
     let deep = both.0 in
     let few = both.1 in
     (grind arith, grind arith)
@@ -47,7 +48,7 @@ shape_small : (depth : ℕ) (shape : Shape) → HoldsOf IsSmall depth shape → 
 shape_small depth (ElementShape name attributes) h =
     let deep = h.0 in
     let few = h.1 in
-    and_true (nat_lt depth 64) (nat_le (length attributes) 128) (grind arith) (grind arith)
+    and_true (nat_lt depth MAX_DEPTH) (nat_le (length attributes) MAX_ATTRIBUTES) (grind arith) (grind arith)
 shape_small depth (TextShape text) h = refl
 shape_small depth (CommentShape text) h = refl
 shape_small depth (InstructionShape target value) h = refl

@@ -1,7 +1,7 @@
 -- What is made of a document's tokens in a row: its rows.
 use Rattle.std.proofs.Common.{◌≡◌, ℕ, suc, ◌+◌, true, false, cond, List, [], ◌∷◌, ◌++◌, length, refl, sym, ◌∙◌, ap, append_assoc, arith, length-append}
 use Rattle.std.specs.List.{list_all}
-use Rattle.xml_spec.specs.Syntax.{is_white, Tag, Item, Characters, Refers, Section, Remark, Processing, EmptyTag, Token, Alone, StartTag, EndTag, print_token, print_tokens, Content, NoContent, Then, Pair, tokens_of}
+use Rattle.xml_spec.specs.Syntax.{is_white, Tag, Item, Characters, Refers, Section, CommentItem, ProcessingInstruction, EmptyTag, Token, Alone, StartTag, EndTag, print_token, print_tokens, Content, NoContent, Then, Pair, tokens_of}
 use Rattle.xml_spec.specs.Document.{is_epilog, is_document}
 use Rattle.xml_spec.proofs.Tests.{both_true}
 use Rattle.saml_tree.specs.Rows.{Row}
@@ -52,8 +52,8 @@ item_inside : (s : State) (item : Item) (end : ℕ) → is_some s.open_elements 
 item_inside s (Characters bytes) end h = ap (λ b. cond b (with_part s (part_of (Characters bytes)) end) (record s { place = end })) h
 item_inside s (Refers r) end h = ap (λ b. cond b (with_part s (part_of (Refers r)) end) (record s { place = end })) h
 item_inside s (Section bytes) end h = ap (λ b. cond b (with_part s (part_of (Section bytes)) end) (record s { place = end })) h
-item_inside s (Remark bytes) end h = ap (λ b. cond b (with_part s (part_of (Remark bytes)) end) (record s { place = end })) h
-item_inside s (Processing t u v) end h = ap (λ b. cond b (with_part s (part_of (Processing t u v)) end) (record s { place = end })) h
+item_inside s (CommentItem bytes) end h = ap (λ b. cond b (with_part s (part_of (CommentItem bytes)) end) (record s { place = end })) h
+item_inside s (ProcessingInstruction t u v) end h = ap (λ b. cond b (with_part s (part_of (ProcessingInstruction t u v)) end) (record s { place = end })) h
 item_inside s (EmptyTag tag) end h = refl
 
 -- what a content in an element makes of the state before it
@@ -140,8 +140,8 @@ run_epilog : (c : Content) (rows : List Row) (place : ℕ) → is_epilog c ≡ t
 run_epilog NoContent rows place h = refl
 run_epilog (Then (Characters bytes) rest) rows place h =
     run_epilog rest rows (item_end place (Characters bytes)) (both_true (list_all is_white bytes) _ h).1
-run_epilog (Then (Remark bytes) rest) rows place h = run_epilog rest rows (item_end place (Remark bytes)) h
-run_epilog (Then (Processing t s v) rest) rows place h = run_epilog rest rows (item_end place (Processing t s v)) h
+run_epilog (Then (CommentItem bytes) rest) rows place h = run_epilog rest rows (item_end place (CommentItem bytes)) h
+run_epilog (Then (ProcessingInstruction t s v) rest) rows place h = run_epilog rest rows (item_end place (ProcessingInstruction t s v)) h
 run_epilog (Then (Refers r) rest) rows place h = absurd (let clash : false ≡ true = h in cc)
 run_epilog (Then (Section bytes) rest) rows place h = absurd (let clash : false ≡ true = h in cc)
 run_epilog (Then (EmptyTag tag) rest) rows place h = absurd (let clash : false ≡ true = h in cc)
@@ -152,8 +152,8 @@ pub run_document : (c : Content) (place : ℕ) → is_document c ≡ true → (r
 run_document NoContent place h = absurd (let clash : false ≡ true = h in cc)
 run_document (Then (Characters bytes) rest) place h =
     run_document rest (item_end place (Characters bytes)) (both_true (list_all is_white bytes) _ h).1
-run_document (Then (Remark bytes) rest) place h = run_document rest (item_end place (Remark bytes)) h
-run_document (Then (Processing t s v) rest) place h = run_document rest (item_end place (Processing t s v)) h
+run_document (Then (CommentItem bytes) rest) place h = run_document rest (item_end place (CommentItem bytes)) h
+run_document (Then (ProcessingInstruction t s v) rest) place h = run_document rest (item_end place (ProcessingInstruction t s v)) h
 run_document (Then (Refers r) rest) place h = absurd (let clash : false ≡ true = h in cc)
 run_document (Then (Section bytes) rest) place h = absurd (let clash : false ≡ true = h in cc)
 run_document (Then (EmptyTag tag) rest) place h =

@@ -3,7 +3,7 @@ use Rattle.std.proofs.Common.{◌≡◌, ℕ, suc, ◌+◌, ◌<◌, ◌≤◌, 
 use Rattle.std.specs.Bool.{⊤}
 use Rattle.std.specs.List.{AllByRecursion}
 use Rattle.xml_spec.specs.Tree.{Nodes, NoNodes, Element, Text, Comment, Instruction, with_text, begins_with_text}
-use Rattle.xml_spec.specs.Syntax.{Tag, Item, Characters, Refers, Section, Remark, Processing, EmptyTag, print_item, StartTag, EndTag, print_token, print_tokens, Content, NoContent, Then, Pair, tokens_of}
+use Rattle.xml_spec.specs.Syntax.{Tag, Item, Characters, Refers, Section, CommentItem, ProcessingInstruction, EmptyTag, print_item, StartTag, EndTag, print_token, print_tokens, Content, NoContent, Then, Pair, tokens_of}
 use Rattle.xml_spec.specs.Meaning.{attributes_of, with_item, nodes_of}
 use Rattle.saml_tree.specs.Rows.{Shape, TextShape, Row, node, nodes_at}
 use Rattle.saml_tree.specs.Run.{text_rows, Part, TextPart, NodePart, part_of, part_rows, part_text, shape_of}
@@ -191,8 +191,8 @@ item_is_node : (item : Item) → IsNode (part_of item)
 item_is_node (Characters bytes) = tt
 item_is_node (Refers r) = tt
 item_is_node (Section bytes) = tt
-item_is_node (Remark bytes) = λ kids rest. refl
-item_is_node (Processing t s v) = λ kids rest. refl
+item_is_node (CommentItem bytes) = λ kids rest. refl
+item_is_node (ProcessingInstruction t s v) = λ kids rest. refl
 item_is_node (EmptyTag tag) = λ kids rest. refl
 
 -- a part in front of the nodes
@@ -204,8 +204,8 @@ item_nodes : (item : Item) (nodes : Nodes) → part_nodes (part_of item) nodes �
 item_nodes (Characters bytes) nodes = refl
 item_nodes (Refers r) nodes = refl
 item_nodes (Section bytes) nodes = refl
-item_nodes (Remark bytes) nodes = refl
-item_nodes (Processing t s v) nodes = refl
+item_nodes (CommentItem bytes) nodes = refl
+item_nodes (ProcessingInstruction t s v) nodes = refl
 item_nodes (EmptyTag tag) nodes = refl
 
 pub three_joined : (xs ys zs : List Row) (row : Row) → ((xs ++ row ∷ []) ++ ys) ++ zs ≡ xs ++ (row ∷ (ys ++ zs))

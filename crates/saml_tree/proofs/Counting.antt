@@ -3,7 +3,7 @@ use Rattle.std.proofs.Common.{◌≡◌, ℕ, zero, suc, ◌+◌, ◌<◌, ◌�
 use Rattle.std.specs.List.{list_all}
 use Rattle.std.specs.Str.{bytes_eq}
 use Rattle.std.proofs.lemmas.List.Folds.{list_all-append}
-use Rattle.xml_spec.specs.Syntax.{Item, Characters, Refers, Section, Remark, Processing, EmptyTag, print_item, Token, Alone, StartTag, EndTag, print_token, IsToken}
+use Rattle.xml_spec.specs.Syntax.{Item, Characters, Refers, Section, CommentItem, ProcessingInstruction, EmptyTag, print_item, Token, Alone, StartTag, EndTag, print_token, IsToken}
 use Rattle.xml_spec.specs.Document.{is_misc}
 use Rattle.xml_spec.proofs.Tokens.{token_is_not_empty}
 use Rattle.saml_tree.specs.Rows.{Shape, Row}
@@ -102,8 +102,8 @@ item_grows : (s : State) (item : Item) (end : ℕ) → Grows s (with_item s item
 item_grows s (Characters bytes) end = inside_grows s (part_of (Characters bytes)) end refl
 item_grows s (Refers r) end = inside_grows s (part_of (Refers r)) end refl
 item_grows s (Section bytes) end = inside_grows s (part_of (Section bytes)) end refl
-item_grows s (Remark bytes) end = inside_grows s (part_of (Remark bytes)) end refl
-item_grows s (Processing t u v) end = inside_grows s (part_of (Processing t u v)) end refl
+item_grows s (CommentItem bytes) end = inside_grows s (part_of (CommentItem bytes)) end refl
+item_grows s (ProcessingInstruction t u v) end = inside_grows s (part_of (ProcessingInstruction t u v)) end refl
 item_grows s (EmptyTag tag) end = part_grows s (NodePart (shape_of tag)) end
 
 opened_grows : (s : State) (shape : Shape) (end : ℕ) → Grows s (opened s shape end) end (is_small (length s.open_elements) shape)
@@ -162,8 +162,8 @@ item_stack : (s : State) (item : Item) (end : ℕ) → (with_item s item end).op
 item_stack s (Characters bytes) end = stack_inside s (part_of (Characters bytes)) end
 item_stack s (Refers r) end = stack_inside s (part_of (Refers r)) end
 item_stack s (Section bytes) end = stack_inside s (part_of (Section bytes)) end
-item_stack s (Remark bytes) end = stack_inside s (part_of (Remark bytes)) end
-item_stack s (Processing t u v) end = stack_inside s (part_of (Processing t u v)) end
+item_stack s (CommentItem bytes) end = stack_inside s (part_of (CommentItem bytes)) end
+item_stack s (ProcessingInstruction t u v) end = stack_inside s (part_of (ProcessingInstruction t u v)) end
 item_stack s (EmptyTag tag) end = refl
 
 none_some : {X : Type 0} (x : X) → None ≡ Some x → ⊥
@@ -182,8 +182,8 @@ outside_names o after (EmptyTag tag) e = by_test o.begun e
 outside_names o after (Characters bytes) e = ap (λ (z : Outline). z.names) (sym (chosen (is_misc (Characters bytes)) o after e))
 outside_names o after (Refers r) e = absurd (none_some after e)
 outside_names o after (Section bytes) e = absurd (none_some after e)
-outside_names o after (Remark bytes) e = ap (λ (z : Outline). z.names) (sym (chosen true o after e))
-outside_names o after (Processing t u v) e = ap (λ (z : Outline). z.names) (sym (chosen true o after e))
+outside_names o after (CommentItem bytes) e = ap (λ (z : Outline). z.names) (sym (chosen true o after e))
+outside_names o after (ProcessingInstruction t u v) e = ap (λ (z : Outline). z.names) (sym (chosen true o after e))
 
 item_names : (o after : Outline) (item : Item) → next_outline o (Alone item) ≡ Some after → after.names ≡ o.names
 item_names o after item e = by_test (is_some o.names) e

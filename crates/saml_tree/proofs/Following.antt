@@ -1,5 +1,5 @@
 -- What the program keeps while it reads, and what it answers.
-use Rattle.std.proofs.Common.{◌≡◌, ℕ, suc, ◌-◌, Bool, true, false, ◌&&◌, ◌==◌, ◌⊎◌, inl, inr, List, [], ◌∷◌, ◌++◌, length, refl, sym, ◌∙◌, ap, subst, arith, length-append, append-nil, append_assoc}
+use Rattle.std.proofs.Common.{◌≡◌, ℕ, suc, ◌-◌, Bool, true, false, not, ◌&&◌, ◌==◌, ◌⊎◌, inl, inr, List, [], ◌∷◌, ◌++◌, length, refl, sym, ◌∙◌, ap, subst, arith, length-append, append-nil, append_assoc}
 use Rattle.std.proofs.lemmas.List.{length-reverse}
 use Rattle.xml_spec.specs.Characters.{IsText}
 use Rattle.xml_spec.specs.Tree.{Nodes, IsWithinLimits}
@@ -12,7 +12,7 @@ use Rattle.xml_tokens.specs.declared.token.TokenFault.{TokenFault}
 use Rattle.xml_tokens.specs.declared.token.TokenFault.TheVariants as tokens
 use Rattle.saml_tree.specs.Rows.{nodes_at}
 use Rattle.saml_tree.specs.RowTests.{is_small_token}
-use Rattle.saml_tree.specs.Run.{State, step, first_state}
+use Rattle.saml_tree.specs.Run.{State, step, first_state, is_some}
 use Rattle.saml_tree.specs.Outlines as outlines
 use Rattle.saml_tree.specs.Outlines.{is_complete}
 use Rattle.saml_tree.specs.Kept.{IsRead}
@@ -60,6 +60,18 @@ more_follows text rest ts t before behind f e h = record {
 }
 
 -- how many elements are open
+-- a complete outline has no open element
+pub none_open : (o : outlines.Outline) → is_complete o ≡ true → length o.names ≡ 0
+none_open o h = by_names o.names h
+  where
+    by_names : (names : List (List ℕ)) → (not (is_some names) && o.begun) ≡ true → length names ≡ 0
+    by_names [] k = refl
+    by_names (name ∷ names) k = absurd (let clash : false ≡ true = k in cc)
+
+pub no_items : (numbers : List ℕ) → length numbers ≡ 0 → numbers ≡ []
+no_items [] h = refl
+no_items (n ∷ numbers) h = absurd (omega arith)
+
 pub builder_depth : (b : Builder) (s : State) → builder_view b ≡ s → length b.open_elements.items ≡ length s.open_elements
 builder_depth b s e = sym (length-reverse b.open_elements.items) ∙ ap (λ (z : State). length z.open_elements) e
 

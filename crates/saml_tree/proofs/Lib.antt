@@ -1,4 +1,5 @@
 pub mod Contents
+pub mod Ranges
 pub mod Completing
 pub mod Outlines
 pub mod Roots
@@ -10,7 +11,6 @@ pub mod Building
 pub mod Counting
 pub mod Results
 pub mod Showing
-pub mod Texts
 pub mod Within
 pub mod Nodes
 pub mod Places
@@ -18,6 +18,7 @@ pub mod Counts
 pub mod Rows
 pub mod Seen
 pub mod Linking
+pub mod LinkedRows
 pub mod Bounds
 pub mod Elements
 pub mod Walking
@@ -27,6 +28,9 @@ pub mod NamedElements
 pub mod Scopes
 pub mod Walks
 pub mod ShownNames
+pub mod Differing
+pub mod NameKeys
+pub mod SameNames
 pub mod Indexing
 pub mod OwnIds
 pub mod RowIds

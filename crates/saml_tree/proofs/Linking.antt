@@ -1,13 +1,11 @@
--- How the links of rows are found.
-use Rattle.std.proofs.Common.{◌≡◌, ℕ, zero, suc, ◌+◌, ◌-◌, ◌<◌, ◌≤◌, List, [], ◌∷◌, ◌++◌, length, get_or, set, sym, ap, ◌∙◌, subst, inl, inr, arith}
+-- How rows stay linked: one row more, one element opened, one closed.
+use Rattle.std.proofs.Common.{◌≡◌, ℕ, zero, suc, ◌+◌, ◌-◌, ◌<◌, ◌≤◌, ◌⊎◌, List, [], ◌∷◌, ◌++◌, length, get_or, set, sym, ap, ◌∙◌, refl, subst, inl, inr, arith}
 use Rattle.std.proofs.lemmas.List.{get_or_append_left, get_or_push, get_or_default, length_push, length-set, get_or-set_same, get_or-set_other}
 use Rattle.std.proofs.lemmas.Bool.{cases_lt, cases_eq}
 use Rattle.saml_tree.specs.Rows.{Row}
 use Rattle.saml_tree.specs.Kept.{AreBelow, IsShaped}
-use Rattle.saml_tree.specs.Links.{depths_of, IsParent, IsEnd, HaveParents, HaveEnds}
-use Rattle.saml_tree.specs.declared.links.Link.{Link}
-use Rattle.saml_tree.proofs.Places.{steps_of}
-use Rattle.saml_tree.proofs.Rows.{depth_at, step_at, root_depth}
+use Rattle.saml_tree.specs.Links.{depths_of, IsParent, IsOpen, IsClosed, AreLinkedSoFar, AreLinked}
+use Rattle.saml_tree.specs.declared.row.Link.{Link}
 
 below_deep : (before : Row) (rows : List Row) (k : ℕ) → AreBelow before rows → k < length rows → 1 ≤ get_or (depths_of rows) k 0
 below_deep before [] k h in_rows = absurd (omega arith)
@@ -20,144 +18,207 @@ is_below [] k h some in_rows = absurd h
 is_below (row ∷ rows) zero h some in_rows = absurd (omega arith)
 is_below (row ∷ rows) (suc k) h some in_rows = below_deep row rows k h.2 (omega arith)
 
--- the way up from the row before row k to its parent
-pub record Climbs (depths : List ℕ) (k depth parent : ℕ) : Type 0 where
-  pub before : parent < k
-  pub between : (i : ℕ) → parent < i → i < k → depth ≤ get_or depths i 0
-  pub near : depth ≤ suc (get_or depths parent 0)
+abbrev Ends : List ℕ → List ℕ → ℕ → ℕ → Type 0
+Ends depths numbers k end = ((i : ℕ) × (i < length numbers) × (get_or numbers i 0 ≡ k)) ⊎ IsClosed depths (length numbers) k end
 
-pub climbs_first : (rows : List Row) (k depth : ℕ) → IsShaped rows → 0 < k → k < length rows → depth ≡ get_or (depths_of rows) k 0 →
-    Climbs (depths_of rows) k depth (k - 1)
-climbs_first rows k depth shaped some in_rows at =
-    let same : suc (k - 1) ≡ k = omega arith in
-    let step = step_at 0 rows (k - 1) (steps_of rows shaped) (omega arith) in
-    record {
-      before = omega arith;
-      between = λ i more less. absurd (omega arith);
-      near = omega (arith, step, depth_at rows (k - 1), depth_at rows (suc (k - 1)), ap (λ i. get_or (depths_of rows) i 0) same, at);
-    }
-
-pub climbs_some : (rows : List Row) (k depth parent : ℕ) → IsShaped rows → 0 < k → k < length rows → depth ≡ get_or (depths_of rows) k 0 →
-    depth ≤ get_or (depths_of rows) parent 0 → 0 < parent
-climbs_some rows k depth parent shaped some in_rows at more = elim (cases_eq parent 0) [
-  | inl first ↦ absurd (omega (arith, is_below rows k shaped some in_rows, root_depth rows shaped, ap (λ i. get_or (depths_of rows) i 0) first, at, more))
-  | inr other ↦ omega arith
-]
-
-pub climbs_on : (depths : List ℕ) (k depth parent next : ℕ) → Climbs depths k depth parent → depth ≤ get_or depths parent 0 →
-    IsParent depths parent next → Climbs depths k depth next
-climbs_on depths k depth parent next h more is_parent =
-    let before = is_parent.before in
-    let less = h.before in
-    let one_less = is_parent.one_less in
-    record {
-      before = omega arith;
-      between = λ i after until. elim (cases_lt i parent) [
-        | inl front ↦ omega (arith, is_parent.between i after front)
-        | inr back ↦ elim (cases_eq i parent) [
-          | inl same ↦ omega (arith, ap (λ n. get_or depths n 0) same)
-          | inr other ↦ h.between i (omega arith) until
-        ]
-      ];
-      near = omega arith;
-    }
-
-pub climbs_end : (depths : List ℕ) (k depth parent : ℕ) → Climbs depths k depth parent → get_or depths parent 0 < depth →
-    depth ≡ get_or depths k 0 → IsParent depths k parent
-climbs_end depths k depth parent h less at =
-    let near = h.near in
-    record {
-      before = h.before;
-      one_less = omega arith;
-      between = λ i after until. omega (arith, h.between i after until);
-    }
-
--- the way from row k to its end
-pub record Passes (depths : List ℕ) (k depth end : ℕ) : Type 0 where
-  pub behind : k < end
-  pub in_range : end ≤ length depths
-  pub deeper : (i : ℕ) → k < i → i < end → depth < get_or depths i 0
-
-pub passes_first : (depths : List ℕ) (k depth : ℕ) → k < length depths → Passes depths k depth (k + 1)
-passes_first depths k depth h = record {
-  behind = omega arith;
-  in_range = omega arith;
-  deeper = λ i after until. absurd (omega arith);
+pub none_linked : AreLinkedSoFar [] [] []
+none_linked = record {
+  count = omega arith;
+  opened = λ i less. absurd (omega arith);
+  parents = λ k link less some. absurd (omega arith);
+  ends = λ k link less. absurd (omega arith);
 }
 
-pub passes_on : (depths : List ℕ) (k depth end next : ℕ) → Passes depths k depth end → depth < get_or depths end 0 →
-    IsEnd depths end next → Passes depths k depth next
-passes_on depths k depth end next h more is_end =
-    let behind = h.behind in
-    let after_end = is_end.behind in
-    record {
+-- one depth more
+module _ (depths : List ℕ) (depth : ℕ) where
+  old : (k : ℕ) → k < length depths → get_or (depths ++ depth ∷ []) k 0 ≡ get_or depths k 0
+  old k less = get_or_append_left depths (depth ∷ []) 0 k less
+
+  new : (k : ℕ) → length depths ≡ k → get_or (depths ++ depth ∷ []) k 0 ≡ depth
+  new k last = get_or_push depths depth 0 k last
+
+  open_still : (i n : ℕ) → i < depth → IsOpen depths i n → IsOpen (depths ++ depth ∷ []) i n
+  open_still i n less h =
+      let there = h.there in
+      record {
+        there = omega (arith, length_push depths depth);
+        at = old n there ∙ h.at;
+        deeper = λ k after within. elim (cases_lt k (length depths)) [
+          | inl front ↦ omega (arith, h.deeper k after front, old k front)
+          | inr back ↦ (let last : length depths ≡ k = omega (arith, length_push depths depth) in omega (arith, new k last))
+        ];
+      }
+
+  parent_still : (k p : ℕ) → k < length depths → IsParent depths k p → IsParent (depths ++ depth ∷ []) k p
+  parent_still k p less h =
+      let before = h.before in
+      record {
+        before = before;
+        one_less = omega (arith, h.one_less, old p (omega arith), old k less);
+        between = λ i after until. omega (arith, h.between i after until, old i (omega arith), old k less);
+      }
+
+  parent_last : (p : ℕ) → 0 < depth → IsOpen depths (depth - 1) p → IsParent (depths ++ depth ∷ []) (length depths) p
+  parent_last p some h =
+      let there = h.there in
+      let last = new (length depths) refl in
+      record {
+        before = there;
+        one_less = omega (arith, h.at, old p there, last);
+        between = λ i after until. omega (arith, h.deeper i after until, old i until, last);
+      }
+
+  end_still : (k e : ℕ) → k < length depths → IsClosed depths depth k e → IsClosed (depths ++ depth ∷ []) depth k e
+  end_still k e less h =
+      let in_range = h.is_end.in_range in
+      record {
+        is_end = record {
+          behind = h.is_end.behind;
+          in_range = omega (arith, length_push depths depth);
+          deeper = λ i after until. omega (arith, h.is_end.deeper i after until, old i (omega arith), old k less);
+          stops = λ within. elim (cases_lt e (length depths)) [
+            | inl front ↦ omega (arith, h.is_end.stops front, old e front, old k less)
+            | inr back ↦ (let last : length depths ≡ e = omega arith in omega (arith, h.last (sym last), new e last, old k less))
+          ];
+        };
+        last = λ at. absurd (omega (arith, length_push depths depth));
+      }
+
+  end_last : (e : ℕ) → e ≡ length depths + 1 → IsClosed (depths ++ depth ∷ []) depth (length depths) e
+  end_last e is = record {
+    is_end = record {
       behind = omega arith;
-      in_range = is_end.in_range;
-      deeper = λ i after until. elim (cases_lt i end) [
-        | inl front ↦ h.deeper i after front
-        | inr back ↦ elim (cases_eq i end) [
-          | inl same ↦ omega (arith, ap (λ n. get_or depths n 0) same)
-          | inr other ↦ omega (arith, is_end.deeper i (omega arith) until)
-        ]
+      in_range = omega (arith, length_push depths depth);
+      deeper = λ i after until. absurd (omega arith);
+      stops = λ within. absurd (omega (arith, length_push depths depth));
+    };
+    last = λ at. omega (arith, new (length depths) refl);
+  }
+
+-- a row more, in which none stands
+pub linked_more : (depths : List ℕ) (links : List Link) (numbers : List ℕ) (link : Link) → AreLinkedSoFar depths links numbers →
+    link.parent ≡ get_or numbers (length numbers - 1) 0 → link.end ≡ length depths + 1 →
+    AreLinkedSoFar (depths ++ length numbers ∷ []) (links ++ link ∷ []) numbers
+linked_more depths links numbers link h parent end =
+    let count = h.count in
+    let all : List ℕ = depths ++ length numbers ∷ [] in
+    let push = length_push links link in
+    record {
+      count = omega (arith, push, length_push depths (length numbers));
+      opened = λ i less. open_still depths (length numbers) i (get_or numbers i 0) less (h.opened i less);
+      parents = λ k d less some. elim (cases_lt k (length depths)) [
+        | inl front ↦
+            subst (λ (l : Link). IsParent all k l.parent) (sym (get_or_append_left links (link ∷ []) d k (omega arith)))
+            (parent_still depths (length numbers) k (get_or links k d).parent front
+            (h.parents k d (omega arith) (omega (arith, old depths (length numbers) k front))))
+        | inr back ↦
+            (let last : length depths ≡ k = omega arith in
+            let deep : 0 < length numbers = omega (arith, new depths (length numbers) k last) in
+            subst (λ (l : Link). IsParent all k l.parent) (sym (get_or_push links link d k (count ∙ last)))
+            (subst (λ (n : ℕ). IsParent all n link.parent) last
+            (subst (λ (p : ℕ). IsParent all (length depths) p) (sym parent)
+            (parent_last depths (length numbers) (get_or numbers (length numbers - 1) 0) deep (h.opened (length numbers - 1) (omega arith))))))
+      ];
+      ends = λ k d less. elim (cases_lt k (length depths)) [
+        | inl front ↦
+            subst (λ (l : Link). Ends all numbers k l.end) (sym (get_or_append_left links (link ∷ []) d k (omega arith)))
+            (elim (h.ends k d (omega arith)) [
+              | inl still ↦ inl still
+              | inr closed ↦ inr (end_still depths (length numbers) k (get_or links k d).end front closed)
+            ])
+        | inr back ↦
+            (let last : length depths ≡ k = omega arith in
+            subst (λ (l : Link). Ends all numbers k l.end) (sym (get_or_push links link d k (count ∙ last)))
+            (subst (λ (n : ℕ). Ends all numbers n link.end) last (inr (end_last depths (length numbers) link.end end))))
       ];
     }
 
-pub passes_end : (depths : List ℕ) (k depth end : ℕ) → Passes depths k depth end → (end < length depths → get_or depths end 0 ≤ depth) →
-    depth ≡ get_or depths k 0 → IsEnd depths k end
-passes_end depths k depth end h stops at = record {
-  behind = h.behind;
-  in_range = h.in_range;
-  deeper = λ i after until. omega (arith, h.deeper i after until);
-  stops = λ more. omega (arith, stops more);
-}
-
-pub no_parents : (depths : List ℕ) → HaveParents depths []
-no_parents depths = record { each = λ k link some h. absurd (omega arith) }
-
-pub parents_push : (depths : List ℕ) (links : List Link) (link : Link) → HaveParents depths links →
-    (0 < length links → IsParent depths (length links) link.parent) → HaveParents depths (links ++ link ∷ [])
-parents_push depths links link h more = record {
-  each = λ k d some in_links. elim (cases_lt k (length links)) [
-    | inl less ↦ subst (λ (l : Link). IsParent depths k l.parent) (sym (get_or_append_left links (link ∷ []) d k less)) (h.each k d some less)
-    | inr past ↦
-        let last : length links ≡ k = omega (arith, length_push links link) in
-        subst (λ (l : Link). IsParent depths k l.parent) (sym (get_or_push links link d k last))
-        (subst (λ (n : ℕ). IsParent depths n link.parent) last (more (omega arith)))
+-- the last row is opened
+pub linked_opened : (depths : List ℕ) (links : List Link) (numbers : List ℕ) (n : ℕ) → AreLinkedSoFar depths links numbers →
+    n + 1 ≡ length depths → get_or depths n 0 ≡ length numbers → AreLinkedSoFar depths links (numbers ++ n ∷ [])
+linked_opened depths links numbers n h last at = record {
+  count = h.count;
+  opened = λ i less. elim (cases_lt i (length numbers)) [
+    | inl front ↦ subst (λ (m : ℕ). IsOpen depths i m) (sym (get_or_append_left numbers (n ∷ []) 0 i front)) (h.opened i front)
+    | inr back ↦
+        (let here : length numbers ≡ i = omega (arith, length_push numbers n) in
+        subst (λ (m : ℕ). IsOpen depths i m) (sym (get_or_push numbers n 0 i here))
+        (record { there = omega arith; at = at ∙ here; deeper = λ k after until. absurd (omega arith) }))
+  ];
+  parents = h.parents;
+  ends = λ k d less. elim (cases_eq k n) [
+    | inl same ↦ inl (length numbers, omega (arith, length_push numbers n), get_or_push numbers n 0 (length numbers) refl ∙ sym same)
+    | inr other ↦ elim (h.ends k d less) [
+      | inl still ↦ inl (still.0, omega (arith, still.1, length_push numbers n), get_or_append_left numbers (n ∷ []) 0 still.0 still.1 ∙ still.2)
+      | inr closed ↦ inr (record {
+        is_end = closed.is_end;
+        last = λ e. absurd (omega (arith, closed.last e, closed.is_end.deeper n (omega (arith, h.count)) (omega arith)));
+      })
+    ]
   ];
 }
 
--- a new end at row k, from which on all ends are there
-pub parents_kept : (depths : List ℕ) (links : List Link) (k : ℕ) (link : Link) → HaveParents depths links →
-    link.parent ≡ (get_or links k link).parent → HaveParents depths (set links k link)
-parents_kept depths links k link h same = record {
-  each = λ i d some in_links.
-      let inside : i < length links = omega (arith, length-set links k link) in
-      elim (cases_eq i k) [
+-- the innermost open element is closed
+pub linked_closed : (depths : List ℕ) (links : List Link) (numbers : List ℕ) (n : ℕ) (link : Link) → AreLinkedSoFar depths links (numbers ++ n ∷ []) →
+    n < length links → link.parent ≡ (get_or links n link).parent → link.end ≡ length depths →
+    AreLinkedSoFar depths (set links n link) numbers
+linked_closed depths links numbers n link h within parent end =
+    let count = h.count in
+    let push = length_push numbers n in
+    let own : IsOpen depths (length numbers) n =
+    subst (λ (m : ℕ). IsOpen depths (length numbers) m) (get_or_push numbers n 0 (length numbers) refl) (h.opened (length numbers) (omega arith)) in
+    let same_parent : (k : ℕ) (d : Link) → k < length links → (get_or (set links n link) k d).parent ≡ (get_or links k d).parent =
+    λ k d less. elim (cases_eq k n) [
+      | inl here ↦
+          ap (λ i. (get_or (set links n link) i d).parent) here ∙ ap (λ (l : Link). l.parent) (get_or-set_same links n link d within)
+          ∙ parent ∙ ap (λ (l : Link). l.parent) (get_or_default links n link d within) ∙ ap (λ i. (get_or links i d).parent) (sym here)
+      | inr other ↦ ap (λ (l : Link). l.parent) (get_or-set_other links n k link d other)
+    ] in
+    record {
+      count = length-set links n link ∙ count;
+      opened = λ i less. subst (λ (m : ℕ). IsOpen depths i m) (get_or_append_left numbers (n ∷ []) 0 i less) (h.opened i (omega arith));
+      parents = λ k d less some.
+          subst (λ (p : ℕ). IsParent depths k p) (sym (same_parent k d (omega (arith, length-set links n link))))
+          (h.parents k d (omega (arith, length-set links n link)) some);
+      ends = λ k d less. elim (cases_eq k n) [
         | inl here ↦
-            let at : get_or (set links k link) i d ≡ link =
-            ap (λ n. get_or (set links k link) n d) here ∙ get_or-set_same links k link d (omega arith) in
-            let old : (get_or links i d).parent ≡ link.parent =
-            ap (λ (l : Link). l.parent) (get_or_default links i d link inside) ∙ ap (λ n. (get_or links n link).parent) here ∙ sym same in
-            subst (λ (l : Link). IsParent depths i l.parent) (sym at) (subst (λ (p : ℕ). IsParent depths i p) old (h.each i d some inside))
+            subst (λ (l : Link). Ends depths numbers k l.end)
+            (sym (ap (λ i. get_or (set links n link) i d) here ∙ get_or-set_same links n link d within))
+            (subst (λ (i : ℕ). Ends depths numbers i link.end) (sym here) (inr (record {
+              is_end = record {
+                behind = omega (arith, own.there);
+                in_range = omega arith;
+                deeper = λ i after until. omega (arith, own.deeper i after (omega arith), own.at);
+                stops = λ inside. absurd (omega arith);
+              };
+              last = λ e. omega (arith, own.at);
+            })))
         | inr other ↦
-            subst (λ (l : Link). IsParent depths i l.parent) (sym (get_or-set_other links k i link d other)) (h.each i d some inside)
+            subst (λ (l : Link). Ends depths numbers k l.end) (sym (get_or-set_other links n k link d other))
+            (elim (h.ends k d (omega (arith, length-set links n link))) [
+              | inl still ↦ elim (cases_lt still.0 (length numbers)) [
+                | inl front ↦ inl (still.0, front, sym (get_or_append_left numbers (n ∷ []) 0 still.0 front) ∙ still.2)
+                | inr back ↦
+                    (let last : length numbers ≡ still.0 = omega (arith, still.1) in
+                    absurd (other (sym still.2 ∙ get_or_push numbers n 0 still.0 last)))
+              ]
+              | inr closed ↦ inr (record { is_end = closed.is_end; last = λ e. omega (arith, closed.last e) })
+            ])
       ];
-}
+    }
 
-pub ends_more : (depths : List ℕ) (links : List Link) (k : ℕ) (link : Link) → HaveEnds depths (suc k) links → IsEnd depths k link.end →
-    HaveEnds depths k (set links k link)
-ends_more depths links k link h is_end = record {
-  each = λ i d from in_links.
-      let inside : i < length links = omega (arith, length-set links k link) in
-      elim (cases_eq i k) [
-        | inl here ↦
-            let at : get_or (set links k link) i d ≡ link =
-            ap (λ n. get_or (set links k link) n d) here ∙ get_or-set_same links k link d (omega arith) in
-            subst (λ (l : Link). IsEnd depths i l.end) (sym at) (subst (λ (n : ℕ). IsEnd depths n link.end) (sym here) is_end)
-        | inr other ↦
-            subst (λ (l : Link). IsEnd depths i l.end) (sym (get_or-set_other links k i link d other)) (h.each i d (omega arith) inside)
-      ];
-}
-
-pub no_ends : (depths : List ℕ) (links : List Link) (n : ℕ) → length links ≤ n → HaveEnds depths n links
-no_ends depths links n h = record { each = λ k link from in_links. absurd (omega arith) }
+-- where no element is open, all are linked
+pub all_linked : (rows : List Row) (links : List Link) → IsShaped rows → length (depths_of rows) ≡ length rows →
+    AreLinkedSoFar (depths_of rows) links [] → AreLinked (depths_of rows) links
+all_linked rows links shaped size h =
+    let count = h.count in
+    record {
+      count = count;
+      parents = record { each = λ k link some less. h.parents k link less (omega (arith, is_below rows k shaped some (omega arith))) };
+      ends = record {
+        each = λ k link from less. elim (h.ends k link less) [
+          | inl still ↦ absurd (omega (arith, still.1))
+          | inr closed ↦ closed.is_end
+        ];
+      };
+    }

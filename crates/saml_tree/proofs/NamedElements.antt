@@ -12,6 +12,7 @@ use Rattle.xml_spec.specs.Canonical.{declaration_name}
 use Rattle.xml_spec.proofs.NameBytes.{name_is_not_empty}
 use Rattle.xml_spec.proofs.Ends.{neither}
 use Rattle.xml_spec.proofs.Tests.{both_true, and_true}
+use Rattle.xml_spec.proofs.Tokens.{fails}
 use Rattle.saml_tree.specs.RowTests.{are_apart}
 use Rattle.saml_tree.specs.Resolved.{IsWellElement, IsWellAttribute, Listed, listed, attribute_namespace, is_proper_same, are_apart_expanded, expanded_view, AreInTable, AreExpanded}
 use Rattle.xml_tokens.specs.declared.token.Attribute as row
@@ -40,15 +41,11 @@ none_is_equal name (other ∷ names) h =
     false_from_ne_true (bytes_eq other name) (λ e. h.0 (sym ((bytes_eq-Decides other name).0 e))) in
     ap (λ b. b || list_any (λ x. bytes_eq x name) names) differs ∙ none_is_equal name names h.1
 
-not_true : (b : Bool) → not b ≡ true → b ≡ false
-not_true true h = absurd (let clash : false ≡ true = h in cc)
-not_true false h = refl
-
 pub distinct_from : (names : List (List ℕ)) → are_apart names ≡ true → AreDistinct names
 distinct_from [] h = tt
 distinct_from (name ∷ names) h =
     let both = both_true (not (list_any (λ other. bytes_eq other name) names)) (are_apart names) h in
-    (others_differ name names (not_true (list_any (λ other. bytes_eq other name) names) both.0), distinct_from names both.1)
+    (others_differ name names (fails (list_any (λ other. bytes_eq other name) names) both.0), distinct_from names both.1)
 
 pub apart_from : (names : List (List ℕ)) → AreDistinct names → are_apart names ≡ true
 apart_from [] h = refl
@@ -109,7 +106,7 @@ expanded_distinct (x ∷ xs) h =
   where
     by_test : (p : Bool) → not (p && list_any (is_proper_same x.1) xs) ≡ true → AreDistinct (proper_names xs) →
         AreDistinct (map (λ (z : Listed). z.1) (cond p (x ∷ filter (λ (z : Listed). z.0) xs) (filter (λ (z : Listed). z.0) xs)))
-    by_test true k behind = (expanded_differ x.1 xs (not_true (list_any (is_proper_same x.1) xs) k), behind)
+    by_test true k behind = (expanded_differ x.1 xs (fails (list_any (is_proper_same x.1) xs) k), behind)
     by_test false k behind = behind
 
 expanded_apart : (xs : List Listed) → AreDistinct (proper_names xs) → are_apart_expanded xs ≡ true
@@ -348,7 +345,7 @@ apart_without_prefixes scope (a ∷ attributes) all h =
     let both = both_true (not (list_any (λ other. bytes_eq other a.name) (map (λ (b : Attribute). b.name) attributes)))
     (are_apart (map (λ (b : Attribute). b.name) attributes)) h in
     let free = none_has_its_local scope a attributes own.0 own.1
-    (not_true (list_any (λ other. bytes_eq other a.name) (map (λ (b : Attribute). b.name) attributes)) both.0) in
+    (fails (list_any (λ other. bytes_eq other a.name) (map (λ (b : Attribute). b.name) attributes)) both.0) in
     ap (λ t. not ((listed scope a).0 && t) && are_apart_expanded (map (listed scope) attributes)) free
     ∙ and_true (not ((listed scope a).0 && false)) (are_apart_expanded (map (listed scope) attributes))
     (never (listed scope a).0) (apart_without_prefixes scope attributes own.1 both.1)

@@ -4,7 +4,7 @@ use Rattle.std.specs.List.{list_all}
 use Rattle.std.specs.Option.{option_and_then}
 use Rattle.std.specs.Str.{bytes_eq}
 use Rattle.std.proofs.lemmas.Slice.Eq.{bytes_eq-Decides}
-use Rattle.xml_spec.specs.Syntax.{is_white, Tag, Item, Characters, Refers, Section, Remark, Processing, EmptyTag, Token, Alone, StartTag, EndTag, Content, NoContent, Then, Pair, tokens_of}
+use Rattle.xml_spec.specs.Syntax.{is_white, Tag, Item, Characters, Refers, Section, CommentItem, ProcessingInstruction, EmptyTag, Token, Alone, StartTag, EndTag, Content, NoContent, Then, Pair, tokens_of}
 use Rattle.xml_spec.specs.Document.{is_misc, is_epilog, is_document}
 use Rattle.xml_spec.proofs.Tests.{both_true, and_true}
 use Rattle.saml_tree.specs.Run.{is_some}
@@ -56,8 +56,8 @@ misc_outside : (o : Outline) (item : Item) → is_misc item ≡ true → item_ou
 misc_outside o (Characters bytes) h = ap (λ b. cond b (Some o) None) h
 misc_outside o (Refers r) h = absurd (let clash : false ≡ true = h in cc)
 misc_outside o (Section bytes) h = absurd (let clash : false ≡ true = h in cc)
-misc_outside o (Remark bytes) h = refl
-misc_outside o (Processing t s v) h = refl
+misc_outside o (CommentItem bytes) h = refl
+misc_outside o (ProcessingInstruction t s v) h = refl
 misc_outside o (EmptyTag tag) h = absurd (let clash : false ≡ true = h in cc)
 
 epilog_outline : (c : Content) → is_epilog c ≡ true → outline_of (outline [] true) (tokens_of c) ≡ Some (outline [] true)
@@ -78,8 +78,8 @@ document_outline NoContent h = absurd (let clash : false ≡ true = h in cc)
 document_outline (Then (EmptyTag tag) rest) h = epilog_outline rest h
 document_outline (Then (Characters bytes) rest) h =
     let both = both_true (list_all is_white bytes) (is_document rest) h in misc_then (Characters bytes) rest both.0 (document_outline rest both.1)
-document_outline (Then (Remark bytes) rest) h = document_outline rest h
-document_outline (Then (Processing t s v) rest) h = document_outline rest h
+document_outline (Then (CommentItem bytes) rest) h = document_outline rest h
+document_outline (Then (ProcessingInstruction t s v) rest) h = document_outline rest h
 document_outline (Then (Refers r) rest) h = absurd (let clash : false ≡ true = h in cc)
 document_outline (Then (Section bytes) rest) h = absurd (let clash : false ≡ true = h in cc)
 document_outline (Pair tag inner space rest) h =
@@ -107,8 +107,8 @@ misc_document : (item : Item) (c : Content) → is_misc item ≡ true → is_doc
 misc_document (Characters bytes) c m h = and_true (list_all is_white bytes) _ m h
 misc_document (Refers r) c m h = absurd (let clash : false ≡ true = m in cc)
 misc_document (Section bytes) c m h = absurd (let clash : false ≡ true = m in cc)
-misc_document (Remark bytes) c m h = h
-misc_document (Processing t s v) c m h = h
+misc_document (CommentItem bytes) c m h = h
+misc_document (ProcessingInstruction t s v) c m h = h
 misc_document (EmptyTag tag) c m h = absurd (let clash : false ≡ true = m in cc)
 
 outside : (item : Item) (begun : Bool) (ts : List Token) → is_misc item ≡ true → Closes [] begun ts → Closes [] begun (Alone item ∷ ts)
@@ -188,8 +188,8 @@ sound (Alone (EmptyTag tag) ∷ ts) [] false final b e h = empty_root tag ts (so
 sound (Alone (Characters bytes) ∷ ts) [] begun final b e h =
     let chosen = chosen_true (list_all is_white bytes) (outline [] begun) final ts e in
     outside (Characters bytes) begun ts chosen.0 (sound ts [] begun final b chosen.1 h)
-sound (Alone (Remark bytes) ∷ ts) [] begun final b e h = outside (Remark bytes) begun ts refl (sound ts [] begun final b e h)
-sound (Alone (Processing t s v) ∷ ts) [] begun final b e h = outside (Processing t s v) begun ts refl (sound ts [] begun final b e h)
+sound (Alone (CommentItem bytes) ∷ ts) [] begun final b e h = outside (CommentItem bytes) begun ts refl (sound ts [] begun final b e h)
+sound (Alone (ProcessingInstruction t s v) ∷ ts) [] begun final b e h = outside (ProcessingInstruction t s v) begun ts refl (sound ts [] begun final b e h)
 sound (Alone (Refers r) ∷ ts) [] begun final b e h = absurd (none_is_not_some final e)
 sound (Alone (Section bytes) ∷ ts) [] begun final b e h = absurd (none_is_not_some final e)
 sound (StartTag tag ∷ ts) [] true final b e h = absurd (none_is_not_some final e)

@@ -5,7 +5,7 @@ use Rattle.std.specs.Option.{option_and_then}
 use Rattle.xml_spec.specs.Bytes.{begins_with, no_two}
 use Rattle.xml_spec.specs.Characters.{IsText}
 use Rattle.xml_spec.specs.Tree.{Nodes}
-use Rattle.xml_spec.specs.Syntax.{Characters, Refers, Section, Remark, Processing, EmptyTag, Token, Alone, StartTag, EndTag, print_token, print_tokens, is_run, IsToken, AreTokens, NoContent, tokens_of, Content}
+use Rattle.xml_spec.specs.Syntax.{Characters, Refers, Section, CommentItem, ProcessingInstruction, EmptyTag, Token, Alone, StartTag, EndTag, print_token, print_tokens, is_run, IsToken, AreTokens, NoContent, tokens_of, Content}
 use Rattle.xml_spec.specs.Document.{is_document, Document, print_head, Writes, Spells}
 use Rattle.xml_spec.specs.Laws.{BeginsWith}
 use Rattle.xml_spec.proofs.Tests.{both_true, and_true}
@@ -39,8 +39,8 @@ run_begins (Alone (Characters [])) x h v = absurd (let none : 0 < length {A = �
 run_begins (Alone (Characters (b ∷ bytes))) x h v = (both_true (is_run_byte b) _ v.1).0
 run_begins (Alone (Refers r)) x h v = absurd (let clash : false ≡ true = h in cc)
 run_begins (Alone (Section bytes)) x h v = absurd (let clash : false ≡ true = h in cc)
-run_begins (Alone (Remark bytes)) x h v = absurd (let clash : false ≡ true = h in cc)
-run_begins (Alone (Processing t s w)) x h v = absurd (let clash : false ≡ true = h in cc)
+run_begins (Alone (CommentItem bytes)) x h v = absurd (let clash : false ≡ true = h in cc)
+run_begins (Alone (ProcessingInstruction t s w)) x h v = absurd (let clash : false ≡ true = h in cc)
 run_begins (Alone (EmptyTag tag)) x h v = absurd (let clash : false ≡ true = h in cc)
 run_begins (StartTag tag) x h v = absurd (let clash : false ≡ true = h in cc)
 run_begins (EndTag name space) x h v = absurd (let clash : false ≡ true = h in cc)

@@ -4,7 +4,7 @@ use Rattle.std.specs.Prelude.{slice_get}
 use Rattle.std.specs.Bool.{if◌then◌else◌}
 use Rattle.std.specs.List.{list_all}
 use Rattle.xml_spec.specs.Tree.{Element}
-use Rattle.xml_spec.specs.Syntax.{is_white, Characters, Refers, Section, Remark, Processing, EmptyTag, Content, NoContent, Then, Pair}
+use Rattle.xml_spec.specs.Syntax.{is_white, Characters, Refers, Section, CommentItem, ProcessingInstruction, EmptyTag, Content, NoContent, Then, Pair}
 use Rattle.xml_spec.specs.Meaning.{attributes_of}
 use Rattle.xml_spec.specs.Document.{is_epilog, is_document, root_of, Document, print_head, Writes, Span, spans_of}
 use Rattle.xml_spec.proofs.Tests.{both_true}
@@ -23,8 +23,8 @@ pub root_nodes : (c : Content) (place : ℕ) → is_document c ≡ true → node
 root_nodes NoContent place h = absurd (let clash : false ≡ true = h in cc)
 root_nodes (Then (Characters bytes) rest) place h =
     root_nodes rest (item_end place (Characters bytes)) (both_true (list_all is_white bytes) _ h).1
-root_nodes (Then (Remark bytes) rest) place h = root_nodes rest (item_end place (Remark bytes)) h
-root_nodes (Then (Processing t s v) rest) place h = root_nodes rest (item_end place (Processing t s v)) h
+root_nodes (Then (CommentItem bytes) rest) place h = root_nodes rest (item_end place (CommentItem bytes)) h
+root_nodes (Then (ProcessingInstruction t s v) rest) place h = root_nodes rest (item_end place (ProcessingInstruction t s v)) h
 root_nodes (Then (Refers r) rest) place h = absurd (let clash : false ≡ true = h in cc)
 root_nodes (Then (Section bytes) rest) place h = absurd (let clash : false ≡ true = h in cc)
 root_nodes (Then (EmptyTag tag) rest) place h = at_depth (element_row 0 place (item_end place (EmptyTag tag)) tag) []
@@ -67,11 +67,11 @@ content_spans NoContent depth place text = sym (text_spans depth place text []) 
 content_spans (Then (Characters bytes) rest) depth place text = content_spans rest depth (item_end place (Characters bytes)) (part_text text (part_of (Characters bytes)))
 content_spans (Then (Refers r) rest) depth place text = content_spans rest depth (item_end place (Refers r)) (part_text text (part_of (Refers r)))
 content_spans (Then (Section bytes) rest) depth place text = content_spans rest depth (item_end place (Section bytes)) (part_text text (part_of (Section bytes)))
-content_spans (Then (Remark bytes) rest) depth place text =
-    let end = item_end place (Remark bytes) in
+content_spans (Then (CommentItem bytes) rest) depth place text =
+    let end = item_end place (CommentItem bytes) in
     content_spans rest depth end [] ∙ sym (node_spans depth place text _ (rows_of depth end [] rest))
-content_spans (Then (Processing t s v) rest) depth place text =
-    let end = item_end place (Processing t s v) in
+content_spans (Then (ProcessingInstruction t s v) rest) depth place text =
+    let end = item_end place (ProcessingInstruction t s v) in
     content_spans rest depth end [] ∙ sym (node_spans depth place text _ (rows_of depth end [] rest))
 content_spans (Then (EmptyTag tag) rest) depth place text =
     let end = item_end place (EmptyTag tag) in
@@ -89,8 +89,8 @@ content_spans (Pair tag inner space rest) depth place text =
 epilog_spans : (c : Content) (place : ℕ) → is_epilog c ≡ true → spans_of place c ≡ []
 epilog_spans NoContent place h = refl
 epilog_spans (Then (Characters bytes) rest) place h = epilog_spans rest (item_end place (Characters bytes)) (both_true (list_all is_white bytes) _ h).1
-epilog_spans (Then (Remark bytes) rest) place h = epilog_spans rest (item_end place (Remark bytes)) h
-epilog_spans (Then (Processing t s v) rest) place h = epilog_spans rest (item_end place (Processing t s v)) h
+epilog_spans (Then (CommentItem bytes) rest) place h = epilog_spans rest (item_end place (CommentItem bytes)) h
+epilog_spans (Then (ProcessingInstruction t s v) rest) place h = epilog_spans rest (item_end place (ProcessingInstruction t s v)) h
 epilog_spans (Then (Refers r) rest) place h = absurd (let clash : false ≡ true = h in cc)
 epilog_spans (Then (Section bytes) rest) place h = absurd (let clash : false ≡ true = h in cc)
 epilog_spans (Then (EmptyTag tag) rest) place h = absurd (let clash : false ≡ true = h in cc)
@@ -100,8 +100,8 @@ document_spans : (c : Content) (place : ℕ) → is_document c ≡ true → span
 document_spans NoContent place h = absurd (let clash : false ≡ true = h in cc)
 document_spans (Then (Characters bytes) rest) place h =
     document_spans rest (item_end place (Characters bytes)) (both_true (list_all is_white bytes) _ h).1
-document_spans (Then (Remark bytes) rest) place h = document_spans rest (item_end place (Remark bytes)) h
-document_spans (Then (Processing t s v) rest) place h = document_spans rest (item_end place (Processing t s v)) h
+document_spans (Then (CommentItem bytes) rest) place h = document_spans rest (item_end place (CommentItem bytes)) h
+document_spans (Then (ProcessingInstruction t s v) rest) place h = document_spans rest (item_end place (ProcessingInstruction t s v)) h
 document_spans (Then (Refers r) rest) place h = absurd (let clash : false ≡ true = h in cc)
 document_spans (Then (Section bytes) rest) place h = absurd (let clash : false ≡ true = h in cc)
 document_spans (Then (EmptyTag tag) rest) place h =
@@ -186,8 +186,8 @@ rows_follow (Pair tag inner space rest) depth place text rows low f =
 pub root_shaped : (c : Content) (place : ℕ) → is_document c ≡ true → IsShaped (root_rows place c)
 root_shaped NoContent place h = absurd (let clash : false ≡ true = h in cc)
 root_shaped (Then (Characters bytes) rest) place h = root_shaped rest (item_end place (Characters bytes)) (both_true (list_all is_white bytes) _ h).1
-root_shaped (Then (Remark bytes) rest) place h = root_shaped rest (item_end place (Remark bytes)) h
-root_shaped (Then (Processing t s v) rest) place h = root_shaped rest (item_end place (Processing t s v)) h
+root_shaped (Then (CommentItem bytes) rest) place h = root_shaped rest (item_end place (CommentItem bytes)) h
+root_shaped (Then (ProcessingInstruction t s v) rest) place h = root_shaped rest (item_end place (ProcessingInstruction t s v)) h
 root_shaped (Then (Refers r) rest) place h = absurd (let clash : false ≡ true = h in cc)
 root_shaped (Then (Section bytes) rest) place h = absurd (let clash : false ≡ true = h in cc)
 root_shaped (Then (EmptyTag tag) rest) place h = (refl, refl, tt)

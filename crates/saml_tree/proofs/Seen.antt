@@ -9,9 +9,9 @@ use Rattle.saml_tree.specs.Rows as rows
 use Rattle.saml_tree.specs.Rows.{node, nodes_at}
 use Rattle.saml_tree.specs.Kept.{is_element, IsShaped, HaveRanges}
 use Rattle.saml_tree.specs.Links.{depths_of, IsParent, IsEnd, AreLinked}
-use Rattle.saml_tree.specs.Views.{shape_view, row_view, row_views}
+use Rattle.saml_tree.specs.Views.{shape_view, row_view, row_views, links_of}
 use Rattle.saml_tree.specs.declared.row.Row.{Row}
-use Rattle.saml_tree.specs.declared.links.Link.{Link}
+use Rattle.saml_tree.specs.declared.row.Link.{Link}
 use Rattle.saml_tree.proofs.Nodes.{HasRoom, kids_of_node, rest_of_node, in_tree}
 use Rattle.saml_tree.proofs.Places.{room_of}
 use Rattle.saml_tree.proofs.Rows.{no_row, depth_at, depths_length, size_is, node_is, behind, first_kid_there, first_kid_none, next_there, next_none, root_alone, parent_there, before_row, split_at}
@@ -38,6 +38,11 @@ end_read depths links k link linked h read = subst (λ (l : Link). IsEnd depths 
 pub parent_read : (depths : List ℕ) (links : List Link) (k : ℕ) (link : Link) → AreLinked depths links → 0 < k → k < length depths →
     link ≡ get_or links k link → IsParent depths k link.parent
 parent_read depths links k link linked some h read = subst (λ (l : Link). IsParent depths k l.parent) (sym read) (linked.parents.each k link some (omega (arith, linked.count)))
+
+pub link_read : (items : List Row) (k : ℕ) (row : Row) → k < length items → row ≡ get_or items k row →
+    row.link ≡ get_or (links_of items) k row.link
+link_read items k row h read =
+    ap (λ (r : Row). r.link) read ∙ sym (get_or-map (λ (r : Row). r.link) items k row row.link h)
 
 -- a node is its shape, its kids and the rest
 node_parts : (nodes kids rest : Nodes) (shape : rows.Shape) → HasRoom shape kids → nodes ≡ node shape kids rest →

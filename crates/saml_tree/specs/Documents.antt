@@ -1,12 +1,12 @@
 -- What a document that was read is seen as, and what reading answers.
-use Rattle.std.specs.Prelude.{ℕ, List, Option, Some, None}
+use Rattle.std.specs.Prelude.{◌≡◌, ℕ, List, Option, Some, None, slice_range}
 use mathlib.Core.Path.{refl}
 use Rattle.std.specs.Coded.{Coded, code_by, coded×}
 use Rattle.xml_spec.specs.Codes.{coded_bytes, coded_nodes}
 use Rattle.xml_spec.specs.Tree.{Attribute, Nodes, NoNodes, Element, Text, Comment, Instruction, IsWithinLimits}
 use Rattle.xml_spec.specs.Names.{HasNames}
 use Rattle.xml_spec.specs.Identifiers.{IsSingle}
-use Rattle.xml_spec.specs.Document.{Spells}
+use Rattle.xml_spec.specs.Document.{Spells, Span, IsRange}
 use Rattle.saml_tree.specs.declared.node.NodeKind.{NodeKind}
 use Rattle.saml_tree.specs.declared.node.NodeKind.TheVariants as kinds
 use Rattle.saml_tree.specs.declared.node.TreeFault.{TreeFault}
@@ -46,6 +46,12 @@ abbrev pub text_of : Nodes → Option (List ℕ)
 text_of (Text text rest) = Some text
 text_of (Instruction target value rest) = Some value
 text_of _ = None
+
+-- element n, counted from 0 in document order, is written as these bytes of the text
+pub record IsWritten (text : List ℕ) (n : ℕ) (bytes : List ℕ) : Type 0 where
+  pub span : Span
+  pub place : IsRange text n span
+  pub is : bytes ≡ slice_range text span.start span.end
 
 -- the bytes spell this tree, and it is such that no fault of this kind, nor an earlier one, holds
 pub record IsSpelled (text : List ℕ) (tree : Nodes) : Type 0 where

@@ -12,6 +12,5 @@ pub mod NodeNames
 pub mod Spaces
 pub mod Resolved
 pub mod Tables
-pub mod AsciiTexts
 pub mod Elements
 pub mod NamePlaces

@@ -1,5 +1,5 @@
 -- How the rows of a document are linked, and what a document keeps.
-use Rattle.std.specs.Prelude.{◌≡◌, ℕ, suc, ◌^◌, ◌<◌, ◌≤◌, List, length, map, slice_index, slice_index_or}
+use Rattle.std.specs.Prelude.{◌≡◌, ℕ, suc, ◌^◌, ◌<◌, ◌≤◌, ◌⊎◌, List, length, map, slice_index, slice_index_or}
 use Rattle.xml_spec.specs.Identifiers.{identifiers}
 use Rattle.saml_tree.specs.Rows.{Row, nodes_at}
 use Rattle.saml_tree.specs.Documents.{IsSpelled}
@@ -7,7 +7,7 @@ use Rattle.saml_tree.specs.Kept.{IsShaped, HaveRanges}
 use Rattle.saml_tree.specs.Index.{IsIndex}
 use Rattle.saml_tree.specs.declared.ids.Ids.{Ids}
 use Rattle.saml_tree.specs.Resolved.{AreResolved}
-use Rattle.saml_tree.specs.declared.links.Link.{Link}
+use Rattle.saml_tree.specs.declared.row.Link.{Link}
 use Rattle.saml_tree.specs.declared.names.Names.{Names}
 
 -- how deep each row stands
@@ -40,6 +40,28 @@ pub record AreLinked (depths : List ℕ) (links : List Link) : Type 0 where
   pub count : length links ≡ length depths
   pub parents : HaveParents depths links
   pub ends : HaveEnds depths 0 links
+
+-- element n is open at this depth: what was read behind it stands in it
+pub record IsOpen (depths : List ℕ) (depth n : ℕ) : Type 0 where
+  pub there : n < length depths
+  pub at : slice_index depths n ≡ depth
+  pub deeper : (k : ℕ) → n < k → k < length depths → depth < slice_index depths k
+
+-- row k is at its end; what is read next, in this many open elements, does not stand in it
+pub record IsClosed (depths : List ℕ) (open_depth k end : ℕ) : Type 0 where
+  pub is_end : IsEnd depths k end
+  pub last : end ≡ length depths → open_depth ≤ slice_index depths k
+
+-- The links of the rows so far, with the numbers of the open elements, the outermost first: each row has its parent,
+-- and one that is not open its end.
+pub record AreLinkedSoFar (depths : List ℕ) (links : List Link) (numbers : List ℕ) : Type 0 where
+  pub count : length links ≡ length depths
+  pub opened : (i : ℕ) → i < length numbers → IsOpen depths i (slice_index numbers i)
+  pub parents : (k : ℕ) (link : Link) → k < length links → 0 < slice_index depths k →
+      IsParent depths k (slice_index_or links k link).parent
+  pub ends : (k : ℕ) (link : Link) → k < length links →
+      ((i : ℕ) × (i < length numbers) × (slice_index numbers i ≡ k))
+      ⊎ IsClosed depths (length numbers) k (slice_index_or links k link).end
 
 -- what a document keeps: the rows of one tree, which the text spells, the elements' places in the text, the links, the
 -- namespaces of the names, and the elements by their IDs

@@ -9,10 +9,14 @@ use Rattle.xml_spec.specs.Names.{Scope, ExpandedName, IsInScope, IsBinding, IsNa
 use Rattle.xml_spec.specs.Canonical.{scope_at}
 use Rattle.saml_tree.specs.Rows.{Shape, ElementShape, TextShape, CommentShape, InstructionShape, Row, nodes_at}
 use Rattle.saml_tree.specs.Spaces.{Enters}
+use Rattle.saml_tree.specs.RowTests.{Key}
+use Rattle.xml_tokens.specs.declared.token.Attribute as token
 use Rattle.saml_tree.specs.declared.spaces.Spaces.{Spaces}
 use Rattle.saml_tree.specs.declared.names.RowNames.{RowNames}
 use Rattle.saml_tree.specs.declared.names.Names.{Names}
 use Rattle.saml_tree.specs.declared.names.Expanded.{Expanded}
+use Rattle.saml_tree.specs.declared.node.NameAt.{NameAt}
+use Rattle.saml_tree.specs.declared.node.NameAt.TheVariants as places
 
 -- what is asked of an element's name alone: it is a qualified name, its prefix is in scope and is not xmlns
 pub record IsWellElement (scope : Scope) (name : List ℕ) : Type 0 where
@@ -65,6 +69,14 @@ abbrev pub are_apart_expanded : List Listed → Bool
 are_apart_expanded [] = true
 are_apart_expanded (x ∷ xs) = not (x.0 && list_any (is_proper_same x.1) xs) && are_apart_expanded xs
 
+-- what is compared of an attribute's name as it is written, and of the expanded names of those that declare nothing
+abbrev pub name_key : token.Attribute → Key
+name_key a = (0, a.name)
+
+abbrev pub proper_keys : List Expanded → List Key
+proper_keys [] = []
+proper_keys (e ∷ es) = if e.is_proper then (e.namespace, e.local) ∷ proper_keys es else proper_keys es
+
 -- an element's numbers lead to the namespaces of its names
 pub record IsResolvedElement (table : List (List ℕ)) (scope : Scope) (name : List ℕ) (attributes : List Attribute) (names : RowNames) : Type 0 where
   pub element : slice_get table names.element ≡ Some (element_name scope name).namespace
@@ -113,3 +125,8 @@ abbrev pub kept_attribute_namespace : Names → ℕ → ℕ → Option (List ℕ
 kept_attribute_namespace names k i =
     option_and_then (λ (row : RowNames). option_and_then (slice_get names.table) (slice_get row.attributes.items i))
     (slice_get names.rows.items k)
+
+-- the namespace that is kept of the name at this place
+abbrev pub kept_at : Names → NameAt → Option (List ℕ)
+kept_at names (places.Element n) = kept_namespace names n.0
+kept_at names (places.Attribute n i) = kept_attribute_namespace names n.0 i

@@ -1,7 +1,7 @@
 -- What one token after the other makes of a document that is being read: its rows.
 use Rattle.std.specs.Prelude.{ℕ, zero, suc, ◌+◌, Bool, true, false, List, [], ◌∷◌, ◌++◌, length, if◌then◌else◌}
 use Rattle.std.specs.Char.{encode_utf8}
-use Rattle.xml_spec.specs.Syntax.{character_of, Tag, Item, Characters, Refers, Section, Remark, Processing, EmptyTag, print_item, Token, Alone, StartTag, EndTag, print_token}
+use Rattle.xml_spec.specs.Syntax.{character_of, Tag, Item, Characters, Refers, Section, CommentItem, ProcessingInstruction, EmptyTag, print_item, Token, Alone, StartTag, EndTag, print_token}
 use Rattle.xml_spec.specs.Meaning.{line_ends, attributes_of}
 use Rattle.saml_tree.specs.Rows.{Shape, ElementShape, TextShape, CommentShape, InstructionShape, Row}
 
@@ -35,8 +35,8 @@ abbrev pub part_of : Item → Part
 part_of (Characters bytes) = TextPart (line_ends bytes)
 part_of (Refers reference) = TextPart (encode_utf8 (character_of reference))
 part_of (Section bytes) = TextPart (line_ends bytes)
-part_of (Remark bytes) = NodePart (CommentShape (line_ends bytes))
-part_of (Processing target space value) = NodePart (InstructionShape target (line_ends value))
+part_of (CommentItem bytes) = NodePart (CommentShape (line_ends bytes))
+part_of (ProcessingInstruction target space value) = NodePart (InstructionShape target (line_ends value))
 part_of (EmptyTag tag) = NodePart (shape_of tag)
 
 -- the rows that a part adds behind this text, and the text that is left

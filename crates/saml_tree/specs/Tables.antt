@@ -1,5 +1,5 @@
 -- A table of texts, each once, and the numbers that its texts have.
-use Rattle.std.specs.Prelude.{◌≡◌, ℕ, List, [], ◌∷◌, ◌++◌, String, Some, if◌then◌else◌, slice_get}
+use Rattle.std.specs.Prelude.{◌≡◌, ℕ, ◌==◌, ◌<◌, length, slice_index_or, List, [], ◌∷◌, ◌++◌, String, Some, if◌then◌else◌, slice_get}
 use Rattle.std.specs.List.{list_any}
 use Rattle.std.specs.declared.alloc.Global.{Global}
 use Rattle.std.specs.BTreeMap.{BTreeMap, get_by_text}
@@ -17,3 +17,8 @@ Index = BTreeMap (String Global) ℕ
 pub record IsIndexed (table : List (List ℕ)) (numbers : Index) : Type 0 where
   pub leads : (text : List ℕ) (n : ℕ) → get_by_text numbers text ≡ Some n → slice_get table n ≡ Some text
   pub finds : (text : List ℕ) (n : ℕ) → slice_get table n ≡ Some text → get_by_text numbers text ≡ Some n
+
+-- two numbers have the same text only where they are the same
+pub record HasEachOnce (table : List (List ℕ)) : Type 0 where
+  pub each : (one other : ℕ) → one < length table → other < length table →
+      (one == other) ≡ bytes_eq (slice_index_or table one []) (slice_index_or table other [])

@@ -11,6 +11,8 @@ use Rattle.saml_tree.specs.declared.outline.Outline.{Outline}
 use Rattle.saml_tree.specs.declared.row.Shape.{Shape}
 use Rattle.saml_tree.specs.declared.row.Shape.TheVariants as shapes
 use Rattle.saml_tree.specs.declared.row.Row.{Row}
+use Rattle.saml_tree.specs.declared.row.Link.{Link}
+use Rattle.saml_tree.specs.Links.{depths_of, AreLinkedSoFar}
 
 abbrev pub shape_view : Shape → rows.Shape
 shape_view (shapes.Element name attributes) = rows.ElementShape name.now (map attribute_view attributes.items)
@@ -23,6 +25,13 @@ row_view row = record { depth = row.depth; start = row.span.start; end = row.spa
 
 abbrev pub row_views : List Row → List rows.Row
 row_views kept = map row_view kept
+
+abbrev pub links_of : List Row → List Link
+links_of kept = map (λ (row : Row). row.link) kept
+
+-- the rows of the builder are linked with its open elements
+abbrev pub IsLinking : Builder → Type 0
+IsLinking b = AreLinkedSoFar (depths_of (row_views b.rows.items)) (links_of b.rows.items) b.open_elements.items
 
 -- what was read so far
 abbrev pub builder_view : Builder → State

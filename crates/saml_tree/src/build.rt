@@ -1,16 +1,17 @@
 // What is made of a document's tokens: rows, one token after the other.
 
-ghost use Rattle.std.specs.Prelude.{◌≡◌, ◌<◌, ◌+◌, ◌^◌, ◌++◌, [], length, string_bytes, vec_len, map, IfOk, IfErr, OnOk};
+ghost use Rattle.std.specs.Prelude.{◌≡◌, ◌<◌, ◌+◌, ◌-◌, ◌^◌, ◌++◌, [], ◌∷◌, length, slice_index, string_bytes, vec_len, map, IfOk, IfErr, OnOk};
 ghost use Rattle.std.specs.Char.{encode_utf8};
 ghost use Rattle.xml_spec.specs.Syntax.{Token, print_token};
 ghost use Rattle.xml_spec.specs.Meaning.{line_ends};
 ghost use Rattle.xml_tokens.specs.Views.{Shows, attribute_view};
 ghost use Rattle.saml_tree.specs.Rows.{ElementShape, CommentShape, InstructionShape};
 ghost use Rattle.saml_tree.specs.Run.{first_state, all_rows, TextPart, NodePart, with_part, with_part_inside, opened, end_at, closed, step};
-ghost use Rattle.saml_tree.specs.Views.{shape_view, builder_view};
+ghost use Rattle.saml_tree.specs.Links.{depths_of, AreLinkedSoFar};
+ghost use Rattle.saml_tree.specs.Views.{shape_view, row_views, links_of, builder_view, IsLinking};
 
 use crate::node::TreeFault;
-use crate::row::{Attribute, Row, Shape};
+use crate::row::{Attribute, Link, Row, Shape};
 use std::alloc::Global;
 use std::mem;
 use xml_chars::Span;
@@ -29,7 +30,8 @@ pub(crate) struct Builder<'a> {
 impl<'a> Builder<'a> {
     /// Before the first token, which begins at this place.
     pub(crate) fn new(alloc: Global, place: usize) -> Builder<'a>
-        ensures { builder_view result ≡ first_state place }
+        ensures state { builder_view result ≡ first_state place }
+        ensures linked { IsLinking result }
     {
         Builder {
             rows: Vec::new(alloc),
@@ -39,18 +41,36 @@ impl<'a> Builder<'a> {
         }
     }
 
+    // The link of a row that is added now, and in which none stands so far.
+    fn link(&self) -> Link
+        ensures parent { result.parent ≡ slice_index self.now.open_elements.items (length self.now.open_elements.items - 1) }
+        ensures end { result.end ≡ vec_len self.now.rows + 1 }
+    {
+        let parent = match self.open_elements.last() {
+            Some(number) => *number,
+            None => 0,
+        };
+        Link {
+            parent,
+            end: self.rows.len() + 1,
+        }
+    }
+
     // The text so far becomes a row, an empty one none.
     fn end_text(&mut self, alloc: Global) -> Result<(), TreeFault>
         requires { vec_len self.old.open_elements < 2 ^ 32 }
         ensures ok { OnOk result (builder_view self.new ≡ record (builder_view self.old) { rows = all_rows (builder_view self.old); text = [] }) }
+        ensures linked { OnOk result (IsLinking self.old → IsLinking self.new) }
         ensures err { IfErr result (λ e. e ≡ TreeFault.NoMemory) }
     {
         if self.text.is_empty() {
             return Ok(());
         }
         let text = mem::replace(&mut self.text, String::new(alloc));
+        let link = self.link();
         self.rows.push(Row {
             depth: self.open_elements.len() as u32,
+            link,
             span: Span {
                 start: self.place,
                 end: self.place,
@@ -65,12 +85,15 @@ impl<'a> Builder<'a> {
         requires fits { self.old.place + len < 2 ^ 64 }
         requires few { vec_len self.old.open_elements < 2 ^ 32 }
         ensures ok { OnOk result (builder_view self.new ≡ with_part (builder_view self.old) (NodePart (shape_view shape.entry)) (self.old.place + len)) }
+        ensures linked { OnOk result (IsLinking self.old → IsLinking self.new) }
         ensures err { IfErr result (λ e. e ≡ TreeFault.NoMemory) }
     {
         self.end_text(alloc)?;
         let end = self.place + len;
+        let link = self.link();
         self.rows.push(Row {
             depth: self.open_elements.len() as u32,
+            link,
             span: Span {
                 start: self.place,
                 end,
@@ -86,6 +109,7 @@ impl<'a> Builder<'a> {
         requires { self.old.place + len < 2 ^ 64 }
         ensures ok { OnOk result (builder_view self.new
             ≡ with_part_inside (builder_view self.old) (TextPart (line_ends text.now)) (self.old.place + len)) }
+        ensures linked { OnOk result (IsLinking self.old → IsLinking self.new) }
         ensures err { IfErr result (λ e. e ≡ TreeFault.NoMemory) }
     {
         if !self.open_elements.is_empty() {
@@ -100,6 +124,7 @@ impl<'a> Builder<'a> {
         requires { self.old.place + len < 2 ^ 64 }
         ensures ok { OnOk result (builder_view self.new
             ≡ with_part_inside (builder_view self.old) (TextPart (encode_utf8 character)) (self.old.place + len)) }
+        ensures linked { OnOk result (IsLinking self.old → IsLinking self.new) }
         ensures err { IfErr result (λ e. e ≡ TreeFault.NoMemory) }
     {
         if !self.open_elements.is_empty() {
@@ -115,6 +140,7 @@ impl<'a> Builder<'a> {
         requires few { vec_len self.old.open_elements < 2 ^ 32 }
         ensures ok { OnOk result (builder_view self.new
             ≡ with_part_inside (builder_view self.old) (NodePart (CommentShape (line_ends text.now))) (self.old.place + len)) }
+        ensures linked { OnOk result (IsLinking self.old → IsLinking self.new) }
         ensures err { IfErr result (λ e. e ≡ TreeFault.NoMemory) }
     {
         if self.open_elements.is_empty() {
@@ -137,6 +163,7 @@ impl<'a> Builder<'a> {
         requires few { vec_len self.old.open_elements < 2 ^ 32 }
         ensures ok { OnOk result (builder_view self.new
             ≡ with_part_inside (builder_view self.old) (NodePart (InstructionShape target.now (line_ends value.now))) (self.old.place + len)) }
+        ensures linked { OnOk result (IsLinking self.old → IsLinking self.new) }
         ensures err { IfErr result (λ e. e ≡ TreeFault.NoMemory) }
     {
         if self.open_elements.is_empty() {
@@ -159,6 +186,7 @@ impl<'a> Builder<'a> {
         requires few { vec_len self.old.open_elements < 2 ^ 32 }
         ensures ok { OnOk result (builder_view self.new
             ≡ opened (builder_view self.old) (ElementShape name.now (map attribute_view attributes.entry.items)) (self.old.place + len)) }
+        ensures linked { OnOk result (IsLinking self.old → IsLinking self.new) }
         ensures err { IfErr result (λ e. e ≡ TreeFault.NoMemory) }
     {
         self.end_text(alloc)?;
@@ -174,6 +202,7 @@ impl<'a> Builder<'a> {
         requires few { vec_len self.old.open_elements < 2 ^ 32 }
         ensures ok { OnOk result (builder_view self.new
             ≡ closed (builder_view self.old) (builder_view self.old).open_elements (self.old.place + len)) }
+        ensures linked { OnOk result (IsLinking self.old → IsLinking self.new) }
         ensures err { IfErr result (λ e. e ≡ TreeFault.NoMemory) }
     {
         self.end_text(alloc)?;
@@ -185,13 +214,18 @@ impl<'a> Builder<'a> {
         Ok(())
     }
 
-    // Row `number` ends where the next token begins.
+    // Row `number` ends where the next token begins, and behind the rows so far.
     fn end_row(&mut self, number: usize)
-        ensures { builder_view self.new
+        ensures linked { AreLinkedSoFar (depths_of (row_views self.old.rows.items)) (links_of self.old.rows.items)
+            (self.old.open_elements.items ++ number ∷ []) → IsLinking self.new }
+        ensures rows { builder_view self.new
             ≡ record (builder_view self.old) { rows = end_at self.old.place number (builder_view self.old).rows } }
     {
         if number < self.rows.len() {
-            self.rows[number].span.end = self.place;
+            let end = self.rows.len();
+            let row = &mut self.rows[number];
+            row.span.end = self.place;
+            row.link.end = end;
         }
     }
 
@@ -206,6 +240,7 @@ impl<'a> Builder<'a> {
         requires few { vec_len self.old.open_elements < 2 ^ 32 }
         ensures ok { OnOk result ((token : Token) → Shows token markup.entry → len ≡ length (print_token token) →
             step (builder_view self.old) token ≡ builder_view self.new) }
+        ensures linked { OnOk result (IsLinking self.old → IsLinking self.new) }
         ensures err { IfErr result (λ e. e ≡ TreeFault.NoMemory) }
     {
         match markup {

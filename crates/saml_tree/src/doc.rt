@@ -5,22 +5,21 @@ ghost use Rattle.std.specs.Option.{option_map};
 ghost use Rattle.xml_spec.specs.Numbering.{size, from_node, kids_of, rest_of, first_kid_of, next_of, parent_of, elements_before};
 ghost use Rattle.xml_spec.specs.Identifiers.{identifiers, node_with};
 ghost use Rattle.xml_spec.specs.Document.{IsRange};
-ghost use Rattle.saml_tree.specs.Documents.{IsSpelled, kind_of, name_of, attributes_of, text_of};
-ghost use Rattle.saml_tree.specs.NodeNames.{ShownName, name_at, attribute_at, attribute_name_at};
+ghost use Rattle.saml_tree.specs.Documents.{IsSpelled, IsWritten, kind_of, name_of, attributes_of, text_of};
+ghost use Rattle.saml_tree.specs.NodeNames.{ShownName, name_at, attribute_at, attribute_name_at, IsNameAt, namespace_at};
 ghost use Rattle.saml_tree.specs.Rows.{node, nodes_at};
 ghost use Rattle.saml_tree.specs.Resolved.{AreResolved};
 ghost use Rattle.saml_tree.specs.Kept.{IsShaped, HaveRanges};
 ghost use Rattle.saml_tree.specs.Index.{IsIndex};
-ghost use Rattle.saml_tree.specs.Views.{shape_view, row_views, name_view};
+ghost use Rattle.saml_tree.specs.Links.{depths_of, AreLinkedSoFar};
+ghost use Rattle.saml_tree.specs.Views.{shape_view, row_views, links_of, name_view};
 ghost use Rattle.xml_tokens.specs.Views.{attribute_view};
 
 use crate::ids::Ids;
-use crate::links::{Link, links_of};
 use crate::names::{Names, shown_name};
-use crate::node::{Name, NodeKind, NodeNo, TreeFault};
+use crate::node::{Name, NameAt, NodeKind, NodeNo};
 use crate::row::{Attribute, Row, Shape};
-use saml_outside::NoMemory;
-use std::alloc::Global;
+use owned_values::NoMemory;
 use std::marker::Model;
 use xml_chars::Span;
 
@@ -29,7 +28,6 @@ use xml_chars::Span;
 pub struct Doc<'a> {
     text: &'a [u8],
     rows: Vec<Row<'a>>,
-    links: Vec<Link>,
     names: Names,
     ids: Ids,
 }
@@ -42,45 +40,36 @@ impl<'a> Model for Doc<'a> {
     ghost coded = { coded_document };
 
     ghost use Rattle.saml_tree.specs.Rows.{nodes_at};
-    ghost use Rattle.saml_tree.specs.Views.{row_views};
+    ghost use Rattle.saml_tree.specs.Views.{row_views, links_of};
     ghost use Rattle.saml_tree.specs.Links.{IsKept};
 
     ghost view = { λ d. record { text = d.text.now; tree = nodes_at 0 (row_views d.rows.items) } };
 
-    ghost invariant = { λ d. IsKept d.text.now (row_views d.rows.items) d.links.items d.names d.ids };
+    ghost invariant = { λ d. IsKept d.text.now (row_views d.rows.items) (links_of d.rows.items) d.names d.ids };
 }
 
 impl<'a> Doc<'a> {
     ghost use Rattle.saml_tree.specs.declared.node.NodeKind.{NodeKind};
     ghost use Rattle.saml_tree.specs.declared.node.NodeKind.TheVariants as kinds;
-    ghost use Rattle.saml_tree.specs.declared.node.TreeFault.TheVariants as faults;
 
     /// The document of these rows, with its elements by their IDs.
-    pub(crate) fn of(
-        alloc: Global,
-        text: &'a [u8],
-        rows: Vec<Row<'a>>,
-        names: Names,
-        ids: Ids,
-    ) -> Result<Doc<'a>, TreeFault>
+    pub(crate) fn of(text: &'a [u8], rows: Vec<Row<'a>>, names: Names, ids: Ids) -> Doc<'a>
         requires shaped { IsShaped (row_views rows.items) }
         requires ranges { HaveRanges text.now (row_views rows.items) }
         requires count { length rows.items < 2 ^ 32 }
+        requires linked { AreLinkedSoFar (depths_of (row_views rows.items)) (links_of rows.items) [] }
         requires resolved { AreResolved (row_views rows.items) names }
         requires spelled { IsSpelled text.now (nodes_at 0 (row_views rows.items)) }
         requires indexed { IsIndex (identifiers (nodes_at 0 (row_views rows.items))) ids }
-        ensures text { IfOk result (λ doc. doc.text ≡ text.now) }
-        ensures tree { IfOk result (λ doc. doc.tree ≡ nodes_at 0 (row_views rows.entry.items)) }
-        ensures err { IfErr result (λ e. e ≡ faults.NoMemory) }
+        ensures text { result.text ≡ text.now }
+        ensures tree { result.tree ≡ nodes_at 0 (row_views rows.entry.items) }
     {
-        let links = links_of(alloc, &rows)?;
-        Ok(Doc {
+        Doc {
             text,
             rows,
-            links,
             names,
             ids,
-        })
+        }
     }
 
     /// The root element.
@@ -121,10 +110,10 @@ impl<'a> Doc<'a> {
         ensures number { option_map (λ kid. kid.0) result ≡ first_kid_of self.now.tree n.0 }
         ensures inside { IfSome result (λ kid. kid.0 < size self.now.tree) }
     {
-        let end = self.links[n.0 as usize].end;
-        let behind = n.0 + 1;
+        let end = self.rows[n.0 as usize].link.end;
+        let behind = n.0 as usize + 1;
         if behind < end {
-            Some(NodeNo(behind))
+            Some(NodeNo(behind as u32))
         } else {
             None
         }
@@ -136,11 +125,9 @@ impl<'a> Doc<'a> {
         ensures number { option_map (λ node. node.0) result ≡ next_of self.now.tree n.0 }
         ensures inside { IfSome result (λ node. node.0 < size self.now.tree) }
     {
-        let end = self.links[n.0 as usize].end;
-        if (end as usize) < self.rows.len()
-            && self.rows[end as usize].depth == self.rows[n.0 as usize].depth
-        {
-            Some(NodeNo(end))
+        let end = self.rows[n.0 as usize].link.end;
+        if end < self.rows.len() && self.rows[end].depth == self.rows[n.0 as usize].depth {
+            Some(NodeNo(end as u32))
         } else {
             None
         }
@@ -155,7 +142,7 @@ impl<'a> Doc<'a> {
         if n.0 == 0 {
             None
         } else {
-            Some(NodeNo(self.links[n.0 as usize].parent))
+            Some(NodeNo(self.rows[n.0 as usize].link.parent as u32))
         }
     }
 
@@ -189,6 +176,15 @@ impl<'a> Doc<'a> {
         ensures { IsRange self.now.text (elements_before self.now.tree n.0) (record { start = result.start; end = result.end }) }
     {
         self.rows[n.0 as usize].span
+    }
+
+    /// The bytes of the text that an element is written as, which are those of its `span`. It takes no memory.
+    pub fn bytes_of(&self, n: NodeNo) -> &'a [u8]
+        requires { kind_of (from_node self.now.tree n.0) ≡ Some kinds.Element }
+        ensures { IsWritten self.now.text (elements_before self.now.tree n.0) result.now }
+    {
+        let span = self.span(n);
+        &self.text[span.start..span.end]
     }
 
     /// The attributes of an element.
@@ -234,12 +230,21 @@ impl<'a> Doc<'a> {
         self.names.of_attribute(n.0 as usize, i)
     }
 
+    /// Whether the names at two places are in one namespace. The time does not grow with the namespaces' names.
+    pub fn same_namespace(&self, one: NameAt, other: NameAt) -> bool
+        requires one { IsNameAt self.now.tree one }
+        requires other { IsNameAt self.now.tree other }
+        ensures { IsTrue result ↔ (namespace_at self.now.tree one ≡ namespace_at self.now.tree other) }
+    {
+        self.names.is_same(one, other)
+    }
+
     /// Whether the value of attribute i of an element is `s`, byte by byte.
     pub fn attr_is(&self, n: NodeNo, i: usize, s: &str) -> bool
         requires { IsSome (attribute_at self.now.tree n.0 i) }
         ensures { IfSome (attribute_at self.now.tree n.0 i) (λ a. IsTrue result ↔ (a.value ≡ s.now)) }
     {
-        self.attribute(n, i).value.as_str() == s
+        self.attribute(n, i).value.is(s)
     }
 
     /// Appends the value of attribute i of an element.
@@ -252,7 +257,7 @@ impl<'a> Doc<'a> {
         ensures ok { IfSome (attribute_at self.now.tree n.0 i) (λ a. OnOk result (string_bytes out.new ≡ string_bytes out.old ++ a.value)) }
         ensures err { IfSome (attribute_at self.now.tree n.0 i) (λ a. OnErr result ((k : ℕ) × (string_bytes out.new ≡ string_bytes out.old ++ take k a.value))) }
     {
-        out.push_str(self.attribute(n, i).value.as_str())?;
+        self.attribute(n, i).value.put(out)?;
         Ok(())
     }
 

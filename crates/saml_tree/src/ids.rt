@@ -1,6 +1,6 @@
 // The elements of a document by their IDs.
 
-ghost use Rattle.std.specs.Prelude.{◌≡◌, ◌<◌, ◌^◌, ◌⊎◌, ◌++◌, List, [], ◌∷◌, length, map, IfOk, OnOk, IfErr};
+ghost use Rattle.std.specs.Prelude.{◌≡◌, ◌<◌, ◌^◌, ◌⊎◌, ◌++◌, List, [], ◌∷◌, length, map, string_bytes, IfOk, OnOk, IfErr};
 ghost use Rattle.std.specs.BTreeMap.{get_by_text};
 ghost use Rattle.std.specs.List.{filter_map};
 ghost use Rattle.xml_spec.specs.Identifiers.{Identifier, identifier_at, identifiers, IsSingle};
@@ -39,18 +39,17 @@ impl Ids {
     }
 
     // One ID more. `DuplicateId` says that there is one of this value.
-    fn add(&mut self, alloc: Global, value: &str, node: u32) -> Result<(), TreeFault>
+    fn add(&mut self, value: String, node: u32) -> Result<(), TreeFault>
         ensures ok { OnOk result ((before : List Identifier) → AreIndexed before self.old →
-            AreIndexed (before ++ record { value = value.now; node = node } ∷ []) self.new) }
+            AreIndexed (before ++ record { value = string_bytes value; node = node } ∷ []) self.new) }
         ensures err { IfErr result (λ e. (e ≡ faults.NoMemory) ⊎ ((e ≡ faults.DuplicateId)
             × ((before : List Identifier) → AreIndexed before self.old →
-            ¬ (AreOnce (before ++ record { value = value.now; node = node } ∷ []))))) }
+            ¬ (AreOnce (before ++ record { value = string_bytes value; node = node } ∷ []))))) }
     {
-        if self.index.contains_key(value) {
+        if self.index.contains_key(value.as_str()) {
             return Err(TreeFault::DuplicateId);
         }
-        let key = String::from_str(alloc, value)?;
-        self.index.insert(key, node)?;
+        self.index.insert(value, node)?;
         Ok(())
     }
 
@@ -69,7 +68,8 @@ impl Ids {
     {
         for attribute in attributes {
             if attribute.name == "ID" {
-                self.add(alloc, attribute.value.as_str(), node)?;
+                let value = attribute.value.text(alloc)?;
+                self.add(value, node)?;
             }
         }
         Ok(())

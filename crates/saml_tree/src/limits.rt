@@ -5,16 +5,11 @@ ghost use Rattle.xml_spec.specs.Syntax.{Token};
 ghost use Rattle.xml_tokens.specs.Views.{Shows};
 ghost use Rattle.saml_tree.specs.RowTests.{is_small_token};
 
+use xml_spec::{MAX_ATTRIBUTES, MAX_DEPTH};
 use xml_tokens::Markup;
 
-/// The greatest depth of an element; the root has depth 1.
-const MAX_DEPTH: usize = 64;
-
-/// The greatest number of attributes of one element.
-const MAX_ATTRIBUTES: usize = 128;
-
-/// Whether the token begins no element that stands deeper than 64 or has more than 128 attributes. It stands in this
-/// many elements, so that the depth of its own is one more.
+/// Whether the token begins no element that stands deeper than `MAX_DEPTH` or has more than `MAX_ATTRIBUTES` attributes.
+/// It stands in this many elements, so that the depth of its own is one more.
 pub(crate) fn is_small(markup: &Markup<'_>, depth: usize) -> bool
     ensures { (token : Token) → Shows token markup.now → is_small_token depth token ≡ result }
 {

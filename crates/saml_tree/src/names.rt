@@ -1,10 +1,9 @@
 // The names of a document: whether they keep the rules of Namespaces in XML 1.0, and which namespace each is in.
 
-ghost use Rattle.std.specs.Prelude.{◌≡◌, ◌<◌, ◌^◌, ◌⊎◌, length, map, Some, MatchOption, IsSome, IsTrue, is_some, IfOk, IfErr, OnOk, slice_get};
+ghost use Rattle.std.specs.Prelude.{◌≡◌, ◌<◌, ◌^◌, ◌⊎◌, ◌↔◌, length, map, Some, MatchOption, IsSome, IsTrue, is_some, IfOk, IfErr, OnOk, slice_get};
 ghost use Rattle.std.specs.List.{list_any, AllByRecursion};
 ghost use Rattle.xml_spec.specs.Characters.{at_colon};
-ghost use Rattle.std.specs.Str.{bytes_eq};
-ghost use Rattle.xml_spec.specs.Names.{HasNames, IsNamed, IsInScope, element_name, attribute_name};
+ghost use Rattle.xml_spec.specs.Names.{HasNames, IsNamed, IsInScope, IsBinding, element_name, attribute_name};
 ghost use Rattle.saml_tree.specs.Rows.{nodes_at};
 ghost use Rattle.saml_tree.specs.Kept.{IsShaped};
 ghost use Rattle.saml_tree.specs.RowTests.{are_apart};
@@ -12,14 +11,17 @@ ghost use Rattle.saml_tree.specs.NodeNames.{shown};
 ghost use Rattle.saml_tree.specs.Views.{shape_view, row_views, name_view};
 ghost use Rattle.xml_tokens.specs.Views.{attribute_view};
 ghost use Rattle.saml_tree.specs.Spaces.{scope_of, IsReady};
-ghost use Rattle.saml_tree.specs.Resolved.{IsWellElement, IsWellAttribute, IsExpanded, AreExpanded, AreInTable, listed, expanded_view, is_proper_same, are_apart_expanded, IsNamedShape, Moves, IsResolvedElement, IsResolvedShape, AreResolved, kept_namespace, kept_attribute_namespace};
+ghost use Rattle.saml_tree.specs.Resolved.{name_key, proper_keys, IsWellElement, IsWellAttribute, IsExpanded, AreExpanded, AreInTable, listed, expanded_view, are_apart_expanded, IsNamedShape, Moves, IsResolvedElement, IsResolvedShape, AreResolved, kept_namespace, kept_attribute_namespace, kept_at};
 
-use crate::node::{Name, TreeFault};
-use crate::qualified::{declared_prefix, has_colon, is_binding, is_qualified, local_of, prefix_of};
+use crate::distinct::{Key, are_distinct};
+use crate::node::{Name, NameAt, TreeFault};
+use crate::qualified::{declared_prefix, is_binding, is_qualified};
 use crate::row::{Attribute, Row, Shape};
 use crate::spaces::{NONE, Spaces, XMLNS};
 use crate::table::Table;
 use std::alloc::{AllocError, Global};
+use xml_chars::{has_colon, local_of, prefix_of};
+use xml_tokens::AttributeValue;
 
 /// The numbers of the namespaces of an element's name and of those of its attributes. Those of another node say nothing.
 #[derive(Debug, Drop)]
@@ -58,6 +60,27 @@ impl Names {
         ensures { kept_attribute_namespace self.now k i ≡ Some result.now }
     {
         self.table.text(self.rows[k].attributes[i])
+    }
+
+    /// The number of the namespace of the name at a place.
+    fn number_at(&self, place: NameAt) -> u32
+        requires { IsSome (kept_at self.now place) }
+        ensures { kept_at self.now place ≡ slice_get self.now.table result }
+    {
+        match place {
+            NameAt::Element(n) => self.rows[n.0 as usize].element,
+            NameAt::Attribute(n, i) => self.rows[n.0 as usize].attributes[i],
+        }
+    }
+
+    /// Whether the names at two places are in one namespace.
+    pub(crate) fn is_same(&self, one: NameAt, other: NameAt) -> bool
+        requires one { IsSome (kept_at self.now one) }
+        requires other { IsSome (kept_at self.now other) }
+        ensures { IsTrue result ↔ (kept_at self.now one ≡ kept_at self.now other) }
+    {
+        self.table
+            .is_same(self.number_at(one), self.number_at(other))
     }
 }
 
@@ -105,32 +128,47 @@ fn proper_number(spaces: &Spaces<'_>, name: &str) -> Option<u32>
     }
 }
 
+/// Whether a declaration may bind the prefix to the namespace of this name.
+fn may_bind(alloc: Global, prefix: &str, value: &AttributeValue<'_>) -> Result<bool, AllocError>
+    ensures { IfOk result (λ holds. IsTrue holds ↔ IsBinding (record { prefix = prefix.now; namespace = value.now })) }
+{
+    let namespace = value.text(alloc)?;
+    Ok(is_binding(prefix, namespace.as_str()))
+}
+
 /// An attribute's expanded name, where nothing forbids the attribute by itself.
-fn expand<'a>(spaces: &Spaces<'_>, attribute: &Attribute<'a>) -> Option<Expanded<'a>>
+fn expand<'a>(
+    alloc: Global,
+    spaces: &Spaces<'_>,
+    attribute: &Attribute<'a>,
+) -> Result<Option<Expanded<'a>>, AllocError>
     requires { IsReady spaces.now }
-    ensures { MatchOption result (¬ (IsWellAttribute (scope_of spaces.now) (attribute_view attribute.now)))
+    ensures { IfOk result (λ answer. MatchOption answer (¬ (IsWellAttribute (scope_of spaces.now) (attribute_view attribute.now)))
         (λ e. IsWellAttribute (scope_of spaces.now) (attribute_view attribute.now)
-        × IsExpanded spaces.now.table (listed (scope_of spaces.now) (attribute_view attribute.now)) e) }
+        × IsExpanded spaces.now.table (listed (scope_of spaces.now) (attribute_view attribute.now)) e)) }
 {
     if !is_qualified(attribute.name) {
-        return None;
+        return Ok(None);
     }
     let local = local_of(attribute.name);
-    match declared_prefix(attribute.name) {
-        Some(prefix) if is_binding(prefix, attribute.value.as_str()) => Some(Expanded {
+    let Some(prefix) = declared_prefix(attribute.name) else {
+        let Some(namespace) = proper_number(spaces, attribute.name) else {
+            return Ok(None);
+        };
+        return Ok(Some(Expanded {
+            is_proper: true,
+            namespace,
+            local,
+        }));
+    };
+    if may_bind(alloc, prefix, &attribute.value)? {
+        Ok(Some(Expanded {
             is_proper: false,
             namespace: XMLNS,
             local,
-        }),
-        Some(_) => None,
-        None => {
-            let namespace = proper_number(spaces, attribute.name)?;
-            Some(Expanded {
-                is_proper: true,
-                namespace,
-                local,
-            })
-        }
+        }))
+    } else {
+        Ok(None)
     }
 }
 
@@ -148,7 +186,8 @@ fn expand_all<'a>(
 {
     let mut list = Vec::new(alloc);
     for attribute in attributes {
-        let Some(name) = expand(spaces, attribute) else {
+        let expanded = expand(alloc, spaces, attribute)?;
+        let Some(name) = expanded else {
             return Err(TreeFault::BadNames);
         };
         list.push(name)?;
@@ -156,43 +195,31 @@ fn expand_all<'a>(
     Ok(list)
 }
 
-/// Whether two names are proper ones and the same.
-fn is_same(spaces: &Spaces<'_>, one: &Expanded<'_>, other: &Expanded<'_>) -> bool
-    requires one { one.now.namespace < length spaces.now.table }
-    requires other { other.now.namespace < length spaces.now.table }
-    ensures { result ≡ is_proper_same (expanded_view spaces.now.table one.now).1 (expanded_view spaces.now.table other.now) }
+/// The expanded names of those that declare nothing, with the numbers of their namespaces.
+fn put_expanded<'a>(names: &[Expanded<'a>], keys: &mut Vec<Key<'a>>) -> Result<(), AllocError>
+    ensures { OnOk result (keys.new.items ≡ proper_keys names.now) }
 {
-    other.is_proper
-        && one.local == other.local
-        && spaces.table.is_same(one.namespace, other.namespace)
+    keys.clear();
+    for name in names {
+        if name.is_proper {
+            keys.push((name.namespace, name.local))?;
+        }
+    }
+    Ok(())
 }
 
-// Each pair is compared: of 128 attributes there are 8128.
-fn are_apart_expanded(spaces: &Spaces<'_>, names: &[Expanded<'_>]) -> bool
+/// Whether no two names that declare nothing are the same.
+fn are_apart_expanded<'a>(
+    spaces: &Spaces<'_>,
+    names: &[Expanded<'a>],
+    keys: &mut Vec<Key<'a>>,
+) -> Result<bool, AllocError>
     requires { AreInTable spaces.now.table names.now }
-    ensures { result ≡ are_apart_expanded (map (expanded_view spaces.now.table) names.now) }
+    ensures { IfOk result (λ apart. apart ≡ are_apart_expanded (map (expanded_view spaces.now.table) names.now)) }
 {
-    let mut rest = names;
-    while let [first, others @ ..] = rest {
-        if first.is_proper && is_expanded_among(spaces, first, others) {
-            return false;
-        }
-        rest = others;
-    }
-    true
-}
-
-fn is_expanded_among(spaces: &Spaces<'_>, name: &Expanded<'_>, names: &[Expanded<'_>]) -> bool
-    requires one { name.now.namespace < length spaces.now.table }
-    requires others { AreInTable spaces.now.table names.now }
-    ensures { result ≡ list_any (is_proper_same (expanded_view spaces.now.table name.now).1) (map (expanded_view spaces.now.table) names.now) }
-{
-    for other in names {
-        if is_same(spaces, name, other) {
-            return true;
-        }
-    }
-    false
+    spaces.table.has_each_once();
+    put_expanded(names, keys)?;
+    Ok(are_distinct(keys))
 }
 
 /// Whether a name of these has a prefix.
@@ -203,20 +230,21 @@ fn has_prefix(attributes: &[Attribute<'_>]) -> bool
 }
 
 /// Whether no two of an element's attributes, whose names differ, have one expanded name. Without prefixes they do not,
-/// and no pairs are compared.
-fn are_expanded_apart(
+/// and nothing is compared.
+fn are_expanded_apart<'a>(
     spaces: &Spaces<'_>,
     attributes: &[Attribute<'_>],
-    names: &[Expanded<'_>],
-) -> bool
+    names: &[Expanded<'a>],
+    keys: &mut Vec<Key<'a>>,
+) -> Result<bool, AllocError>
     requires names { AreExpanded spaces.now.table (map (listed (scope_of spaces.now)) (map attribute_view attributes.now)) names.now }
     requires apart { IsTrue (are_apart (map (λ a. a.name) (map attribute_view attributes.now))) }
-    ensures { result ≡ are_apart_expanded (map (expanded_view spaces.now.table) names.now) }
+    ensures { IfOk result (λ apart. apart ≡ are_apart_expanded (map (expanded_view spaces.now.table) names.now)) }
 {
     if !has_prefix(attributes) {
-        return true;
+        return Ok(true);
     }
-    are_apart_expanded(spaces, names)
+    are_apart_expanded(spaces, names, keys)
 }
 
 fn numbers_of(alloc: Global, names: &[Expanded<'_>]) -> Result<Vec<u32>, AllocError>
@@ -226,11 +254,12 @@ fn numbers_of(alloc: Global, names: &[Expanded<'_>]) -> Result<Vec<u32>, AllocEr
 }
 
 /// The names of an element, in the scope with its own declarations.
-fn element_names(
+fn element_names<'a>(
     alloc: Global,
     spaces: &Spaces<'_>,
     name: &str,
-    attributes: &[Attribute<'_>],
+    attributes: &[Attribute<'a>],
+    keys: &mut Vec<Key<'a>>,
 ) -> Result<RowNames, TreeFault>
     requires { IsReady spaces.now }
     ensures named { OnOk result (IsNamed (scope_of spaces.now) name.now (map attribute_view attributes.now)) }
@@ -242,10 +271,12 @@ fn element_names(
         return Err(TreeFault::BadNames);
     };
     let list = expand_all(alloc, spaces, attributes)?;
-    if !are_apart(attributes) {
+    let apart = are_apart(attributes, keys)?;
+    if !apart {
         return Err(TreeFault::BadNames);
     }
-    if !are_expanded_apart(spaces, attributes, &list) {
+    let differ = are_expanded_apart(spaces, attributes, &list, keys)?;
+    if !differ {
         return Err(TreeFault::BadNames);
     }
     let attributes = numbers_of(alloc, &list)?;
@@ -260,6 +291,7 @@ fn row_names<'a>(
     alloc: Global,
     spaces: &mut Spaces<'a>,
     row: &Row<'a>,
+    keys: &mut Vec<Key<'a>>,
 ) -> Result<RowNames, TreeFault>
     requires ready { IsReady spaces.old }
     requires few { spaces.old.levels < 2 ^ 33 }
@@ -272,7 +304,7 @@ fn row_names<'a>(
     match &row.shape {
         Shape::Element { name, attributes } => {
             spaces.enter(alloc, attributes)?;
-            element_names(alloc, spaces, name, attributes)
+            element_names(alloc, spaces, name, attributes, keys)
         }
         _ => Ok(RowNames {
             element: NONE,
@@ -295,9 +327,10 @@ pub(crate) fn resolve<'a>(alloc: Global, rows: &[Row<'a>]) -> Result<Names, Tree
 {
     let mut spaces = Spaces::new(alloc)?;
     let mut named = Vec::new(alloc);
+    let mut keys = Vec::new(alloc);
     for row in rows {
         spaces.leave(row.depth);
-        let names = row_names(alloc, &mut spaces, row)?;
+        let names = row_names(alloc, &mut spaces, row, &mut keys)?;
         named.push(names)?;
     }
     Ok(Names {
@@ -306,22 +339,21 @@ pub(crate) fn resolve<'a>(alloc: Global, rows: &[Row<'a>]) -> Result<Names, Tree
     })
 }
 
-// Each pair is compared: of 128 attributes there are 8128.
-fn are_apart(attributes: &[Attribute<'_>]) -> bool
-    ensures { result ≡ are_apart (map (λ a. a.name) (map attribute_view attributes.now)) }
+/// The names of attributes, as they are written.
+fn put_names<'a>(attributes: &[Attribute<'a>], keys: &mut Vec<Key<'a>>) -> Result<(), AllocError>
+    ensures { OnOk result (keys.new.items ≡ map name_key attributes.now) }
 {
-    let mut rest = attributes;
-    while let [first, others @ ..] = rest {
-        if is_among(first.name, others) {
-            return false;
-        }
-        rest = others;
+    keys.clear();
+    for attribute in attributes {
+        keys.push((NONE, attribute.name))?;
     }
-    true
+    Ok(())
 }
 
-fn is_among(name: &str, attributes: &[Attribute<'_>]) -> bool
-    ensures { result ≡ list_any (λ a. bytes_eq a.name.now name.now) attributes.now }
+/// Whether no two attributes have one name as it is written.
+fn are_apart<'a>(attributes: &[Attribute<'a>], keys: &mut Vec<Key<'a>>) -> Result<bool, AllocError>
+    ensures { IfOk result (λ apart. apart ≡ are_apart (map (λ a. a.name) (map attribute_view attributes.now))) }
 {
-    attributes.iter().any(|other| other.name == name)
+    put_names(attributes, keys)?;
+    Ok(are_distinct(keys))
 }

@@ -19,6 +19,15 @@ pub enum NodeKind {
     Instruction,
 }
 
+/// Where a name stands in a document.
+#[derive(Clone, Copy, Debug, PartialEq, Eq)]
+pub enum NameAt {
+    /// The name of this element.
+    Element(NodeNo),
+    /// The name of attribute i of this element, counted from 0, declarations of namespaces with them.
+    Attribute(NodeNo, usize),
+}
+
 /// A name as it is written, in two parts, and the namespace that it is in (Namespaces in XML 1.0, 4).
 #[derive(Clone, Copy, Debug, PartialEq, Eq)]
 pub struct Name<'d> {
@@ -35,7 +44,7 @@ pub struct Name<'d> {
 pub enum TreeFault {
     /// The bytes spell no tree (XML 1.0).
     BadXml,
-    /// An element stands deeper than 64, or has more than 128 attributes.
+    /// An element stands deeper than `MAX_DEPTH`, or has more than `MAX_ATTRIBUTES` attributes.
     XmlLimit,
     /// A name breaks a rule of Namespaces in XML 1.0.
     BadNames,

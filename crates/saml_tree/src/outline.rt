@@ -11,6 +11,7 @@ ghost use Rattle.saml_tree.specs.Views.{outline_view};
 use crate::node::TreeFault;
 use crate::open_names::OpenNames;
 use std::alloc::Global;
+use xml_chars::is_white;
 use xml_tokens::Markup;
 
 /// The names of the open elements, the innermost last, and whether the root has begun.
@@ -130,6 +131,5 @@ fn allow(holds: bool) -> Result<(), TreeFault>
 fn is_all_white(text: &str) -> bool
     ensures { result ≡ list_all is_white text.now }
 {
-    text.bytes()
-        .all(|b| matches!(b, b' ' | b'\t' | b'\r' | b'\n'))
+    text.bytes().all(|b| is_white(b))
 }

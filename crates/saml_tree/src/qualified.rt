@@ -1,51 +1,11 @@
 // Names in two parts, and what a name declares (Namespaces in XML 1.0, 3 to 5).
 
-ghost use Rattle.std.specs.Prelude.{◌≡◌, ◌↔◌, IsTrue, is_some};
+ghost use Rattle.std.specs.Prelude.{◌≡◌, ◌↔◌, IsTrue};
 ghost use Rattle.std.specs.Option.{option_map};
-ghost use Rattle.xml_spec.specs.Characters.{IsNoColonName, IsQualifiedName, at_colon, prefix_of, local_of};
+ghost use Rattle.xml_spec.specs.Characters.{IsNoColonName, IsQualifiedName};
 ghost use Rattle.xml_spec.specs.Names.{is_scheme_byte, scheme_goes_on, is_absolute, declared_prefix, IsBinding};
 
-use xml_chars::is_name;
-
-/// The namespace of the prefix xml.
-pub(crate) const XML_NAMESPACE: &str = "http://www.w3.org/XML/1998/namespace";
-
-/// The namespace of the prefix xmlns.
-pub(crate) const XMLNS_NAMESPACE: &str = "http://www.w3.org/2000/xmlns/";
-
-/// What stands before the first colon and what stands behind it.
-fn split_colon<'a>(name: &'a str) -> Option<(&'a str, &'a str)>
-    ensures { option_map (λ parts. (parts.0.now, parts.1.now)) result ≡ at_colon name.now }
-{
-    name.split_once(':')
-}
-
-/// Whether a name has a colon.
-pub(crate) fn has_colon(name: &str) -> bool
-    ensures { result ≡ is_some (at_colon name.now) }
-{
-    split_colon(name).is_some()
-}
-
-/// The prefix of a name, empty where it has none.
-pub(crate) fn prefix_of<'a>(name: &'a str) -> &'a str
-    ensures { result.now ≡ prefix_of name.now }
-{
-    match split_colon(name) {
-        Some((prefix, _)) => prefix,
-        None => "",
-    }
-}
-
-/// The name behind the prefix.
-pub(crate) fn local_of<'a>(name: &'a str) -> &'a str
-    ensures { result.now ≡ local_of name.now }
-{
-    match split_colon(name) {
-        Some((_, local)) => local,
-        None => name,
-    }
-}
+use xml_chars::{XML_NAMESPACE, XMLNS_NAMESPACE, is_name, local_of, prefix_of, split_colon};
 
 /// Whether the text is a Name without a colon (Namespaces, 3, NCName).
 fn is_no_colon_name(text: &str) -> bool

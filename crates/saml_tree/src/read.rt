@@ -1,6 +1,6 @@
 // From the bytes of a text to its rows.
 
-ghost use Rattle.std.specs.Prelude.{◌≡◌, ◌<◌, ◌≤◌, ◌^◌, length, vec_len, IfOk, IfErr};
+ghost use Rattle.std.specs.Prelude.{◌≡◌, ◌<◌, ◌≤◌, ◌^◌, [], length, vec_len, IfOk, IfErr};
 ghost use Rattle.xml_spec.specs.Characters.{IsText};
 ghost use Rattle.xml_spec.specs.Tree.{IsWithinLimits};
 ghost use Rattle.xml_tokens.specs.Heads.{HasHead};
@@ -8,7 +8,8 @@ ghost use Rattle.saml_tree.specs.Rows.{nodes_at};
 ghost use Rattle.saml_tree.specs.Kept.{IsRead};
 ghost use Rattle.saml_tree.specs.Documents.{IsSpelled, IsRefused};
 ghost use Rattle.saml_tree.specs.Reads.{IsNotKept};
-ghost use Rattle.saml_tree.specs.Views.{row_views};
+ghost use Rattle.saml_tree.specs.Links.{depths_of, AreLinkedSoFar};
+ghost use Rattle.saml_tree.specs.Views.{row_views, links_of};
 
 use crate::beyond::fault_beyond;
 use crate::build::Builder;
@@ -19,8 +20,9 @@ use crate::names::resolve;
 use crate::node::TreeFault;
 use crate::outline::Outline;
 use crate::row::Row;
-use crate::text::text_of;
 use std::alloc::Global;
+use xml_chars::text_of;
+use xml_spec::MAX_DOCUMENT_LENGTH;
 use xml_tokens::{TokenFault, behind_head, next_token};
 
 impl From<TokenFault> for TreeFault {
@@ -49,6 +51,7 @@ pub(crate) fn read_rows<'a>(
     ensures ok { IfOk result (λ rows. IsText text.now → IsRead text.now (row_views rows.items)) }
     ensures limits { IfOk result (λ rows. IsWithinLimits (nodes_at 0 (row_views rows.items))) }
     ensures few { IfOk result (λ rows. vec_len rows ≤ length text.now) }
+    ensures linked { IfOk result (λ rows. AreLinkedSoFar (depths_of (row_views rows.items)) (links_of rows.items) []) }
     ensures err { IfErr result (λ fault. IsNotKept text.now fault) }
 {
     let mut outline = Outline::new(alloc, rest);
@@ -75,23 +78,24 @@ fn document_of<'a>(alloc: Global, text: &'a [u8], rows: Vec<Row<'a>>) -> Result<
     requires read { IsRead text.now (row_views rows.items) }
     requires limits { IsWithinLimits (nodes_at 0 (row_views rows.items)) }
     requires count { length rows.items < 2 ^ 32 }
+    requires linked { AreLinkedSoFar (depths_of (row_views rows.items)) (links_of rows.items) [] }
     ensures text { IfOk result (λ doc. doc.text ≡ text.now) }
     ensures ok { IfOk result (λ doc. IsSpelled text.now doc.tree) }
     ensures refused { IfErr result (λ fault. IsRefused text.now fault) }
 {
     let names = resolve(alloc, &rows)?;
     let ids = index_of(alloc, &rows)?;
-    Doc::of(alloc, text, rows, names, ids)
+    Ok(Doc::of(text, rows, names, ids))
 }
 
-/// The document that a text of at most 262,144 bytes spells (XML 1.0, fifth edition).
+/// The document that a text of at most `MAX_DOCUMENT_LENGTH` bytes spells (XML 1.0, fifth edition).
 ///
 /// # Errors
 ///
 /// The first of `BadXml`, `XmlLimit`, `BadNames` and `DuplicateId` that holds of the whole text. `NoMemory` may come in
 /// place of any other answer.
 pub fn read_document<'a>(alloc: Global, text: &'a [u8]) -> Result<Doc<'a>, TreeFault>
-    requires small { length text.now ≤ 262144 }
+    requires small { length text.now ≤ MAX_DOCUMENT_LENGTH }
     ensures text { IfOk result (λ doc. doc.text ≡ text.now) }
     ensures ok { IfOk result (λ doc. IsSpelled text.now doc.tree) }
     ensures refused { IfErr result (λ fault. IsRefused text.now fault) }

@@ -3,11 +3,12 @@
 ghost use Rattle.std.specs.Prelude.{◌≡◌, suc, ◌-◌, ◌<◌, ◌^◌, ◌++◌, [], ◌∷◌, drop, length, map, string_bytes, IfOk, IfErr, OnOk};
 
 use crate::node::TreeFault;
-use crate::qualified::{XML_NAMESPACE, XMLNS_NAMESPACE, declared_prefix};
+use crate::qualified::declared_prefix;
 use crate::row::Attribute;
 use crate::table::Table;
 use namespace_scope::{NoMemory, Scope};
 use std::alloc::Global;
+use xml_chars::{XML_NAMESPACE, XMLNS_NAMESPACE};
 
 impl From<NoMemory> for TreeFault {
     ghost use Rattle.std.specs.Prelude.{◌≡◌};
@@ -114,7 +115,8 @@ impl<'a> Spaces<'a> {
     {
         match declared_prefix(attribute.name) {
             Some(prefix) => {
-                let number = self.table.add(alloc, attribute.value.as_str())?;
+                let namespace = attribute.value.text(alloc)?;
+                let number = self.table.add(alloc, namespace.as_str())?;
                 self.scope.declare(prefix, number)?;
                 Ok(())
             }

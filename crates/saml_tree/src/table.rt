@@ -3,7 +3,7 @@
 ghost use Rattle.std.specs.Prelude.{◌≡◌, ◌<◌, [], length, Some, false, MatchOption, OnOk, OnErr, IfOk, IfErr, slice_get, slice_index_or};
 ghost use Rattle.std.specs.List.{list_any};
 ghost use Rattle.std.specs.Str.{bytes_eq};
-ghost use Rattle.saml_tree.specs.Tables.{added};
+ghost use Rattle.saml_tree.specs.Tables.{added, HasEachOnce};
 
 use crate::node::TreeFault;
 use std::alloc::Global;
@@ -77,6 +77,13 @@ impl Table {
         ensures { result.now ≡ slice_index_or self.now number [] }
     {
         self.texts[number as usize].as_str()
+    }
+
+    /// That two numbers have the same text only where they are the same.
+    pub(crate) fn has_each_once(&self)
+        ensures { HasEachOnce self.now }
+    {
+        let _ = &self.texts;
     }
 
     /// Whether two numbers have the same text, which they have only where they are the same.

@@ -3,16 +3,17 @@ ghost use Rattle.xml_spec.specs.Numbering.{size, from_node};
 ghost use Rattle.saml_tree.specs.Documents.{kind_of, text_of};
 ghost use Rattle.saml_tree.specs.declared.node.NodeKind.TheVariants as kinds;
 
-use crate::{Doc, Name, NodeKind, NodeNo, TreeFault, read_document};
+use crate::{Doc, Name, NameAt, NodeKind, NodeNo, TreeFault, read_document};
 use std::alloc::Global;
 use std::process::Abort;
 use std::test::Fail;
 use xml_chars::Span;
+use xml_spec::MAX_DOCUMENT_LENGTH;
 
 // The fault for which a text is refused, none where it is read.
 fn fault_of(rt: &impl Abort, alloc: Global, text: &str) -> Option<TreeFault> {
     let bytes = text.as_bytes();
-    assert!(rt; bytes.len() <= 262_144);
+    assert!(rt; bytes.len() <= MAX_DOCUMENT_LENGTH);
     read_document(alloc, bytes).err()
 }
 
@@ -159,7 +160,7 @@ fn local(name: &str) -> Name<'_> {
 #[test]
 fn a_root_stands_alone(rt: HostRuntime) -> Result<(), Fail> {
     let bytes = b"<?t?><a>x</a>".as_slice();
-    assert!(rt; bytes.len() <= 262_144);
+    assert!(rt; bytes.len() <= MAX_DOCUMENT_LENGTH);
     let doc = read_document(rt.alloc(), bytes)?;
     let root = doc.root();
     assert_eq!(rt; doc.name(root), local("a"));
@@ -172,7 +173,7 @@ fn a_root_stands_alone(rt: HostRuntime) -> Result<(), Fail> {
 #[test]
 fn the_kids_of_an_element_are_walked(rt: HostRuntime) -> Result<(), Fail> {
     let bytes = b"<a>\r\n&#50;<![CDATA[<]]><!--c--><?t  v?></a>".as_slice();
-    assert!(rt; bytes.len() <= 262_144);
+    assert!(rt; bytes.len() <= MAX_DOCUMENT_LENGTH);
     let doc = read_document(rt.alloc(), bytes)?;
     let root = doc.root();
     let first = doc.first_kid(root).ok_or("no kid")?;
@@ -188,7 +189,7 @@ fn the_kids_of_an_element_are_walked(rt: HostRuntime) -> Result<(), Fail> {
 #[test]
 fn neighbouring_characters_make_one_text(rt: HostRuntime) -> Result<(), Fail> {
     let bytes = b"<a>\r\n1\r&#50;<![CDATA[<\r\n]]>&amp;</a>".as_slice();
-    assert!(rt; bytes.len() <= 262_144);
+    assert!(rt; bytes.len() <= MAX_DOCUMENT_LENGTH);
     let doc = read_document(rt.alloc(), bytes)?;
     let text = text_at(&doc, doc.first_kid(doc.root()).ok_or("no kid")?)?;
     assert!(rt; doc.text_is(text, "\n1\n2<\n&"));
@@ -199,9 +200,35 @@ fn neighbouring_characters_make_one_text(rt: HostRuntime) -> Result<(), Fail> {
 }
 
 #[test]
+fn an_element_is_the_bytes_that_it_is_written_as(rt: HostRuntime) -> Result<(), Fail> {
+    let bytes = b"<r><a ID=\"x\">t&#65;</a></r>".as_slice();
+    assert!(rt; bytes.len() <= MAX_DOCUMENT_LENGTH);
+    let doc = read_document(rt.alloc(), bytes)?;
+    let element = doc.by_id("x").ok_or("no element")?;
+    assert_eq!(rt; doc.bytes_of(element), b"<a ID=\"x\">t&#65;</a>".as_slice());
+    let text = text_at(&doc, doc.first_kid(element).ok_or("no kid")?)?;
+    let mut out = String::new(rt.alloc());
+    doc.put_text(text, &mut out)?;
+    assert_eq!(rt; out.as_str(), "tA");
+    Ok(())
+}
+
+#[test]
+fn namespaces_are_compared_by_their_names(rt: HostRuntime) -> Result<(), Fail> {
+    let bytes = b"<a xmlns='urn:x' xmlns:p='urn:&#120;' p:b=''/>".as_slice();
+    assert!(rt; bytes.len() <= MAX_DOCUMENT_LENGTH);
+    let doc = read_document(rt.alloc(), bytes)?;
+    let root = doc.root();
+    let count = doc.attr_count(root);
+    assert!(rt; count == 3);
+    assert!(rt; doc.same_namespace(NameAt::Element(root), NameAt::Attribute(root, 2)));
+    Ok(())
+}
+
+#[test]
 fn the_first_attribute_is_that_of_the_text(rt: HostRuntime) -> Result<(), Fail> {
     let bytes = b"<a z=\"1\t2&#9;\" b=''/>".as_slice();
-    assert!(rt; bytes.len() <= 262_144);
+    assert!(rt; bytes.len() <= MAX_DOCUMENT_LENGTH);
     let doc = read_document(rt.alloc(), bytes)?;
     let root = doc.root();
     let count = doc.attr_count(root);
@@ -235,7 +262,7 @@ const ID_FAULTS: [(&str, Option<TreeFault>); 7] = [
 fn two_elements_of_one_id_are_refused(rt: HostRuntime) {
     for (text, fault) in ID_FAULTS {
         let bytes = text.as_bytes();
-        assert!(rt; bytes.len() <= 262_144);
+        assert!(rt; bytes.len() <= MAX_DOCUMENT_LENGTH);
         assert_eq!(rt; read_document(rt.alloc(), bytes).err(), fault, "{text}");
     }
 }
@@ -243,7 +270,7 @@ fn two_elements_of_one_id_are_refused(rt: HostRuntime) {
 #[test]
 fn elements_are_found_by_their_ids(rt: HostRuntime) -> Result<(), Fail> {
     let bytes = b"<a ID='x' b='y'>t<b ID=''/><c Id='z'><d id='u' ID='v w'/></c></a>".as_slice();
-    assert!(rt; bytes.len() <= 262_144);
+    assert!(rt; bytes.len() <= MAX_DOCUMENT_LENGTH);
     let Ok(doc) = read_document(rt.alloc(), bytes) else {
         return Err(Fail::from("refused"));
     };

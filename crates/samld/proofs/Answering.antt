@@ -1,17 +1,19 @@
--- What is answered for the bytes of a file.
-use Rattle.std.proofs.Common.{◌≡◌, ℕ, ◌+◌, ◌-◌, ◌^◌, ◌≤◌, List, [], ◌∷◌, ◌++◌, Option, Some, Result, Ok, Err, IfOk, MatchOption, length, codes, append_assoc, inl, inr, refl, sym, subst, arith}
-use Rattle.xml_spec.specs.Tree.{Nodes}
-use Rattle.saml_outside.specs.declared.codes.Verdict.TheVariants as verdicts
-use Rattle.saml_tree.specs.Documents.{IsSpelled}
+-- What is answered, and how a run ends with it.
+use Rattle.std.proofs.Common.{◌≡◌, ◌≢◌, ℕ, ◌+◌, ◌-◌, ◌^◌, ◌≤◌, ◌⊎◌, List, [], ◌∷◌, ◌++◌, Option, Some, None, Result, Ok, Err, IfOk, MatchOption, codes, append_assoc, inl, inr, refl, sym, subst, arith}
 use Rattle.std.proofs.Math.Nat.{min-le_left, min-le_right, le-min}
 use Rattle.saml_outside.specs.Counts.{Rose, one_more}
 use Rattle.saml_outside.specs.Files.{File}
-use Rattle.samld.specs.declared.ending.Status.{Status}
-use Rattle.samld.specs.declared.ending.Status.TheVariants as statuses
-use Rattle.samld.specs.Canon.{IsFormAnswer}
-use Rattle.samld.specs.Vouch.{least_key, IsVouchAnswer}
-use Rattle.samld.specs.Views.{IsPrinted, IsJudged}
-use Rattle.samld.specs.Running.{Command, command_of, AnswersCommand, Answers}
+use Rattle.samld.specs.declared.status.Status.{Status}
+use Rattle.samld.specs.declared.status.Status.TheVariants as statuses
+use Rattle.samld.specs.Answers.{Answer, Printed, Refused, BadFile, Usage, status_of, IsYes}
+use Rattle.saml_outside.specs.Files.{Reads}
+use Rattle.saml_outside.specs.declared.reading.FileRead.TheVariants as reads
+use Rattle.xml_spec.specs.Tree.{Nodes}
+use Rattle.saml_tree.specs.Documents.{IsRefused}
+use Rattle.saml_tree.specs.declared.node.TreeFault.{TreeFault}
+use Rattle.fault_verdicts.specs.Verdicts.{of_document}
+use Rattle.samld.specs.Documents.{OfDocument}
+use Rattle.samld.specs.Running.{Command, command_of, IsUnread, OfFile, OfCommand, Answers, IsVerdictOf, EndsWith, PrintsPart}
 
 pub if_ok_map : {T E : Type 0} (r : Result T E) (P Q : T → Type 0) → ((x : T) → P x → Q x) → IfOk r P → IfOk r Q
 if_ok_map (Ok x) P Q f h = f x h
@@ -21,52 +23,58 @@ pub line_is : (digits name : List ℕ) →
     codes "refused " ++ (digits ++ (32 ∷ (name ++ 10 ∷ []))) ≡ codes "refused " ++ digits ++ codes " " ++ name ++ codes "\n"
 line_is digits name = simp append_assoc
 
-pub answered : (words : List (List ℕ)) (told : Option (List File)) (status : Status) (text : List ℕ) (command : Command) →
-    command_of words ≡ Some command → AnswersCommand told command status text → Answers words told status text
-answered words told status text command e h =
-    subst (λ (o : Option Command). MatchOption o ((status ≡ statuses.Usage) × (text ≡ codes "usage\n"))
-    (λ c. AnswersCommand told c status text)) (sym e) h
+pub bad_line_is : (file digits : List ℕ) →
+    codes "bad " ++ (file ++ (32 ∷ (digits ++ 10 ∷ []))) ≡ codes "bad " ++ file ++ codes " " ++ digits ++ codes "\n"
+bad_line_is file digits = simp append_assoc
 
--- what is printed of the document that the bytes spell is what they are answered with
-pub of_document : (id : Option (List ℕ)) (bytes : List ℕ) (tree : Nodes) (status : Status) (text : List ℕ) → IsSpelled bytes tree →
-    IsPrinted tree id status text → IsFormAnswer id bytes status text
-of_document id bytes tree statuses.Done text s p =
-    record { tree = tree; spelled = s; node = p.0; found = p.1; form = p.2 }
-of_document id bytes tree statuses.Refused text s p =
-    (verdicts.BadReference, inr (record { tree = tree; spelled = s; missing = p.0 }, refl), p.1)
-of_document id bytes tree statuses.Usage text s p = absurd p
-of_document id bytes tree statuses.BadInput text s p = absurd p
-of_document id bytes tree statuses.ReadFault text s p = absurd p
-of_document id bytes tree statuses.WriteFault text s p = absurd p
-of_document id bytes tree statuses.DiskFault text s p = absurd p
-of_document id bytes tree statuses.LinkFault text s p = absurd p
-of_document id bytes tree statuses.NoMemory text s p = absurd p
-of_document id bytes tree statuses.ForeignJournal text s p = absurd p
+part : (P Q : Answer → Type 0) (old new : Option (List ℕ)) → ((answer : Answer) → P answer → Q answer) → PrintsPart P old new → PrintsPart Q old new
+part P Q old new f h = (h.0, h.1, f h.0 h.2, h.3)
 
--- what is found of the element with this ID is what the bytes and the key are answered with
-pub of_judged : (id key_file bytes key : List ℕ) (tree : Nodes) (status : Status) (text : List ℕ) → least_key ≤ length key →
-    IsSpelled bytes tree → IsJudged tree id key status text → IsVouchAnswer id key_file bytes key status text
-of_judged id key_file bytes key tree statuses.Done text long s p =
-    (long, record { tree = tree; spelled = s; vouched = p.0 }, p.1)
-of_judged id key_file bytes key tree statuses.Refused text long s p = (
-  long,
-  (
-    p.0,
-    (elim p.1 [
-      | inl missing ↦ inl (inr (record { tree = tree; spelled = s; missing = missing.0 }, missing.1))
-      | inr refused ↦ inr (record { tree = tree; spelled = s; refused = refused })
-    ]),
-    p.2,
-  ),
-)
-of_judged id key_file bytes key tree statuses.Usage text long s p = absurd p
-of_judged id key_file bytes key tree statuses.BadInput text long s p = absurd p
-of_judged id key_file bytes key tree statuses.ReadFault text long s p = absurd p
-of_judged id key_file bytes key tree statuses.WriteFault text long s p = absurd p
-of_judged id key_file bytes key tree statuses.DiskFault text long s p = absurd p
-of_judged id key_file bytes key tree statuses.LinkFault text long s p = absurd p
-of_judged id key_file bytes key tree statuses.NoMemory text long s p = absurd p
-of_judged id key_file bytes key tree statuses.ForeignJournal text long s p = absurd p
+-- what ends with what one definition has to answer ends with what a wider one has
+pub weaker : (P Q : Answer → Type 0) (old new : Option (List ℕ)) (status : Status) → ((answer : Answer) → P answer → Q answer) →
+    EndsWith P old new status → EndsWith Q old new status
+weaker P Q old new statuses.ReadFault f h = h
+weaker P Q old new statuses.WriteFault f h = part P Q old new f h
+weaker P Q old new statuses.NoMemory f (inl h) = inl h
+weaker P Q old new statuses.NoMemory f (inr h) = inr (part P Q old new f h)
+weaker P Q old new statuses.Done f h = (h.0, f h.0 h.1, h.2, h.3)
+weaker P Q old new statuses.Refused f h = (h.0, f h.0 h.1, h.2, h.3)
+weaker P Q old new statuses.Usage f h = (h.0, f h.0 h.1, h.2, h.3)
+weaker P Q old new statuses.BadInput f h = (h.0, f h.0 h.1, h.2, h.3)
+weaker P Q old new statuses.DiskFault f h = (h.0, f h.0 h.1, h.2, h.3)
+weaker P Q old new statuses.LinkFault f h = (h.0, f h.0 h.1, h.2, h.3)
+weaker P Q old new statuses.ForeignJournal f h = (h.0, f h.0 h.1, h.2, h.3)
+
+-- and what ends with an answer of the definition
+pub with_answer : (P : Answer → Type 0) (old new : Option (List ℕ)) (status : Status) (answer : Answer) → P answer →
+    EndsWith (λ a. a ≡ answer) old new status → EndsWith P old new status
+with_answer P old new status answer is h = weaker (λ a. a ≡ answer) P old new status (λ a e. subst P (sym e) is) h
+
+only_done : (status : Status) (answer : Answer) → IsYes answer → status ≡ status_of answer → (status ≡ statuses.Done) ⊎ (status ≡ statuses.NoMemory)
+only_done status (Printed text) agrees e = inl e
+only_done status (Refused verdict) agrees e = absurd agrees
+only_done status (BadFile file line) agrees e = absurd agrees
+only_done status Usage agrees e = absurd agrees
+
+-- where the definition says yes alone, a run that met no fault is done, or memory ran out
+pub settled : (P : Answer → Type 0) (old new : Option (List ℕ)) (status : Status) → ((answer : Answer) → P answer → IsYes answer) →
+    (status ≢ statuses.ReadFault) → (status ≢ statuses.WriteFault) → EndsWith P old new status → (status ≡ statuses.Done) ⊎ (status ≡ statuses.NoMemory)
+settled P old new statuses.ReadFault agrees read write h = absurd (read refl)
+settled P old new statuses.WriteFault agrees read write h = absurd (write refl)
+settled P old new statuses.NoMemory agrees read write h = inr refl
+settled P old new statuses.Done agrees read write h = only_done statuses.Done h.0 (agrees h.0 h.1) h.2
+settled P old new statuses.Refused agrees read write h = only_done statuses.Refused h.0 (agrees h.0 h.1) h.2
+settled P old new statuses.Usage agrees read write h = only_done statuses.Usage h.0 (agrees h.0 h.1) h.2
+settled P old new statuses.BadInput agrees read write h = only_done statuses.BadInput h.0 (agrees h.0 h.1) h.2
+settled P old new statuses.DiskFault agrees read write h = only_done statuses.DiskFault h.0 (agrees h.0 h.1) h.2
+settled P old new statuses.LinkFault agrees read write h = only_done statuses.LinkFault h.0 (agrees h.0 h.1) h.2
+settled P old new statuses.ForeignJournal agrees read write h = only_done statuses.ForeignJournal h.0 (agrees h.0 h.1) h.2
+
+-- a command of the words is what they ask for
+pub answered : (words : List (List ℕ)) (told : Option (List File)) (command : Command) → command_of words ≡ Some command →
+    (answer : Answer) → OfCommand told command answer → Answers words told answer
+answered words told command e answer h =
+    subst (λ (o : Option Command). MatchOption o (answer ≡ Usage) (λ c. OfCommand told c answer)) (sym e) h
 
 -- a count that rose since a later moment rose since an earlier one
 pub rose_since : (before middle now : ℕ) → before ≤ middle → Rose middle now → Rose before now
@@ -75,3 +83,18 @@ rose_since before middle now h rose =
     let right = min-le_right (before + 1) (2 ^ 64 - 1) in
     let both : one_more before ≤ one_more middle = le-min (omega arith) right in
     omega arith
+
+-- a file that is absent or too long can't be used
+pub unread_bad : (meaning : List ℕ → Answer → Type 0) (told : Option (List File)) (file : List ℕ) (limit : ℕ) → IsUnread told file limit →
+    OfFile meaning told file limit (BadFile file 0)
+unread_bad meaning told file limit (inl r) = (reads.Absent, [], r, refl)
+unread_bad meaning told file limit (inr r) = (reads.TooLong, [], r, refl)
+
+pub read_whole : (meaning : List ℕ → Answer → Type 0) (told : Option (List File)) (file : List ℕ) (limit : ℕ) (bytes : List ℕ) →
+    Reads told file limit reads.Whole bytes → (answer : Answer) → meaning bytes answer → OfFile meaning told file limit answer
+read_whole meaning told file limit bytes r answer h = (reads.Whole, bytes, r, h)
+
+-- bytes that are refused
+pub refused_document : (meaning : Nodes → Answer → Type 0) (bytes : List ℕ) (fault : TreeFault) → IsRefused bytes fault →
+    (answer : Answer) → IsVerdictOf (of_document fault) answer → OfDocument meaning bytes answer
+refused_document meaning bytes fault r answer h = inr (fault, h.0, r, h.1, h.2)

@@ -1,7 +1,7 @@
 -- The number that the program ends with.
 use Rattle.std.specs.Prelude.{ℕ}
-use Rattle.samld.specs.declared.ending.Status.{Status}
-use Rattle.samld.specs.declared.ending.Status.TheVariants as statuses
+use Rattle.samld.specs.declared.status.Status.{Status}
+use Rattle.samld.specs.declared.status.Status.TheVariants as statuses
 
 -- the number of a status
 abbrev pub exit_number : Status → ℕ

@@ -1,7 +1,8 @@
+pub mod Answers
 pub mod Canon
+pub mod Documents
 pub mod Exit
 pub mod Running
 pub mod Streams
-pub mod Lines
-pub mod Vouch
 pub mod Views
+pub mod Vouch

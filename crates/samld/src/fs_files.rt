@@ -59,7 +59,8 @@ fn read_to_end<F: Read>(file: &mut F, limit: u64, into: &mut Vec<u8>) -> FileRea
     FileRead::Failed
 }
 
-// Opens the file and reads it. A file that is not found is Absent; whatever else goes wrong with it has failed.
+// Opens the file and reads it. A file that is not found is Absent, also where its path goes through a file; whatever else
+// goes wrong with it has failed.
 fn read_file<R: rt::Files>(rt: &R, name: &str, limit: u64, into: &mut Vec<u8>) -> FileRead
     ensures { Reads None name.now limit result into.new.items }
 {
@@ -67,7 +68,7 @@ fn read_file<R: rt::Files>(rt: &R, name: &str, limit: u64, into: &mut Vec<u8>) -
         Ok(mut file) => read_to_end(&mut file, limit, into),
         Err(e) => {
             into.clear();
-            if e.kind() == ErrorKind::NotFound {
+            if e.kind() == ErrorKind::NotFound || e.kind() == ErrorKind::NotADirectory {
                 FileRead::Absent
             } else {
                 FileRead::Failed

@@ -4,18 +4,19 @@
 //! `Status` that `run` gives.
 #![tactic(auto)]
 
+mod answer;
+mod canon;
 mod command;
-mod ending;
-mod form;
 mod fs_files;
-mod judging;
-mod printing;
+mod limits;
 mod run;
 #[cfg(test)]
 mod run_tests;
+mod status;
 mod stdout_sink;
 #[cfg(test)]
 mod tests;
+mod vouch;
 #[cfg(test)]
 mod vouch_tests;
 
@@ -24,10 +25,10 @@ ghost use Rattle.std.specs.Vec.Iter.{into_iter_items};
 ghost use Rattle.std.specs.Process.{exit_status};
 ghost use Rattle.samld.specs.Exit.{exit_number};
 
-use ending::Status;
 use fs_files::FsFiles;
 use run::run;
 use saml_outside::{NoMemory, Text};
+use status::Status;
 use std::alloc::Global;
 use std::env::Args;
 use std::io::ErrorKind;
@@ -58,7 +59,7 @@ fn words<R: Env + AllocGlobal>(rt: &R) -> Result<Vec<Text>, NoMemory> {
 }
 
 // Makes the real objects and runs the program over them.
-fn status<R: Env + Files + Print + AllocGlobal>(rt: &R) -> Status {
+fn run_over<R: Env + Files + Print + AllocGlobal>(rt: &R) -> Status {
     let Ok(words) = words(rt) else {
         return Status::NoMemory;
     };
@@ -75,5 +76,5 @@ fn exit_code(status: Status) -> ExitCode
 }
 
 fn main(rt: HostRuntime) -> ExitCode {
-    exit_code(status(&rt))
+    exit_code(run_over(&rt))
 }

@@ -1,6 +1,6 @@
 //! What no clause says: what the program prints over known documents, and that there is memory for it.
-use crate::ending::Status;
 use crate::run::run;
+use crate::status::Status;
 use saml_outside::{MemFiles, MemSink, NoMemory, SteadyFiles, Text};
 use std::alloc::Global;
 use std::test::Fail;

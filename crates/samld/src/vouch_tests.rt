@@ -1,8 +1,8 @@
 //! What no clause says: which signatures `vouch` accepts. The digest and the tag are those of Python's hashlib and hmac
 //! over the forms that `xmllint` prints.
 
-use crate::ending::Status;
 use crate::run::run;
+use crate::status::Status;
 use saml_outside::{MemSink, NoMemory, SteadyFiles, Text};
 use std::alloc::Global;
 use std::test::Fail;

@@ -2,8 +2,8 @@
 use Rattle.std.proofs.Common.{◌≡◌, true, false, [], ◌∷◌, ◌++◌, codes, Some, refl}
 use Rattle.xml_spec.specs.Tree.{Nodes, NoNodes, Element, Text, Comment, Instruction}
 use Rattle.tree_read.specs.Texts.{attribute_text}
-use Rattle.sig_reference.specs.Algorithms.{ds_namespace, ds}
-use Rattle.sig_reference.specs.Kids.{kid, kids_at}
+use Rattle.saml_names.specs.Names.{ds_namespace, ds}
+use Rattle.tree_read.specs.Children.{child, element_children}
 use Rattle.sig_reference.specs.Form.{words}
 use Rattle.sig_reference.specs.Signing.{signed_info, signature, signed, id_of, begins_with_issuer, has_no_signature}
 use Rattle.element_make.specs.Made.{Made, MadeNodes, NothingMade, MadeElement, MadeText, written}
@@ -32,12 +32,12 @@ tree =
     (Instruction (codes "p") (codes "v") (Element (codes "d:c") [] NoNodes NoNodes))))) NoNodes
 
 -- texts, comments and instructions are passed over, and each element has its own number
-pub kids_at-root : kids_at tree 0 ≡ kid 3 (ds (codes "b")) ∷ kid 6 (ds (codes "c")) ∷ []
-kids_at-root = refl
+pub element_children-root : element_children tree 0 ≡ child 3 (ds (codes "b")) ∷ child 6 (ds (codes "c")) ∷ []
+element_children-root = refl
 
 -- a text is no element child
-pub kids_at-first : kids_at tree 3 ≡ []
-kids_at-first = refl
+pub element_children-first : element_children tree 3 ≡ []
+element_children-first = refl
 
 pub uri-of_first : attribute_text tree 3 (codes "URI") ≡ Some (codes "#u")
 uri-of_first = refl

@@ -1,5 +1,6 @@
 mod Digests
 mod Examples
+mod Judging
 mod MadeNames
 mod MadeScopes
 pub mod OneSignature
@@ -12,5 +13,4 @@ mod SignedNodes
 mod SignedRoot
 mod SignedVouched
 mod Standing
-mod Walking
 mod Writable

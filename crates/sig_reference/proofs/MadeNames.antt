@@ -1,6 +1,7 @@
 -- The names and the attributes of made elements, as they are read.
 use Rattle.std.proofs.Common.{◌≡◌, ◌≢◌, ℕ, suc, ◌+◌, Bool, true, false, not, cond, ◌&&◌, List, [], ◌∷◌, ◌++◌, map, codes, Option, Some, None, unwrap_or, refl, sym, ap, ◌∙◌}
-use Rattle.std.specs.List.{list_all, AllByRecursion}
+use Rattle.std.specs.List.{AllByRecursion}
+use Rattle.std.proofs.lemmas.Bool.{cond-false}
 use Rattle.std.specs.Option.{option_map}
 use Rattle.std.specs.Ordering.{is_le}
 use Rattle.std.specs.Str.{bytes_eq}
@@ -9,9 +10,9 @@ use Rattle.xml_spec.specs.Bytes.{is_empty}
 use Rattle.xml_spec.specs.Characters.{at_colon, local_of}
 use Rattle.xml_spec.specs.Tree.{Attribute, Nodes, NoNodes, Element, Text, Comment, Instruction, with_text}
 use Rattle.xml_spec.specs.Numbering.{size}
-use Rattle.xml_spec.specs.Names.{Scope, AreDistinct, namespace_of, inner_scope, element_name}
+use Rattle.xml_spec.specs.Names.{Scope, AreDistinct, namespace_of, inner_scope, ExpandedName, element_name}
 use Rattle.xml_spec.specs.Canonical.{byte_order, inserted}
-use Rattle.xml_spec.proofs.Tests.{both_true, and_true}
+use Rattle.xml_spec.proofs.Tests.{both_true}
 use Rattle.element_make.specs.declared.names.Ns.{Ns}
 use Rattle.element_make.specs.declared.names.Ns.TheVariants.{Saml, Samlp, Ds, Md}
 use Rattle.element_make.specs.Prefixes.{namespace, same}
@@ -20,10 +21,9 @@ use Rattle.element_make.specs.Made as made
 use Rattle.element_make.specs.Writing.{by_name}
 use Rattle.element_make.proofs.Forms.{prefix_is}
 use Rattle.element_make.proofs.Plain.{no_prefix, each_by_name}
-use Rattle.tree_read.specs.Children.{is_name}
 use Rattle.tree_read.specs.Texts as read
-use Rattle.sig_reference.specs.Algorithms.{ds, ds_namespace}
-use Rattle.sig_reference.specs.Kids.{Kid, elements_of}
+use Rattle.saml_names.specs.Names.{ds, ds_namespace}
+use Rattle.tree_read.specs.Children.{is_name, named, elements_of}
 use Rattle.sig_reference.proofs.MadeScopes.{Has, own_bound}
 use Rattle.sig_reference.specs.Signing.{has_no_signature}
 
@@ -32,6 +32,10 @@ local_is Saml local = refl
 local_is Samlp local = refl
 local_is Ds local = refl
 local_is Md local = refl
+
+is_false : (b : Bool) → not b ≡ true → b ≡ false
+is_false true h = sym h
+is_false false h = refl
 
 -- inside elements that declare these namespaces, which this scope has
 module _ (declared : List Ns) (scope : Scope) (has : Has declared scope) where
@@ -50,26 +54,26 @@ module _ (declared : List Ns) (scope : Scope) (has : Has declared scope) where
   same_namespace Md = refl
 
   -- a text between elements is passed over
-  text_passed : (p : Kid → Bool) (text : List ℕ) (nodes : Nodes) → ((k : ℕ) → list_all p (elements_of scope k nodes) ≡ true) →
-      (k : ℕ) → list_all p (elements_of scope k (with_text text nodes)) ≡ true
-  text_passed p [] nodes h k = h k
-  text_passed p (b ∷ text) NoNodes h k = refl
-  text_passed p (b ∷ text) (Element name attributes kids rest) h k = h (suc k)
-  text_passed p (b ∷ text) (Text other rest) h k = h k
-  text_passed p (b ∷ text) (Comment other rest) h k = h (suc k)
-  text_passed p (b ∷ text) (Instruction target value rest) h k = h (suc k)
+  text_passed : (wanted : ExpandedName) (text : List ℕ) (nodes : Nodes) → ((k : ℕ) → named wanted (elements_of scope k nodes) ≡ []) →
+      (k : ℕ) → named wanted (elements_of scope k (with_text text nodes)) ≡ []
+  text_passed wanted [] nodes h k = h k
+  text_passed wanted (b ∷ text) NoNodes h k = refl
+  text_passed wanted (b ∷ text) (Element name attributes kids rest) h k = h (suc k)
+  text_passed wanted (b ∷ text) (Text other rest) h k = h k
+  text_passed wanted (b ∷ text) (Comment other rest) h k = h (suc k)
+  text_passed wanted (b ∷ text) (Instruction target value rest) h k = h (suc k)
 
   pub none_signed : (nodes : MadeNodes) → AreMade nodes → has_no_signature nodes ≡ true →
-      (k : ℕ) → list_all (λ (k : Kid). not (is_name (ds (codes "Signature")) k.name)) (elements_of scope k (nodes_of declared nodes)) ≡ true
+      (k : ℕ) → named (ds (codes "Signature")) (elements_of scope k (nodes_of declared nodes)) ≡ []
   none_signed NothingMade made h k = refl
   none_signed (MadeElement ns local attributes kids rest) made h k =
       let parts = both_true (not (same ns Ds && bytes_eq local (codes "Signature"))) (has_no_signature rest) h in
-      and_true _ _
-      (ap (λ n. not (is_name (ds (codes "Signature")) n)) (name_is ns local attributes made.1)
-      ∙ ap (λ b. not (b && bytes_eq local (codes "Signature"))) (same_namespace ns) ∙ parts.0)
-      (none_signed rest made.4 parts.1 (suc (k + size (nodes_of (ns ∷ declared) kids))))
+      cond-false _ _ _
+      (ap (λ n. is_name (ds (codes "Signature")) n) (name_is ns local attributes made.1)
+      ∙ ap (λ b. b && bytes_eq local (codes "Signature")) (same_namespace ns) ∙ is_false _ parts.0)
+      ∙ none_signed rest made.4 parts.1 (suc (k + size (nodes_of (ns ∷ declared) kids)))
   none_signed (MadeText text rest) made h k =
-      text_passed (λ (k : Kid). not (is_name (ds (codes "Signature")) k.name)) text (nodes_of declared rest) (none_signed rest made.1 h) k
+      text_passed (ds (codes "Signature")) text (nodes_of declared rest) (none_signed rest made.1 h) k
 
 -- the value of an attribute among those in order
 module _ (name : List ℕ) where

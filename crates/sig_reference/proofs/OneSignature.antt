@@ -5,7 +5,7 @@ use Rattle.base64.specs.GeneralPurpose.{encode_of, decode_of, IsConsistent}
 use Rattle.base64.proofs.EngineFacts.{decode_of-encode_of}
 use Rattle.xml_spec.specs.Tree.{Nodes}
 use Rattle.tree_read.specs.Texts.{text_of}
-use Rattle.sig_reference.specs.Kids.{kids_at}
+use Rattle.tree_read.specs.Children.{element_children}
 use Rattle.sig_reference.specs.Form.{words, Parts, IsPrefixList, IsCanonicalization, IsBase64, AreTransforms, IsReference, IsSignedInfo, IsSignature, HasForm}
 use Rattle.sig_reference.proofs.Shapes.{first_is, behind_first, listed_by}
 
@@ -21,7 +21,7 @@ one_canonicalization tree k a b p q = elim p.listed [
     | inl none' ↦ none.1 ∙ sym none'.1
     | inr lists ↦ absurd (let clash = sym none.0 ∙ lists.only in cc)
   ]
-  | inr lists ↦ one_list tree lists.child a b lists.listed (listed_by tree k lists.child [] b lists.only q).1
+  | inr lists ↦ one_list tree lists.parameter a b lists.listed (listed_by tree k lists.parameter [] b lists.only q).1
 ]
 
 is_consistent : IsConsistent standard
@@ -37,7 +37,7 @@ one_base64 text a b p q =
 
 one_transforms : (tree : Nodes) (k : ℕ) (a b : List (List ℕ)) → AreTransforms tree k a → AreTransforms tree k b → a ≡ b
 one_transforms tree k a b p q =
-    let second = first_is (behind_first p.kids q.kids) refl in
+    let second = first_is (behind_first p.children q.children) refl in
     one_canonicalization tree p.second a b p.canonical (subst (λ (n : ℕ). IsCanonicalization tree n b) second q.canonical)
 
 -- the parts agree on what the Reference says
@@ -50,10 +50,10 @@ one_reference : (tree : Nodes) (k : ℕ) (p q : Parts) → IsReference tree k p 
 one_reference tree k p q r s = record {
   prefixes =
       one_transforms tree r.transforms p.element_prefixes q.element_prefixes r.transformed
-      (subst (λ (n : ℕ). AreTransforms tree n q.element_prefixes) (first_is s.kids r.kids) s.transformed);
+      (subst (λ (n : ℕ). AreTransforms tree n q.element_prefixes) (first_is s.children r.children) s.transformed);
   digest =
       one_base64 (text_of tree r.value) p.digest q.digest r.digest
-      (subst (λ (n : ℕ). IsBase64 (text_of tree n) q.digest) (first_is (behind_first refl (behind_first r.kids s.kids)) refl) s.digest);
+      (subst (λ (n : ℕ). IsBase64 (text_of tree n) q.digest) (first_is (behind_first refl (behind_first r.children s.children)) refl) s.digest);
   uri = r.uri ∙ sym s.uri;
 }
 
@@ -64,24 +64,24 @@ record AgreeOnInfo (p q : Parts) : Type 0 where
 
 one_info : (tree : Nodes) (p q : Parts) → p.signed_info ≡ q.signed_info → IsSignedInfo tree p → IsSignedInfo tree q → AgreeOnInfo p q
 one_info tree p q here i j =
-    let kids = ap (kids_at tree) here ∙ j.kids in
+    let kids = ap (element_children tree) here ∙ j.children in
     record {
       prefixes =
           one_canonicalization tree i.canonicalization p.info_prefixes q.info_prefixes i.canonical
-          (subst (λ (n : ℕ). IsCanonicalization tree n q.info_prefixes) (first_is kids i.kids) j.canonical);
+          (subst (λ (n : ℕ). IsCanonicalization tree n q.info_prefixes) (first_is kids i.children) j.canonical);
       reference =
           one_reference tree i.reference p q i.referred
-          (subst (λ (n : ℕ). IsReference tree n q) (first_is (behind_first refl (behind_first i.kids kids)) refl) j.referred);
+          (subst (λ (n : ℕ). IsReference tree n q) (first_is (behind_first refl (behind_first i.children kids)) refl) j.referred);
     }
 
 one_parts : (tree : Nodes) (p q : Parts) → p.signature ≡ q.signature → IsSignature tree p → IsSignature tree q → p ≡ q
 one_parts tree p q here s t =
-    let kids = ap (kids_at tree) here ∙ t.kids in
-    let info = first_is s.kids kids in
+    let kids = ap (element_children tree) here ∙ t.children in
+    let info = first_is s.children kids in
     let inner = one_info tree p q info s.info t.info in
     let tag =
     one_base64 (text_of tree s.value) p.tag q.tag s.tag
-    (subst (λ (n : ℕ). IsBase64 (text_of tree n) q.tag) (first_is (behind_first s.kids kids) refl) t.tag) in
+    (subst (λ (n : ℕ). IsBase64 (text_of tree n) q.tag) (first_is (behind_first s.children kids) refl) t.tag) in
     λ i. record {
       signature = here i;
       signed_info = info i;
@@ -94,4 +94,4 @@ one_parts tree p q here s t =
 
 pub one_signature : (tree : Nodes) (e : ℕ) (p q : Parts) → HasForm tree e p → HasForm tree e q → p ≡ q
 one_signature tree e p q f g =
-    one_parts tree p q (first_is (behind_first g.kids f.kids) refl) f.signature g.signature
+    one_parts tree p q (first_is (behind_first g.children f.children) refl) f.signature g.signature

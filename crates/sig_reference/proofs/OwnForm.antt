@@ -7,7 +7,7 @@ use Rattle.xml_spec.specs.Names.{Binding, Scope, outermost, namespace_of, declar
 use Rattle.xml_spec.specs.Canonical.{byte_order, sorted, once, used_prefixes, is_rendered_anew, written_declarations, written_attributes, declaration_name, print_start, print_end, print_instruction, escape_text, canonical_nodes}
 use Rattle.element_make.specs.declared.names.Ns.TheVariants.{Ds}
 use Rattle.element_make.specs.Made.{qualified}
-use Rattle.sig_reference.specs.Algorithms.{ds_namespace}
+use Rattle.saml_names.specs.Names.{ds_namespace}
 use Rattle.sig_reference.proofs.SignedNodes.{own_element, text_nodes, transforms_kids, info_kids}
 
 -- each element uses the prefix ds alone, and declares nothing

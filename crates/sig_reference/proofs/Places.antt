@@ -5,11 +5,10 @@ use Rattle.xml_spec.specs.Numbering.{size, from_node, kids_of, rest_of}
 use Rattle.xml_spec.specs.Names.{Scope, outermost, inner_scope, proper_attributes}
 use Rattle.xml_spec.specs.Canonical.{alone, scope_at, canonical, canonical_nodes}
 use Rattle.saml_tree.specs.Elements.{attributes_in}
-use Rattle.tree_read.specs.Children.{scope_of_kids}
 use Rattle.tree_read.specs.Texts.{text_in, text_of, attribute_text, value_of}
 use Rattle.tree_read.proofs.Numbers.{kids_from, rest_from}
 use Rattle.tree_read.proofs.Placed.{kids_scope, rest_scope}
-use Rattle.sig_reference.specs.Kids.{kids_at, elements_of}
+use Rattle.tree_read.specs.Children.{scope_of_kids, element_children, elements_of}
 
 -- these are node k of the tree and those behind it in its list, and they stand in this scope
 pub record Stands (tree : Nodes) (k : ℕ) (scope : Scope) (nodes : Nodes) : Type 0 where
@@ -37,7 +36,7 @@ module _ {tree : Nodes} {k : ℕ} {scope : Scope} {name : List ℕ} {attributes 
       }
 
 module _ {tree : Nodes} {k : ℕ} {scope : Scope} {nodes : Nodes} (here : Stands tree k scope nodes) where
-  pub kids_here : kids_at tree k ≡ elements_of (scope_of_kids scope nodes) (suc k) (kids_of nodes)
+  pub kids_here : element_children tree k ≡ elements_of (scope_of_kids scope nodes) (suc k) (kids_of nodes)
   kids_here = λ i. elements_of (scope_of_kids (here.inside i) (here.found i)) (suc k) (kids_of (here.found i))
 
   pub attribute_here : (local : List ℕ) → attribute_text tree k local ≡ value_of local (proper_attributes (attributes_in nodes))

@@ -7,8 +7,9 @@ use Rattle.xml_spec.specs.Names.{Scope, namespace_of, inner_scope}
 use Rattle.element_make.specs.declared.names.Ns.TheVariants.{Ds}
 use Rattle.element_make.specs.Made.{qualified}
 use Rattle.tree_read.specs.Texts.{text_in, text_of}
-use Rattle.sig_reference.specs.Algorithms.{exclusive, enveloped, hmac_sha256, sha256_digest, ds_namespace}
-use Rattle.sig_reference.specs.Kids.{kid}
+use Rattle.sig_reference.specs.Algorithms.{exclusive, enveloped, hmac_sha256, sha256_digest}
+use Rattle.saml_names.specs.Names.{ds_namespace}
+use Rattle.tree_read.specs.Children.{child}
 use Rattle.sig_reference.specs.Form.{Parts, IsMethod, IsCanonicalization, AreTransforms, IsReference, IsSignedInfo, IsSignature, IsBase64}
 use Rattle.sig_reference.specs.Signature.{number_sign}
 use Rattle.sig_reference.proofs.Places.{Stands, some, first_kid, behind, kids_here, attribute_here, text_here}
@@ -62,7 +63,7 @@ module _ (tree : Nodes) (inner : Scope) (bound : namespace_of inner (codes "ds")
       record {
         first = suc k;
         second = suc (suc k + 0);
-        kids = kids_here here ∙ ap (λ n. kid (suc k) (record { namespace = n; local = codes "Transform" }) ∷ kid (suc (suc k + 0)) (record { namespace = n; local = codes "Transform" }) ∷ []) bound;
+        children = kids_here here ∙ ap (λ n. child (suc k) (record { namespace = n; local = codes "Transform" }) ∷ child (suc (suc k + 0)) (record { namespace = n; local = codes "Transform" }) ∷ []) bound;
         without_signature = is_method first;
         canonical = is_canonicalization second;
       }
@@ -81,7 +82,7 @@ module _ (tree : Nodes) (inner : Scope) (bound : namespace_of inner (codes "ds")
         transforms = suc k;
         method = m;
         value = suc (m + 0);
-        kids = kids_here here ∙ ap (λ n. kid (suc k) (record { namespace = n; local = codes "Transforms" }) ∷ kid m (record { namespace = n; local = codes "DigestMethod" }) ∷ kid (suc (m + 0)) (record { namespace = n; local = codes "DigestValue" }) ∷ []) bound;
+        children = kids_here here ∙ ap (λ n. child (suc k) (record { namespace = n; local = codes "Transforms" }) ∷ child m (record { namespace = n; local = codes "DigestMethod" }) ∷ child (suc (m + 0)) (record { namespace = n; local = codes "DigestValue" }) ∷ []) bound;
         transformed = subst (AreTransforms tree (suc k)) (sym none) (are_transforms transforms);
         digested = is_method method;
         digest = is_text value digest;
@@ -100,7 +101,7 @@ module _ (tree : Nodes) (inner : Scope) (bound : namespace_of inner (codes "ds")
         canonicalization = suc k;
         method = m;
         reference = suc (m + 0);
-        kids = kids_here here ∙ ap (λ n. kid (suc k) (record { namespace = n; local = codes "CanonicalizationMethod" }) ∷ kid m (record { namespace = n; local = codes "SignatureMethod" }) ∷ kid (suc (m + 0)) (record { namespace = n; local = codes "Reference" }) ∷ []) bound;
+        children = kids_here here ∙ ap (λ n. child (suc k) (record { namespace = n; local = codes "CanonicalizationMethod" }) ∷ child m (record { namespace = n; local = codes "SignatureMethod" }) ∷ child (suc (m + 0)) (record { namespace = n; local = codes "Reference" }) ∷ []) bound;
         canonical = subst (IsCanonicalization tree (suc k)) (sym none_of_info) (is_canonicalization canonicalization);
         signed = is_method method;
         referred = is_reference id text parts reference none uri digest;
@@ -131,7 +132,7 @@ is_signature tree k scope attributes id digest_text tag_text digest tag rest her
     record {
       value = v;
       others = [];
-      kids = kids_here here ∙ ap (λ n. kid (suc k) (record { namespace = n; local = codes "SignedInfo" }) ∷ kid v (record { namespace = n; local = codes "SignatureValue" }) ∷ []) bound;
+      children = kids_here here ∙ ap (λ n. child (suc k) (record { namespace = n; local = codes "SignedInfo" }) ∷ child v (record { namespace = n; local = codes "SignatureValue" }) ∷ []) bound;
       key_info = inl refl;
       info = is_signed_info tree inner bound id digest_text (made_parts k id digest tag) info refl refl refl digest_is;
       tag = is_text tree inner bound value tag_is;

@@ -13,8 +13,8 @@ use Rattle.element_make.specs.Writing.{by_name}
 use Rattle.element_make.proofs.Plain.{all_proper, each_by_name}
 use Rattle.tree_read.specs.Texts.{attribute_text}
 use Rattle.tree_read.specs.Texts as read
-use Rattle.sig_reference.specs.Algorithms.{ds_namespace}
-use Rattle.sig_reference.specs.Kids.{kid, elements_of}
+use Rattle.saml_names.specs.Names.{ds_namespace}
+use Rattle.tree_read.specs.Children.{child, elements_of}
 use Rattle.sig_reference.specs.Form.{HasForm, IsBase64}
 use Rattle.sig_reference.specs.Signing.{has_no_signature}
 use Rattle.sig_reference.proofs.Places.{Stands, some, first_kid, behind, kids_here, canonical_here}
@@ -23,7 +23,7 @@ use Rattle.sig_reference.proofs.OwnForm.{own_declaration, info_form}
 use Rattle.sig_reference.proofs.MadeScopes.{Has, has_none, has_inside, own_bound}
 use Rattle.sig_reference.proofs.MadeNames.{name_is, none_signed, value_read}
 
--- the second kid of an element is left out
+-- the second child of an element is left out
 without_second : (n m p : List ℕ) (a b c : List Attribute) (first second others : Nodes) →
     without_node (Element n a (Element m b first (Element p c second others)) NoNodes) (suc (suc (size first)))
     ≡ Element n a (Element m b first others) NoNodes
@@ -87,9 +87,9 @@ module _ (ns : Ns) (local : List ℕ) (attributes given : List Attribute) (kids 
         record {
           issuer = 1;
           others = elements_of scope after (nodes_of (ns ∷ []) rest);
-          kids =
+          children =
               kids_here root
-              ∙ (λ i. kid 1 (name_is (ns ∷ []) scope has Saml (codes "Issuer") given made_issuer i) ∷ kid place (name_is (ns ∷ []) scope has Ds (codes "Signature") [] tt i)
+              ∙ (λ i. child 1 (name_is (ns ∷ []) scope has Saml (codes "Issuer") given made_issuer i) ∷ child place (name_is (ns ∷ []) scope has Ds (codes "Signature") [] tt i)
               ∷ elements_of scope after (nodes_of (ns ∷ []) rest));
           only = none_signed (ns ∷ []) scope has rest made_rest unsigned after;
           signature =

@@ -1,15 +1,9 @@
--- What the fault of a reader says.
-use Rattle.sig_reference.specs.declared.fault.FormFault.{FormFault}
-use Rattle.sig_reference.specs.declared.fault.FormFault.TheVariants as faults
+-- What the fault of a part of a signature is of the whole.
+use Rattle.tree_read.specs.declared.fault.ShapeFault.{ShapeFault}
+use Rattle.tree_read.specs.declared.fault.ShapeFault.TheVariants as shapes
 use Rattle.sig_reference.specs.declared.fault.SigFault.{SigFault}
 use Rattle.sig_reference.specs.declared.fault.SigFault.TheVariants as signatures
 
--- the part differs only where this holds
-abbrev pub IsFormFault : FormFault → Type 0 → Type 0
-IsFormFault faults.Differs says = says
-IsFormFault faults.NoMemory says = Unit {0}
-
--- what it is of the whole signature
-abbrev pub of_signature : FormFault → SigFault
-of_signature faults.Differs = signatures.BadSignatureForm
-of_signature faults.NoMemory = signatures.NoMemory
+abbrev pub of_signature : ShapeFault → SigFault
+of_signature shapes.WrongShape = signatures.BadSignatureForm
+of_signature shapes.NoMemory = signatures.NoMemory

@@ -1,16 +1,16 @@
 -- The form of a signature: XML Signature, 4 and 6; SAML Core 5.4. Other attributes than the named ones are allowed.
-use Rattle.std.specs.Prelude.{◌≡◌, ℕ, ◌⊎◌, not, List, [], ◌∷◌, ◌++◌, filter, length, codes, Option, Some, if◌then◌else◌, IsTrue}
-use Rattle.std.specs.List.{list_all, AllByRecursion}
+use Rattle.std.specs.Prelude.{◌≡◌, ℕ, ◌⊎◌, not, List, [], ◌∷◌, ◌++◌, filter, length, codes, Option, Some, if◌then◌else◌}
+use Rattle.std.specs.List.{AllByRecursion}
 use Rattle.base64.specs.Engines.{standard}
 use Rattle.base64.specs.GeneralPurpose.{encode_of, IsBytes}
 use Rattle.xml_spec.specs.Bytes.{is_empty}
 use Rattle.xml_spec.specs.Characters.{IsNoColonName}
 use Rattle.xml_spec.specs.Tree.{Nodes}
 use Rattle.xml_spec.specs.Syntax.{is_white}
-use Rattle.tree_read.specs.Children.{is_name}
+use Rattle.saml_names.specs.Names.{ds, saml}
+use Rattle.tree_read.specs.Children.{Child, child, named, element_children}
 use Rattle.tree_read.specs.Texts.{text_of, attribute_text}
-use Rattle.sig_reference.specs.Algorithms.{exclusive, enveloped, hmac_sha256, sha256_digest, ds, saml, inclusive_namespaces}
-use Rattle.sig_reference.specs.Kids.{Kid, kid, kids_at}
+use Rattle.sig_reference.specs.Algorithms.{exclusive, enveloped, hmac_sha256, sha256_digest, inclusive_namespaces}
 
 -- the element has this algorithm
 abbrev pub HasAlgorithm : Nodes → ℕ → List ℕ → Type 0
@@ -19,7 +19,7 @@ HasAlgorithm tree k algorithm = attribute_text tree k (codes "Algorithm") ≡ So
 -- a method with this algorithm and no parameter
 pub record IsMethod (tree : Nodes) (k : ℕ) (algorithm : List ℕ) : Type 0 where
   pub given : HasAlgorithm tree k algorithm
-  pub bare : kids_at tree k ≡ []
+  pub bare : element_children tree k ≡ []
 
 -- a word in front of words, an empty one is none
 abbrev pub with_word : List ℕ → List (List ℕ) → List (List ℕ)
@@ -46,14 +46,14 @@ pub record IsPrefixList (tree : Nodes) (k : ℕ) (prefixes : List (List ℕ)) : 
 
 -- InclusiveNamespaces with these prefixes is the only element child
 pub record ListsPrefixes (tree : Nodes) (k : ℕ) (prefixes : List (List ℕ)) : Type 0 where
-  pub child : ℕ
-  pub only : kids_at tree k ≡ kid child inclusive_namespaces ∷ []
-  pub listed : IsPrefixList tree child prefixes
+  pub parameter : ℕ
+  pub only : element_children tree k ≡ child parameter inclusive_namespaces ∷ []
+  pub listed : IsPrefixList tree parameter prefixes
 
 -- exclusive canonicalization with these prefixes; without InclusiveNamespaces there are none
 pub record IsCanonicalization (tree : Nodes) (k : ℕ) (prefixes : List (List ℕ)) : Type 0 where
   pub algorithm : HasAlgorithm tree k exclusive
-  pub listed : ((kids_at tree k ≡ []) × (prefixes ≡ [])) ⊎ ListsPrefixes tree k prefixes
+  pub listed : ((element_children tree k ≡ []) × (prefixes ≡ [])) ⊎ ListsPrefixes tree k prefixes
 
 -- a text that is the base64 of 32 bytes, white space left out: RFC 4648, 4
 pub record IsBase64 (text bytes : List ℕ) : Type 0 where
@@ -76,7 +76,7 @@ pub record Parts : Type 0 where
 pub record AreTransforms (tree : Nodes) (k : ℕ) (prefixes : List (List ℕ)) : Type 0 where
   pub first : ℕ
   pub second : ℕ
-  pub kids : kids_at tree k ≡ kid first (ds (codes "Transform")) ∷ kid second (ds (codes "Transform")) ∷ []
+  pub children : element_children tree k ≡ child first (ds (codes "Transform")) ∷ child second (ds (codes "Transform")) ∷ []
   pub without_signature : IsMethod tree first enveloped
   pub canonical : IsCanonicalization tree second prefixes
 
@@ -85,8 +85,8 @@ pub record IsReference (tree : Nodes) (k : ℕ) (parts : Parts) : Type 0 where
   pub transforms : ℕ
   pub method : ℕ
   pub value : ℕ
-  pub kids : kids_at tree k
-      ≡ kid transforms (ds (codes "Transforms")) ∷ kid method (ds (codes "DigestMethod")) ∷ kid value (ds (codes "DigestValue")) ∷ []
+  pub children : element_children tree k
+      ≡ child transforms (ds (codes "Transforms")) ∷ child method (ds (codes "DigestMethod")) ∷ child value (ds (codes "DigestValue")) ∷ []
   pub transformed : AreTransforms tree transforms parts.element_prefixes
   pub digested : IsMethod tree method sha256_digest
   pub digest : IsBase64 (text_of tree value) parts.digest
@@ -97,9 +97,9 @@ pub record IsSignedInfo (tree : Nodes) (parts : Parts) : Type 0 where
   pub canonicalization : ℕ
   pub method : ℕ
   pub reference : ℕ
-  pub kids : kids_at tree parts.signed_info
-      ≡ kid canonicalization (ds (codes "CanonicalizationMethod")) ∷ kid method (ds (codes "SignatureMethod"))
-      ∷ kid reference (ds (codes "Reference")) ∷ []
+  pub children : element_children tree parts.signed_info
+      ≡ child canonicalization (ds (codes "CanonicalizationMethod")) ∷ child method (ds (codes "SignatureMethod"))
+      ∷ child reference (ds (codes "Reference")) ∷ []
   pub canonical : IsCanonicalization tree canonicalization parts.info_prefixes
   pub signed : IsMethod tree method hmac_sha256
   pub referred : IsReference tree reference parts
@@ -107,10 +107,10 @@ pub record IsSignedInfo (tree : Nodes) (parts : Parts) : Type 0 where
 -- Signature: SignedInfo, SignatureValue and optionally KeyInfo, which is ignored
 pub record IsSignature (tree : Nodes) (parts : Parts) : Type 0 where
   pub value : ℕ
-  pub others : List Kid
-  pub kids : kids_at tree parts.signature
-      ≡ kid parts.signed_info (ds (codes "SignedInfo")) ∷ kid value (ds (codes "SignatureValue")) ∷ others
-  pub key_info : (others ≡ []) ⊎ ((k : ℕ) × (others ≡ kid k (ds (codes "KeyInfo")) ∷ []))
+  pub others : List Child
+  pub children : element_children tree parts.signature
+      ≡ child parts.signed_info (ds (codes "SignedInfo")) ∷ child value (ds (codes "SignatureValue")) ∷ others
+  pub key_info : (others ≡ []) ⊎ ((k : ℕ) × (others ≡ child k (ds (codes "KeyInfo")) ∷ []))
   pub info : IsSignedInfo tree parts
   pub tag : IsBase64 (text_of tree value) parts.tag
 
@@ -118,7 +118,15 @@ pub record IsSignature (tree : Nodes) (parts : Parts) : Type 0 where
 -- other Signature (SAML Core 5.4.1 and the schemas: Signature follows Issuer)
 pub record HasForm (tree : Nodes) (e : ℕ) (parts : Parts) : Type 0 where
   pub issuer : ℕ
-  pub others : List Kid
-  pub kids : kids_at tree e ≡ kid issuer (saml (codes "Issuer")) ∷ kid parts.signature (ds (codes "Signature")) ∷ others
-  pub only : IsTrue (list_all (λ k. not (is_name (ds (codes "Signature")) k.name)) others)
+  pub others : List Child
+  pub children : element_children tree e ≡ child issuer (saml (codes "Issuer")) ∷ child parts.signature (ds (codes "Signature")) ∷ others
+  pub only : named (ds (codes "Signature")) others ≡ []
+  pub signature : IsSignature tree parts
+
+-- element e has a signature of this form in front: its first element child is the Signature, no Issuer is asked for, and it has
+-- no other Signature (SAML Metadata 2.3.1 and 3.1: ds:Signature comes first in the schema)
+pub record HasFirstForm (tree : Nodes) (e : ℕ) (parts : Parts) : Type 0 where
+  pub others : List Child
+  pub children : element_children tree e ≡ child parts.signature (ds (codes "Signature")) ∷ others
+  pub only : named (ds (codes "Signature")) others ≡ []
   pub signature : IsSignature tree parts

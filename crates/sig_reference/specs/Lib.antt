@@ -1,9 +1,7 @@
 pub mod Algorithms
 pub mod Faults
 pub mod Form
-pub mod Kids
 pub mod Signature
 pub mod Signing
 pub mod Views
 pub mod Vouching
-pub mod Walk

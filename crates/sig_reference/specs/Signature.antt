@@ -6,7 +6,7 @@ use Rattle.xml_spec.specs.Tree.{Nodes}
 use Rattle.xml_spec.specs.Identifiers.{IsSingle}
 use Rattle.xml_spec.specs.Canonical.{canonical}
 use Rattle.tree_read.specs.Texts.{attribute_text}
-use Rattle.sig_reference.specs.Form.{Parts, HasForm}
+use Rattle.sig_reference.specs.Form.{Parts, HasForm, HasFirstForm}
 use Rattle.sig_reference.specs.declared.fault.SigFault.{SigFault}
 use Rattle.sig_reference.specs.declared.fault.SigFault.TheVariants as faults
 
@@ -29,20 +29,48 @@ IsTagged key tree parts = parts.tag ≡ hmac key (canonical tree parts.signed_in
 abbrev pub IsDigested : Nodes → ℕ → Parts → Type 0
 IsDigested tree e parts = parts.digest ≡ sha256 (canonical tree e (Some parts.signature) parts.element_prefixes)
 
--- element e of the tree is vouched for with the key, by the signature with these parts
-pub record Vouches (key : List ℕ) (tree : Nodes) (e : ℕ) (parts : Parts) : Type 0 where
+-- what a signature of a good form has to say of the element: XML Signature, 3.2
+pub record IsValid (key : List ℕ) (tree : Nodes) (e : ℕ) (parts : Parts) : Type 0 where
+  pub reference : IsReferredTo tree e parts
+  pub tag : IsTagged key tree parts
+  pub digest : IsDigested tree e parts
+
+-- the first of these conditions that does not hold
+abbrev pub IsInvalid : List ℕ → Nodes → ℕ → Parts → SigFault → Type 0
+IsInvalid key tree e parts faults.BadSignatureForm = ⊥
+IsInvalid key tree e parts faults.BadReference = ¬ (IsReferredTo tree e parts)
+IsInvalid key tree e parts faults.TagDiffers = IsReferredTo tree e parts × ¬ (IsTagged key tree parts)
+IsInvalid key tree e parts faults.DigestDiffers = IsReferredTo tree e parts × IsTagged key tree parts × ¬ (IsDigested tree e parts)
+IsInvalid key tree e parts faults.NoMemory = Unit {0}
+
+-- element e of the tree is vouched for with the key, by the signature with these parts, which has to be of this form
+pub record VouchesBy (IsForm : Nodes → ℕ → Parts → Type 0) (key : List ℕ) (tree : Nodes) (e : ℕ) (parts : Parts) : Type 0 where
   pub single : IsSingle tree
-  pub form : HasForm tree e parts
+  pub form : IsForm tree e parts
   pub reference : IsReferredTo tree e parts
   pub tag : IsTagged key tree parts
   pub digest : IsDigested tree e parts
 
 -- what a fault says: the first of these conditions that does not hold
+abbrev pub IsUnvouchedBy : (Nodes → ℕ → Parts → Type 0) → List ℕ → Nodes → ℕ → SigFault → Type 0
+IsUnvouchedBy IsForm key tree e faults.BadSignatureForm = (parts : Parts) → ¬ (IsForm tree e parts)
+IsUnvouchedBy IsForm key tree e faults.BadReference = (parts : Parts) × IsForm tree e parts × ¬ (IsReferredTo tree e parts)
+IsUnvouchedBy IsForm key tree e faults.TagDiffers =
+    (parts : Parts) × IsForm tree e parts × IsReferredTo tree e parts × ¬ (IsTagged key tree parts)
+IsUnvouchedBy IsForm key tree e faults.DigestDiffers =
+    (parts : Parts) × IsForm tree e parts × IsReferredTo tree e parts × IsTagged key tree parts × ¬ (IsDigested tree e parts)
+IsUnvouchedBy IsForm key tree e faults.NoMemory = Unit {0}
+
+-- SAML Core 5.4: the Signature stands behind the Issuer
+abbrev pub Vouches : List ℕ → Nodes → ℕ → Parts → Type 0
+Vouches key tree e parts = VouchesBy HasForm key tree e parts
+
 abbrev pub IsUnvouched : List ℕ → Nodes → ℕ → SigFault → Type 0
-IsUnvouched key tree e faults.BadSignatureForm = (parts : Parts) → ¬ (HasForm tree e parts)
-IsUnvouched key tree e faults.BadReference = (parts : Parts) × HasForm tree e parts × ¬ (IsReferredTo tree e parts)
-IsUnvouched key tree e faults.TagDiffers =
-    (parts : Parts) × HasForm tree e parts × IsReferredTo tree e parts × ¬ (IsTagged key tree parts)
-IsUnvouched key tree e faults.DigestDiffers =
-    (parts : Parts) × HasForm tree e parts × IsReferredTo tree e parts × IsTagged key tree parts × ¬ (IsDigested tree e parts)
-IsUnvouched key tree e faults.NoMemory = Unit {0}
+IsUnvouched key tree e fault = IsUnvouchedBy HasForm key tree e fault
+
+-- SAML Metadata 3.1: the Signature stands in front
+abbrev pub VouchesFirst : List ℕ → Nodes → ℕ → Parts → Type 0
+VouchesFirst key tree e parts = VouchesBy HasFirstForm key tree e parts
+
+abbrev pub IsFirstUnvouched : List ℕ → Nodes → ℕ → SigFault → Type 0
+IsFirstUnvouched key tree e fault = IsUnvouchedBy HasFirstForm key tree e fault

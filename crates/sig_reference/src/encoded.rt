@@ -2,19 +2,16 @@
 
 ghost use Rattle.std.specs.Prelude.{◌≡◌, ℕ, List, [], ◌∷◌, ◌++◌, not, filter, length, IfOk, IfErr};
 ghost use Rattle.xml_spec.specs.Syntax.{is_white};
-ghost use Rattle.saml_tree.specs.Elements.{IsElement};
+ghost use Rattle.tree_read.specs.Faults.{IsShapeFault};
 ghost use Rattle.tree_read.specs.Texts.{text_of};
-ghost use Rattle.sig_reference.specs.Faults.{IsFormFault};
+ghost use Rattle.tree_read.specs.Views.{tree_of};
 ghost use Rattle.sig_reference.specs.Form.{IsBase64};
 
-use crate::fault::FormFault;
-use crate::words::is_white;
 use base64::DecodeAllocError;
 use base64::engine::general_purpose::STANDARD;
-use saml_outside::NoMemory;
-use saml_tree::{Doc, NodeNo};
+use owned_values::NoMemory;
 use std::alloc::Global;
-use tree_read::{At, text_of};
+use tree_read::{At, ShapeFault, is_white, text_of};
 
 /// The bytes that are no white space.
 fn without_white(alloc: Global, bytes: &[u8]) -> Result<Vec<u8>, NoMemory>
@@ -29,12 +26,12 @@ fn without_white(alloc: Global, bytes: &[u8]) -> Result<Vec<u8>, NoMemory>
 }
 
 /// The 32 bytes that there are.
-fn digest_of(bytes: &[u8]) -> Result<[u8; 32], FormFault>
+fn digest_of(bytes: &[u8]) -> Result<[u8; 32], ShapeFault>
     ensures ok { IfOk result (λ digest. (digest ≡ bytes.now) × (length bytes.now ≡ 32)) }
-    ensures differs { IfErr result (λ fault. IsFormFault fault (¬ (length bytes.now ≡ 32))) }
+    ensures other { IfErr result (λ fault. IsShapeFault fault (¬ (length bytes.now ≡ 32))) }
 {
     if bytes.len() != 32 {
-        return Err(FormFault::Differs);
+        return Err(ShapeFault::WrongShape);
     }
     let mut digest = [0; 32];
     digest.copy_from_slice(bytes);
@@ -45,16 +42,16 @@ fn digest_of(bytes: &[u8]) -> Result<[u8; 32], FormFault>
 ///
 /// # Errors
 ///
-/// `Differs`, exactly where it is that of no 32 bytes.
-fn decoded(alloc: Global, text: &[u8]) -> Result<[u8; 32], FormFault>
+/// `WrongShape`, exactly where it is that of no 32 bytes.
+fn decoded(alloc: Global, text: &[u8]) -> Result<[u8; 32], ShapeFault>
     ensures ok { IfOk result (λ digest. IsBase64 text.now digest) }
-    ensures differs { IfErr result (λ fault. IsFormFault fault ((digest : List ℕ) → ¬ (IsBase64 text.now digest))) }
+    ensures other { IfErr result (λ fault. IsShapeFault fault ((digest : List ℕ) → ¬ (IsBase64 text.now digest))) }
 {
     let symbols = without_white(alloc, text)?;
     match STANDARD.decode(alloc, symbols.as_slice()) {
         Ok(bytes) => digest_of(bytes.as_slice()),
-        Err(DecodeAllocError::OutOfMemory) => Err(FormFault::NoMemory),
-        Err(DecodeAllocError::DecodeError(_)) => Err(FormFault::Differs),
+        Err(DecodeAllocError::OutOfMemory) => Err(ShapeFault::NoMemory),
+        Err(DecodeAllocError::DecodeError(_)) => Err(ShapeFault::WrongShape),
     }
 }
 
@@ -62,12 +59,11 @@ fn decoded(alloc: Global, text: &[u8]) -> Result<[u8; 32], FormFault>
 ///
 /// # Errors
 ///
-/// `Differs`, exactly where it is that of no 32 bytes.
-pub(crate) fn read_digest(alloc: Global, doc: &Doc<'_>, node: NodeNo) -> Result<[u8; 32], FormFault>
-    requires { IsElement doc.now.tree node.0 }
-    ensures ok { IfOk result (λ digest. IsBase64 (text_of doc.now.tree node.0) digest) }
-    ensures differs { IfErr result (λ fault. IsFormFault fault ((digest : List ℕ) → ¬ (IsBase64 (text_of doc.now.tree node.0) digest))) }
+/// `WrongShape`, exactly where it is that of no 32 bytes.
+pub(crate) fn read_digest(alloc: Global, at: At<'_, '_>) -> Result<[u8; 32], ShapeFault>
+    ensures ok { IfOk result (λ digest. IsBase64 (text_of (tree_of at.entry) at.entry.node.0) digest) }
+    ensures other { IfErr result (λ fault. IsShapeFault fault ((digest : List ℕ) → ¬ (IsBase64 (text_of (tree_of at.entry) at.entry.node.0) digest))) }
 {
-    let text = text_of(alloc, At { doc, node })?;
+    let text = text_of(alloc, at)?;
     decoded(alloc, text.as_str().as_bytes())
 }

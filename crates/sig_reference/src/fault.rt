@@ -1,6 +1,7 @@
 // Why an element is not vouched for.
 
-use saml_outside::NoMemory;
+use owned_values::NoMemory;
+use tree_read::ShapeFault;
 
 /// The first condition that does not hold.
 #[derive(Clone, Copy, Debug, PartialEq, Eq)]
@@ -17,15 +18,6 @@ pub enum SigFault {
     NoMemory,
 }
 
-/// Why a part of a signature was not read.
-#[derive(Clone, Copy, Debug, PartialEq, Eq)]
-pub(crate) enum FormFault {
-    /// It is not of the form that it should have.
-    Differs,
-    /// Memory ran out.
-    NoMemory,
-}
-
 impl From<NoMemory> for SigFault {
     ghost use Rattle.std.specs.Prelude.{◌≡◌};
     ghost use Rattle.sig_reference.specs.declared.fault.SigFault.TheVariants.{NoMemory};
@@ -37,27 +29,16 @@ impl From<NoMemory> for SigFault {
     }
 }
 
-impl From<NoMemory> for FormFault {
-    ghost use Rattle.std.specs.Prelude.{◌≡◌};
-    ghost use Rattle.sig_reference.specs.declared.fault.FormFault.TheVariants.{NoMemory};
-
-    ghost from_gives = { λ _ e. e ≡ NoMemory };
-
-    fn from(_: NoMemory) -> FormFault {
-        FormFault::NoMemory
-    }
-}
-
-impl From<FormFault> for SigFault {
+impl From<ShapeFault> for SigFault {
     ghost use Rattle.std.specs.Prelude.{◌≡◌};
     ghost use Rattle.sig_reference.specs.Faults.{of_signature};
 
     ghost from_gives = { λ fault e. e ≡ of_signature fault };
 
-    fn from(fault: FormFault) -> SigFault {
+    fn from(fault: ShapeFault) -> SigFault {
         match fault {
-            FormFault::Differs => SigFault::BadSignatureForm,
-            FormFault::NoMemory => SigFault::NoMemory,
+            ShapeFault::WrongShape => SigFault::BadSignatureForm,
+            ShapeFault::NoMemory => SigFault::NoMemory,
         }
     }
 }

@@ -1,20 +1,19 @@
 // The parts of a signature, read from their elements (XML Signature, 4).
 
 ghost use Rattle.std.specs.Prelude.{◌≡◌, ℕ, List, IfOk, IfErr};
-ghost use Rattle.saml_tree.specs.Elements.{IsElement};
-ghost use Rattle.sig_reference.specs.Faults.{IsFormFault};
-ghost use Rattle.sig_reference.specs.Form.{Parts, AreTransforms, IsReference, IsSignedInfo, IsSignature, HasForm};
+ghost use Rattle.tree_read.specs.Faults.{IsShapeFault};
+ghost use Rattle.tree_read.specs.Views.{tree_of};
+ghost use Rattle.sig_reference.specs.Form.{Parts, AreTransforms, IsReference, IsSignedInfo, IsSignature, HasForm, HasFirstForm};
 ghost use Rattle.sig_reference.specs.Views.{reference_parts, info_parts, parts_of};
 
 use crate::encoded::read_digest;
-use crate::fault::FormFault;
-use crate::kids::ElementKids;
-use crate::methods::{read_canonicalization, read_method};
-use crate::uris::{DS, ENVELOPED, HMAC_SHA256, SAML, SHA256};
-use saml_outside::{Text, Texts};
-use saml_tree::{Doc, NodeNo};
+use crate::methods::{check_method, read_canonicalization};
+use crate::uris::{ENVELOPED, HMAC_SHA256, SHA256};
+use owned_values::{Text, Texts};
+use saml_names::{ds, saml};
+use saml_tree::NodeNo;
 use std::alloc::Global;
-use tree_read::{At, attr_text};
+use tree_read::{At, ElementChildren, ShapeFault, attr_text};
 
 /// What a Reference says: the prefixes of its canonical form, the DigestValue and the URI.
 #[derive(Drop)]
@@ -44,39 +43,37 @@ pub(crate) struct Signature {
 ///
 /// # Errors
 ///
-/// `Differs`, exactly where it is not that the enveloped signature is left out and then the exclusive form taken.
-fn read_transforms(alloc: Global, doc: &Doc<'_>, node: NodeNo) -> Result<Texts, FormFault>
-    requires { IsElement doc.now.tree node.0 }
-    ensures ok { IfOk result (λ prefixes. AreTransforms doc.now.tree node.0 prefixes) }
-    ensures differs { IfErr result (λ fault. IsFormFault fault ((prefixes : List (List ℕ)) → ¬ (AreTransforms doc.now.tree node.0 prefixes))) }
+/// `WrongShape`, exactly where it is not that the enveloped signature is left out and then the exclusive form taken.
+fn read_transforms(alloc: Global, at: At<'_, '_>) -> Result<Texts, ShapeFault>
+    ensures ok { IfOk result (λ prefixes. AreTransforms (tree_of at.entry) at.entry.node.0 prefixes) }
+    ensures other { IfErr result (λ fault. IsShapeFault fault ((prefixes : List (List ℕ)) → ¬ (AreTransforms (tree_of at.entry) at.entry.node.0 prefixes))) }
 {
-    let mut kids = ElementKids::of(doc, node);
-    let first = kids.take(DS, "Transform")?;
-    let second = kids.take(DS, "Transform")?;
-    kids.end()?;
-    read_method(alloc, doc, first, ENVELOPED)?;
-    read_canonicalization(alloc, doc, second)
+    let mut children = ElementChildren::of(at);
+    let first = children.take(ds("Transform"))?;
+    let second = children.take(ds("Transform"))?;
+    children.end()?;
+    check_method(first, ENVELOPED)?;
+    read_canonicalization(alloc, second)
 }
 
 /// What a Reference says.
 ///
 /// # Errors
 ///
-/// `Differs`, exactly where it is not of the form that it should have.
-fn read_reference(alloc: Global, doc: &Doc<'_>, node: NodeNo) -> Result<Reference, FormFault>
-    requires { IsElement doc.now.tree node.0 }
-    ensures ok { IfOk result (λ reference. IsReference doc.now.tree node.0 (reference_parts reference)) }
-    ensures differs { IfErr result (λ fault. IsFormFault fault ((parts : Parts) → ¬ (IsReference doc.now.tree node.0 parts))) }
+/// `WrongShape`, exactly where it is not of the form that it should have.
+fn read_reference(alloc: Global, at: At<'_, '_>) -> Result<Reference, ShapeFault>
+    ensures ok { IfOk result (λ reference. IsReference (tree_of at.entry) at.entry.node.0 (reference_parts reference)) }
+    ensures other { IfErr result (λ fault. IsShapeFault fault ((parts : Parts) → ¬ (IsReference (tree_of at.entry) at.entry.node.0 parts))) }
 {
-    let mut kids = ElementKids::of(doc, node);
-    let transforms = kids.take(DS, "Transforms")?;
-    let method = kids.take(DS, "DigestMethod")?;
-    let value = kids.take(DS, "DigestValue")?;
-    kids.end()?;
-    let prefixes = read_transforms(alloc, doc, transforms)?;
-    read_method(alloc, doc, method, SHA256)?;
-    let digest = read_digest(alloc, doc, value)?;
-    let uri = attr_text(alloc, At { doc, node }, "URI")?;
+    let mut children = ElementChildren::of(at);
+    let transforms = children.take(ds("Transforms"))?;
+    let method = children.take(ds("DigestMethod"))?;
+    let value = children.take(ds("DigestValue"))?;
+    children.end()?;
+    let prefixes = read_transforms(alloc, transforms)?;
+    check_method(method, SHA256)?;
+    let digest = read_digest(alloc, value)?;
+    let uri = attr_text(alloc, at, "URI")?;
     Ok(Reference {
         prefixes,
         digest,
@@ -88,23 +85,22 @@ fn read_reference(alloc: Global, doc: &Doc<'_>, node: NodeNo) -> Result<Referenc
 ///
 /// # Errors
 ///
-/// `Differs`, exactly where it is not of the form that it should have.
-fn read_signed_info(alloc: Global, doc: &Doc<'_>, node: NodeNo) -> Result<SignedInfo, FormFault>
-    requires { IsElement doc.now.tree node.0 }
-    ensures ok { IfOk result (λ info. IsSignedInfo doc.now.tree (info_parts info)) }
-    ensures node { IfOk result (λ info. info.node.0 ≡ node.0) }
-    ensures differs { IfErr result (λ fault. IsFormFault fault ((parts : Parts) → parts.signed_info ≡ node.0 → ¬ (IsSignedInfo doc.now.tree parts))) }
+/// `WrongShape`, exactly where it is not of the form that it should have.
+fn read_signed_info(alloc: Global, at: At<'_, '_>) -> Result<SignedInfo, ShapeFault>
+    ensures ok { IfOk result (λ info. IsSignedInfo (tree_of at.entry) (info_parts info)) }
+    ensures node { IfOk result (λ info. info.node.0 ≡ at.entry.node.0) }
+    ensures other { IfErr result (λ fault. IsShapeFault fault ((parts : Parts) → parts.signed_info ≡ at.entry.node.0 → ¬ (IsSignedInfo (tree_of at.entry) parts))) }
 {
-    let mut kids = ElementKids::of(doc, node);
-    let canonicalization = kids.take(DS, "CanonicalizationMethod")?;
-    let method = kids.take(DS, "SignatureMethod")?;
-    let reference = kids.take(DS, "Reference")?;
-    kids.end()?;
-    let prefixes = read_canonicalization(alloc, doc, canonicalization)?;
-    read_method(alloc, doc, method, HMAC_SHA256)?;
-    let reference = read_reference(alloc, doc, reference)?;
+    let mut children = ElementChildren::of(at);
+    let canonicalization = children.take(ds("CanonicalizationMethod"))?;
+    let method = children.take(ds("SignatureMethod"))?;
+    let reference = children.take(ds("Reference"))?;
+    children.end()?;
+    let prefixes = read_canonicalization(alloc, canonicalization)?;
+    check_method(method, HMAC_SHA256)?;
+    let reference = read_reference(alloc, reference)?;
     Ok(SignedInfo {
-        node,
+        node: at.node,
         prefixes,
         reference,
     })
@@ -114,37 +110,57 @@ fn read_signed_info(alloc: Global, doc: &Doc<'_>, node: NodeNo) -> Result<Signed
 ///
 /// # Errors
 ///
-/// `Differs`, exactly where it is not of the form that it should have.
-fn read_signature(alloc: Global, doc: &Doc<'_>, node: NodeNo) -> Result<Signature, FormFault>
-    requires { IsElement doc.now.tree node.0 }
-    ensures ok { IfOk result (λ signature. IsSignature doc.now.tree (parts_of signature)) }
-    ensures node { IfOk result (λ signature. signature.node.0 ≡ node.0) }
-    ensures differs { IfErr result (λ fault. IsFormFault fault ((parts : Parts) → parts.signature ≡ node.0 → ¬ (IsSignature doc.now.tree parts))) }
+/// `WrongShape`, exactly where it is not of the form that it should have.
+fn read_signature(alloc: Global, at: At<'_, '_>) -> Result<Signature, ShapeFault>
+    ensures ok { IfOk result (λ signature. IsSignature (tree_of at.entry) (parts_of signature)) }
+    ensures node { IfOk result (λ signature. signature.node.0 ≡ at.entry.node.0) }
+    ensures other { IfErr result (λ fault. IsShapeFault fault ((parts : Parts) → parts.signature ≡ at.entry.node.0 → ¬ (IsSignature (tree_of at.entry) parts))) }
 {
-    let mut kids = ElementKids::of(doc, node);
-    let info = kids.take(DS, "SignedInfo")?;
-    let value = kids.take(DS, "SignatureValue")?;
-    kids.end_or(DS, "KeyInfo")?;
-    let info = read_signed_info(alloc, doc, info)?;
-    let tag = read_digest(alloc, doc, value)?;
-    Ok(Signature { node, info, tag })
+    let mut children = ElementChildren::of(at);
+    let info = children.take(ds("SignedInfo"))?;
+    let value = children.take(ds("SignatureValue"))?;
+    children.end_or(ds("KeyInfo"))?;
+    let info = read_signed_info(alloc, info)?;
+    let tag = read_digest(alloc, value)?;
+    Ok(Signature {
+        node: at.node,
+        info,
+        tag,
+    })
 }
 
 /// What the signature of an element says.
 ///
 /// # Errors
 ///
-/// `Differs`, exactly where the element has no signature of the form that SAML and this profile ask for.
-pub(crate) fn read_form(alloc: Global, doc: &Doc<'_>, node: NodeNo) -> Result<Signature, FormFault>
-    requires { IsElement doc.now.tree node.0 }
-    ensures ok { IfOk result (λ signature. HasForm doc.now.tree node.0 (parts_of signature)) }
-    ensures differs { IfErr result (λ fault. IsFormFault fault ((parts : Parts) → ¬ (HasForm doc.now.tree node.0 parts))) }
+/// `WrongShape`, exactly where the element has no signature of the form that SAML and this profile ask for.
+pub(crate) fn read_form(alloc: Global, at: At<'_, '_>) -> Result<Signature, ShapeFault>
+    ensures ok { IfOk result (λ signature. HasForm (tree_of at.entry) at.entry.node.0 (parts_of signature)) }
+    ensures other { IfErr result (λ fault. IsShapeFault fault ((parts : Parts) → ¬ (HasForm (tree_of at.entry) at.entry.node.0 parts))) }
 {
-    let mut kids = ElementKids::of(doc, node);
-    kids.take(SAML, "Issuer")?;
-    let signature = kids.take(DS, "Signature")?;
-    if !kids.has_no(DS, "Signature") {
-        return Err(FormFault::Differs);
+    let mut children = ElementChildren::of(at);
+    children.take(saml("Issuer"))?;
+    let signature = children.take(ds("Signature"))?;
+    if !children.has_no(ds("Signature")) {
+        return Err(ShapeFault::WrongShape);
     }
-    read_signature(alloc, doc, signature)
+    read_signature(alloc, signature)
+}
+
+/// What the signature in front of an element says.
+///
+/// # Errors
+///
+/// `WrongShape`, exactly where the first element child of the element is no Signature of the form that this profile asks
+/// for, or not the only one.
+pub(crate) fn read_first_form(alloc: Global, at: At<'_, '_>) -> Result<Signature, ShapeFault>
+    ensures ok { IfOk result (λ signature. HasFirstForm (tree_of at.entry) at.entry.node.0 (parts_of signature)) }
+    ensures other { IfErr result (λ fault. IsShapeFault fault ((parts : Parts) → ¬ (HasFirstForm (tree_of at.entry) at.entry.node.0 parts))) }
+{
+    let mut left = ElementChildren::of(at);
+    let signature = left.take(ds("Signature"))?;
+    if !left.has_no(ds("Signature")) {
+        return Err(ShapeFault::WrongShape);
+    }
+    read_signature(alloc, signature)
 }

@@ -4,7 +4,6 @@
 mod encoded;
 mod fault;
 mod form;
-mod kids;
 pub mod laws;
 mod methods;
 mod signing;
@@ -17,5 +16,5 @@ mod words;
 
 pub use fault::SigFault;
 pub use signing::sign;
-pub use validation::verify;
-pub use vouched::Vouched;
+pub use validation::{verify, verify_first};
+pub use vouched::{Vouched, within};

@@ -1,57 +1,37 @@
 // Methods of a signature: an algorithm, and what parameters it may have (XML Signature, 4.3 and 6).
 
-ghost use Rattle.std.specs.Prelude.{◌≡◌, ℕ, ◌↔◌, List, IfOk, IfErr, IsTrue, OnOk};
-ghost use Rattle.saml_tree.specs.Elements.{IsElement};
-ghost use Rattle.sig_reference.specs.Faults.{IsFormFault};
+ghost use Rattle.std.specs.Prelude.{◌≡◌, ℕ, ◌↔◌, List, IfOk, IfErr, IsTrue, OnOk, OnErr};
+ghost use Rattle.tree_read.specs.Faults.{IsShapeFault};
+ghost use Rattle.tree_read.specs.Views.{tree_of};
 ghost use Rattle.sig_reference.specs.Form.{HasAlgorithm, IsMethod, IsPrefixList, IsCanonicalization};
 
-use crate::fault::FormFault;
-use crate::kids::ElementKids;
 use crate::uris::EXCLUSIVE;
 use crate::words::{are_prefixes, words};
-use saml_outside::{NoMemory, Texts};
-use saml_tree::{Doc, NodeNo};
+use owned_values::Texts;
+use saml_names::ExpandedName;
 use std::alloc::Global;
-use tree_read::{At, attr_text};
+use tree_read::{At, ElementChildren, OtherShape, ShapeFault, attr_equals, attr_text};
 
 /// Whether an element has this algorithm.
-fn has_algorithm(
-    alloc: Global,
-    doc: &Doc<'_>,
-    node: NodeNo,
-    algorithm: &str,
-) -> Result<bool, NoMemory>
-    requires { IsElement doc.now.tree node.0 }
-    ensures { IfOk result (λ has. IsTrue has ↔ HasAlgorithm doc.now.tree node.0 algorithm.now) }
+fn has_algorithm(at: At<'_, '_>, algorithm: &str) -> bool
+    ensures { IsTrue result ↔ HasAlgorithm (tree_of at.entry) at.entry.node.0 algorithm.now }
 {
-    let given = attr_text(alloc, At { doc, node }, "Algorithm")?;
-    match given {
-        Some(value) => Ok(value.as_str() == algorithm),
-        None => Ok(false),
-    }
+    attr_equals(at, "Algorithm", algorithm)
 }
 
-/// Reads a method, which has to have this algorithm and no parameter.
+/// Asks for a method that has this algorithm and no parameter.
 ///
 /// # Errors
 ///
-/// `Differs`, exactly where it is no such method.
-pub(crate) fn read_method(
-    alloc: Global,
-    doc: &Doc<'_>,
-    node: NodeNo,
-    algorithm: &str,
-) -> Result<(), FormFault>
-    requires { IsElement doc.now.tree node.0 }
-    ensures ok { OnOk result (IsMethod doc.now.tree node.0 algorithm.now) }
-    ensures differs { IfErr result (λ fault. IsFormFault fault (¬ (IsMethod doc.now.tree node.0 algorithm.now))) }
+/// `OtherShape`, exactly where it is no such method.
+pub(crate) fn check_method(at: At<'_, '_>, algorithm: &str) -> Result<(), OtherShape>
+    ensures ok { OnOk result (IsMethod (tree_of at.entry) at.entry.node.0 algorithm.now) }
+    ensures other { OnErr result (¬ (IsMethod (tree_of at.entry) at.entry.node.0 algorithm.now)) }
 {
-    let is_given = has_algorithm(alloc, doc, node, algorithm)?;
-    let kids = ElementKids::of(doc, node);
-    if is_given && kids.is_done() {
+    if has_algorithm(at, algorithm) && ElementChildren::of(at).is_done() {
         Ok(())
     } else {
-        Err(FormFault::Differs)
+        Err(OtherShape)
     }
 }
 
@@ -59,20 +39,19 @@ pub(crate) fn read_method(
 ///
 /// # Errors
 ///
-/// `Differs`, exactly where it has no PrefixList or lists what is no prefix.
-fn read_prefixes(alloc: Global, doc: &Doc<'_>, node: NodeNo) -> Result<Texts, FormFault>
-    requires { IsElement doc.now.tree node.0 }
-    ensures ok { IfOk result (λ prefixes. IsPrefixList doc.now.tree node.0 prefixes) }
-    ensures differs { IfErr result (λ fault. IsFormFault fault ((prefixes : List (List ℕ)) → ¬ (IsPrefixList doc.now.tree node.0 prefixes))) }
+/// `WrongShape`, exactly where it has no PrefixList or lists what is no prefix.
+fn read_prefixes(alloc: Global, at: At<'_, '_>) -> Result<Texts, ShapeFault>
+    ensures ok { IfOk result (λ prefixes. IsPrefixList (tree_of at.entry) at.entry.node.0 prefixes) }
+    ensures other { IfErr result (λ fault. IsShapeFault fault ((prefixes : List (List ℕ)) → ¬ (IsPrefixList (tree_of at.entry) at.entry.node.0 prefixes))) }
 {
-    let Some(list) = attr_text(alloc, At { doc, node }, "PrefixList")? else {
-        return Err(FormFault::Differs);
+    let Some(list) = attr_text(alloc, at, "PrefixList")? else {
+        return Err(ShapeFault::WrongShape);
     };
     let prefixes = words(alloc, list.as_str())?;
     if are_prefixes(&prefixes) {
         Ok(prefixes)
     } else {
-        Err(FormFault::Differs)
+        Err(ShapeFault::WrongShape)
     }
 }
 
@@ -80,26 +59,22 @@ fn read_prefixes(alloc: Global, doc: &Doc<'_>, node: NodeNo) -> Result<Texts, Fo
 ///
 /// # Errors
 ///
-/// `Differs`, exactly where it is none.
-pub(crate) fn read_canonicalization(
-    alloc: Global,
-    doc: &Doc<'_>,
-    node: NodeNo,
-) -> Result<Texts, FormFault>
-    requires { IsElement doc.now.tree node.0 }
-    ensures ok { IfOk result (λ prefixes. IsCanonicalization doc.now.tree node.0 prefixes) }
-    ensures differs { IfErr result (λ fault. IsFormFault fault ((prefixes : List (List ℕ)) → ¬ (IsCanonicalization doc.now.tree node.0 prefixes))) }
+/// `WrongShape`, exactly where it is none.
+pub(crate) fn read_canonicalization(alloc: Global, at: At<'_, '_>) -> Result<Texts, ShapeFault>
+    ensures ok { IfOk result (λ prefixes. IsCanonicalization (tree_of at.entry) at.entry.node.0 prefixes) }
+    ensures other { IfErr result (λ fault. IsShapeFault fault ((prefixes : List (List ℕ)) → ¬ (IsCanonicalization (tree_of at.entry) at.entry.node.0 prefixes))) }
 {
-    if !has_algorithm(alloc, doc, node, EXCLUSIVE)? {
-        return Err(FormFault::Differs);
+    if !has_algorithm(at, EXCLUSIVE) {
+        return Err(ShapeFault::WrongShape);
     }
-    let mut kids = ElementKids::of(doc, node);
-    if kids.is_done() {
+    let mut children = ElementChildren::of(at);
+    if children.is_done() {
         return Ok(Texts::new(alloc));
     }
-    let child = kids.take(EXCLUSIVE, "InclusiveNamespaces")?;
-    if !kids.is_done() {
-        return Err(FormFault::Differs);
-    }
-    read_prefixes(alloc, doc, child)
+    let parameter = children.take(ExpandedName {
+        namespace: EXCLUSIVE,
+        local: "InclusiveNamespaces",
+    })?;
+    children.end()?;
+    read_prefixes(alloc, parameter)
 }

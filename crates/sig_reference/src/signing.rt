@@ -10,7 +10,7 @@ use crate::uris::{ENVELOPED, EXCLUSIVE, HMAC_SHA256, SHA256};
 use base64::engine::general_purpose::STANDARD;
 use element_make::{Made, Ns};
 use hmac_sha256::hmac;
-use saml_outside::NoMemory;
+use owned_values::NoMemory;
 use sha2::{Digest, Sha256};
 use std::alloc::Global;
 

@@ -3,7 +3,7 @@
 ghost use Rattle.std.specs.Prelude.{◌≤◌, length, IfOk};
 ghost use Rattle.sig_reference.specs.Signing.{CanBeSigned};
 
-use crate::{SigFault, sign, verify};
+use crate::{SigFault, sign, verify, verify_first};
 use element_make::{Made, Ns};
 use saml_tree::{NodeNo, read_document};
 use std::alloc::Global;
@@ -175,5 +175,20 @@ fn a_signed_element_is_vouched_for(rt: HostRuntime) -> Result<(), Fail> {
     assert!(rt; place < bytes.len() && bytes[place] == b'e');
     bytes[place] = b'f';
     assert!(rt; fault_of(rt.alloc(), bytes.as_slice())? == Some(SigFault::DigestDiffers));
+    Ok(())
+}
+
+/// Signed in front by Python's hashlib and hmac over forms written by hand.
+const SIGNED_IN_FRONT: &[u8] =
+    b"<md:EntitiesDescriptor xmlns:md=\"urn:oasis:names:tc:SAML:2.0:metadata\" ID=\"_r\"><ds:Signature xmlns:ds=\"http://www.w3.org/2000/09/xmldsig#\"><ds:SignedInfo><ds:CanonicalizationMethod Algorithm=\"http://www.w3.org/2001/10/xml-exc-c14n#\"></ds:CanonicalizationMethod><ds:SignatureMethod Algorithm=\"http://www.w3.org/2001/04/xmldsig-more#hmac-sha256\"></ds:SignatureMethod><ds:Reference URI=\"#_r\"><ds:Transforms><ds:Transform Algorithm=\"http://www.w3.org/2000/09/xmldsig#enveloped-signature\"></ds:Transform><ds:Transform Algorithm=\"http://www.w3.org/2001/10/xml-exc-c14n#\"></ds:Transform></ds:Transforms><ds:DigestMethod Algorithm=\"http://www.w3.org/2001/04/xmlenc#sha256\"></ds:DigestMethod><ds:DigestValue>KDy1HsWH6S9YcQVzH0cBrPxJ2vsk2mJ9e36EwwVbNmQ=</ds:DigestValue></ds:Reference></ds:SignedInfo><ds:SignatureValue>ucjeBgDViMHvuEPlIbSAZc9+JaC+ghADsK2BZOCPZ8o=</ds:SignatureValue></ds:Signature><md:EntityDescriptor entityID=\"urn:example:idp\"></md:EntityDescriptor></md:EntitiesDescriptor>";
+
+#[test]
+fn a_signature_in_front_vouches(rt: HostRuntime) -> Result<(), Fail> {
+    let doc = read_document(rt.alloc(), SIGNED_IN_FRONT)?;
+    assert!(rt; verify_first(rt.alloc(), &doc, doc.root(), KEY).is_ok());
+    match verify(rt.alloc(), &doc, doc.root(), KEY) {
+        Ok(_) => assert!(rt; false),
+        Err(fault) => assert!(rt; fault == SigFault::BadSignatureForm),
+    }
     Ok(())
 }

@@ -1,10 +1,4 @@
-// The names that signatures use.
-
-/// The namespace of XML Signature (XML Signature, 1.2).
-pub(crate) const DS: &str = "http://www.w3.org/2000/09/xmldsig#";
-
-/// The namespace of SAML assertions (SAML Core 1.1).
-pub(crate) const SAML: &str = "urn:oasis:names:tc:SAML:2.0:assertion";
+// The algorithms that signatures name.
 
 /// Exclusive XML Canonicalization 1.0, without comments: the algorithm and the namespace of its parameters.
 pub(crate) const EXCLUSIVE: &str = "http://www.w3.org/2001/10/xml-exc-c14n#";

@@ -1,19 +1,19 @@
 // Whether a signature vouches for an element (SAML Core 5.4; XML Signature, 3.2).
 
-ghost use Rattle.std.specs.Prelude.{◌≡◌, ◌≢◌, ◌↔◌, ◌<◌, [], ◌∷◌, IfOk, IfErr, IsTrue};
+ghost use Rattle.std.specs.Prelude.{◌≡◌, ◌≢◌, ◌↔◌, ◌<◌, [], ◌∷◌, IfOk, IfErr, IsTrue, OnOk};
 ghost use Rattle.saml_tree.specs.Elements.{IsElement};
-ghost use Rattle.sig_reference.specs.Signature.{number_sign, IsReferredTo, IsTagged, IsDigested, IsUnvouched};
+ghost use Rattle.tree_read.specs.Views.{tree_of};
+ghost use Rattle.sig_reference.specs.Signature.{number_sign, IsReferredTo, IsTagged, IsDigested, IsValid, IsInvalid, IsUnvouched, IsFirstUnvouched};
 ghost use Rattle.sig_reference.specs.Views.{parts_of};
-ghost use Rattle.sig_reference.specs.Vouching.{IsVouchedWith};
+ghost use Rattle.sig_reference.specs.Vouching.{IsVouchedWith, IsVouchedFirstWith};
 
 use crate::fault::SigFault;
-use crate::form::{Signature, read_form};
+use crate::form::{Signature, read_first_form, read_form};
 use crate::vouched::Vouched;
-use excl_c14n::{ByteList, canon_into};
-use hmac_sha256::{hmac, same_tag};
-use saml_outside::NoMemory;
+use excl_c14n::{HashOctets, MacOctets, canon_into};
+use hmac_sha256::same_tag;
+use owned_values::NoMemory;
 use saml_tree::{Doc, NodeNo};
-use sha2::{Digest, Sha256};
 use std::alloc::Global;
 use tree_read::{At, attr_text};
 
@@ -28,16 +28,10 @@ fn refers_to(uri: &str, id: &str) -> bool
 }
 
 /// Whether the Reference is to the ID of the element (SAML Core 5.4.2).
-fn is_referred_to(
-    alloc: Global,
-    doc: &Doc<'_>,
-    node: NodeNo,
-    signature: &Signature,
-) -> Result<bool, NoMemory>
-    requires { IsElement doc.now.tree node.0 }
-    ensures { IfOk result (λ is. IsTrue is ↔ IsReferredTo doc.now.tree node.0 (parts_of signature.now)) }
+fn is_referred_to(alloc: Global, at: At<'_, '_>, signature: &Signature) -> Result<bool, NoMemory>
+    ensures { IfOk result (λ is. IsTrue is ↔ IsReferredTo (tree_of at.entry) at.entry.node.0 (parts_of signature.now)) }
 {
-    let Some(id) = attr_text(alloc, At { doc, node }, "ID")? else {
+    let Some(id) = attr_text(alloc, at, "ID")? else {
         return Ok(false);
     };
     match &signature.info.reference.uri {
@@ -57,9 +51,9 @@ fn is_tagged(
     ensures { IfOk result (λ is. IsTrue is ↔ IsTagged key.now doc.now.tree (parts_of signature.now)) }
 {
     let info = &signature.info;
-    let mut form = ByteList::new(alloc);
-    canon_into(alloc, doc, info.node, None, &info.prefixes, &mut form)?;
-    Ok(same_tag(&signature.tag, &hmac(key, form.as_slice())))
+    let mut code = MacOctets::new(key);
+    canon_into(alloc, doc, info.node, None, &info.prefixes, &mut code)?;
+    Ok(same_tag(&signature.tag, &code.finish()))
 }
 
 /// Whether the DigestValue is the hash of the element without its Signature (XML Signature, 3.2.1).
@@ -74,16 +68,44 @@ fn is_digested(
     ensures { IfOk result (λ is. IsTrue is ↔ IsDigested doc.now.tree node.0 (parts_of signature.now)) }
 {
     let reference = &signature.info.reference;
-    let mut form = ByteList::new(alloc);
+    let mut hash = HashOctets::new();
     canon_into(
         alloc,
         doc,
         node,
         Some(signature.node),
         &reference.prefixes,
-        &mut form,
+        &mut hash,
     )?;
-    Ok(same_tag(&reference.digest, &Sha256::digest(form.as_slice())))
+    Ok(same_tag(&reference.digest, &hash.finish()))
+}
+
+/// Asks that what a signature says holds of an element.
+///
+/// # Errors
+///
+/// The first of `BadReference`, `TagDiffers` and `DigestDiffers` that holds.
+fn validate(
+    alloc: Global,
+    at: At<'_, '_>,
+    signature: &Signature,
+    key: &[u8],
+) -> Result<(), SigFault>
+    requires info { IsElement (tree_of at) signature.now.info.node.0 }
+    requires below { at.node.0 < signature.now.node.0 }
+    ensures ok { OnOk result (IsValid key.now (tree_of at.entry) at.entry.node.0 (parts_of signature.now)) }
+    ensures err { IfErr result (IsInvalid key.now (tree_of at.entry) at.entry.node.0 (parts_of signature.now)) }
+{
+    if !is_referred_to(alloc, at, signature)? {
+        return Err(SigFault::BadReference);
+    }
+    if !is_tagged(alloc, at.doc, signature, key)? {
+        return Err(SigFault::TagDiffers);
+    }
+    if !is_digested(alloc, at.doc, at.node, signature)? {
+        return Err(SigFault::DigestDiffers);
+    }
+    Ok(())
 }
 
 /// Whether a signature vouches for an element under the key, which may have any length.
@@ -105,15 +127,33 @@ pub fn verify<'d, 'a>(
 {
     // The document has each ID once, which its root tells.
     let _ = doc.root();
-    let signature = read_form(alloc, doc, node)?;
-    if !is_referred_to(alloc, doc, node, &signature)? {
-        return Err(SigFault::BadReference);
-    }
-    if !is_tagged(alloc, doc, &signature, key)? {
-        return Err(SigFault::TagDiffers);
-    }
-    if !is_digested(alloc, doc, node, &signature)? {
-        return Err(SigFault::DigestDiffers);
-    }
+    let at = At { doc, node };
+    let signature = read_form(alloc, at)?;
+    validate(alloc, at, &signature, key)?;
+    Ok(Vouched::of(doc, node, signature.node))
+}
+
+/// Whether a signature that stands in front of all other children vouches for an element under the key, which may have
+/// any length. No Issuer is asked for (SAML Metadata, 3.1).
+///
+/// # Errors
+///
+/// As those of `verify`.
+pub fn verify_first<'d, 'a>(
+    alloc: Global,
+    doc: &'d Doc<'a>,
+    node: NodeNo,
+    key: &[u8],
+) -> Result<Vouched<'d, 'a>, SigFault>
+    requires element { IsElement doc.now.tree node.0 }
+    ensures vouched { IfOk result (IsVouchedFirstWith key.now) }
+    ensures place { IfOk result (λ vouched. (vouched.document ≡ doc.now) × (vouched.node ≡ node.0)) }
+    ensures err { IfErr result (IsFirstUnvouched key.now doc.now.tree node.0) }
+{
+    // The document has each ID once, which its root tells.
+    let _ = doc.root();
+    let at = At { doc, node };
+    let signature = read_first_form(alloc, at)?;
+    validate(alloc, at, &signature, key)?;
     Ok(Vouched::of(doc, node, signature.node))
 }

@@ -1,14 +1,14 @@
 // Elements that are vouched for.
 
-ghost use Rattle.std.specs.Prelude.{◌≡◌, ◌<◌};
+ghost use Rattle.std.specs.Prelude.{◌≡◌};
 ghost use Rattle.saml_tree.specs.Elements.{IsElement};
-ghost use Rattle.sig_reference.specs.Vouching.{IsVouched};
+ghost use Rattle.sig_reference.specs.Vouching.{IsVouched, IsIn};
 
 use saml_tree::{Doc, NodeNo};
 use std::marker::Model;
 use tree_read::At;
 
-/// An element of a document that a signature in it vouches for. `verify` alone makes one.
+/// An element of a document that a signature in it vouches for. `verify`, `verify_first` and `within` alone make one.
 #[derive(Drop)]
 pub struct Vouched<'d, 'a> {
     doc: &'d Doc<'a>,
@@ -32,7 +32,7 @@ impl<'d, 'a> Model for Vouched<'d, 'a> {
 }
 
 impl<'d, 'a> Vouched<'d, 'a> {
-    /// The element, made by `verify` alone.
+    /// The element, made by the calls of this crate alone.
     pub(crate) fn of(doc: &'d Doc<'a>, node: NodeNo, signature: NodeNo) -> Vouched<'d, 'a>
         requires element { IsElement doc.now.tree node.0 }
         requires vouched { IsVouched (record { document = doc.now; node = node.0; signature = signature.0 }) }
@@ -59,12 +59,26 @@ impl<'d, 'a> Vouched<'d, 'a> {
         }
     }
 
-    /// The number of the Signature, which is an element below the element that it vouches for.
+    /// The number of the Signature.
     pub fn signature(&self) -> NodeNo
         ensures number { result.0 ≡ self.now.signature }
         ensures element { IsElement self.now.document.tree self.now.signature }
-        ensures below { self.now.node < self.now.signature }
     {
         self.signature
+    }
+}
+
+/// An element in one that is vouched for, and not in its Signature: the same signature vouches for it. It takes no
+/// memory.
+pub fn within<'d, 'a>(v: &Vouched<'d, 'a>, node: NodeNo) -> Vouched<'d, 'a>
+    requires element { IsElement v.now.document.tree node.0 }
+    requires inside { IsIn v.now.document.tree v.now.node node.0 }
+    requires outside { ¬ (IsIn v.now.document.tree v.now.signature node.0) }
+    ensures { result ≡ record { document = v.now.document; node = node.0; signature = v.now.signature } }
+{
+    Vouched {
+        doc: v.doc,
+        node,
+        signature: v.signature,
     }
 }

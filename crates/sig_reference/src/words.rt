@@ -4,19 +4,12 @@ ghost use Rattle.std.specs.Prelude.{◌≡◌, ◌↔◌, [], ◌++◌, IfOk, Is
 ghost use Rattle.std.specs.List.{AllByRecursion};
 ghost use Rattle.std.specs.Option.{option_map};
 ghost use Rattle.xml_spec.specs.Characters.{at_colon};
-ghost use Rattle.xml_spec.specs.Syntax.{is_white};
 ghost use Rattle.sig_reference.specs.Form.{with_word, words, IsPrefix};
 
-use saml_outside::{NoMemory, Text, Texts};
+use owned_values::{NoMemory, Text, Texts};
 use std::alloc::Global;
+use tree_read::is_white;
 use xml_chars::is_name;
-
-/// Whether the byte is white space (XML 1.0, 2.3, S).
-pub(crate) fn is_white(byte: u8) -> bool
-    ensures { result ≡ is_white byte }
-{
-    matches!(byte, b' ' | b'\t' | b'\r' | b'\n')
-}
 
 /// Puts a word behind others; an empty one is none.
 fn push_word(alloc: Global, word: &str, words: &mut Texts) -> Result<(), NoMemory>

@@ -1,66 +1,62 @@
 -- What one found child says of those behind it.
-use Rattle.std.proofs.Common.{◌≡◌, ℕ, ◌+◌, ◌<◌, ◌≤◌, List, [], ◌∷◌, ◌++◌, Option, Some, None, IfSome, sym, ap, ◌∙◌, append_assoc, arith}
-use Rattle.std.specs.List.{AllByRecursion}
+use Rattle.std.proofs.Common.{◌≡◌, ℕ, ◌+◌, ◌<◌, ◌≤◌, true, false, ◌∷◌, Option, Some, None, IfSome, is_some, ap, arith}
+use Rattle.std.proofs.lemmas.Bool.{cond-true, cond-false}
 use Rattle.xml_spec.specs.Tree.{Nodes}
-use Rattle.xml_spec.specs.Numbering.{size, first_kid_of, next_of}
+use Rattle.xml_spec.specs.Numbering.{size, next_of}
 use Rattle.xml_spec.specs.Names.{ExpandedName}
 use Rattle.saml_tree.specs.declared.node.NodeNo.{NodeNo}
 use Rattle.saml_tree.specs.Elements.{IsElement}
-use Rattle.tree_read.specs.Children.{children}
-use Rattle.tree_read.specs.Siblings.{named_from, named_first, IsFrom}
+use Rattle.tree_read.specs.Children.{is_name, named}
+use Rattle.tree_read.specs.Walk.{name_of_node, children_from, children_first, IsFrom, IsPlace}
 use Rattle.tree_read.proofs.Numbers.{node_there}
-use Rattle.tree_read.proofs.Walking.{number_of, IsBehind, left_at, kids_named, from_behind}
+use Rattle.tree_read.proofs.Walking.{number_of, IsBehind, left_at, from_behind}
 
 pub element_there : (tree : Nodes) (n : ℕ) → IsElement tree n → n < size tree
-element_there tree n h = node_there tree n (rw h)
+element_there tree n h = node_there tree n (ap is_some h)
 
 pub found_elements : (tree : Nodes) (found : Option NodeNo) → IfSome found (λ k. IsElement tree k.0) →
     IfSome (number_of found) (λ k. IsElement tree k)
 found_elements tree None h = tt
 found_elements tree (Some k) h = h
 
-pub found_behind : (tree : Nodes) (k : ℕ) (o : Option ℕ) (found : Option NodeNo) → IsBehind tree k o → IfSome found (λ n. IsFrom o n.0) →
-    IfSome (number_of found) (λ n. k < n)
-found_behind tree k o None behind from = tt
-found_behind tree k o (Some n) behind from = from_behind tree k o n.0 behind from
+-- what is behind a node is a place
+pub place_behind : (tree : Nodes) (n : ℕ) (o : Option ℕ) → IsBehind tree n o → IsPlace tree o
+place_behind tree n None h = tt
+place_behind tree n (Some k) h = (omega (arith, h.0), h.1)
 
-pub found_more : (o : Option ℕ) (m k : ℕ) → m ≤ k → IfSome o (λ n. k < n) → IfSome o (λ n. m < n)
-found_more None m k h behind = tt
-found_more (Some n) m k h behind = omega arith
+pub place_there : (tree : Nodes) (o : Option NodeNo) → IsPlace tree (number_of o) → IfSome o (λ k. k.0 < size tree)
+place_there tree None h = tt
+place_there tree (Some k) h = h.1
 
--- fewer numbers are left from there
-pub found_smaller : (tree : Nodes) (k : ℕ) (o : Option ℕ) → IsElement tree k → IfSome o (λ n. IsElement tree n) → IfSome o (λ n. k < n) →
-    left_at tree o < left_at tree (Some k)
-found_smaller tree k None here there behind = omega (arith, element_there tree k here)
-found_smaller tree k (Some n) here there behind = omega (arith, element_there tree k here, element_there tree n there)
+-- what is found from a place on has a number above 0
+pub found_positive : (tree : Nodes) (o : Option ℕ) (found : Option NodeNo) → IsPlace tree o → IfSome found (λ n. IsFrom o n.0) →
+    IfSome (number_of found) (λ k. 0 < k)
+found_positive tree o None place from = tt
+found_positive tree None (Some n) place from = absurd from
+found_positive tree (Some k) (Some n) place from = omega (arith, place.0)
 
-pub all_and : (tree : Nodes) (found : List ℕ) (k : ℕ) → AllByRecursion (λ n. IsElement tree n) found → IsElement tree k →
-    AllByRecursion (λ n. IsElement tree n) (found ++ k ∷ [])
-all_and tree [] k all here = (here, tt)
-all_and tree (n ∷ found) k all here = (all.0, all_and tree found k all.1 here)
+-- what is found behind an element leaves fewer numbers than the element did
+pub less_left : (tree : Nodes) (o next : Option ℕ) (found : Option NodeNo) (k : ℕ) → o ≡ Some k →
+    IfSome o (λ n. IsElement tree n) → IsBehind tree k next → IfSome found (λ n. IsFrom next n.0) →
+    left_at tree (number_of found) < left_at tree o
+less_left tree None next found k e element behind from = absurd (let clash : None ≡ Some k = e in cc)
+less_left tree (Some m) next None k e element behind from = omega (arith, element_there tree m element)
+less_left tree (Some m) next (Some n) k e element behind from =
+    let same : m ≡ k = cc in omega (arith, from_behind tree k next n.0 behind from, element_there tree m element)
 
--- after one more there is not just one
-pub not_one : (count : ℕ) (all : List ℕ) (k : ℕ) (others : List ℕ) → 0 < count → count + 1 ≡ 1 → all ≡ k ∷ others
-not_one count all k others some one = absurd (omega arith)
+-- one more was counted, or not, and what is found behind has a greater number
+pub still_below : (tree : Nodes) (count more k : ℕ) (next : Option ℕ) (found : Option NodeNo) → count < k → more ≤ count + 1 → IsBehind tree k next →
+    IfSome found (λ n. IsFrom next n.0) → IfSome (number_of found) (λ n. more < n)
+still_below tree count more k next None less few behind from = tt
+still_below tree count more k next (Some n) less few behind from = omega (arith, from_behind tree k next n.0 behind from)
 
 module _ (wanted : ExpandedName) (tree : Nodes) where
-  -- the first child that is found, and those behind it, are the children
-  pub found_first : (n : ℕ) (first found : Option NodeNo) → number_of first ≡ first_kid_of tree n →
-      named_from tree wanted (number_of first) ≡ named_first tree wanted (number_of found) →
-      named_first tree wanted (number_of found) ≡ children tree n wanted
-  found_first n first found number same = sym same ∙ ap (named_from tree wanted) number ∙ sym (kids_named wanted tree n)
+  -- an element of the name, and those behind it
+  pub named_here : (k : ℕ) → is_name wanted (name_of_node tree k) ≡ true →
+      named wanted (children_first tree (Some k)) ≡ k ∷ named wanted (children_from tree (next_of tree k))
+  named_here k e = cond-true (is_name wanted (name_of_node tree k)) _ _ e
 
-  -- behind a child that was found come those from the next that is found on
-  pub found_next : (k : ℕ) (next found : Option NodeNo) → number_of next ≡ next_of tree k →
-      named_from tree wanted (number_of next) ≡ named_first tree wanted (number_of found) →
-      named_first tree wanted (Some k) ≡ k ∷ named_first tree wanted (number_of found)
-  found_next k next found number same = ap (λ xs. k ∷ xs) (ap (named_from tree wanted) (sym number) ∙ same)
-
-  pub one_more_found : (k : ℕ) (before after all : List ℕ) (next found : Option NodeNo) → number_of next ≡ next_of tree k →
-      named_from tree wanted (number_of next) ≡ named_first tree wanted (number_of found) →
-      before ++ named_first tree wanted (Some k) ≡ all → after ≡ before ++ k ∷ [] →
-      after ++ named_first tree wanted (number_of found) ≡ all
-  one_more_found k before after all next found number same was is =
-      ap (λ xs. xs ++ named_first tree wanted (number_of found)) is
-      ∙ append_assoc before (k ∷ []) (named_first tree wanted (number_of found))
-      ∙ ap (λ xs. before ++ xs) (sym (found_next k next found number same)) ∙ was
+  -- another element
+  pub named_behind : (k : ℕ) → is_name wanted (name_of_node tree k) ≡ false →
+      named wanted (children_first tree (Some k)) ≡ named wanted (children_from tree (next_of tree k))
+  named_behind k e = cond-false (is_name wanted (name_of_node tree k)) _ _ e

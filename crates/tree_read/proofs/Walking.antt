@@ -1,14 +1,16 @@
--- The walk along the kids of an element finds each child of the name.
-use Rattle.std.proofs.Common.{◌≡◌, ℕ, suc, ◌+◌, ◌-◌, ◌<◌, true, false, cond, ◌∷◌, Option, Some, None, IfSome, refl, sym, ap, ◌∙◌, arith}
+-- The walk along the kids of an element finds its element children.
+use Rattle.std.proofs.Common.{◌≡◌, ◌≢◌, ℕ, suc, ◌+◌, ◌-◌, ◌<◌, ◌∷◌, Option, Some, None, IfSome, refl, sym, ap, ◌∙◌, arith}
 use Rattle.std.specs.Option.{option_map, option_map_or}
-use Rattle.std.proofs.lemmas.Bool.{cond-true, cond-false}
 use Rattle.xml_spec.specs.Tree.{Nodes, NoNodes, Element, Text, Comment, Instruction}
 use Rattle.xml_spec.specs.Numbering.{size, from_node, kids_of, rest_of, number_if_any, first_kid_of, next_of}
-use Rattle.xml_spec.specs.Names.{Scope, outermost, ExpandedName}
+use Rattle.xml_spec.specs.Names.{Scope, outermost}
 use Rattle.xml_spec.specs.Canonical.{scope_at}
+use Rattle.saml_tree.specs.Elements.{IsElement}
+use Rattle.saml_tree.specs.Documents.{kind_of}
 use Rattle.saml_tree.specs.declared.node.NodeNo.{NodeNo}
-use Rattle.tree_read.specs.Children.{named_in, scope_of_kids, children}
-use Rattle.tree_read.specs.Siblings.{is_first_named, has_name, named_from, IsFrom}
+use Rattle.saml_tree.specs.declared.node.NodeKind.TheVariants as kinds
+use Rattle.tree_read.specs.Children.{child, elements_of, scope_of_kids, element_children}
+use Rattle.tree_read.specs.Walk.{first_name, name_of_node, children_from, children_first, IsFrom}
 use Rattle.tree_read.proofs.Numbers.{kids_from, kids_there, rest_from, rest_there}
 use Rattle.tree_read.proofs.Placed.{kids_scope, rest_scope}
 
@@ -52,53 +54,57 @@ from_on tree o None k from behind = tt
 from_on tree None (Some n) k from behind = from
 from_on tree (Some m) (Some n) k from behind = omega (arith, behind.0)
 
-module _ (wanted : ExpandedName) where
-  list_named : (tree nodes : Nodes) (scope : Scope) (k : ℕ) → (0 < size nodes → from_node tree k ≡ nodes) →
-      (0 < size nodes → scope_at outermost tree k ≡ scope) →
-      named_in wanted scope k nodes ≡ named_from tree wanted (number_if_any nodes k)
-  list_named tree NoNodes scope k there inside = refl
-  list_named tree (Element name attributes kids rest) scope k there inside =
-      λ i. named_in wanted (sym (inside (omega arith)) i) k (sym (there (omega arith)) i)
-  list_named tree (Text text rest) scope k there inside =
-      λ i. named_in wanted (sym (inside (omega arith)) i) k (sym (there (omega arith)) i)
-  list_named tree (Comment text rest) scope k there inside =
-      λ i. named_in wanted (sym (inside (omega arith)) i) k (sym (there (omega arith)) i)
-  list_named tree (Instruction target value rest) scope k there inside =
-      λ i. named_in wanted (sym (inside (omega arith)) i) k (sym (there (omega arith)) i)
+list_children : (tree nodes : Nodes) (scope : Scope) (k : ℕ) → (0 < size nodes → from_node tree k ≡ nodes) →
+    (0 < size nodes → scope_at outermost tree k ≡ scope) →
+    elements_of scope k nodes ≡ children_from tree (number_if_any nodes k)
+list_children tree NoNodes scope k there inside = refl
+list_children tree (Element name attributes kids rest) scope k there inside =
+    λ i. elements_of (sym (inside (omega arith)) i) k (sym (there (omega arith)) i)
+list_children tree (Text text rest) scope k there inside =
+    λ i. elements_of (sym (inside (omega arith)) i) k (sym (there (omega arith)) i)
+list_children tree (Comment text rest) scope k there inside =
+    λ i. elements_of (sym (inside (omega arith)) i) k (sym (there (omega arith)) i)
+list_children tree (Instruction target value rest) scope k there inside =
+    λ i. elements_of (sym (inside (omega arith)) i) k (sym (there (omega arith)) i)
 
-  -- the children are found from the first kid on
-  pub kids_named : (tree : Nodes) (n : ℕ) → children tree n wanted ≡ named_from tree wanted (first_kid_of tree n)
-  kids_named tree n =
-      list_named tree (kids_of (from_node tree n)) (scope_of_kids (scope_at outermost tree n) (from_node tree n)) (suc n)
-      (kids_from tree n) (kids_scope tree n)
+-- the element children are found from the first kid on
+pub all_children : (tree : Nodes) (n : ℕ) → element_children tree n ≡ children_from tree (first_kid_of tree n)
+all_children tree n =
+    list_children tree (kids_of (from_node tree n)) (scope_of_kids (scope_at outermost tree n) (from_node tree n)) (suc n)
+    (kids_from tree n) (kids_scope tree n)
 
-  parts_named : (scope : Scope) (k : ℕ) (nodes : Nodes) →
-      named_in wanted scope k nodes
-      ≡ cond (is_first_named wanted scope nodes) (k ∷ named_in wanted scope (suc (k + size (kids_of nodes))) (rest_of nodes))
-      (named_in wanted scope (suc (k + size (kids_of nodes))) (rest_of nodes))
-  parts_named scope k NoNodes = refl
-  parts_named scope k (Element name attributes kids rest) = refl
-  parts_named scope k (Text text rest) = let same : k ≡ k + 0 = omega arith in ap (λ n. named_in wanted scope (suc n) rest) same
-  parts_named scope k (Comment text rest) = let same : k ≡ k + 0 = omega arith in ap (λ n. named_in wanted scope (suc n) rest) same
-  parts_named scope k (Instruction target value rest) =
-      let same : k ≡ k + 0 = omega arith in ap (λ n. named_in wanted scope (suc n) rest) same
+rest_children : (tree : Nodes) (k : ℕ) →
+    elements_of (scope_at outermost tree k) (suc (k + size (kids_of (from_node tree k)))) (rest_of (from_node tree k))
+    ≡ children_from tree (next_of tree k)
+rest_children tree k =
+    list_children tree (rest_of (from_node tree k)) (scope_at outermost tree k) (suc (k + size (kids_of (from_node tree k))))
+    (rest_from tree k) (rest_scope tree k)
 
-  rest_named : (tree : Nodes) (k : ℕ) →
-      named_in wanted (scope_at outermost tree k) (suc (k + size (kids_of (from_node tree k)))) (rest_of (from_node tree k))
-      ≡ named_from tree wanted (next_of tree k)
-  rest_named tree k =
-      list_named tree (rest_of (from_node tree k)) (scope_at outermost tree k) (suc (k + size (kids_of (from_node tree k))))
-      (rest_from tree k) (rest_scope tree k)
+element_parts : (scope : Scope) (k : ℕ) (nodes : Nodes) → kind_of nodes ≡ Some kinds.Element →
+    elements_of scope k nodes
+    ≡ child k (first_name scope nodes) ∷ elements_of scope (suc (k + size (kids_of nodes))) (rest_of nodes)
+element_parts scope k NoNodes e = absurd (let clash : None ≡ Some kinds.Element = e in cc)
+element_parts scope k (Element name attributes kids rest) e = refl
+element_parts scope k (Text text rest) e = absurd (let clash : Some kinds.Text ≡ Some kinds.Element = e in cc)
+element_parts scope k (Comment text rest) e = absurd (let clash : Some kinds.Comment ≡ Some kinds.Element = e in cc)
+element_parts scope k (Instruction target value rest) e = absurd (let clash : Some kinds.Instruction ≡ Some kinds.Element = e in cc)
 
-  -- a node of the name, and those behind it
-  pub named_here : (tree : Nodes) (k : ℕ) → has_name tree wanted k ≡ true →
-      named_from tree wanted (Some k) ≡ k ∷ named_from tree wanted (next_of tree k)
-  named_here tree k e =
-      parts_named (scope_at outermost tree k) k (from_node tree k) ∙ cond-true (has_name tree wanted k) _ _ e
-      ∙ ap (λ xs. k ∷ xs) (rest_named tree k)
+other_parts : (scope : Scope) (k : ℕ) (nodes : Nodes) → kind_of nodes ≢ Some kinds.Element →
+    elements_of scope k nodes ≡ elements_of scope (suc (k + size (kids_of nodes))) (rest_of nodes)
+other_parts scope k NoNodes h = refl
+other_parts scope k (Element name attributes kids rest) h = absurd (h refl)
+other_parts scope k (Text text rest) h = let same : k ≡ k + 0 = omega arith in ap (λ n. elements_of scope (suc n) rest) same
+other_parts scope k (Comment text rest) h = let same : k ≡ k + 0 = omega arith in ap (λ n. elements_of scope (suc n) rest) same
+other_parts scope k (Instruction target value rest) h =
+    let same : k ≡ k + 0 = omega arith in ap (λ n. elements_of scope (suc n) rest) same
 
-  -- another node
-  pub named_behind : (tree : Nodes) (k : ℕ) → has_name tree wanted k ≡ false →
-      named_from tree wanted (Some k) ≡ named_from tree wanted (next_of tree k)
-  named_behind tree k e =
-      parts_named (scope_at outermost tree k) k (from_node tree k) ∙ cond-false (has_name tree wanted k) _ _ e ∙ rest_named tree k
+-- an element, and those behind it
+pub element_here : (tree : Nodes) (k : ℕ) → IsElement tree k → children_from tree (Some k) ≡ children_first tree (Some k)
+element_here tree k e =
+    element_parts (scope_at outermost tree k) k (from_node tree k) e
+    ∙ ap (λ xs. child k (name_of_node tree k) ∷ xs) (rest_children tree k)
+
+-- another node
+pub element_behind : (tree : Nodes) (k : ℕ) → kind_of (from_node tree k) ≢ Some kinds.Element →
+    children_from tree (Some k) ≡ children_from tree (next_of tree k)
+element_behind tree k h = other_parts (scope_at outermost tree k) k (from_node tree k) h ∙ rest_children tree k

@@ -1,5 +1,6 @@
 pub mod Children
+pub mod Faults
 pub mod Places
-pub mod Siblings
 pub mod Texts
 pub mod Views
+pub mod Walk

@@ -1,14 +1,25 @@
 //! Children and texts of the elements of a document.
+//!
+//! An `At` is an element of a document. `only_child`, `first_child` and `at_most_one` give a child of a name,
+//! `ElementChildren` takes the element children one after the other, and `text_of`, `trimmed`, `attr_text` and
+//! `attr_equals` read what an element holds. A contract sees the element children of element k as a list of numbers and
+//! names (`element_children`), and those of a name as the list of their numbers (`children`).
 #![tactic(auto)]
 
 mod at;
+mod fault;
 mod named;
 mod nodes;
 #[cfg(test)]
 mod tests;
 mod texts;
+mod values;
+mod walk;
 
 pub use at::At;
-pub use named::{ChildFault, children, only_child};
+pub use fault::{OtherShape, ShapeFault};
+pub use named::{ChildFault, at_most_one, children, first_child, only_child};
 pub use nodes::Nodes;
-pub use texts::{attr_text, text_of, trimmed};
+pub use texts::{is_white, text_of, trimmed};
+pub use values::{attr_equals, attr_text, has_attr};
+pub use walk::ElementChildren;

@@ -1,7 +1,7 @@
 // A list of nodes. A contract sees it as the list of their numbers.
 ghost use Rattle.std.specs.Prelude.{◌≡◌, ◌<◌, [], ◌∷◌, ◌++◌, map, length, slice_get, OnOk, OnErr, Some};
 
-use saml_outside::NoMemory;
+use owned_values::NoMemory;
 use saml_tree::NodeNo;
 use std::alloc::Global;
 use std::marker::Model;

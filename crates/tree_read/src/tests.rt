@@ -1,13 +1,19 @@
 //! What no clause says: that there is memory for each call, on documents that are read.
 
-use crate::{At, ChildFault, Nodes, attr_text, children, only_child, text_of, trimmed};
+use crate::{
+    At, ChildFault, ElementChildren, Nodes, at_most_one, attr_equals, attr_text, children,
+    first_child, has_attr, only_child, text_of, trimmed,
+};
+use saml_names::ExpandedName;
 use saml_tree::{NodeNo, read_document};
 use std::test::Fail;
 
+// <a xmlns:s="urn:s"> with children s:b, b, s:b and s:c
+const TEXT: &[u8] = b"<a xmlns:s=\"urn:s\"><s:b/>x<b/><s:b/><s:c><s:b/></s:c></a>";
+
 #[test]
 fn children_are_found_by_expanded_name(rt: HostRuntime) -> Result<(), Fail> {
-    let text = b"<a xmlns:s=\"urn:s\"><s:b/>x<b/><s:b/><s:c><s:b/></s:c></a>";
-    let doc = read_document(rt.alloc(), text)?;
+    let doc = read_document(rt.alloc(), TEXT)?;
     let root = At {
         doc: &doc,
         node: doc.root(),
@@ -32,6 +38,34 @@ fn children_are_found_by_expanded_name(rt: HostRuntime) -> Result<(), Fail> {
 }
 
 #[test]
+fn children_are_taken_in_order(rt: HostRuntime) -> Result<(), Fail> {
+    let doc = read_document(rt.alloc(), TEXT)?;
+    let root = At {
+        doc: &doc,
+        node: doc.root(),
+    };
+    let b = ExpandedName {
+        namespace: "urn:s",
+        local: "b",
+    };
+    let c = ExpandedName {
+        namespace: "urn:s",
+        local: "c",
+    };
+    assert!(rt; first_child(root, b).is_some_and(|at| at.node == NodeNo(1)));
+    assert!(rt; at_most_one(root, b).is_err());
+    assert!(rt; at_most_one(root, c).is_ok());
+    let mut left = ElementChildren::of(root);
+    assert!(rt; left.take(c).is_err());
+    assert!(rt; left.take(b).is_ok());
+    assert!(rt; left.count(b) == 1);
+    assert!(rt; left.next_named(b).is_some_and(|at| at.node == NodeNo(4)));
+    assert!(rt; left.end().is_err());
+    assert!(rt; left.end_or(c).is_ok());
+    Ok(())
+}
+
+#[test]
 fn texts_and_values_are_read(rt: HostRuntime) -> Result<(), Fail> {
     let text = b"<a xmlns:p=\"urn:p\" p:ID=\"1\" ID=\"2\"> x<b>y<!--c--></b>z<?t d?>\n</a>";
     let doc = read_document(rt.alloc(), text)?;
@@ -45,7 +79,8 @@ fn texts_and_values_are_read(rt: HostRuntime) -> Result<(), Fail> {
         Some(value) => assert!(rt; value.as_str() == "2"),
         None => assert!(rt; false),
     }
-    assert!(rt; attr_text(rt.alloc(), root, "p")?.is_none());
+    assert!(rt; attr_equals(root, "ID", "2"));
+    assert!(rt; !has_attr(root, "p"));
     Ok(())
 }
 

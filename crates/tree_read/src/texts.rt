@@ -1,19 +1,15 @@
-// The text of an element, and the values of its attributes.
+// The text of an element.
 
-ghost use Rattle.std.specs.Prelude.{◌≡◌, ◌+◌, ◌-◌, ◌<◌, ◌≤◌, ◌++◌, length, take, drop, reverse, slice_index, string_bytes, MatchOption, IfOk, IfSome, IsSome, OnOk};
-ghost use Rattle.std.specs.Option.{option_map};
+ghost use Rattle.std.specs.Prelude.{◌≡◌, ◌+◌, ◌-◌, ◌<◌, ◌≤◌, ◌++◌, length, take, drop, reverse, slice_index, string_bytes, MatchOption, IfOk, OnOk};
 ghost use Rattle.xml_spec.specs.Numbering.{size, from_node, kids_of};
 ghost use Rattle.xml_spec.specs.Syntax.{is_white};
-ghost use Rattle.saml_tree.specs.Elements.{IsElement};
-ghost use Rattle.saml_tree.specs.NodeNames.{attribute_at};
-ghost use Rattle.saml_tree.specs.Views.{name_view};
-ghost use Rattle.tree_read.specs.Texts.{text_of, behind_white, trimmed, attribute_text};
-ghost use Rattle.tree_read.specs.Places.{IsLastKid, is_plain, value_at};
+ghost use Rattle.tree_read.specs.Texts.{text_of, behind_white, trimmed};
+ghost use Rattle.tree_read.specs.Places.{IsLastKid};
 ghost use Rattle.tree_read.specs.Views.{tree_of};
 
 use crate::at::At;
-use saml_outside::{NoMemory, Text};
-use saml_tree::{Doc, Name, NodeKind, NodeNo};
+use owned_values::{NoMemory, Text};
+use saml_tree::{Doc, NodeKind, NodeNo};
 use std::alloc::Global;
 
 /// The last kid of a node; only an element has kids.
@@ -45,7 +41,6 @@ fn last_below(doc: &Doc<'_>, node: NodeNo) -> NodeNo
 
 /// Appends the text of an element.
 fn put_text(at: At<'_, '_>, out: &mut String) -> Result<(), NoMemory>
-    requires element { IsElement (tree_of at) at.node.0 }
     ensures { OnOk result (string_bytes out.new ≡ string_bytes out.old ++ text_of (tree_of at.entry) at.entry.node.0) }
 {
     let last = last_below(at.doc, at.node);
@@ -62,7 +57,6 @@ fn put_text(at: At<'_, '_>, out: &mut String) -> Result<(), NoMemory>
 /// The text of an element: all texts inside it, in document order, those of inner elements too. Comments and
 /// instructions are passed over (profile).
 pub fn text_of(alloc: Global, at: At<'_, '_>) -> Result<Text, NoMemory>
-    requires element { IsElement (tree_of at) at.node.0 }
     ensures { IfOk result (λ text. text ≡ text_of (tree_of at.entry) at.entry.node.0) }
 {
     let mut chars = String::new(alloc);
@@ -71,7 +65,7 @@ pub fn text_of(alloc: Global, at: At<'_, '_>) -> Result<Text, NoMemory>
 }
 
 /// Whether the byte is white space (XML 1.0, 2.3, S).
-fn is_white(byte: u8) -> bool
+pub fn is_white(byte: u8) -> bool
     ensures { result ≡ is_white byte }
 {
     matches!(byte, b' ' | b'\t' | b'\r' | b'\n')
@@ -123,47 +117,9 @@ fn trimmed_end(text: &str) -> &str
 
 /// The text of an element without the white space at both ends (XML 1.0, 2.3, S).
 pub fn trimmed(alloc: Global, at: At<'_, '_>) -> Result<Text, NoMemory>
-    requires element { IsElement (tree_of at) at.node.0 }
     ensures { IfOk result (λ text. text ≡ trimmed (text_of (tree_of at.entry) at.entry.node.0)) }
 {
     let mut chars = String::new(alloc);
     put_text(at, &mut chars)?;
     Text::of(alloc, trimmed_end(trimmed_start(chars.as_str())))
-}
-
-/// Whether a name has no prefix, is in no namespace (that of a declaration is in one), and has this local part.
-fn is_unprefixed(name: Name<'_>, local: &str) -> bool
-    ensures { result ≡ is_plain (name_view name.entry) local.now }
-{
-    name.prefix.is_empty() && name.namespace.is_empty() && name.local == local
-}
-
-/// The number of the attribute that has this local name and no prefix, and declares no namespace.
-fn attribute_number(at: At<'_, '_>, local: &str) -> Option<usize>
-    requires element { IsElement (tree_of at) at.node.0 }
-    ensures there { IfSome result (λ i. IsSome (attribute_at (tree_of at.entry) at.entry.node.0 i)) }
-    ensures value { attribute_text (tree_of at.entry) at.entry.node.0 local.now
-        ≡ value_at (tree_of at.entry) at.entry.node.0 result }
-{
-    for i in 0..at.doc.attr_count(at.node) {
-        if is_unprefixed(at.doc.attr_name(at.node, i), local) {
-            return Some(i);
-        }
-    }
-    None
-}
-
-/// The value of the attribute that has this local name and no prefix; none where the element has no such attribute. A
-/// declaration of a namespace is no such attribute.
-pub fn attr_text(alloc: Global, at: At<'_, '_>, local: &str) -> Result<Option<Text>, NoMemory>
-    requires element { IsElement (tree_of at) at.node.0 }
-    ensures { IfOk result (λ found. found ≡ attribute_text (tree_of at.entry) at.entry.node.0 local.now) }
-{
-    let Some(i) = attribute_number(at, local) else {
-        return Ok(None);
-    };
-    let mut chars = String::new(alloc);
-    at.doc.put_attr(at.node, i, &mut chars)?;
-    let value = Text::of(alloc, chars.as_str())?;
-    Ok(Some(value))
 }

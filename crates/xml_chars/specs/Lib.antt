@@ -1,2 +1,3 @@
 mod Examples
+pub mod AsciiTexts
 pub mod Reading

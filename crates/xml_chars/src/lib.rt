@@ -1,14 +1,21 @@
-//! Characters of XML, the names and references that they make, and the places that they stand at.
+//! Characters of XML, the names and references that they make, and the places that they stand at; the two parts of a name,
+//! and the namespaces that are bound from the start.
 #![tactic(auto)]
 
 ghost use Rattle.std.specs.Prelude.{◌↔◌, IsTrue};
 ghost use Rattle.xml_spec.specs.Characters.{InRanges, char_ranges, name_start_ranges, name_ranges, IsName};
 
+mod parts;
 mod references;
 #[cfg(test)]
 mod tests;
+mod text;
 
+pub use parts::{
+    XML_NAMESPACE, XMLNS_NAMESPACE, has_colon, is_white, local_of, prefix_of, split_colon,
+};
 pub use references::read_reference;
+pub use text::text_of;
 
 /// A range of bytes of a text: from `start` to in front of `end`.
 #[derive(Clone, Copy, Debug, PartialEq, Eq)]

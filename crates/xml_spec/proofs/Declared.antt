@@ -18,28 +18,28 @@ use Rattle.xml_spec.specs.Canonical.{byte_order, inserted, sorted, once, used_pr
 use Rattle.xml_spec.specs.Laws.{IsAscending, times_declared, IsDeclaredAsNeeded}
 use Rattle.xml_spec.proofs.Sorting.{each_weaker, each_inserted, below_other, sorted_is_permutation}
 
-same_bytes : (p q : List ℕ) → bytes_eq p q ≡ true → p ≡ q
+pub same_bytes : (p q : List ℕ) → bytes_eq p q ≡ true → p ≡ q
 same_bytes p q h = (bytes_eq-Decides p q).0 h
 
 -- what is not above and not equal is below
-strictly : (o : Ordering) → is_le o ≡ true → is_eq o ≡ false → o ≡ Less
+pub strictly : (o : Ordering) → is_le o ≡ true → is_eq o ≡ false → o ≡ Less
 strictly Less h k = refl
 strictly Equal h k = absurd (let clash : true ≡ false = k in cc)
 strictly Greater h k = absurd (let clash : false ≡ true = h in cc)
 
-is_below : (o : Ordering) → is_lt o ≡ true → o ≡ Less
+pub is_below : (o : Ordering) → is_lt o ≡ true → o ≡ Less
 is_below Less h = refl
 is_below Equal h = absurd (let clash : false ≡ true = h in cc)
 is_below Greater h = absurd (let clash : false ≡ true = h in cc)
 
 -- p is below the list's elements
-abbrev Below : List ℕ → List ℕ → Type 0
+abbrev pub Below : List ℕ → List ℕ → Type 0
 Below p q = IsTrue (is_lt (byte_order p q))
 
-below_chain : (p q r : List ℕ) → byte_order p q ≡ Less → Below q r → Below p r
+pub below_chain : (p q r : List ℕ) → byte_order p q ≡ Less → Below q r → Below p r
 below_chain p q r h k = ap is_lt (nat_list_cmp_total.trans p q r h (is_below (byte_order q r) k))
 
-insert_keeps_ascending : (p : List ℕ) (ps : List (List ℕ)) → IsAscending byte_order ps → list_any (bytes_eq p) ps ≡ false →
+pub insert_keeps_ascending : (p : List ℕ) (ps : List (List ℕ)) → IsAscending byte_order ps → list_any (bytes_eq p) ps ≡ false →
     IsAscending byte_order (inserted byte_order p ps)
 insert_keeps_ascending p [] up new = (tt, tt)
 insert_keeps_ascending p (q ∷ qs) up new =
@@ -55,7 +55,7 @@ insert_keeps_ascending p (q ∷ qs) up new =
         (each_inserted byte_order (Below q) p qs (ap is_lt (below_other byte_order nat_list_cmp_total p q h)) up.0, later)
 
 -- a list has the prefixes that it has once
-once_has_same : (q : List ℕ) (ps : List (List ℕ)) → list_any (bytes_eq q) (once ps) ≡ list_any (bytes_eq q) ps
+pub once_has_same : (q : List ℕ) (ps : List (List ℕ)) → list_any (bytes_eq q) (once ps) ≡ list_any (bytes_eq q) ps
 once_has_same q [] = refl
 once_has_same q (p ∷ ps) = which (list_any (bytes_eq p) ps) refl (bytes_eq q p) refl (once_has_same q ps)
   where
@@ -66,7 +66,7 @@ once_has_same q (p ∷ ps) = which (list_any (bytes_eq p) ps) refl (bytes_eq q p
     which true t false s later = later
     which false t same s later = cc
 
-sorted_once_is_ascending : (ps : List (List ℕ)) → IsAscending byte_order (sorted byte_order (once ps))
+pub sorted_once_is_ascending : (ps : List (List ℕ)) → IsAscending byte_order (sorted byte_order (once ps))
 sorted_once_is_ascending [] = tt
 sorted_once_is_ascending (p ∷ ps) = which (list_any (bytes_eq p) ps) refl (sorted_once_is_ascending ps)
   where
@@ -79,7 +79,7 @@ sorted_once_is_ascending (p ∷ ps) = which (list_any (bytes_eq p) ps) refl (sor
         (IsPermutation-sym (once ps) (sorted byte_order (once ps)) (sorted_is_permutation byte_order (once ps)))
         ∙ once_has_same p ps ∙ t)
 
-each_filtered : (P : List ℕ → Type 0) (test : List ℕ → Bool) (ps : List (List ℕ)) → AllByRecursion P ps → AllByRecursion P (filter test ps)
+pub each_filtered : (P : List ℕ → Type 0) (test : List ℕ → Bool) (ps : List (List ℕ)) → AllByRecursion P ps → AllByRecursion P (filter test ps)
 each_filtered P test [] h = tt
 each_filtered P test (p ∷ ps) h = which (test p) (each_filtered P test ps h.1)
   where
@@ -87,7 +87,7 @@ each_filtered P test (p ∷ ps) h = which (test p) (each_filtered P test ps h.1)
     which true later = (h.0, later)
     which false later = later
 
-filter_keeps_ascending : (test : List ℕ → Bool) (ps : List (List ℕ)) → IsAscending byte_order ps → IsAscending byte_order (filter test ps)
+pub filter_keeps_ascending : (test : List ℕ → Bool) (ps : List (List ℕ)) → IsAscending byte_order ps → IsAscending byte_order (filter test ps)
 filter_keeps_ascending test [] up = tt
 filter_keeps_ascending test (p ∷ ps) up = which (test p) (filter_keeps_ascending test ps up.1)
   where
@@ -96,10 +96,10 @@ filter_keeps_ascending test (p ∷ ps) up = which (test p) (filter_keeps_ascendi
     which false later = later
 
 -- the prefixes with their namespaces
-abbrev with_namespaces : Scope → List (List ℕ) → List Binding
+abbrev pub with_namespaces : Scope → List (List ℕ) → List Binding
 with_namespaces scope ps = map (λ prefix. record { prefix = prefix; namespace = namespace_of scope prefix }) ps
 
-prefixes_stay : (scope : Scope) (ps : List (List ℕ)) → map (λ b. b.prefix) (with_namespaces scope ps) ≡ ps
+pub prefixes_stay : (scope : Scope) (ps : List (List ℕ)) → map (λ b. b.prefix) (with_namespaces scope ps) ≡ ps
 prefixes_stay scope [] = refl
 prefixes_stay scope (p ∷ ps) = ap (λ qs. p ∷ qs) (prefixes_stay scope ps)
 
@@ -111,24 +111,24 @@ declarations_ascend listed scope rendered name attributes =
     (filter_keeps_ascending (is_rendered_anew scope rendered) (sorted byte_order (once all)) (sorted_once_is_ascending all))
 
 -- once, or not at all
-abbrev times_if : Bool → ℕ
+abbrev pub times_if : Bool → ℕ
 times_if b = cond b 1 0
 
 -- how often a prefix stands in a list
-abbrev times : List ℕ → List (List ℕ) → ℕ
+abbrev pub times : List ℕ → List (List ℕ) → ℕ
 times q ps = count_by (λ p. bytes_eq p q) ps
 
-times_more : (q p : List ℕ) (ps : List (List ℕ)) → times q (p ∷ ps) ≡ cond (bytes_eq p q) 1 0 + times q ps
+pub times_more : (q p : List ℕ) (ps : List (List ℕ)) → times q (p ∷ ps) ≡ cond (bytes_eq p q) 1 0 + times q ps
 times_more q p ps = sum_by-cons (λ r. cond (bytes_eq r q) 1 0) p ps
 
-declared_times : (scope : Scope) (q : List ℕ) (ps : List (List ℕ)) → times_declared q (with_namespaces scope ps) ≡ times q ps
+pub declared_times : (scope : Scope) (q : List ℕ) (ps : List (List ℕ)) → times_declared q (with_namespaces scope ps) ≡ times q ps
 declared_times scope q [] = refl
 declared_times scope q (p ∷ ps) =
     sum_by-cons (λ (b : Binding). cond (bytes_eq b.prefix q) 1 0) (record { prefix = p; namespace = namespace_of scope p }) (with_namespaces scope ps)
     ∙ ap (λ n. cond (bytes_eq p q) 1 0 + n) (declared_times scope q ps) ∙ sym (times_more q p ps)
 
 -- one that passes as q does, or is another than q, in front of a filtered list
-filter_step : (passes wanted same : Bool) (n m : ℕ) → (same ≡ true → passes ≡ wanted) → m ≡ cond wanted n 0 →
+pub filter_step : (passes wanted same : Bool) (n m : ℕ) → (same ≡ true → passes ≡ wanted) → m ≡ cond wanted n 0 →
     cond passes (cond same 1 0 + m) m ≡ cond wanted (cond same 1 0 + n) 0
 filter_step true true same n m agree e = ap (λ k. cond same 1 0 + k) e
 filter_step true false true n m agree e = absurd (let clash : true ≡ false = agree refl in cc)
@@ -137,7 +137,7 @@ filter_step false true true n m agree e = absurd (let clash : false ≡ true = a
 filter_step false true false n m agree e = omega arith
 filter_step false false same n m agree e = e
 
-filtered_times : (test : List ℕ → Bool) (q : List ℕ) (ps : List (List ℕ)) → times q (filter test ps) ≡ cond (test q) (times q ps) 0
+pub filtered_times : (test : List ℕ → Bool) (q : List ℕ) (ps : List (List ℕ)) → times q (filter test ps) ≡ cond (test q) (times q ps) 0
 filtered_times test q [] = none (test q)
   where
     none : (b : Bool) → times q [] ≡ cond b 0 0
@@ -154,11 +154,11 @@ filtered_times test q (p ∷ ps) =
     in_front true = times_more q p (filter test ps)
     in_front false = refl
 
-sorted_times : (q : List ℕ) (ps : List (List ℕ)) → times q (sorted byte_order ps) ≡ times q ps
+pub sorted_times : (q : List ℕ) (ps : List (List ℕ)) → times q (sorted byte_order ps) ≡ times q ps
 sorted_times q ps = sum_by-IsPermutation (λ p. cond (bytes_eq p q) 1 0) ps (sorted byte_order ps) (sorted_is_permutation byte_order ps)
 
 -- one that stands in the list again just where q does, or is another than q, in front of a list without repetitions
-once_step : (again same stands : Bool) (m : ℕ) → (same ≡ true → again ≡ stands) → m ≡ cond stands 1 0 →
+pub once_step : (again same stands : Bool) (m : ℕ) → (same ≡ true → again ≡ stands) → m ≡ cond stands 1 0 →
     cond again m (cond same 1 0 + m) ≡ cond (same || stands) 1 0
 once_step true true true m agree e = e
 once_step true true false m agree e = absurd (let clash : true ≡ false = agree refl in cc)
@@ -168,7 +168,7 @@ once_step false true false m agree e = omega arith
 once_step false false true m agree e = omega arith
 once_step false false false m agree e = omega arith
 
-once_times : (q : List ℕ) (ps : List (List ℕ)) → times q (once ps) ≡ cond (list_any (bytes_eq q) ps) 1 0
+pub once_times : (q : List ℕ) (ps : List (List ℕ)) → times q (once ps) ≡ cond (list_any (bytes_eq q) ps) 1 0
 once_times q [] = refl
 once_times q (p ∷ ps) =
     in_front (list_any (bytes_eq p) ps)

@@ -5,7 +5,7 @@ use Rattle.std.specs.List.{list_all, AllByRecursion}
 use Rattle.std.specs.Str.{str_to_ascii_lowercase}
 use Rattle.xml_spec.specs.Bytes.{AllPass, begins_with}
 use Rattle.xml_spec.specs.Tree.{Nodes}
-use Rattle.xml_spec.specs.Syntax.{is_white, Characters, Refers, Section, Remark, Processing, EmptyTag, Token, Alone, StartTag, EndTag, IsToken, print_token, print_tokens, AreTokens, Content, NoContent, Then, Pair, tokens_of}
+use Rattle.xml_spec.specs.Syntax.{is_white, Characters, Refers, Section, CommentItem, ProcessingInstruction, EmptyTag, Token, Alone, StartTag, EndTag, IsToken, print_token, print_tokens, AreTokens, Content, NoContent, Then, Pair, tokens_of}
 use Rattle.xml_spec.specs.Document.{Declaration, print_declaration, IsDeclaration, is_document, root_of, Document, print_mark, print_head, print_document, Writes, Spells, Span, spans_of, IsRange}
 use Rattle.xml_spec.proofs.Tests.{both_true}
 use Rattle.xml_spec.proofs.Runs.{apart_at, same_run}
@@ -15,11 +15,11 @@ use Rattle.xml_spec.proofs.Tokens.{kind, kind_of, token_kind, numbers_apart, fro
 use Rattle.xml_spec.proofs.Sequences.{same_tokens, content_of_tokens}
 use Rattle.xml_spec.proofs.Heads.{version_on, declaration_parts, same_declaration}
 
-abbrev after_mark : Option Declaration → Content → List ℕ
+abbrev pub after_mark : Option Declaration → Content → List ℕ
 after_mark None c = print_tokens (tokens_of c)
 after_mark (Some declaration) c = print_declaration declaration ++ print_tokens (tokens_of c)
 
-document_parts : (d : Document) → print_document d ≡ print_mark d.mark ++ after_mark d.declaration d.content
+pub document_parts : (d : Document) → print_document d ≡ print_mark d.mark ++ after_mark d.declaration d.content
 document_parts d = parts d.mark d.declaration d.content
   where
     parts : (mark : Bool) (declaration : Option Declaration) (c : Content) →
@@ -29,30 +29,30 @@ document_parts d = parts d.mark d.declaration d.content
     parts true (Some declaration) c = refl
     parts false (Some declaration) c = refl
 
-white_is_no_mark : (b : ℕ) → is_white b ≡ true → (0xEF == b) ≡ false
+pub white_is_no_mark : (b : ℕ) → is_white b ≡ true → (0xEF == b) ≡ false
 white_is_no_mark b h = grind arith
 
-white_has_no_mark : (bytes x : List ℕ) → 0 < length bytes → AllPass is_white bytes → (0xEF == get_or (bytes ++ x) 0 0) ≡ false
+pub white_has_no_mark : (bytes x : List ℕ) → 0 < length bytes → AllPass is_white bytes → (0xEF == get_or (bytes ++ x) 0 0) ≡ false
 white_has_no_mark [] x h ws = absurd (omega arith)
 white_has_no_mark (b ∷ bytes) x h ws = white_is_no_mark b (both_true (is_white b) _ ws).0
 
-content_has_no_mark : (content : Content) → IsTrue (is_document content) → AllByRecursion IsToken (tokens_of content) →
+pub content_has_no_mark : (content : Content) → IsTrue (is_document content) → AllByRecursion IsToken (tokens_of content) →
     (0xEF == get_or (print_tokens (tokens_of content)) 0 0) ≡ false
 content_has_no_mark NoContent h v = absurd (let clash : false ≡ true = h in cc)
 content_has_no_mark (Then (Characters bytes) rest) h v = white_has_no_mark bytes _ v.0.0 (both_true (list_all is_white bytes) _ h).0
 content_has_no_mark (Then (Refers r) rest) h v = absurd (let clash : false ≡ true = h in cc)
 content_has_no_mark (Then (Section bytes) rest) h v = refl
-content_has_no_mark (Then (Remark bytes) rest) h v = refl
-content_has_no_mark (Then (Processing target space value) rest) h v = refl
+content_has_no_mark (Then (CommentItem bytes) rest) h v = refl
+content_has_no_mark (Then (ProcessingInstruction target space value) rest) h v = refl
 content_has_no_mark (Then (EmptyTag tag) rest) h v = refl
 content_has_no_mark (Pair tag inner space rest) h v = refl
 
-has_no_mark : (declaration : Option Declaration) (content : Content) → IsTrue (is_document content) →
+pub has_no_mark : (declaration : Option Declaration) (content : Content) → IsTrue (is_document content) →
     AllByRecursion IsToken (tokens_of content) → (0xEF == get_or (after_mark declaration content) 0 0) ≡ false
 has_no_mark None c h v = content_has_no_mark c h v
 has_no_mark (Some declaration) c h v = refl
 
-same_mark : (m n : Bool) (x y : List ℕ) → (0xEF == get_or x 0 0) ≡ false → (0xEF == get_or y 0 0) ≡ false →
+pub same_mark : (m n : Bool) (x y : List ℕ) → (0xEF == get_or x 0 0) ≡ false → (0xEF == get_or y 0 0) ≡ false →
     print_mark m ++ x ≡ print_mark n ++ y → (m ≡ n) × (x ≡ y)
 same_mark true true x y hx hy e = (refl, ap (drop 3) e)
 same_mark false false x y hx hy e = (refl, e)
@@ -60,7 +60,7 @@ same_mark true false x y hx hy e = absurd (apart_at 0 (0xEF ∷ 0xBB ∷ 0xBF �
 same_mark false true x y hx hy e = absurd (apart_at 0 (0xEF ∷ 0xBB ∷ 0xBF ∷ y) x hx (sym e))
 
 -- tokens do not begin as the XML declaration does
-no_declaration : (ts : List Token) (d : Declaration) (x : List ℕ) → AllByRecursion IsToken ts → IsDeclaration d →
+pub no_declaration : (ts : List Token) (d : Declaration) (x : List ℕ) → AllByRecursion IsToken ts → IsDeclaration d →
     print_tokens ts ≡ codes "<?xml" ++ version_on d x → ⊥
 no_declaration [] d x v u e = cc
 no_declaration (t ∷ ts) d x v u e = by_kind t v.0 e
@@ -75,11 +75,11 @@ no_declaration (t ∷ ts) d x v u e = by_kind t v.0 e
     by_kind (Alone (Characters bytes)) w f = other (Alone (Characters bytes)) w f refl
     by_kind (Alone (Refers r)) w f = other (Alone (Refers r)) w f refl
     by_kind (Alone (Section bytes)) w f = other (Alone (Section bytes)) w f refl
-    by_kind (Alone (Remark bytes)) w f = other (Alone (Remark bytes)) w f refl
+    by_kind (Alone (CommentItem bytes)) w f = other (Alone (CommentItem bytes)) w f refl
     by_kind (Alone (EmptyTag tag)) w f = other (Alone (EmptyTag tag)) w f refl
     by_kind (StartTag tag) w f = other (StartTag tag) w f refl
     by_kind (EndTag name space) w f = other (EndTag name space) w f refl
-    by_kind (Alone (Processing target space value)) w f =
+    by_kind (Alone (ProcessingInstruction target space value)) w f =
         let inner : target ++ from_space space value (print_tokens ts) ≡ codes "xml" ++ version_on d x =
         ap (drop 2) (sym (processing_parts target space value (print_tokens ts)) ∙ f) in
         let named = same_run is_name_byte target (codes "xml") (from_space space value (print_tokens ts)) (version_on d x)
@@ -87,11 +87,11 @@ no_declaration (t ∷ ts) d x v u e = by_kind t v.0 e
         w.not_xml (ap str_to_ascii_lowercase named.0)
 
 -- two readings of what stands behind the mark
-record SameRest (o p : Option Declaration) (c d : Content) : Type 0 where
+pub record SameRest (o p : Option Declaration) (c d : Content) : Type 0 where
   declarations : o ≡ p
   contents : c ≡ d
 
-same_rest : (o p : Option Declaration) (c d : Content) → IfSome o IsDeclaration → IfSome p IsDeclaration →
+pub same_rest : (o p : Option Declaration) (c d : Content) → IfSome o IsDeclaration → IfSome p IsDeclaration →
     AreTokens (tokens_of c) → AreTokens (tokens_of d) → after_mark o c ≡ after_mark p d → SameRest o p c d
 same_rest None None c d ho hp v u e =
     record { declarations = refl; contents = content_of_tokens c d (same_tokens (tokens_of c) (tokens_of d) v.each u.each v.whole_runs u.whole_runs e) }
@@ -116,7 +116,7 @@ pub one_tree : (bytes : List ℕ) (one other : Nodes) → Spells bytes one → S
 one_tree bytes one other s r =
     s.means ∙ ap (λ (d : Document). root_of d.content) (one_document bytes s.document r.document s.writes r.writes) ∙ sym r.means
 
-some_is_one : (a b : Span) (o : Option Span) → o ≡ Some a → o ≡ Some b → a ≡ b
+pub some_is_one : (a b : Span) (o : Option Span) → o ≡ Some a → o ≡ Some b → a ≡ b
 some_is_one a b o e f = cc
 
 pub one_range : (bytes : List ℕ) (n : ℕ) (one other : Span) → IsRange bytes n one → IsRange bytes n other → one ≡ other

@@ -5,7 +5,7 @@ use Rattle.std.specs.Str.{chars}
 use Rattle.xml_spec.specs.Ascii.{tab, line_feed, carriage_return, space_character, quotation_mark, apostrophe}
 use Rattle.xml_spec.specs.Tree.{Attribute, Nodes, NoNodes, Element, Text, Comment, Instruction}
 use Rattle.xml_spec.specs.Identifiers.{identifiers, node_with}
-use Rattle.xml_spec.specs.Syntax.{GreaterThan, LessThan, QuotationMark, Decimal, Hexadecimal, Piece, Literal, Referred, Assignment, Tag, Characters, Refers, Section, Remark, Processing, EmptyTag, Content, NoContent, Then, Pair}
+use Rattle.xml_spec.specs.Syntax.{GreaterThan, LessThan, QuotationMark, Decimal, Hexadecimal, Piece, Literal, Referred, Assignment, Tag, Characters, Refers, Section, CommentItem, ProcessingInstruction, EmptyTag, Content, NoContent, Then, Pair}
 use Rattle.xml_spec.specs.Document.{Spells, Document, IsRange}
 use Rattle.xml_spec.specs.Canonical.{canonical}
 use Rattle.xml_spec.proofs.Valid.{writes_shown, written_shown}
@@ -185,8 +185,8 @@ prolog_document =
         space = [];
       });
       content =
-          Then (Remark (codes " c "))
-          (pair (codes "a") [] (Then (Processing (codes "t") (codes "  ") (codes "d ")) (Then (Remark (codes " x ")) NoContent)));
+          Then (CommentItem (codes " c "))
+          (pair (codes "a") [] (Then (ProcessingInstruction (codes "t") (codes "  ") (codes "d ")) (Then (CommentItem (codes " x ")) NoContent)));
     }
 
 prolog_spelled : Spells (codes "<?xml version=\"1.0\"?><!-- c --><a><?t  d ?><!-- x --></a>") prolog_tree

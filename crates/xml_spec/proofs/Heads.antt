@@ -24,33 +24,33 @@ left_on s x = s.left ++ (equals_sign ∷ right_on s x)
 abbrev pub setting_on : List ℕ → Setting → List ℕ → List ℕ
 setting_on name s x = s.before ++ (name ++ left_on s x)
 
-setting_parts : (name : List ℕ) (s : Setting) (x : List ℕ) → print_setting name s ++ x ≡ setting_on name s x
+pub setting_parts : (name : List ℕ) (s : Setting) (x : List ℕ) → print_setting name s ++ x ≡ setting_on name s x
 setting_parts name s x = simp append_assoc
 
-quote_not_white : (q : ℕ) → is_quote q ≡ true → is_white q ≡ false
+pub quote_not_white : (q : ℕ) → is_quote q ≡ true → is_white q ≡ false
 quote_not_white q h = grind arith
 
 -- a name of a setting: it begins with a letter, and what follows it is determined
-record IsWord (name : List ℕ) : Type 0 where
+pub record IsWord (name : List ℕ) : Type 0 where
   begins : (x : List ℕ) → begins_with is_white (name ++ x) ≡ false
   behind : (x y : List ℕ) → name ++ x ≡ name ++ y → x ≡ y
 
 -- a byte of a value in these quotes
-abbrev is_value_byte : ℕ → ℕ → Bool
+abbrev pub is_value_byte : ℕ → ℕ → Bool
 is_value_byte quote b = not (b == quote)
 
-quote_ends : (quote : ℕ) → is_value_byte quote quote ≡ false
+pub quote_ends : (quote : ℕ) → is_value_byte quote quote ≡ false
 quote_ends quote = ap not (equal_test quote)
 
-record SameSetting (s t : Setting) (x y : List ℕ) : Type 0 where
+pub record SameSetting (s t : Setting) (x y : List ℕ) : Type 0 where
   whole : s ≡ t
   after : x ≡ y
 
 -- the value does not hold the quote, whichever of the two it is
-abbrev HasNoQuote : List ℕ → Type 0
+abbrev pub HasNoQuote : List ℕ → Type 0
 HasNoQuote value = (q : ℕ) → is_quote q ≡ true → AllPass (is_value_byte q) value
 
-same_setting : (name : List ℕ) (s t : Setting) (x y : List ℕ) → IsWord name → IsSetting s → IsSetting t →
+pub same_setting : (name : List ℕ) (s t : Setting) (x y : List ℕ) → IsWord name → IsSetting s → IsSetting t →
     HasNoQuote s.value → HasNoQuote t.value → setting_on name s x ≡ setting_on name t y → SameSetting s t x y
 same_setting name s t x y w v u ns nt e =
     let before = same_run is_white s.before t.before (name ++ left_on s x) (name ++ left_on t y) v.before u.before
@@ -71,7 +71,7 @@ same_setting name s t x y w v u ns nt e =
     }
 
 -- the words that may stand as values hold no quote
-either_quote : (P : ℕ → Bool) (q : ℕ) → is_quote q ≡ true → P quotation_mark ≡ true → P apostrophe ≡ true → P q ≡ true
+pub either_quote : (P : ℕ → Bool) (q : ℕ) → is_quote q ≡ true → P quotation_mark ≡ true → P apostrophe ≡ true → P q ≡ true
 either_quote P q h a b = which (q == quotation_mark) (q == apostrophe) refl refl h
   where
     which : (c d : Bool) → (q == quotation_mark) ≡ c → (q == apostrophe) ≡ d → (c || d) ≡ true → P q ≡ true
@@ -79,15 +79,15 @@ either_quote P q h a b = which (q == quotation_mark) (q == apostrophe) refl refl
     which false true e f g = subst (λ n. P n ≡ true) (let same : apostrophe ≡ q = grind arith in same) b
     which false false e f g = absurd (let clash : false ≡ true = g in cc)
 
-literal_has_none : (value word : List ℕ) → value ≡ word → list_all (is_value_byte quotation_mark) word ≡ true →
+pub literal_has_none : (value word : List ℕ) → value ≡ word → list_all (is_value_byte quotation_mark) word ≡ true →
     list_all (is_value_byte apostrophe) word ≡ true → HasNoQuote value
 literal_has_none value word e a b q h =
     subst (λ z. list_all (is_value_byte q) z ≡ true) (sym e) (either_quote (λ n. list_all (is_value_byte n) word) q h a b)
 
-one_of_quotes_kept : (q : ℕ) → is_quote q ≡ true → (to_ascii_lowercase q == q) ≡ true
+pub one_of_quotes_kept : (q : ℕ) → is_quote q ≡ true → (to_ascii_lowercase q == q) ≡ true
 one_of_quotes_kept q h = either_quote (λ n. to_ascii_lowercase n == n) q h refl refl
 
-lower_keeps : (b q : ℕ) → is_quote q ≡ true → is_value_byte q (to_ascii_lowercase b) ≡ true → is_value_byte q b ≡ true
+pub lower_keeps : (b q : ℕ) → is_quote q ≡ true → is_value_byte q (to_ascii_lowercase b) ≡ true → is_value_byte q b ≡ true
 lower_keeps b q h k = keeps (b == q) refl
   where
     keeps : (c : Bool) → (b == q) ≡ c → not c ≡ true
@@ -97,17 +97,17 @@ lower_keeps b q h k = keeps (b == q) refl
         let kept : (to_ascii_lowercase b == q) ≡ true = subst (λ n. (to_ascii_lowercase n == q) ≡ true) same (one_of_quotes_kept q h) in
         absurd (let clash : not true ≡ true = subst (λ c. not c ≡ true) kept k in cc)
 
-no_quote_of_lower : (q : ℕ) → is_quote q ≡ true → (value : List ℕ) →
+pub no_quote_of_lower : (q : ℕ) → is_quote q ≡ true → (value : List ℕ) →
     list_all (is_value_byte q) (str_to_ascii_lowercase value) ≡ true → list_all (is_value_byte q) value ≡ true
 no_quote_of_lower q h [] k = refl
 no_quote_of_lower q h (b ∷ value) k =
     and_true _ _ (lower_keeps b q h (both_true (is_value_byte q (to_ascii_lowercase b)) _ k).0)
     (no_quote_of_lower q h value (both_true (is_value_byte q (to_ascii_lowercase b)) _ k).1)
 
-encoding_has_none : (value : List ℕ) → str_to_ascii_lowercase value ≡ codes "utf-8" → HasNoQuote value
+pub encoding_has_none : (value : List ℕ) → str_to_ascii_lowercase value ≡ codes "utf-8" → HasNoQuote value
 encoding_has_none value e q h = no_quote_of_lower q h value (literal_has_none (str_to_ascii_lowercase value) (codes "utf-8") e refl refl q h)
 
-standalone_has_none : (value : List ℕ) → (value ≡ codes "yes") ⊎ (value ≡ codes "no") → HasNoQuote value
+pub standalone_has_none : (value : List ℕ) → (value ≡ codes "yes") ⊎ (value ≡ codes "no") → HasNoQuote value
 standalone_has_none value h =
     elim h [ inl e ↦ literal_has_none value (codes "yes") e refl refl | inr e ↦ literal_has_none value (codes "no") e refl refl ]
 
@@ -116,7 +116,7 @@ abbrev pub optional_on : List ℕ → Option Setting → List ℕ → List ℕ
 optional_on name None x = x
 optional_on name (Some s) x = setting_on name s x
 
-optional_parts : (name : List ℕ) (o : Option Setting) (x : List ℕ) → print_optional name o ++ x ≡ optional_on name o x
+pub optional_parts : (name : List ℕ) (o : Option Setting) (x : List ℕ) → print_optional name o ++ x ≡ optional_on name o x
 optional_parts name None x = refl
 optional_parts name (Some s) x = setting_parts name s x
 
@@ -132,7 +132,7 @@ encoding_on d x = optional_on (codes "encoding") d.encoding (standalone_on d x)
 abbrev pub version_on : Declaration → List ℕ → List ℕ
 version_on d x = setting_on (codes "version") d.version (encoding_on d x)
 
-regroup_six : (a b c d e f x : List ℕ) → (a ++ b ++ c ++ d ++ e ++ f) ++ x ≡ a ++ (b ++ (c ++ (d ++ (e ++ (f ++ x)))))
+pub regroup_six : (a b c d e f x : List ℕ) → (a ++ b ++ c ++ d ++ e ++ f) ++ x ≡ a ++ (b ++ (c ++ (d ++ (e ++ (f ++ x)))))
 regroup_six a b c d e f x = simp append_assoc
 
 pub declaration_parts : (d : Declaration) (x : List ℕ) → print_declaration d ++ x ≡ codes "<?xml" ++ version_on d x
@@ -143,26 +143,26 @@ declaration_parts d x =
     ∙ ap (setting_on (codes "version") d.version) (optional_parts (codes "encoding") d.encoding _
     ∙ ap (optional_on (codes "encoding") d.encoding) (optional_parts (codes "standalone") d.standalone (close_on d x))))
 
-version_word : IsWord (codes "version")
+pub version_word : IsWord (codes "version")
 version_word = record { begins = λ x. refl; behind = λ x y e. ap (drop 7) e }
 
-encoding_word : IsWord (codes "encoding")
+pub encoding_word : IsWord (codes "encoding")
 encoding_word = record { begins = λ x. refl; behind = λ x y e. ap (drop 8) e }
 
-standalone_word : IsWord (codes "standalone")
+pub standalone_word : IsWord (codes "standalone")
 standalone_word = record { begins = λ x. refl; behind = λ x y e. ap (drop 10) e }
 
 -- two words behind white space that differ in the first byte
-differ : (ws vs x y : List ℕ) → AllPass is_white ws → AllPass is_white vs → begins_with is_white x ≡ false → begins_with is_white y ≡ false →
+pub differ : (ws vs x y : List ℕ) → AllPass is_white ws → AllPass is_white vs → begins_with is_white x ≡ false → begins_with is_white y ≡ false →
     (get_or x 0 0 == get_or y 0 0) ≡ false → ws ++ x ≡ vs ++ y → ⊥
 differ ws vs x y hw hv hx hy no_match e = apart_at 0 x y no_match (same_run is_white ws vs x y hw hv hx hy e).1
 
 -- two readings of a setting that may be left out
-record SameOptional (o p : Option Setting) (x y : List ℕ) : Type 0 where
+pub record SameOptional (o p : Option Setting) (x y : List ℕ) : Type 0 where
   whole : o ≡ p
   after : x ≡ y
 
-same_standalone : (o p : Option Setting) (ws vs x y : List ℕ) →
+pub same_standalone : (o p : Option Setting) (ws vs x y : List ℕ) →
     IfSome o (λ s. IsSetting s × ((s.value ≡ codes "yes") ⊎ (s.value ≡ codes "no"))) →
     IfSome p (λ s. IsSetting s × ((s.value ≡ codes "yes") ⊎ (s.value ≡ codes "no"))) →
     AllPass is_white ws → AllPass is_white vs →
@@ -179,14 +179,14 @@ same_standalone (Some s) (Some t) ws vs x y ho hp hw hv e =
     record { whole = λ i. Some (same.whole i); after = same.after }
 
 -- what follows the encoding does not begin as one
-no_encoding : (o : Option Setting) (s : Setting) (ws x y : List ℕ) →
+pub no_encoding : (o : Option Setting) (s : Setting) (ws x y : List ℕ) →
     IfSome o (λ t. IsSetting t × ((t.value ≡ codes "yes") ⊎ (t.value ≡ codes "no"))) → IsSetting s → AllPass is_white ws →
     optional_on (codes "standalone") o (ws ++ (codes "?>" ++ x)) ≡ setting_on (codes "encoding") s y → ⊥
 no_encoding None s ws x y ho v hw e = differ ws s.before (codes "?>" ++ x) (codes "encoding" ++ left_on s y) hw v.before refl refl refl e
 no_encoding (Some t) s ws x y ho v hw e =
     differ t.before s.before (codes "standalone" ++ left_on t (ws ++ (codes "?>" ++ x))) (codes "encoding" ++ left_on s y) ho.0.before v.before refl refl refl e
 
-same_encoding : (o p : Option Setting) (d f : Declaration) (x y : List ℕ) → IsDeclaration d → IsDeclaration f →
+pub same_encoding : (o p : Option Setting) (d f : Declaration) (x y : List ℕ) → IsDeclaration d → IsDeclaration f →
     IfSome o (λ s. IsSetting s × (str_to_ascii_lowercase s.value ≡ codes "utf-8")) →
     IfSome p (λ s. IsSetting s × (str_to_ascii_lowercase s.value ≡ codes "utf-8")) →
     optional_on (codes "encoding") o (standalone_on d x) ≡ optional_on (codes "encoding") p (standalone_on f y) →

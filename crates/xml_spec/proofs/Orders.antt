@@ -9,10 +9,10 @@ use Rattle.xml_spec.specs.Canonical.{byte_order, expanded_order, written_attribu
 use Rattle.xml_spec.specs.Laws.{IsNonDescending}
 use Rattle.xml_spec.proofs.Sorting.{sorted_is_non_descending, sorted_is_permutation}
 
-byte_order_is_total : IsTotalOrder byte_order
+pub byte_order_is_total : IsTotalOrder byte_order
 byte_order_is_total = nat_list_cmp_total
 
-expanded_order_is_total : IsTotalOrder expanded_order
+pub expanded_order_is_total : IsTotalOrder expanded_order
 expanded_order_is_total = then_total (on_total (λ (a : ExpandedName). a.namespace) nat_list_cmp_total) (on_total (λ (a : ExpandedName). a.local) nat_list_cmp_total)
 
 pub attributes_in_order : (scope : Scope) (attributes : List Attribute) →

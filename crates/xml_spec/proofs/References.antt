@@ -7,11 +7,11 @@ use Rattle.xml_spec.specs.Syntax.{Reference, LessThan, GreaterThan, Ampersand, A
 use Rattle.xml_spec.proofs.Tests.{both_true}
 use Rattle.xml_spec.proofs.Runs.{same_run, apart_at}
 
-abbrev Same : Reference → Reference → List ℕ → List ℕ → Type 0
+abbrev pub Same : Reference → Reference → List ℕ → List ℕ → Type 0
 Same r s x y = (r ≡ s) × (x ≡ y)
 
 -- digits up to a semicolon
-same_digits : (P : ℕ → Bool) (ds es x y : List ℕ) → P semicolon ≡ false → AllPass P ds → AllPass P es →
+pub same_digits : (P : ℕ → Bool) (ds es x y : List ℕ) → P semicolon ≡ false → AllPass P ds → AllPass P es →
     (ds ++ semicolon ∷ []) ++ x ≡ (es ++ semicolon ∷ []) ++ y → (ds ≡ es) × (x ≡ y)
 same_digits P ds es x y fails pd pe e =
     let regrouped : ds ++ (semicolon ∷ x) ≡ es ++ (semicolon ∷ y) = sym (append_assoc ds (semicolon ∷ []) x) ∙ e ∙ append_assoc es (semicolon ∷ []) y in
@@ -20,7 +20,7 @@ same_digits P ds es x y fails pd pe e =
     (same.0, behind)
 
 -- no decimal digits begin with x
-not_hexadecimal : (ds x y : List ℕ) → 0 < length ds → AllPass is_ascii_digit ds → (ds ++ semicolon ∷ []) ++ x ≡ 120 ∷ y → ⊥
+pub not_hexadecimal : (ds x y : List ℕ) → 0 < length ds → AllPass is_ascii_digit ds → (ds ++ semicolon ∷ []) ++ x ≡ 120 ∷ y → ⊥
 not_hexadecimal [] x y h p e = absurd (omega arith)
 not_hexadecimal (d ∷ ds) x y h p e =
     let first : d ≡ 120 = cc in

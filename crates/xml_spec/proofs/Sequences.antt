@@ -3,28 +3,28 @@ use Rattle.std.proofs.Common.{◌≡◌, ℕ, Bool, true, false, ◌&&◌, not, 
 use Rattle.std.specs.Bool.{⊤}
 use Rattle.std.specs.List.{AllByRecursion}
 use Rattle.xml_spec.specs.Bytes.{begins_with, no_two}
-use Rattle.xml_spec.specs.Syntax.{Tag, Item, Characters, Refers, Section, Remark, Processing, EmptyTag, Token, Alone, StartTag, EndTag, print_token, print_tokens, is_run, IsToken, Content, NoContent, Then, Pair, tokens_of}
+use Rattle.xml_spec.specs.Syntax.{Tag, Item, Characters, Refers, Section, CommentItem, ProcessingInstruction, EmptyTag, Token, Alone, StartTag, EndTag, print_token, print_tokens, is_run, IsToken, Content, NoContent, Then, Pair, tokens_of}
 use Rattle.xml_spec.specs.Laws.{IsWhole}
 use Rattle.xml_spec.proofs.Tests.{both_true}
 use Rattle.xml_spec.proofs.Values.{reference_begins, first_not}
 use Rattle.xml_spec.proofs.Tokens.{is_run_byte, same_token, token_is_not_empty}
 
 -- a token that is no run begins with markup
-markup_begins : (t : Token) (x : List ℕ) → is_run t ≡ false → begins_with is_run_byte (print_token t ++ x) ≡ false
+pub markup_begins : (t : Token) (x : List ℕ) → is_run t ≡ false → begins_with is_run_byte (print_token t ++ x) ≡ false
 markup_begins (Alone (Characters bytes)) x h = absurd (let clash : true ≡ false = h in cc)
 markup_begins (Alone (Refers r)) x h = ap (begins_with is_run_byte) (reference_begins r x)
 markup_begins (Alone (Section bytes)) x h = refl
-markup_begins (Alone (Remark bytes)) x h = refl
-markup_begins (Alone (Processing target space value)) x h = refl
+markup_begins (Alone (CommentItem bytes)) x h = refl
+markup_begins (Alone (ProcessingInstruction target space value)) x h = refl
 markup_begins (Alone (EmptyTag tag)) x h = refl
 markup_begins (StartTag tag) x h = refl
 markup_begins (EndTag name space) x h = refl
 
-tokens_begin : (ts : List Token) → begins_with is_run ts ≡ false → begins_with is_run_byte (print_tokens ts) ≡ false
+pub tokens_begin : (ts : List Token) → begins_with is_run ts ≡ false → begins_with is_run_byte (print_tokens ts) ≡ false
 tokens_begin [] h = refl
 tokens_begin (t ∷ ts) h = markup_begins t (print_tokens ts) h
 
-whole_if : (a b c : Bool) → not (a && b) ≡ true → (b ≡ false → c ≡ false) → not (a && c) ≡ true
+pub whole_if : (a b c : Bool) → not (a && b) ≡ true → (b ≡ false → c ≡ false) → not (a && c) ≡ true
 whole_if true b c h i = ap not (i (first_not true b h refl))
 whole_if false b c h i = refl
 
@@ -34,7 +34,7 @@ head_is_whole t ts h =
     whole_if (is_run t) (begins_with is_run ts) (begins_with is_run_byte (print_tokens ts))
     (both_true (not (is_run t && begins_with is_run ts)) _ h).0 (tokens_begin ts)
 
-no_token_is_empty : (t : Token) (x : List ℕ) → IsToken t → [] ≡ print_token t ++ x → ⊥
+pub no_token_is_empty : (t : Token) (x : List ℕ) → IsToken t → [] ≡ print_token t ++ x → ⊥
 no_token_is_empty t x v e = token_is_not_empty t x v (sym e)
 
 pub same_tokens : (ts us : List Token) → AllByRecursion IsToken ts → AllByRecursion IsToken us →
@@ -49,28 +49,28 @@ same_tokens (t ∷ ts) (u ∷ us) vt vu nt nu e =
     λ i. here.whole i ∷ later i
 
 -- what may follow a content: nothing, or an end tag
-abbrev EndsContent : List Token → Type 0
+abbrev pub EndsContent : List Token → Type 0
 EndsContent [] = ⊤
 EndsContent (Alone item ∷ tokens) = ⊥
 EndsContent (StartTag tag ∷ tokens) = ⊥
 EndsContent (EndTag name space ∷ tokens) = ⊤
 
 -- two readings of a content
-record SameContent (c d : Content) (r s : List Token) : Type 0 where
+pub record SameContent (c d : Content) (r s : List Token) : Type 0 where
   whole : c ≡ d
   behind : r ≡ s
 
-pair_regroups : (inner rest : Content) (name space : List ℕ) (r : List Token) →
+pub pair_regroups : (inner rest : Content) (name space : List ℕ) (r : List Token) →
     (tokens_of inner ++ EndTag name space ∷ tokens_of rest) ++ r ≡ tokens_of inner ++ (EndTag name space ∷ (tokens_of rest ++ r))
 pair_regroups inner rest name space r = append_assoc (tokens_of inner) (EndTag name space ∷ tokens_of rest) r
 
-no_item : (item : Item) (ts r : List Token) → EndsContent r → r ≡ Alone item ∷ ts → ⊥
+pub no_item : (item : Item) (ts r : List Token) → EndsContent r → r ≡ Alone item ∷ ts → ⊥
 no_item item ts r h e = subst EndsContent e h
 
-no_start : (tag : Tag) (ts r : List Token) → EndsContent r → r ≡ StartTag tag ∷ ts → ⊥
+pub no_start : (tag : Tag) (ts r : List Token) → EndsContent r → r ≡ StartTag tag ∷ ts → ⊥
 no_start tag ts r h e = subst EndsContent e h
 
-same_content : (c d : Content) (r s : List Token) → EndsContent r → EndsContent s →
+pub same_content : (c d : Content) (r s : List Token) → EndsContent r → EndsContent s →
     tokens_of c ++ r ≡ tokens_of d ++ s → SameContent c d r s
 same_content NoContent NoContent r s hr hs e = record { whole = refl; behind = e }
 same_content NoContent (Then item rest) r s hr hs e = absurd (no_item item (tokens_of rest ++ s) r hr e)

@@ -26,12 +26,12 @@ each_inserted R P x (y ∷ ys) here h = which (is_le (R x y)) (each_inserted R P
     which true later = (here, h)
     which false later = (h.0, later)
 
-not_greater : (o : Ordering) → is_le o ≡ true → is_gt o ≡ false
+pub not_greater : (o : Ordering) → is_le o ≡ true → is_gt o ≡ false
 not_greater Less h = refl
 not_greater Equal h = refl
 not_greater Greater h = absurd (let clash : false ≡ true = h in cc)
 
-at_most : (o : Ordering) → is_gt o ≡ false → is_le o ≡ true
+pub at_most : (o : Ordering) → is_gt o ≡ false → is_le o ≡ true
 at_most Less h = refl
 at_most Equal h = refl
 at_most Greater h = absurd (let clash : true ≡ false = h in cc)
@@ -45,11 +45,11 @@ above_is_below Greater h = refl
 pub below_other : {X : Type 0} (R : X → X → Ordering) → IsTotalOrder R → (x y : X) → is_le (R x y) ≡ false → R y x ≡ Less
 below_other R o x y h = o.antisymm y x ∙ above_is_below (R x y) h
 
-at_most_chain : {X : Type 0} (R : X → X → Ordering) → IsTotalOrder R → (x y z : X) →
+pub at_most_chain : {X : Type 0} (R : X → X → Ordering) → IsTotalOrder R → (x y z : X) →
     is_le (R x y) ≡ true → is_le (R y z) ≡ true → is_le (R x z) ≡ true
 at_most_chain R o x y z h k = at_most (R x z) (upto o x y z (not_greater (R x y) h) (not_greater (R y z) k))
 
-insert_keeps_order : {X : Type 0} (R : X → X → Ordering) → IsTotalOrder R → (x : X) (xs : List X) →
+pub insert_keeps_order : {X : Type 0} (R : X → X → Ordering) → IsTotalOrder R → (x : X) (xs : List X) →
     IsNonDescending R xs → IsNonDescending R (inserted R x xs)
 insert_keeps_order R o x [] up = (tt, tt)
 insert_keeps_order R o x (y ∷ ys) up = which (is_le (R x y)) refl (insert_keeps_order R o x ys up.1)
@@ -65,7 +65,7 @@ pub sorted_is_non_descending : {X : Type 0} (R : X → X → Ordering) → IsTot
 sorted_is_non_descending R o [] = tt
 sorted_is_non_descending R o (x ∷ xs) = insert_keeps_order R o x (sorted R xs) (sorted_is_non_descending R o xs)
 
-inserted_is_permutation : {X : Type 0} (R : X → X → Ordering) (x : X) (xs : List X) → IsPermutation (x ∷ xs) (inserted R x xs)
+pub inserted_is_permutation : {X : Type 0} (R : X → X → Ordering) (x : X) (xs : List X) → IsPermutation (x ∷ xs) (inserted R x xs)
 inserted_is_permutation R x [] = IsPermutation-refl (x ∷ [])
 inserted_is_permutation R x (y ∷ ys) = which (is_le (R x y)) (inserted_is_permutation R x ys)
   where

@@ -33,21 +33,21 @@ from_before a x = a.before ++ from_name a x
 pub assignment_parts : (a : Assignment) (x : List ℕ) → print_assignment a ++ x ≡ from_before a x
 assignment_parts a x = simp append_assoc
 
-quote_not_white : (q : ℕ) → is_quote q ≡ true → is_white q ≡ false
+pub quote_not_white : (q : ℕ) → is_quote q ≡ true → is_white q ≡ false
 quote_not_white q h = grind arith
 
 pub white_is_no_name : (b : ℕ) → is_white b ≡ true → is_name_byte b ≡ false
 white_is_no_name b h = grind arith
 
-name_is_not_white : (b : ℕ) → is_name_byte b ≡ true → is_white b ≡ false
+pub name_is_not_white : (b : ℕ) → is_name_byte b ≡ true → is_white b ≡ false
 name_is_not_white b h = grind arith
 
 -- white space or the equals sign follows a name
-left_stops_name : (left x : List ℕ) → AllPass is_white left → begins_with is_name_byte (left ++ (equals_sign ∷ x)) ≡ false
+pub left_stops_name : (left x : List ℕ) → AllPass is_white left → begins_with is_name_byte (left ++ (equals_sign ∷ x)) ≡ false
 left_stops_name [] x h = refl
 left_stops_name (b ∷ bytes) x h = white_is_no_name b (both_true (is_white b) _ h).0
 
-name_begins_not_white : (z : List ℕ) → begins_with is_name_byte z ≡ true → begins_with is_white z ≡ false
+pub name_begins_not_white : (z : List ℕ) → begins_with is_name_byte z ≡ true → begins_with is_white z ≡ false
 name_begins_not_white [] h = refl
 name_begins_not_white (b ∷ bytes) h = name_is_not_white b h
 
@@ -95,13 +95,13 @@ same_assignment a b x y va vb e =
       behind = pieces.1;
     }
 
-not_both_ways : (z x : List ℕ) → z ≡ x → begins_with is_name_byte z ≡ true → begins_with is_name_byte x ≡ false → ⊥
+pub not_both_ways : (z x : List ℕ) → z ≡ x → begins_with is_name_byte z ≡ true → begins_with is_name_byte x ≡ false → ⊥
 not_both_ways z x e begins stops =
     let clash : begins_with is_name_byte x ≡ true = sym (ap (begins_with is_name_byte) e) ∙ begins in
     cc
 
 -- white space and then the end of a tag is not white space and then a name
-no_assignment : (b : Assignment) (space x y : List ℕ) → IsAssignment b → AllPass is_white space → Closes x →
+pub no_assignment : (b : Assignment) (space x y : List ℕ) → IsAssignment b → AllPass is_white space → Closes x →
     space ++ x ≡ from_before b y → ⊥
 no_assignment b space x y vb ws closes e =
     let split = same_run is_white space b.before x (from_name b y) ws vb.before closes.not_white
@@ -135,7 +135,7 @@ white_begins [] x h ws = absurd (omega arith)
 white_begins (b ∷ bytes) x h ws = white_is_no_name b (both_true (is_white b) _ ws).0
 
 -- behind the name of a tag
-assignments_stop_name : (ones : List Assignment) (space x : List ℕ) → AllByRecursion IsAssignment ones → AllPass is_white space →
+pub assignments_stop_name : (ones : List Assignment) (space x : List ℕ) → AllByRecursion IsAssignment ones → AllPass is_white space →
     Closes x → begins_with is_name_byte (from_assignments ones space x) ≡ false
 assignments_stop_name [] [] x va ws closes = closes.not_name
 assignments_stop_name [] (b ∷ space) x va ws closes = white_is_no_name b (both_true (is_white b) _ ws).0

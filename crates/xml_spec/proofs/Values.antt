@@ -22,24 +22,24 @@ reference_begins (Hexadecimal digits) x = refl
 abbrev pub is_literal_byte : ℕ → ℕ → Bool
 is_literal_byte quote b = not (b == less_than || b == ampersand || b == quote)
 
-last_of_three : (a b c : Bool) → c ≡ true → not (a || b || c) ≡ false
+pub last_of_three : (a b c : Bool) → c ≡ true → not (a || b || c) ≡ false
 last_of_three true b c h = refl
 last_of_three false true c h = refl
 last_of_three false false c h = ap not h
 
-quote_fails : (quote : ℕ) → is_literal_byte quote quote ≡ false
+pub quote_fails : (quote : ℕ) → is_literal_byte quote quote ≡ false
 quote_fails quote = last_of_three (quote == less_than) (quote == ampersand) (quote == quote) (equal_test quote)
 
 -- the parts, the closing quote and what follows
 abbrev pub closed_value : ℕ → List Piece → List ℕ → List ℕ
 closed_value quote pieces x = flat_map print_piece pieces ++ (quote ∷ x)
 
-value_goes_on : (quote : ℕ) (piece : Piece) (pieces : List Piece) (x : List ℕ) →
+pub value_goes_on : (quote : ℕ) (piece : Piece) (pieces : List Piece) (x : List ℕ) →
     closed_value quote (piece ∷ pieces) x ≡ print_piece piece ++ closed_value quote pieces x
 value_goes_on quote piece pieces x = append_assoc (print_piece piece) (flat_map print_piece pieces) (quote ∷ x)
 
 -- behind a literal part comes the quote or an ampersand
-value_stops : (quote : ℕ) (pieces : List Piece) (x : List ℕ) → begins_with is_literal pieces ≡ false →
+pub value_stops : (quote : ℕ) (pieces : List Piece) (x : List ℕ) → begins_with is_literal pieces ≡ false →
     begins_with (is_literal_byte quote) (closed_value quote pieces x) ≡ false
 value_stops quote [] x h = quote_fails quote
 value_stops quote (Literal bytes ∷ pieces) x h = absurd (let clash : true ≡ false = h in cc)
@@ -48,7 +48,7 @@ value_stops quote (Referred reference ∷ pieces) x h =
     (value_goes_on quote (Referred reference) pieces x ∙ reference_begins reference (closed_value quote pieces x))
 
 -- a literal part begins with none of these
-literal_begins : (quote b : ℕ) (bytes x y : List ℕ) → 0 < length bytes → AllPass (is_literal_byte quote) bytes →
+pub literal_begins : (quote b : ℕ) (bytes x y : List ℕ) → 0 < length bytes → AllPass (is_literal_byte quote) bytes →
     is_literal_byte quote b ≡ false → bytes ++ x ≡ b ∷ y → ⊥
 literal_begins quote b [] x y h p fails e = absurd (omega arith)
 literal_begins quote b (c ∷ bytes) x y h p fails e =
@@ -57,7 +57,7 @@ literal_begins quote b (c ∷ bytes) x y h p fails e =
     subst (λ d. is_literal_byte quote d ≡ true) first (both_true (is_literal_byte quote c) _ p).0 in
     cc
 
-quote_is_no_ampersand : (quote : ℕ) → is_quote quote ≡ true → quote ≡ ampersand → ⊥
+pub quote_is_no_ampersand : (quote : ℕ) → is_quote quote ≡ true → quote ≡ ampersand → ⊥
 quote_is_no_ampersand quote h e =
     let at : is_quote ampersand ≡ true = subst (λ q. is_quote q ≡ true) e h in
     let none : is_quote ampersand ≡ false = refl in

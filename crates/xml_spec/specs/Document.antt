@@ -8,7 +8,7 @@ use Rattle.xml_spec.specs.Ascii.{equals_sign}
 use Rattle.xml_spec.specs.Bytes.{AllPass}
 use Rattle.xml_spec.specs.Characters.{IsText}
 use Rattle.xml_spec.specs.Tree.{Nodes, NoNodes, Element}
-use Rattle.xml_spec.specs.Syntax.{is_white, is_quote, Item, Characters, Remark, Processing, EmptyTag, print_item, print_token, StartTag, EndTag, print_tokens, AreTokens, Content, NoContent, Then, Pair, tokens_of}
+use Rattle.xml_spec.specs.Syntax.{is_white, is_quote, Item, Characters, CommentItem, ProcessingInstruction, EmptyTag, print_item, print_token, StartTag, EndTag, print_tokens, AreTokens, Content, NoContent, Then, Pair, tokens_of}
 use Rattle.xml_spec.specs.Meaning.{attributes_of, nodes_of}
 
 -- a part of the XML declaration behind its name: S, and then Eq and a quoted value behind the name
@@ -56,8 +56,8 @@ pub record IsDeclaration (d : Declaration) : Type 0 where
 -- [27] Misc ::= Comment | PI | S
 abbrev pub is_misc : Item → Bool
 is_misc (Characters bytes) = list_all is_white bytes
-is_misc (Remark bytes) = true
-is_misc (Processing target space value) = true
+is_misc (CommentItem bytes) = true
+is_misc (ProcessingInstruction target space value) = true
 is_misc _ = false
 
 -- Misc*

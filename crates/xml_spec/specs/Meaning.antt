@@ -4,7 +4,7 @@ use Rattle.std.specs.List.{flat_map}
 use Rattle.std.specs.Char.{encode_utf8}
 use Rattle.xml_spec.specs.Ascii.{tab, line_feed, carriage_return, space_character}
 use Rattle.xml_spec.specs.Tree.{Attribute, Nodes, NoNodes, Element, Comment, Instruction, with_text}
-use Rattle.xml_spec.specs.Syntax.{character_of, Piece, Literal, Referred, Assignment, Tag, Item, Characters, Refers, Section, Remark, Processing, EmptyTag, Content, NoContent, Then, Pair}
+use Rattle.xml_spec.specs.Syntax.{character_of, Piece, Literal, Referred, Assignment, Tag, Item, Characters, Refers, Section, CommentItem, ProcessingInstruction, EmptyTag, Content, NoContent, Then, Pair}
 
 -- 2.11 End-of-Line Handling: "translating both the two-character sequence #xD #xA and any #xD that is not
 -- followed by #xA to a single #xA character"; the flag says that a #xD stands before
@@ -38,8 +38,8 @@ abbrev pub with_item : Item → Nodes → Nodes
 with_item (Characters bytes) nodes = with_text (line_ends bytes) nodes
 with_item (Refers reference) nodes = with_text (encode_utf8 (character_of reference)) nodes
 with_item (Section bytes) nodes = with_text (line_ends bytes) nodes
-with_item (Remark bytes) nodes = Comment (line_ends bytes) nodes
-with_item (Processing target space value) nodes = Instruction target (line_ends value) nodes
+with_item (CommentItem bytes) nodes = Comment (line_ends bytes) nodes
+with_item (ProcessingInstruction target space value) nodes = Instruction target (line_ends value) nodes
 with_item (EmptyTag tag) nodes = Element tag.name (attributes_of tag) NoNodes nodes
 
 abbrev pub nodes_of : Content → Nodes

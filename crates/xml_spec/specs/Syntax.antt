@@ -113,8 +113,8 @@ pub data Item : Type 0 where
   Characters : (bytes : List ℕ) → Item
   Refers : (reference : Reference) → Item
   Section : (bytes : List ℕ) → Item
-  Remark : (bytes : List ℕ) → Item
-  Processing : (target space value : List ℕ) → Item
+  CommentItem : (bytes : List ℕ) → Item
+  ProcessingInstruction : (target space value : List ℕ) → Item
   EmptyTag : (tag : Tag) → Item
 
 -- [18] CDSect, [15] Comment, [16] PI, [44] EmptyElemTag
@@ -122,8 +122,8 @@ abbrev pub print_item : Item → List ℕ
 print_item (Characters bytes) = bytes
 print_item (Refers reference) = print_reference reference
 print_item (Section bytes) = codes "<![CDATA[" ++ bytes ++ codes "]]>"
-print_item (Remark bytes) = codes "<!--" ++ bytes ++ codes "-->"
-print_item (Processing target space value) = codes "<?" ++ target ++ space ++ value ++ codes "?>"
+print_item (CommentItem bytes) = codes "<!--" ++ bytes ++ codes "-->"
+print_item (ProcessingInstruction target space value) = codes "<?" ++ target ++ space ++ value ++ codes "?>"
 print_item (EmptyTag tag) = less_than ∷ print_tag tag ++ codes "/>"
 
 abbrev pub is_characters : Item → Bool
@@ -132,7 +132,7 @@ is_characters _ = false
 
 -- [17] PITarget ::= Name - (('X' | 'x') ('M' | 'm') ('L' | 'l')), without a colon (Namespaces, 7). The value begins
 -- behind the white space.
-pub record IsProcessing (target space value : List ℕ) : Type 0 where
+pub record IsProcessingInstruction (target space value : List ℕ) : Type 0 where
   pub named : IsNoColonName target
   pub not_xml : str_to_ascii_lowercase target ≢ codes "xml"
   pub white : AllPass is_white space
@@ -147,8 +147,8 @@ IsItem (Characters bytes) =
     (0 < length bytes) × AllPass (λ b. not (b == less_than || b == ampersand)) bytes × IsFalse (has (codes "]]>") bytes)
 IsItem (Refers reference) = IsReference reference
 IsItem (Section bytes) = IsFalse (has (codes "]]>") bytes)
-IsItem (Remark bytes) = IsFalse (has (codes "--") (bytes ++ hyphen ∷ []))
-IsItem (Processing target space value) = IsProcessing target space value
+IsItem (CommentItem bytes) = IsFalse (has (codes "--") (bytes ++ hyphen ∷ []))
+IsItem (ProcessingInstruction target space value) = IsProcessingInstruction target space value
 IsItem (EmptyTag tag) = IsTag tag
 
 -- a document is written as tokens, one after the other

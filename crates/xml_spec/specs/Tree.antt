@@ -1,6 +1,7 @@
 -- The tree of a document: XML 1.0 (fifth edition), 2 and 3. What is left of a document when the choices of
 -- spelling are forgotten.
 use Rattle.std.specs.Prelude.{ℕ, suc, ◌≤◌, Bool, true, false, max, List, [], ◌∷◌, ◌++◌, length, not, ◌&&◌, nat_lt, IsTrue, ⊤}
+use Rattle.xml_spec.specs.declared.TheConstants.{MAX_DEPTH, MAX_ATTRIBUTES}
 
 -- an attribute with its name as written and its normalized value; a declaration of a namespace is one too
 pub record Attribute : Type 0 where
@@ -52,7 +53,7 @@ most_attributes (Text text rest) = most_attributes rest
 most_attributes (Comment text rest) = most_attributes rest
 most_attributes (Instruction target value rest) = most_attributes rest
 
--- the limits of the profile: no element stands deeper than 64 or has more than 128 attributes
+-- the limits of the profile: no element stands deeper than MAX_DEPTH or has more than MAX_ATTRIBUTES attributes
 pub record IsWithinLimits (tree : Nodes) : Type 0 where
-  pub depth : depth tree ≤ 64
-  pub attributes : most_attributes tree ≤ 128
+  pub depth : depth tree ≤ MAX_DEPTH
+  pub attributes : most_attributes tree ≤ MAX_ATTRIBUTES

@@ -2,6 +2,15 @@
 //! stand in `specs/`, and the functions here carry the laws about them in their contracts.
 #![tactic(auto)]
 
+/// How deep an element of a document may stand; the root has depth 1 (profile).
+pub const MAX_DEPTH: usize = 64;
+
+/// How many attributes an element may have, declarations of namespaces with them (profile).
+pub const MAX_ATTRIBUTES: usize = 128;
+
+/// The greatest length of a document, in bytes (profile).
+pub const MAX_DOCUMENT_LENGTH: usize = 262_144;
+
 ghost use Rattle.std.specs.Prelude.{◌≡◌, ℕ, ◌<◌, ◌↔◌, List, ◌∷◌, map, IsTrue, Option, IsSomeAnd, Some};
 ghost use Rattle.std.specs.List.Sorted.{IsPermutation};
 ghost use Rattle.xml_spec.specs.Characters.{Ranges, InRanges, in_ranges};
@@ -44,6 +53,12 @@ pub fn a_spelled_tree_is_joined()
 pub fn a_path_leads_to_its_node()
     ensures { (nodes : Nodes) (k : ℕ) → k < size nodes →
         IsSomeAnd (path_of nodes k) (λ path. number_of nodes path ≡ Some k) }
+{}
+
+/// A path that leads to a number leads to a node of the list, and is the path of that node.
+pub fn a_number_leads_to_its_path()
+    ensures there { (nodes : Nodes) (path : List ℕ) (k : ℕ) → number_of nodes path ≡ Some k → k < size nodes }
+    ensures path { (nodes : Nodes) (path : List ℕ) (k : ℕ) → number_of nodes path ≡ Some k → path_of nodes k ≡ Some path }
 {}
 
 /// Declarations are written in ascending order of their prefixes: each that is needed once, and no other.

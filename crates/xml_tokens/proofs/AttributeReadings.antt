@@ -9,12 +9,13 @@ use Rattle.xml_spec.specs.Ascii.{equals_sign}
 use Rattle.xml_spec.specs.Bytes.{AllPass, begins_with}
 use Rattle.xml_spec.specs.Characters.{is_name_start, is_name_char, IsName}
 use Rattle.xml_spec.specs.Tree as tree
-use Rattle.xml_spec.specs.Syntax.{is_white, is_quote, Assignment}
+use Rattle.xml_spec.specs.Syntax.{is_white, Assignment}
 use Rattle.xml_spec.specs.Meaning.{attribute_of}
 use Rattle.xml_spec.proofs.Tests.{both_true, and_true}
 use Rattle.xml_spec.proofs.Runs.{begins_not, same_run}
 use Rattle.xml_spec.proofs.NameBytes.{name_passes, name_begins}
-use Rattle.xml_spec.proofs.Tags.{from_value, from_right, from_left, from_name, from_before, assignment_parts, white_is_no_name}
+use Rattle.xml_spec.proofs.Tags.{from_value, from_right, from_left, from_name, from_before, assignment_parts, left_stops_name, name_begins_not_white}
+use Rattle.xml_spec.proofs.Heads.{quote_not_white}
 use Rattle.xml_tokens.specs.Lexing.{is_ascii_name_byte, is_name_byte, NameAt, EqualsAt, ValueAt, AssignedAt, AssignmentAt, NoName, NoEquals, NoValue, NoAssigned, NoAssignment}
 
 -- bytes of ASCII that may stand in a name
@@ -72,21 +73,6 @@ pub no_equals : (bytes left at : List ℕ) → bytes ≡ left ++ at → AllPass 
 no_equals bytes left at e white stops none behind a =
     let split = same_run is_white left a.left at (equals_sign ∷ (a.right ++ behind)) white a.left_white stops refl (sym e ∙ a.split) in
     none (a.right ++ behind) split.1
-
-pub quote_not_white : (q : ℕ) → is_quote q ≡ true → is_white q ≡ false
-quote_not_white q h = grind arith
-
-name_is_not_white : (b : ℕ) → is_name_byte b ≡ true → is_white b ≡ false
-name_is_not_white b h = grind arith
-
--- white space or the equals sign follows a name
-left_stops_name : (left x : List ℕ) → AllPass is_white left → begins_with is_name_byte (left ++ (equals_sign ∷ x)) ≡ false
-left_stops_name [] x h = refl
-left_stops_name (b ∷ bytes) x h = white_is_no_name b (both_true (is_white b) _ h).0
-
-pub name_begins_not_white : (z : List ℕ) → begins_with is_name_byte z ≡ true → begins_with is_white z ≡ false
-name_begins_not_white [] h = refl
-name_begins_not_white (b ∷ bytes) h = name_is_not_white b h
 
 -- the attribute behind white space is an assignment's
 pub assigned_from : (space rest : List ℕ) (attribute : tree.Attribute) (x : List ℕ) → AllPass is_white space →

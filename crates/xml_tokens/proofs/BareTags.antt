@@ -3,10 +3,10 @@ use Rattle.std.proofs.Common.{◌≡◌, List, ℕ, [], ◌∷◌, ◌++◌, ref
 use Rattle.xml_spec.specs.Ascii.{less_than, greater_than}
 use Rattle.xml_spec.specs.Syntax.{print_token}
 use Rattle.xml_spec.specs.Laws.{BeginsWith}
+use Rattle.xml_spec.proofs.Tokens.{start_parts}
 use Rattle.xml_tokens.specs.Markup.{bare_tag, NoBareStart}
 use Rattle.xml_tokens.specs.Lexing.{NameAt, NoName}
 use Rattle.xml_tokens.proofs.AttributeReadings.{same_name}
-use Rattle.xml_tokens.proofs.TokenReadings.{start_parts}
 
 bare_parts : (name x : List ℕ) → print_token (bare_tag name) ++ x ≡ less_than ∷ (name ++ (greater_than ∷ x))
 bare_parts name x =

@@ -1,19 +1,20 @@
 -- What stands behind the head of a document is its content.
-use Rattle.std.proofs.Common.{◌≡◌, ℕ, ◌<◌, Bool, true, false, ◌==◌, List, [], ◌∷◌, ◌++◌, length, get_or, drop, codes, Option, Some, None, unwrap_or, IsTrue, refl, sym, ◌∙◌, ap, append_assoc, append-nil, arith}
+use Rattle.std.proofs.Common.{◌≡◌, ℕ, ◌<◌, Bool, true, false, ◌==◌, List, [], ◌∷◌, ◌++◌, length, get_or, drop, codes, Option, Some, None, unwrap_or, refl, sym, ◌∙◌, ap, append_assoc, append-nil, arith}
 use Rattle.std.specs.Prelude.{IfSome}
 use Rattle.std.specs.Option.{MatchOption}
-use Rattle.std.specs.List.{list_all, AllByRecursion}
+use Rattle.std.specs.List.{AllByRecursion}
 use Rattle.std.specs.Str.{str_to_ascii_lowercase}
 use denote.Ref.{Bor}
 use Rattle.xml_spec.specs.Bytes.{AllPass, begins_with}
-use Rattle.xml_spec.specs.Syntax.{is_white, Characters, Refers, Section, Remark, Processing, EmptyTag, Token, Alone, StartTag, EndTag, IsToken, print_token, print_tokens, Content, NoContent, Then, Pair, tokens_of}
-use Rattle.xml_spec.specs.Document.{Declaration, print_declaration, IsDeclaration, is_document, Document, print_mark, print_head, print_document, IsDocument}
+use Rattle.xml_spec.specs.Syntax.{is_white, Characters, Refers, Section, CommentItem, ProcessingInstruction, EmptyTag, Token, Alone, StartTag, EndTag, IsToken, print_token, print_tokens, Content, NoContent, tokens_of}
+use Rattle.xml_spec.specs.Document.{Declaration, print_declaration, IsDeclaration, Document, print_mark, print_head, print_document, IsDocument}
 use Rattle.xml_spec.proofs.Tests.{both_true}
 use Rattle.xml_spec.proofs.Runs.{apart_at, same_run}
 use Rattle.xml_spec.proofs.NameBytes.{name_passes}
 use Rattle.xml_spec.proofs.Tags.{white_is_no_name}
 use Rattle.xml_spec.proofs.Tokens.{kind_of, from_space, processing_parts, space_stops_target}
 use Rattle.xml_spec.proofs.Heads.{version_on, declaration_parts, same_declaration}
+use Rattle.xml_spec.proofs.Documents.{document_parts, has_no_mark}
 use Rattle.xml_tokens.specs.Lexing.{is_name_byte}
 use Rattle.xml_tokens.specs.Heads.{HasHead, DeclaredAt, NoDeclared}
 use Rattle.xml_tokens.proofs.TokenReadings.{other_kind}
@@ -22,39 +23,6 @@ use Rattle.xml_tokens.proofs.TokenReadings.{other_kind}
 abbrev after_mark : Option Declaration → Content → List ℕ
 after_mark None c = print_tokens (tokens_of c)
 after_mark (Some declaration) c = print_declaration declaration ++ print_tokens (tokens_of c)
-
-document_parts : (d : Document) → print_document d ≡ print_mark d.mark ++ after_mark d.declaration d.content
-document_parts d = parts d.mark d.declaration d.content
-  where
-    parts : (mark : Bool) (declaration : Option Declaration) (c : Content) →
-        print_document (record { mark = mark; declaration = declaration; content = c }) ≡ print_mark mark ++ after_mark declaration c
-    parts true None c = refl
-    parts false None c = refl
-    parts true (Some declaration) c = refl
-    parts false (Some declaration) c = refl
-
-white_is_no_mark : (b : ℕ) → is_white b ≡ true → (0xEF == b) ≡ false
-white_is_no_mark b h = grind arith
-
-white_has_no_mark : (bytes x : List ℕ) → 0 < length bytes → AllPass is_white bytes → (0xEF == get_or (bytes ++ x) 0 0) ≡ false
-white_has_no_mark [] x h ws = absurd (omega arith)
-white_has_no_mark (b ∷ bytes) x h ws = white_is_no_mark b (both_true (is_white b) _ ws).0
-
-content_has_no_mark : (content : Content) → IsTrue (is_document content) → AllByRecursion IsToken (tokens_of content) →
-    (0xEF == get_or (print_tokens (tokens_of content)) 0 0) ≡ false
-content_has_no_mark NoContent h v = absurd (let clash : false ≡ true = h in cc)
-content_has_no_mark (Then (Characters bytes) rest) h v = white_has_no_mark bytes _ v.0.0 (both_true (list_all is_white bytes) _ h).0
-content_has_no_mark (Then (Refers r) rest) h v = absurd (let clash : false ≡ true = h in cc)
-content_has_no_mark (Then (Section bytes) rest) h v = refl
-content_has_no_mark (Then (Remark bytes) rest) h v = refl
-content_has_no_mark (Then (Processing target space value) rest) h v = refl
-content_has_no_mark (Then (EmptyTag tag) rest) h v = refl
-content_has_no_mark (Pair tag inner space rest) h v = refl
-
-has_no_mark : (declaration : Option Declaration) (content : Content) → IsTrue (is_document content) →
-    AllByRecursion IsToken (tokens_of content) → (0xEF == get_or (after_mark declaration content) 0 0) ≡ false
-has_no_mark None c h v = content_has_no_mark c h v
-has_no_mark (Some declaration) c h v = refl
 
 -- a mark or none, and the rest
 pub record MarkedAs (text rest : List ℕ) : Type 0 where
@@ -106,11 +74,11 @@ no_declaration (t ∷ ts) x v stops e = by_kind t v.0 e
     by_kind (Alone (Characters bytes)) w f = other (Alone (Characters bytes)) w f refl
     by_kind (Alone (Refers r)) w f = other (Alone (Refers r)) w f refl
     by_kind (Alone (Section bytes)) w f = other (Alone (Section bytes)) w f refl
-    by_kind (Alone (Remark bytes)) w f = other (Alone (Remark bytes)) w f refl
+    by_kind (Alone (CommentItem bytes)) w f = other (Alone (CommentItem bytes)) w f refl
     by_kind (Alone (EmptyTag tag)) w f = other (Alone (EmptyTag tag)) w f refl
     by_kind (StartTag tag) w f = other (StartTag tag) w f refl
     by_kind (EndTag name space) w f = other (EndTag name space) w f refl
-    by_kind (Alone (Processing target space value)) w f =
+    by_kind (Alone (ProcessingInstruction target space value)) w f =
         let inner : target ++ from_space space value (print_tokens ts) ≡ codes "xml" ++ x =
         ap (drop 2) (sym (processing_parts target space value (print_tokens ts)) ∙ f) in
         let named = same_run is_name_byte target (codes "xml") (from_space space value (print_tokens ts)) x

@@ -12,6 +12,7 @@ use Rattle.xml_spec.specs.Bytes.{has}
 use Rattle.xml_spec.specs.Characters.{at_colon}
 use Rattle.xml_spec.proofs.Tests.{both_true, and_true, first_true, second_true}
 use Rattle.xml_spec.proofs.Runs.{equal_test}
+use Rattle.xml_spec.proofs.Ends.{or_fails}
 use Rattle.xml_tokens.specs.Lexing.{CutAt}
 
 same_number : (m n : ℕ) → (m == n) ≡ true → m ≡ n
@@ -47,16 +48,12 @@ by_test : (b : Bool) → (b ≡ true → ⊥) → b ≡ false
 by_test true h = absurd (h refl)
 by_test false h = refl
 
-neither : (a b : Bool) → a ≡ false → b ≡ false → (a || b) ≡ false
-neither true b h k = h
-neither false b h k = k
-
 -- where the mark begins nowhere in the front, and not in the tail, the two have no mark
 lacks_in : (mark front tail rest : List ℕ) → has mark tail ≡ false →
     ((a x : List ℕ) → length a < length front → ¬ ((front ++ tail) ++ rest ≡ a ++ (mark ++ x))) → has mark (front ++ tail) ≡ false
 lacks_in mark [] tail rest h n = h
 lacks_in mark (b ∷ front) tail rest h n =
-    neither (starts_with nat_eq (b ∷ (front ++ tail)) mark) (has mark (front ++ tail))
+    or_fails (starts_with nat_eq (b ∷ (front ++ tail)) mark) (has mark (front ++ tail))
     (by_test (starts_with nat_eq (b ∷ (front ++ tail)) mark)
     (λ (yes : starts_with nat_eq (b ∷ (front ++ tail)) mark ≡ true). let found = starts_from mark (b ∷ (front ++ tail)) yes in
     n [] (found.0 ++ rest) (omega arith) (ap (λ z. z ++ rest) found.1 ∙ append_assoc mark found.0 rest)))

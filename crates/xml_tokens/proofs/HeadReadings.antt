@@ -1,5 +1,5 @@
 -- Readings of an XML declaration and of its parts are one, and what refuses them.
-use Rattle.std.proofs.Common.{◌≡◌, ℕ, ◌<◌, Bool, true, false, not, ◌==◌, nat_lt, List, [], ◌∷◌, ◌++◌, length, drop, codes, Option, Some, None, ◌⊎◌, inl, inr, IsFalse, refl, sym, ◌∙◌, ap, subst, arith}
+use Rattle.std.proofs.Common.{◌≡◌, ℕ, ◌<◌, Bool, true, false, ◌==◌, nat_lt, List, [], ◌∷◌, ◌++◌, length, drop, codes, Option, Some, None, ◌⊎◌, inl, inr, IsFalse, refl, sym, ◌∙◌, ap, subst, arith}
 use Rattle.std.specs.Prelude.{IfSome}
 use Rattle.std.specs.Option.{MatchOption}
 use Rattle.std.specs.Char.{to_ascii_lowercase}
@@ -13,10 +13,11 @@ use Rattle.xml_spec.specs.Syntax.{is_white, is_quote}
 use Rattle.xml_spec.specs.Document.{Setting, IsSetting, Declaration, IsDeclaration}
 use Rattle.xml_spec.proofs.Tests.{both_true, and_true}
 use Rattle.xml_spec.proofs.Runs.{same_run}
-use Rattle.xml_spec.proofs.Heads.{setting_on, optional_on, close_on, standalone_on, encoding_on, version_on, left_on, declaration_parts}
+use Rattle.xml_spec.proofs.Heads.{setting_on, optional_on, close_on, standalone_on, encoding_on, version_on, left_on, declaration_parts, quote_not_white}
+use Rattle.xml_spec.proofs.Tokens.{fails}
 use Rattle.xml_tokens.specs.Lexing.{is_value_byte, EqualsAt, QuotedAt, NoEquals, NoQuoted}
 use Rattle.xml_tokens.specs.Heads.{is_no_white, IsVersion, IsEncoding, IsStandalone, SettingAt, NoSetting, VersionAt, NoVersion, OptionalAt, NoOptional, DeclaredAt, NoDeclared}
-use Rattle.xml_tokens.proofs.AttributeReadings.{same_equals, quote_not_white}
+use Rattle.xml_tokens.proofs.AttributeReadings.{same_equals}
 use Rattle.xml_tokens.proofs.ValueReadings.{quote_fails}
 
 -- quoted values
@@ -45,13 +46,9 @@ same_quoted bytes v w x y a b =
 append_left : (front x y : List ℕ) → front ++ x ≡ front ++ y → x ≡ y
 append_left front x y e = sym (drop-append_seam front x) ∙ ap (drop (length front)) e ∙ drop-append_seam front y
 
-flipped : (b : Bool) → not b ≡ true → b ≡ false
-flipped true h = absurd (let clash : false ≡ true = h in cc)
-flipped false h = refl
-
 word_not_white : (name x : List ℕ) → begins_with is_no_white name ≡ true → begins_with is_white (name ++ x) ≡ false
 word_not_white [] x h = absurd (let clash : false ≡ true = h in cc)
-word_not_white (b ∷ name) x h = flipped (is_white b) h
+word_not_white (b ∷ name) x h = fails (is_white b) h
 
 -- what stands behind the white space
 behind_space : (name bytes space word value behind : List ℕ) → begins_with is_no_white name ≡ true → bytes ≡ space ++ word → AllPass is_white space →

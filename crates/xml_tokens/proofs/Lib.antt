@@ -10,3 +10,4 @@ pub mod TagReadings
 pub mod TokenReadings
 pub mod Translating
 pub mod ValueReadings
+pub mod Decoding

@@ -1,32 +1,25 @@
 -- What sections, comments and instructions say of the first token, and what refuses one.
-use Rattle.std.proofs.Common.{◌≡◌, ℕ, ◌<◌, Bool, true, false, cond, ◌&&◌, ◌||◌, ◌==◌, nat_eq, List, [], ◌∷◌, ◌++◌, length, get_or, drop, codes, ◌⊎◌, inl, inr, None, IsFalse, refl, sym, ◌∙◌, ap, subst, append_assoc, arith}
+use Rattle.std.proofs.Common.{◌≡◌, ℕ, ◌<◌, Bool, true, false, cond, ◌&&◌, ◌||◌, ◌==◌, nat_eq, List, [], ◌∷◌, ◌++◌, length, get_or, drop, codes, ◌⊎◌, inl, inr, None, IsFalse, refl, sym, ◌∙◌, ap, subst, arith}
 use Rattle.std.specs.List.{starts_with}
 use Rattle.std.specs.Str.{str_to_ascii_lowercase}
 use Rattle.xml_spec.specs.Ascii.{hyphen}
 use Rattle.xml_spec.specs.Bytes.{AllPass, begins_with, has}
 use Rattle.xml_spec.specs.Characters.{at_colon}
-use Rattle.xml_spec.specs.Syntax.{is_white, Characters, Refers, Section, Remark, Processing, EmptyTag, Token, Alone, StartTag, EndTag, print_token, IsToken}
+use Rattle.xml_spec.specs.Syntax.{is_white, Characters, Refers, Section, CommentItem, ProcessingInstruction, EmptyTag, Token, Alone, StartTag, EndTag, print_token, IsToken}
 use Rattle.xml_spec.specs.Laws.{BeginsWith}
 use Rattle.xml_spec.proofs.Runs.{apart_at, same_run}
-use Rattle.xml_spec.proofs.Ends.{same_value}
-use Rattle.xml_spec.proofs.Tokens.{kind, from_space, from_value, processing_parts, space_stops_target}
-use Rattle.xml_tokens.specs.Lexing.{CutAt, NameAt, RemarkAt, ProcessingAt, NoName, NoRemark, NoProcessing, NoToken}
+use Rattle.xml_spec.proofs.Ends.{same_value, found, two_equal, neither}
+use Rattle.xml_spec.proofs.Tokens.{kind, from_space, from_value, processing_parts, space_stops_target, section_parts, comment_parts, value_not_white}
+use Rattle.xml_tokens.specs.Lexing.{CutAt, NameAt, CommentAt, ProcessingInstructionAt, NoName, NoComment, NoProcessingInstruction, NoToken}
 use Rattle.xml_tokens.proofs.AttributeReadings.{same_name}
 use Rattle.xml_tokens.proofs.Finding.{front_lacks, front_has_none}
-use Rattle.xml_tokens.proofs.Translating.{either_false}
 use Rattle.xml_tokens.proofs.TokenReadings.{other_kind}
-
-section_parts : (bytes x : List ℕ) → print_token (Alone (Section bytes)) ++ x ≡ codes "<![CDATA[" ++ (bytes ++ (codes "]]>" ++ x))
-section_parts bytes x = ap (λ z. codes "<![CDATA[" ++ z) (append_assoc bytes (codes "]]>") x)
-
-comment_parts : (bytes x : List ℕ) → print_token (Alone (Remark bytes)) ++ x ≡ codes "<!--" ++ (bytes ++ (codes "-->" ++ x))
-comment_parts bytes x = ap (λ z. codes "<!--" ++ z) (append_assoc bytes (codes "-->") x)
 
 -- what stands behind '<!': a section or a comment
 abbrev Declared : List ℕ → List ℕ → Type 0
 Declared rest x =
     ((bytes : List ℕ) × (rest ≡ codes "[CDATA[" ++ (bytes ++ (codes "]]>" ++ x))))
-    ⊎ ((bytes : List ℕ) × RemarkAt (drop 2 rest) bytes x × (rest ≡ codes "--" ++ (bytes ++ (codes "-->" ++ x))))
+    ⊎ ((bytes : List ℕ) × CommentAt (drop 2 rest) bytes x × (rest ≡ codes "--" ++ (bytes ++ (codes "-->" ++ x))))
 
 is_declared_kind : ℕ → Bool
 is_declared_kind k = k == 2 || k == 3
@@ -42,7 +35,7 @@ declared_kind rest = which (get_or rest 0 0 == 91)
 declared : (rest : List ℕ) (t : Token) (x : List ℕ) → IsToken t → 60 ∷ 33 ∷ rest ≡ print_token t ++ x → Declared rest x
 unfolding is_declared_kind
 declared rest (Alone (Section a)) x v e = inl (a, ap (drop 2) (e ∙ section_parts a x))
-declared rest (Alone (Remark a)) x v e =
+declared rest (Alone (CommentItem a)) x v e =
     inr (
       a,
       record { apart = v; split = ap (drop 4) (e ∙ comment_parts a x) },
@@ -50,7 +43,7 @@ declared rest (Alone (Remark a)) x v e =
     )
 declared rest (Alone (Characters a)) x v e = absurd (other_kind is_declared_kind (60 ∷ 33 ∷ rest) (Alone (Characters a)) x (declared_kind rest) refl v e)
 declared rest (Alone (Refers a)) x v e = absurd (other_kind is_declared_kind (60 ∷ 33 ∷ rest) (Alone (Refers a)) x (declared_kind rest) refl v e)
-declared rest (Alone (Processing a b d)) x v e = absurd (other_kind is_declared_kind (60 ∷ 33 ∷ rest) (Alone (Processing a b d)) x (declared_kind rest) refl v e)
+declared rest (Alone (ProcessingInstruction a b d)) x v e = absurd (other_kind is_declared_kind (60 ∷ 33 ∷ rest) (Alone (ProcessingInstruction a b d)) x (declared_kind rest) refl v e)
 declared rest (Alone (EmptyTag a)) x v e = absurd (other_kind is_declared_kind (60 ∷ 33 ∷ rest) (Alone (EmptyTag a)) x (declared_kind rest) refl v e)
 declared rest (StartTag a) x v e = absurd (other_kind is_declared_kind (60 ∷ 33 ∷ rest) (StartTag a) x (declared_kind rest) refl v e)
 declared rest (EndTag a b) x v e = absurd (other_kind is_declared_kind (60 ∷ 33 ∷ rest) (EndTag a b) x (declared_kind rest) refl v e)
@@ -64,10 +57,10 @@ no_section_token rest inner e none t x b = elim (declared rest t x b.valid b.pri
 ]
 
 -- what is no comment
-pub no_comment_token : (rest inner : List ℕ) → rest ≡ codes "--" ++ inner → NoRemark inner → NoToken (60 ∷ 33 ∷ rest)
+pub no_comment_token : (rest inner : List ℕ) → rest ≡ codes "--" ++ inner → NoComment inner → NoToken (60 ∷ 33 ∷ rest)
 no_comment_token rest inner e none t x b = elim (declared rest t x b.valid b.printed) [
   | inl section ↦ apart_at 0 (codes "--" ++ inner) (codes "[CDATA[" ++ (section.0 ++ (codes "]]>" ++ x))) refl (sym e ∙ section.1)
-  | inr comment ↦ none comment.0 x (subst (λ bs. RemarkAt bs comment.0 x) (ap (drop 2) e) comment.1)
+  | inr comment ↦ none comment.0 x (subst (λ bs. CommentAt bs comment.0 x) (ap (drop 2) e) comment.1)
 ]
 
 pub neither_token : (rest : List ℕ) → ((x : List ℕ) → ¬ (rest ≡ codes "[CDATA[" ++ x)) → ((x : List ℕ) → ¬ (rest ≡ codes "--" ++ x)) →
@@ -85,21 +78,13 @@ section_begins rest inner text behind e cut = record {
   printed = ap (λ z. 60 ∷ 33 ∷ z) (e ∙ ap (λ z. codes "[CDATA[" ++ z) cut.split) ∙ sym (section_parts text behind);
 }
 
-pub comment_begins : (rest inner text behind : List ℕ) → rest ≡ codes "--" ++ inner → RemarkAt inner text behind →
-    BeginsWith (60 ∷ 33 ∷ rest) (Alone (Remark text)) behind
+pub comment_begins : (rest inner text behind : List ℕ) → rest ≡ codes "--" ++ inner → CommentAt inner text behind →
+    BeginsWith (60 ∷ 33 ∷ rest) (Alone (CommentItem text)) behind
 comment_begins rest inner text behind e at = record {
   valid = at.apart;
   whole = refl;
   printed = ap (λ z. 60 ∷ 33 ∷ z) (e ∙ ap (λ z. codes "--" ++ z) at.split) ∙ sym (comment_parts text behind);
 }
-
--- the first two hyphens end a comment
-found : (a b : Bool) → a ≡ true → (a || b) ≡ false → ⊥
-found true b t h = let clash : true ≡ false = h in cc
-found false b t h = let clash : false ≡ true = t in cc
-
-two_equal : (a b x y : ℕ) → a ≡ x → b ≡ y → ((a == x) && ((b == y) && true)) ≡ true
-two_equal a b x y e f = grind arith
 
 not_earlier : (y : ℕ) (ys r s : List ℕ) → has (codes "--") ((y ∷ ys) ++ hyphen ∷ []) ≡ false → codes "--" ++ r ≡ (y ∷ ys) ++ (codes "--" ++ s) → ⊥
 not_earlier y [] r s h e = found ((45 == y) && ((45 == 45) && true)) (has (codes "--") (45 ∷ [])) (two_equal 45 45 y 45 (cc) refl) h
@@ -113,21 +98,21 @@ same_dashes [] (y ∷ ys) r s hx hy e = absurd (not_earlier y ys r s hy e)
 same_dashes (x ∷ xs) [] r s hx hy e = absurd (not_earlier x xs s r hx (sym e))
 same_dashes (x ∷ xs) (y ∷ ys) r s hx hy e =
     same_dashes xs ys r s
-    (either_false (starts_with nat_eq (x ∷ (xs ++ 45 ∷ [])) (codes "--")) (has (codes "--") (xs ++ 45 ∷ [])) hx).1
-    (either_false (starts_with nat_eq (y ∷ (ys ++ 45 ∷ [])) (codes "--")) (has (codes "--") (ys ++ 45 ∷ [])) hy).1
+    (neither (starts_with nat_eq (x ∷ (xs ++ 45 ∷ [])) (codes "--")) (has (codes "--") (xs ++ 45 ∷ [])) hx).1
+    (neither (starts_with nat_eq (y ∷ (ys ++ 45 ∷ [])) (codes "--")) (has (codes "--") (ys ++ 45 ∷ [])) hy).1
     (ap (drop 1) e)
 
 front_apart : (bytes text close : List ℕ) → CutAt (codes "--") bytes text close → has (codes "--") (text ++ hyphen ∷ []) ≡ false
 front_apart bytes text close cut = front_lacks (codes "--") bytes text close (45 ∷ []) (45 ∷ close) cut refl refl
 
-pub unended_no_comment : (bytes : List ℕ) → ((front behind : List ℕ) → ¬ (bytes ≡ front ++ (codes "--" ++ behind))) → NoRemark bytes
+pub unended_no_comment : (bytes : List ℕ) → ((front behind : List ℕ) → ¬ (bytes ≡ front ++ (codes "--" ++ behind))) → NoComment bytes
 unended_no_comment bytes none text behind at = none text (62 ∷ behind) at.split
 
-pub dashes_no_comment : (bytes text close : List ℕ) → CutAt (codes "--") bytes text close → ((x : List ℕ) → ¬ (close ≡ 62 ∷ x)) → NoRemark bytes
+pub dashes_no_comment : (bytes text close : List ℕ) → CutAt (codes "--") bytes text close → ((x : List ℕ) → ¬ (close ≡ 62 ∷ x)) → NoComment bytes
 dashes_no_comment bytes text close cut none other behind at =
     none behind (same_dashes text other close (62 ∷ behind) (front_apart bytes text close cut) at.apart (sym cut.split ∙ at.split))
 
-pub comment_from : (bytes text close behind : List ℕ) → CutAt (codes "--") bytes text close → close ≡ 62 ∷ behind → RemarkAt bytes text behind
+pub comment_from : (bytes text close behind : List ℕ) → CutAt (codes "--") bytes text close → close ≡ 62 ∷ behind → CommentAt bytes text behind
 comment_from bytes text close behind cut e =
     record { apart = front_apart bytes text close cut; split = cut.split ∙ ap (λ z. text ++ (codes "--" ++ z)) e }
 
@@ -135,7 +120,7 @@ comment_from bytes text close behind cut e =
 is_processing_kind : ℕ → Bool
 is_processing_kind k = k == 4
 
-pub no_processing_token : (rest : List ℕ) → NoProcessing rest → NoToken (60 ∷ 63 ∷ rest)
+pub no_processing_token : (rest : List ℕ) → NoProcessingInstruction rest → NoToken (60 ∷ 63 ∷ rest)
 unfolding is_processing_kind
 no_processing_token rest none t x b = case t b.valid b.printed
   where
@@ -143,22 +128,22 @@ no_processing_token rest none t x b = case t b.valid b.printed
     case (Alone (Characters a)) v e = other_kind is_processing_kind (60 ∷ 63 ∷ rest) (Alone (Characters a)) x refl refl v e
     case (Alone (Refers a)) v e = other_kind is_processing_kind (60 ∷ 63 ∷ rest) (Alone (Refers a)) x refl refl v e
     case (Alone (Section a)) v e = other_kind is_processing_kind (60 ∷ 63 ∷ rest) (Alone (Section a)) x refl refl v e
-    case (Alone (Remark a)) v e = other_kind is_processing_kind (60 ∷ 63 ∷ rest) (Alone (Remark a)) x refl refl v e
+    case (Alone (CommentItem a)) v e = other_kind is_processing_kind (60 ∷ 63 ∷ rest) (Alone (CommentItem a)) x refl refl v e
     case (Alone (EmptyTag a)) v e = other_kind is_processing_kind (60 ∷ 63 ∷ rest) (Alone (EmptyTag a)) x refl refl v e
     case (StartTag a) v e = other_kind is_processing_kind (60 ∷ 63 ∷ rest) (StartTag a) x refl refl v e
     case (EndTag a b) v e = other_kind is_processing_kind (60 ∷ 63 ∷ rest) (EndTag a b) x refl refl v e
-    case (Alone (Processing target space value)) v e =
+    case (Alone (ProcessingInstruction target space value)) v e =
         none target value x (record { space = space; valid = v; split = ap (drop 2) (e ∙ processing_parts target space value x) })
 
-pub processing_begins : (rest target value behind : List ℕ) → (at : ProcessingAt rest target value behind) →
-    BeginsWith (60 ∷ 63 ∷ rest) (Alone (Processing target at.space value)) behind
+pub processing_begins : (rest target value behind : List ℕ) → (at : ProcessingInstructionAt rest target value behind) →
+    BeginsWith (60 ∷ 63 ∷ rest) (Alone (ProcessingInstruction target at.space value)) behind
 processing_begins rest target value behind at = record {
   valid = at.valid;
   whole = refl;
   printed = ap (λ z. 60 ∷ 63 ∷ z) at.split ∙ sym (processing_parts target at.space value behind);
 }
 
-name_of_processing : (bytes target value behind : List ℕ) → (at : ProcessingAt bytes target value behind) →
+name_of_processing : (bytes target value behind : List ℕ) → (at : ProcessingInstructionAt bytes target value behind) →
     NameAt bytes target (from_space at.space value behind)
 name_of_processing bytes target value behind at = record {
   named = at.valid.named.0;
@@ -166,11 +151,11 @@ name_of_processing bytes target value behind at = record {
   ends = space_stops_target at.space value behind at.valid.white at.valid.apart;
 }
 
-pub unnamed_no_processing : (bytes : List ℕ) → NoName bytes → NoProcessing bytes
+pub unnamed_no_processing : (bytes : List ℕ) → NoName bytes → NoProcessingInstruction bytes
 unnamed_no_processing bytes none target value behind at =
     none target (from_space at.space value behind) (name_of_processing bytes target value behind at)
 
-same_target : (bytes target mid other value behind : List ℕ) → NameAt bytes target mid → (at : ProcessingAt bytes other value behind) →
+same_target : (bytes target mid other value behind : List ℕ) → NameAt bytes target mid → (at : ProcessingInstructionAt bytes other value behind) →
     (target ≡ other) × (mid ≡ from_space at.space value behind)
 same_target bytes target mid other value behind n at =
     same_name bytes target other mid (from_space at.space value behind) n (name_of_processing bytes other value behind at)
@@ -179,28 +164,24 @@ same_target bytes target mid other value behind n at =
 abbrev pub IsTarget : List ℕ → Type 0
 IsTarget name = (at_colon name ≡ None) × (str_to_ascii_lowercase name ≡ codes "xml" → ⊥)
 
-pub other_no_processing : (bytes target mid : List ℕ) → NameAt bytes target mid → ¬ (IsTarget target) → NoProcessing bytes
+pub other_no_processing : (bytes target mid : List ℕ) → NameAt bytes target mid → ¬ (IsTarget target) → NoProcessingInstruction bytes
 other_no_processing bytes target mid n none other value behind at =
     none (subst IsTarget (sym (same_target bytes target mid other value behind n at).0) (at.valid.named.1, at.valid.not_xml))
 
-value_not_white : (value x : List ℕ) → begins_with is_white value ≡ false → begins_with is_white (from_value value x) ≡ false
-value_not_white [] x h = refl
-value_not_white (b ∷ bytes) x h = h
-
 -- what stands behind the white space behind the target
 same_data : (bytes target mid space inner other value behind : List ℕ) → NameAt bytes target mid → mid ≡ space ++ inner → AllPass is_white space →
-    IsFalse (begins_with is_white inner) → (at : ProcessingAt bytes other value behind) → (space ≡ at.space) × (inner ≡ from_value value behind)
+    IsFalse (begins_with is_white inner) → (at : ProcessingInstructionAt bytes other value behind) → (space ≡ at.space) × (inner ≡ from_value value behind)
 same_data bytes target mid space inner other value behind n e white stops at =
     same_run is_white space at.space inner (from_value value behind) white at.valid.white stops (value_not_white value behind at.valid.begins)
     (sym e ∙ (same_target bytes target mid other value behind n at).1)
 
 pub unended_no_processing : (bytes target mid space inner : List ℕ) → NameAt bytes target mid → mid ≡ space ++ inner → AllPass is_white space →
-    IsFalse (begins_with is_white inner) → ((front behind : List ℕ) → ¬ (inner ≡ front ++ (codes "?>" ++ behind))) → NoProcessing bytes
+    IsFalse (begins_with is_white inner) → ((front behind : List ℕ) → ¬ (inner ≡ front ++ (codes "?>" ++ behind))) → NoProcessingInstruction bytes
 unended_no_processing bytes target mid space inner n e white stops none other value behind at =
     none value behind (same_data bytes target mid space inner other value behind n e white stops at).1
 
 pub joined_no_processing : (bytes target mid space inner value behind : List ℕ) → NameAt bytes target mid → mid ≡ space ++ inner → AllPass is_white space →
-    IsFalse (begins_with is_white inner) → CutAt (codes "?>") inner value behind → length space < 1 → 0 < length value → NoProcessing bytes
+    IsFalse (begins_with is_white inner) → CutAt (codes "?>") inner value behind → length space < 1 → 0 < length value → NoProcessingInstruction bytes
 joined_no_processing bytes target mid space inner value behind n e white stops cut short some other text x at =
     let same = same_data bytes target mid space inner other text x n e white stops at in
     let values = same_value value text behind x (front_has_none (codes "?>") inner value behind cut) at.valid.closed (sym cut.split ∙ same.1) in
@@ -215,7 +196,7 @@ front_not_white (b ∷ value) x h = h
 
 pub processing_from : (bytes target mid space inner value behind : List ℕ) → NameAt bytes target mid → IsTarget target → mid ≡ space ++ inner →
     AllPass is_white space → IsFalse (begins_with is_white inner) → CutAt (codes "?>") inner value behind → (0 < length value → 0 < length space) →
-    ProcessingAt bytes target value behind
+    ProcessingInstructionAt bytes target value behind
 processing_from bytes target mid space inner value behind n is e white stops cut apart = record {
   space = space;
   valid = record {

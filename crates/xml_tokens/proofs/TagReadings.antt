@@ -1,5 +1,5 @@
 -- Readings of a tag's attributes and of a tag are one, and what refuses them.
-use Rattle.std.proofs.Common.{◌≡◌, ℕ, ◌+◌, ◌<◌, true, false, List, [], ◌∷◌, ◌++◌, length, IsFalse, refl, sym, ◌∙◌, ap, subst, append_assoc, append-nil, length-append, arith}
+use Rattle.std.proofs.Common.{◌≡◌, ℕ, ◌+◌, ◌<◌, true, List, [], ◌∷◌, ◌++◌, length, IsFalse, refl, sym, ◌∙◌, ap, subst, append_assoc, append-nil, length-append, arith}
 use Rattle.std.specs.List.{flat_map, AllByRecursion}
 use Rattle.std.proofs.lemmas.List.{map-append}
 use Rattle.std.proofs.lemmas.List.Concat.{flat_map-append}
@@ -8,12 +8,10 @@ use Rattle.xml_spec.specs.Bytes.{AllPass, begins_with}
 use Rattle.xml_spec.specs.Tree as tree
 use Rattle.xml_spec.specs.Syntax.{is_white, print_piece, Assignment, print_assignment, IsAssignment, Tag}
 use Rattle.xml_spec.specs.Meaning.{attribute_of, attributes_of}
-use Rattle.xml_spec.proofs.Tests.{both_true}
 use Rattle.xml_spec.proofs.Runs.{same_run}
-use Rattle.xml_spec.proofs.NameBytes.{name_begins}
-use Rattle.xml_spec.proofs.Tags.{Closes, from_value, from_right, from_left, from_name, from_before, assignment_parts, from_assignments, assignments_go_on, same_assignment, white_is_no_name, white_begins, tag_parts, same_tag}
+use Rattle.xml_spec.proofs.Tags.{Closes, from_value, from_right, from_left, from_name, assignment_parts, from_assignments, assignments_go_on, same_assignment, tag_parts, same_tag, name_begins_not_white, not_both_ways, no_assignment, assignments_stop_name}
 use Rattle.xml_tokens.specs.Lexing.{is_name_byte, NameAt, AssignmentAt, AttributesAt, AreSoFar, TagAt, NoName, NoAssignment, NoAttributes, NoTag}
-use Rattle.xml_tokens.proofs.AttributeReadings.{same_name, name_begins_not_white}
+use Rattle.xml_tokens.proofs.AttributeReadings.{same_name}
 
 every_more : {X : Type 0} (P : X → Type 0) (xs : List X) (y : X) → AllByRecursion P xs → P y → AllByRecursion P (xs ++ y ∷ [])
 every_more P [] y h k = (k, tt)
@@ -70,19 +68,6 @@ pub none_at_close : (given behind : List ℕ) → given ≡ greater_than ∷ beh
 none_at_close given behind e =
     all_read given [] given [] given (none_so_far given) refl refl (ap (begins_with is_white) e) (ap (begins_with is_name_byte) e)
 
-not_both_ways : (z x : List ℕ) → z ≡ x → begins_with is_name_byte z ≡ true → begins_with is_name_byte x ≡ false → ⊥
-not_both_ways z x e begins stops =
-    let clash : begins_with is_name_byte x ≡ true = sym (ap (begins_with is_name_byte) e) ∙ begins in
-    cc
-
--- white space and then the end of a tag is not white space and then a name
-no_assignment_at_end : (b : Assignment) (space x y : List ℕ) → IsAssignment b → AllPass is_white space → Closes x →
-    space ++ x ≡ from_before b y → ⊥
-no_assignment_at_end b space x y vb ws closes e =
-    let split = same_run is_white space b.before x (from_name b y) ws vb.before closes.not_white
-    (name_begins_not_white (from_name b y) (name_begins b.name (from_left b y) vb.name)) e in
-    not_both_ways (from_name b y) x (sym split.1) (name_begins b.name (from_left b y) vb.name) closes.not_name
-
 -- where no assignment begins the rest, and a name follows its white space, no attributes are read
 stuck : (ones bs : List Assignment) (rest space at blank y : List ℕ) → AllByRecursion IsAssignment ones →
     AllByRecursion IsAssignment bs → AllPass is_white space → AllPass is_white blank → rest ≡ space ++ at →
@@ -100,7 +85,7 @@ stuck [] (b ∷ bs) rest space at blank y vo vb ws wb split named closes none e 
       split = e ∙ append_assoc (print_assignment b) (flat_map print_assignment bs) (blank ++ y);
     })
 stuck (a ∷ ones) [] rest space at blank y vo vb ws wb split named closes none e =
-    no_assignment_at_end a blank y (flat_map print_assignment ones ++ rest) vo.0 wb closes
+    no_assignment a blank y (flat_map print_assignment ones ++ rest) vo.0 wb closes
     (sym e ∙ append_assoc (print_assignment a) (flat_map print_assignment ones) rest
     ∙ assignment_parts a (flat_map print_assignment ones ++ rest))
 stuck (a ∷ ones) (b ∷ bs) rest space at blank y vo vb ws wb split named closes none e =
@@ -114,15 +99,6 @@ pub no_attributes : (whole : List ℕ) (read : List tree.Attribute) (rest space 
 no_attributes whole read rest space at far split white named none attributes behind other =
     stuck far.assignments other.assignments rest space at other.space behind far.valid other.valid white other.white split named
     (record { not_white = other.not_white; not_name = other.not_name }) (subst NoAssignment (sym split) none) (sym far.split ∙ other.split)
-
--- behind the name of a tag
-assignments_stop_name : (ones : List Assignment) (space x : List ℕ) → AllByRecursion IsAssignment ones → AllPass is_white space →
-    Closes x → begins_with is_name_byte (from_assignments ones space x) ≡ false
-assignments_stop_name [] [] x va ws closes = closes.not_name
-assignments_stop_name [] (b ∷ space) x va ws closes = white_is_no_name b (both_true (is_white b) _ ws).0
-assignments_stop_name (a ∷ ones) space x va ws closes =
-    ap (begins_with is_name_byte) (assignments_go_on a ones space x)
-    ∙ white_begins a.before (from_name a (from_assignments ones space x)) va.0.apart va.0.before
 
 name_of_tag : (bytes name : List ℕ) (attributes : List tree.Attribute) (behind : List ℕ) → (at : TagAt bytes name attributes behind) →
     NameAt bytes at.tag.name (from_assignments at.tag.assignments at.tag.space behind)

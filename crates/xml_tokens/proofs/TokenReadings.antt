@@ -1,26 +1,24 @@
 -- What tags, end tags, runs of characters and references say of the first token, and what refuses one.
-use Rattle.std.proofs.Common.{◌≡◌, ℕ, ◌<◌, Bool, true, false, cond, ◌&&◌, ◌||◌, not, ◌==◌, List, [], ◌∷◌, ◌++◌, length, get_or, drop, codes, ◌⊎◌, inl, inr, Option, Some, None, Result, IsFalse, refl, sym, ◌∙◌, ap, subst, append_assoc, arith}
+use Rattle.std.proofs.Common.{◌≡◌, ℕ, ◌<◌, Bool, true, false, cond, ◌&&◌, ◌||◌, not, ◌==◌, List, [], ◌∷◌, ◌++◌, length, get_or, drop, codes, ◌⊎◌, inl, inr, Option, Some, None, Result, IsFalse, refl, sym, ◌∙◌, ap, subst, arith}
 use Rattle.std.specs.Option.{ok_or}
 use Rattle.std.specs.Result.{IfErr}
 use denote.Ref.{Bor}
-use Rattle.xml_spec.specs.Ascii.{less_than, greater_than}
+use Rattle.xml_spec.specs.Ascii.{greater_than}
 use Rattle.xml_spec.specs.Bytes.{AllPass, begins_with, has}
 use Rattle.xml_spec.specs.Tree as tree
-use Rattle.xml_spec.specs.Syntax.{is_white, Tag, print_tag, Characters, Refers, Section, Remark, Processing, EmptyTag, Token, Alone, StartTag, EndTag, print_token, print_tokens, IsToken}
+use Rattle.xml_spec.specs.Syntax.{is_white, print_tag, Characters, Refers, Section, CommentItem, ProcessingInstruction, EmptyTag, Token, Alone, StartTag, EndTag, print_token, print_tokens, IsToken}
 use Rattle.xml_spec.specs.Meaning.{attributes_of}
 use Rattle.xml_spec.specs.Laws.{IsWhole, BeginsWith}
-use Rattle.xml_spec.proofs.Tests.{both_true}
 use Rattle.xml_spec.proofs.Runs.{same_run}
 use Rattle.xml_spec.proofs.Values.{first_not}
-use Rattle.xml_spec.proofs.Tags.{white_is_no_name}
-use Rattle.xml_spec.proofs.Tokens.{kind, kind_of, token_kind}
+use Rattle.xml_spec.proofs.Tokens.{kind, kind_of, token_kind, empty_parts, start_parts, end_parts, space_stops_name}
 use Rattle.xml_spec.proofs.Sequences.{head_is_whole}
 use Rattle.xml_chars.specs.Reading.{BeginsWithReference, BeginsWithNone}
 use Rattle.xml_tokens.specs.declared.token.Markup.{Markup}
 use Rattle.xml_tokens.specs.declared.token.TokenFault.{TokenFault}
 use Rattle.xml_tokens.specs.declared.token.TokenFault.TheVariants.{Invalid, NoMemory}
 use Rattle.xml_tokens.specs.Markup.{NoTokens}
-use Rattle.xml_tokens.specs.Lexing.{is_name_byte, is_character_byte, NameAt, BeginsTag, TagAt, EndAt, CharactersAt, NoName, NoTag, NoEnd, NoCharacters, NoToken, ReadsToken}
+use Rattle.xml_tokens.specs.Lexing.{is_character_byte, NameAt, BeginsTag, TagAt, EndAt, CharactersAt, NoName, NoTag, NoEnd, NoCharacters, NoToken, ReadsToken}
 use Rattle.xml_tokens.proofs.AttributeReadings.{same_name}
 use Rattle.xml_tokens.proofs.TagReadings.{same_tag_end}
 
@@ -50,15 +48,6 @@ open_kind (b ∷ rest) h =
     (not_equal b 63 (λ (e : b ≡ 63). h.no_instruction rest (ap (λ c. c ∷ rest) e)))
     (not_equal b 33 (λ (e : b ≡ 33). h.no_declaration rest (ap (λ c. c ∷ rest) e)))
 
-empty_parts : (tag : Tag) (x : List ℕ) → print_token (Alone (EmptyTag tag)) ++ x ≡ less_than ∷ (print_tag tag ++ (codes "/>" ++ x))
-empty_parts tag x = ap (λ z. less_than ∷ z) (append_assoc (print_tag tag) (codes "/>") x)
-
-pub start_parts : (tag : Tag) (x : List ℕ) → print_token (StartTag tag) ++ x ≡ less_than ∷ (print_tag tag ++ (greater_than ∷ x))
-start_parts tag x = ap (λ z. less_than ∷ z) (append_assoc (print_tag tag) (greater_than ∷ []) x)
-
-end_parts : (name space x : List ℕ) → print_token (EndTag name space) ++ x ≡ codes "</" ++ (name ++ (space ++ (greater_than ∷ x)))
-end_parts name space x = simp append_assoc
-
 -- a start tag or the tag of an empty element
 record Opened (rest behind : List ℕ) : Type 0 where
   name : List ℕ
@@ -72,8 +61,8 @@ unfolding is_tag_kind
 opened rest (Alone (Characters a)) x k v e = absurd (other_kind is_tag_kind (60 ∷ rest) (Alone (Characters a)) x k refl v e)
 opened rest (Alone (Refers a)) x k v e = absurd (other_kind is_tag_kind (60 ∷ rest) (Alone (Refers a)) x k refl v e)
 opened rest (Alone (Section a)) x k v e = absurd (other_kind is_tag_kind (60 ∷ rest) (Alone (Section a)) x k refl v e)
-opened rest (Alone (Remark a)) x k v e = absurd (other_kind is_tag_kind (60 ∷ rest) (Alone (Remark a)) x k refl v e)
-opened rest (Alone (Processing a b d)) x k v e = absurd (other_kind is_tag_kind (60 ∷ rest) (Alone (Processing a b d)) x k refl v e)
+opened rest (Alone (CommentItem a)) x k v e = absurd (other_kind is_tag_kind (60 ∷ rest) (Alone (CommentItem a)) x k refl v e)
+opened rest (Alone (ProcessingInstruction a b d)) x k v e = absurd (other_kind is_tag_kind (60 ∷ rest) (Alone (ProcessingInstruction a b d)) x k refl v e)
 opened rest (EndTag a b) x k v e = absurd (other_kind is_tag_kind (60 ∷ rest) (EndTag a b) x k refl v e)
 opened rest (Alone (EmptyTag tag)) x k v e = record {
   name = tag.name;
@@ -119,11 +108,6 @@ empty_begins rest name attributes close behind at e = record {
   printed = ap (λ z. 60 ∷ z) (at.split ∙ ap (λ z. print_tag at.tag ++ z) e) ∙ sym (empty_parts at.tag behind);
 }
 
--- end tags
-space_stops_name : (space x : List ℕ) → AllPass is_white space → begins_with is_name_byte (space ++ (greater_than ∷ x)) ≡ false
-space_stops_name [] x h = refl
-space_stops_name (b ∷ space) x h = white_is_no_name b (both_true (is_white b) _ h).0
-
 name_of_end : (bytes name behind : List ℕ) → (at : EndAt bytes name behind) → NameAt bytes name (at.space ++ (greater_than ∷ behind))
 name_of_end bytes name behind at =
     record { named = at.named; split = at.split; ends = space_stops_name at.space behind at.white }
@@ -149,8 +133,8 @@ no_end_token rest none t x b = case t b.valid b.printed
     case (Alone (Characters a)) v e = other_kind is_end_kind (60 ∷ 47 ∷ rest) (Alone (Characters a)) x refl refl v e
     case (Alone (Refers a)) v e = other_kind is_end_kind (60 ∷ 47 ∷ rest) (Alone (Refers a)) x refl refl v e
     case (Alone (Section a)) v e = other_kind is_end_kind (60 ∷ 47 ∷ rest) (Alone (Section a)) x refl refl v e
-    case (Alone (Remark a)) v e = other_kind is_end_kind (60 ∷ 47 ∷ rest) (Alone (Remark a)) x refl refl v e
-    case (Alone (Processing a b d)) v e = other_kind is_end_kind (60 ∷ 47 ∷ rest) (Alone (Processing a b d)) x refl refl v e
+    case (Alone (CommentItem a)) v e = other_kind is_end_kind (60 ∷ 47 ∷ rest) (Alone (CommentItem a)) x refl refl v e
+    case (Alone (ProcessingInstruction a b d)) v e = other_kind is_end_kind (60 ∷ 47 ∷ rest) (Alone (ProcessingInstruction a b d)) x refl refl v e
     case (Alone (EmptyTag a)) v e = other_kind is_end_kind (60 ∷ 47 ∷ rest) (Alone (EmptyTag a)) x refl refl v e
     case (StartTag a) v e = other_kind is_end_kind (60 ∷ 47 ∷ rest) (StartTag a) x refl refl v e
     case (EndTag name space) v e =
@@ -213,8 +197,8 @@ no_text_token rest l h unreferred none t x b = case t b.valid b.whole b.printed
         none a x (record { some = v.0; passes = v.1; not_closed = v.2; split = e; ends = first_not true (begins_with is_character_byte x) w refl })
     case (Alone (Refers r)) v w e = unreferred r x v e
     case (Alone (Section a)) v w e = other_kind is_text_kind rest (Alone (Section a)) x k refl v e
-    case (Alone (Remark a)) v w e = other_kind is_text_kind rest (Alone (Remark a)) x k refl v e
-    case (Alone (Processing a b d)) v w e = other_kind is_text_kind rest (Alone (Processing a b d)) x k refl v e
+    case (Alone (CommentItem a)) v w e = other_kind is_text_kind rest (Alone (CommentItem a)) x k refl v e
+    case (Alone (ProcessingInstruction a b d)) v w e = other_kind is_text_kind rest (Alone (ProcessingInstruction a b d)) x k refl v e
     case (EndTag a b) v w e = other_kind is_text_kind rest (EndTag a b) x k refl v e
     case (Alone (EmptyTag a)) v w e = other_kind is_text_kind rest (Alone (EmptyTag a)) x k refl v e
     case (StartTag a) v w e = other_kind is_text_kind rest (StartTag a) x k refl v e

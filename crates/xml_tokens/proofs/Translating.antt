@@ -1,20 +1,15 @@
 -- Line ends are translated, and white space in values made spaces, piece by piece.
-use Rattle.std.proofs.Common.{◌≡◌, ℕ, Bool, true, false, cond, ◌&&◌, ◌||◌, ◌==◌, List, [], ◌∷◌, ◌++◌, map, Option, Some, None, unwrap_or, Result, Ok, Err, is_ok, OnOk, IsFalse, ◌⊎◌, inl, inr, refl, sym, ◌∙◌, ap, append_assoc, append-nil, arith}
+use Rattle.std.proofs.Common.{◌≡◌, ℕ, true, false, cond, ◌&&◌, ◌==◌, List, [], ◌∷◌, ◌++◌, map, Option, Some, None, unwrap_or, Result, Ok, Err, is_ok, OnOk, refl, sym, ◌∙◌, ap, append_assoc, arith}
 use Rattle.std.specs.Option.{MatchOption}
-use Rattle.std.specs.List.{list_all}
 use denote.Ref.{Bor}
-use Rattle.xml_spec.specs.Bytes.{AllPass, has, begins_with}
+use Rattle.xml_spec.specs.Bytes.{has}
 use Rattle.xml_spec.specs.Meaning.{line_ends_after, line_ends, as_blank}
-use Rattle.xml_spec.proofs.Tests.{both_true}
-use Rattle.xml_tokens.specs.Lexing.{is_kept_byte, CutAt, BlankAt, NoBlank}
+use Rattle.xml_spec.proofs.Ends.{neither}
+use Rattle.xml_tokens.specs.Lexing.{CutAt}
 use Rattle.xml_tokens.proofs.Finding.{front_has_none}
 
 not_equal : (b n : ℕ) → (b ≡ n → ⊥) → (b == n) ≡ false
 not_equal b n h = grind arith
-
-pub either_false : (a b : Bool) → (a || b) ≡ false → (a ≡ false) × (b ≡ false)
-either_false true b h = absurd (let clash : true ≡ false = h in cc)
-either_false false b h = (refl, h)
 
 not_return : (b : ℕ) → ((13 == b) && true) ≡ false → (b == 13) ≡ false
 not_return b h = grind arith
@@ -27,7 +22,7 @@ other_byte b bytes h = ap (λ t. cond t (10 ∷ line_ends_after true bytes) (b �
 line_stays : (line rest : List ℕ) → has (13 ∷ []) line ≡ false → line_ends (line ++ rest) ≡ line ++ line_ends rest
 line_stays [] rest h = refl
 line_stays (b ∷ line) rest h =
-    let parts = either_false ((13 == b) && true) (has (13 ∷ []) line) h in
+    let parts = neither ((13 == b) && true) (has (13 ∷ []) line) h in
     other_byte b (line ++ rest) (not_return b parts.0) ∙ ap (λ z. b ∷ z) (line_stays line rest parts.1)
 
 -- behind a CR, what does not begin with LF is translated as ever
@@ -66,54 +61,6 @@ last_line (b ∷ rest) h =
 -- in a value
 abbrev pub blanks : List ℕ → List ℕ
 blanks bytes = map as_blank (line_ends bytes)
-
-kept_is_no_return : (b : ℕ) → is_kept_byte b ≡ true → (b == 13) ≡ false
-kept_is_no_return b h = grind arith
-
-kept_stays : (b : ℕ) → is_kept_byte b ≡ true → as_blank b ≡ b
-kept_stays b h = grind arith
-
-pub kept_run : (kept at : List ℕ) → AllPass is_kept_byte kept → blanks (kept ++ at) ≡ kept ++ blanks at
-kept_run [] at h = refl
-kept_run (b ∷ kept) at h =
-    let both = both_true (is_kept_byte b) (list_all is_kept_byte kept) h in
-    ap (map as_blank) (other_byte b (kept ++ at) (kept_is_no_return b both.0))
-    ∙ (λ i. kept_stays b both.0 i ∷ kept_run kept at both.1 i)
-
-pub one_blank : (at behind : List ℕ) → BlankAt at behind → blanks at ≡ 32 ∷ blanks behind
-one_blank at behind h =
-    elim h [
-      | inl pair ↦ ap blanks pair
-      | inr (inl single) ↦ ap blanks single.0 ∙ ap (λ z. 32 ∷ map as_blank z) (after_return behind single.1)
-      | inr (inr (inl feed)) ↦ ap blanks feed
-      | inr (inr (inr mark)) ↦ ap blanks mark
-    ]
-
-one_of_three : (b : ℕ) → is_kept_byte b ≡ false → (b ≡ 13) ⊎ ((b ≡ 10) ⊎ (b ≡ 9))
-one_of_three b h = grind arith
-
--- where the run of kept bytes ends and no blank stands, nothing is left
-pub no_more : (at : List ℕ) → IsFalse (begins_with is_kept_byte at) → NoBlank at → at ≡ []
-no_more [] stops none = refl
-no_more (b ∷ at) stops none =
-    absurd (elim (one_of_three b stops) [
-      | inl e ↦ none.0 at (ap (λ c. c ∷ at) e)
-      | inr (inl e) ↦ none.1 at (ap (λ c. c ∷ at) e)
-      | inr (inr e) ↦ none.2 at (ap (λ c. c ∷ at) e)
-    ])
-
--- one more blank
-pub one_more_blank : (rest kept at behind out new old whole : List ℕ) → rest ≡ kept ++ at → AllPass is_kept_byte kept → BlankAt at behind →
-    new ≡ (out ++ kept) ++ 32 ∷ [] → out ++ blanks rest ≡ old ++ whole → new ++ blanks behind ≡ old ++ whole
-one_more_blank rest kept at behind out new old whole split passes blank e h =
-    let translated : blanks rest ≡ kept ++ (32 ∷ blanks behind) =
-    ap blanks split ∙ kept_run kept at passes ∙ ap (λ z. kept ++ z) (one_blank at behind blank) in
-    ap (λ z. z ++ blanks behind) e ∙ append_assoc (out ++ kept) (32 ∷ []) (blanks behind) ∙ append_assoc out kept (32 ∷ blanks behind)
-    ∙ ap (λ z. out ++ z) (sym translated) ∙ h
-
-pub last_run : (rest kept at : List ℕ) → rest ≡ kept ++ at → AllPass is_kept_byte kept → at ≡ [] → blanks rest ≡ kept
-last_run rest kept at split passes e =
-    ap blanks split ∙ kept_run kept at passes ∙ ap (λ z. kept ++ blanks z) e ∙ append-nil kept
 
 pub put_last : {T E : Type 0} (r : Result T E) (new out rest old whole : List ℕ) → new ≡ cond (is_ok r) (out ++ rest) out →
     line_ends rest ≡ rest → out ++ line_ends rest ≡ old ++ whole → OnOk r (new ≡ old ++ whole)

@@ -1,26 +1,21 @@
 -- The parts of a value up to its quote: each is read as it must be.
-use Rattle.std.proofs.Common.{◌≡◌, ℕ, ◌+◌, ◌<◌, Bool, true, false, ◌&&◌, ◌||◌, not, ◌==◌, List, [], ◌∷◌, ◌++◌, length, drop, ◌⊎◌, inl, inr, IsFalse, refl, sym, ◌∙◌, ap, subst, append_assoc, append-nil, length-append, arith}
+use Rattle.std.proofs.Common.{◌≡◌, ℕ, ◌+◌, ◌<◌, Bool, true, false, ◌&&◌, not, ◌==◌, List, [], ◌∷◌, ◌++◌, length, drop, ◌⊎◌, inl, inr, IsFalse, refl, sym, ◌∙◌, ap, subst, append-nil, length-append, arith}
 use Rattle.std.specs.List.{list_all, flat_map, AllByRecursion}
 use Rattle.std.specs.Char.{encode_utf8}
 use Rattle.xml_spec.specs.Ascii.{less_than, ampersand}
 use Rattle.xml_spec.specs.Bytes.{AllPass, begins_with, no_two}
-use Rattle.xml_spec.specs.Syntax.{is_quote, Reference, print_reference, IsReference, Piece, Literal, Referred, IsPiece, is_literal, print_piece}
+use Rattle.xml_spec.specs.Syntax.{is_quote, Reference, print_reference, IsReference, Piece, Literal, Referred, IsPiece, is_literal}
 use Rattle.xml_spec.specs.Meaning.{piece_value}
 use Rattle.xml_spec.proofs.Tests.{both_true}
 use Rattle.xml_spec.proofs.Runs.{equal_test, begins_not, same_run}
 use Rattle.xml_spec.proofs.References.{same_reference}
-use Rattle.xml_spec.proofs.Values.{reference_begins, closed_value, first_not}
+use Rattle.xml_spec.proofs.Values.{reference_begins, closed_value, first_not, last_of_three, value_goes_on, quote_is_no_ampersand}
 use Rattle.xml_chars.specs.Reading.{BeginsWithReference, BeginsWithNone}
 use Rattle.xml_tokens.specs.Lexing.{is_value_byte, PiecesAt, NoPieces, NoQuote, NoValue}
 use Rattle.xml_tokens.proofs.Translating.{blanks}
 
 pub quote_low : (quote : ℕ) → is_quote quote ≡ true → quote < 128
 quote_low quote h = grind arith
-
-last_of_three : (a b c : Bool) → c ≡ true → not (a || b || c) ≡ false
-last_of_three true b c h = refl
-last_of_three false true c h = refl
-last_of_three false false c h = ap not h
 
 -- a quote ends its value
 pub quote_fails : (quote : ℕ) → is_value_byte quote quote ≡ false
@@ -35,10 +30,6 @@ no_quote bytes none neither quote x q e =
       | inl h ↦ none x (e ∙ ap (λ b. b ∷ x) h)
       | inr h ↦ neither x (e ∙ ap (λ b. b ∷ x) h)
     ]
-
-value_goes_on : (quote : ℕ) (piece : Piece) (pieces : List Piece) (x : List ℕ) →
-    closed_value quote (piece ∷ pieces) x ≡ print_piece piece ++ closed_value quote pieces x
-value_goes_on quote piece pieces x = append_assoc (print_piece piece) (flat_map print_piece pieces) (quote ∷ x)
 
 -- behind a literal part comes the quote or an ampersand
 value_stops : (quote : ℕ) (pieces : List Piece) (x : List ℕ) → begins_with is_literal pieces ≡ false →
@@ -57,12 +48,6 @@ literal_begins quote b (c ∷ bytes) x y h p fails e =
     let first : c ≡ b = cc in
     let passes : is_value_byte quote b ≡ true =
     subst (λ d. is_value_byte quote d ≡ true) first (both_true (is_value_byte quote c) _ p).0 in
-    cc
-
-quote_is_no_ampersand : (quote : ℕ) → is_quote quote ≡ true → quote ≡ ampersand → ⊥
-quote_is_no_ampersand quote h e =
-    let at : is_quote ampersand ≡ true = subst (λ q. is_quote q ≡ true) e h in
-    let none : is_quote ampersand ≡ false = refl in
     cc
 
 -- parts of a value that stand up to its quote
@@ -191,37 +176,28 @@ more_parts quote bytes literal at character rest value behind e passes begins la
     (with_literal quote literal at (encode_utf8 character ++ value) behind from_reference passes refl)
 
 -- how far a value has been read
-pub record IsValueSoFar (quote : ℕ) (whole rest before out : List ℕ) : Type 0 where
-  pub reads : (value behind : List ℕ) → PiecesAt quote rest value behind →
-      (total : List ℕ) × PiecesAt quote whole total behind × (out ++ value ≡ before ++ total)
+pub record IsValueSoFar (quote : ℕ) (whole rest : List ℕ) : Type 0 where
+  pub reads : (value behind : List ℕ) → PiecesAt quote rest value behind → (total : List ℕ) × PiecesAt quote whole total behind
   pub refuses : NoPieces quote rest → NoPieces quote whole
 
-pub value_begins : (quote : ℕ) (whole out : List ℕ) → IsValueSoFar quote whole whole out out
-value_begins quote whole out = record { reads = λ value behind at. (value, at, refl); refuses = λ none. none }
+pub value_begins : (quote : ℕ) (whole : List ℕ) → IsValueSoFar quote whole whole
+value_begins quote whole = record { reads = λ value behind at. (value, at); refuses = λ none. none }
 
-pub one_more_part : (quote : ℕ) (whole rest before out literal at : List ℕ) (character : ℕ) (behind new : List ℕ) → is_quote quote ≡ true →
-    IsValueSoFar quote whole rest before out → rest ≡ literal ++ at → AllPass (is_value_byte quote) literal →
-    IsFalse (begins_with (is_value_byte quote) at) → BeginsWithReference at character behind →
-    new ≡ (out ++ blanks literal) ++ encode_utf8 character → IsValueSoFar quote whole behind before new
-one_more_part quote whole rest before out literal at character behind new q far e passes stops begins n = record {
+pub one_more_part : (quote : ℕ) (whole rest literal at : List ℕ) (character : ℕ) (behind : List ℕ) → is_quote quote ≡ true →
+    IsValueSoFar quote whole rest → rest ≡ literal ++ at → AllPass (is_value_byte quote) literal →
+    IsFalse (begins_with (is_value_byte quote) at) → BeginsWithReference at character behind → IsValueSoFar quote whole behind
+one_more_part quote whole rest literal at character behind q far e passes stops begins = record {
   reads = λ value end pieces.
-      let all = far.reads (blanks literal ++ (encode_utf8 character ++ value)) end
-      (more_parts quote rest literal at character behind value end e passes begins pieces) in (
-        all.0,
-        all.1,
-        ap (λ z. z ++ value) n ∙ append_assoc (out ++ blanks literal) (encode_utf8 character) value
-            ∙ append_assoc out (blanks literal) (encode_utf8 character ++ value) ∙ all.2,
-      );
+      far.reads (blanks literal ++ (encode_utf8 character ++ value)) end
+      (more_parts quote rest literal at character behind value end e passes begins pieces);
   refuses = λ none. far.refuses (unread_behind quote rest literal at character behind q e passes stops begins none);
 }
 
-pub value_ends : (quote : ℕ) (whole rest before out literal at behind new : List ℕ) →
-    IsValueSoFar quote whole rest before out → rest ≡ literal ++ at → AllPass (is_value_byte quote) literal →
-    at ≡ quote ∷ behind → new ≡ out ++ blanks literal →
-    (value : List ℕ) × PiecesAt quote whole value behind × (new ≡ before ++ value)
-value_ends quote whole rest before out literal at behind new far e passes f n =
-    let all = far.reads (blanks literal) behind (last_literal quote rest literal at behind e passes f) in
-    (all.0, all.1, n ∙ all.2)
+pub value_ends : (quote : ℕ) (whole rest literal at behind : List ℕ) →
+    IsValueSoFar quote whole rest → rest ≡ literal ++ at → AllPass (is_value_byte quote) literal →
+    at ≡ quote ∷ behind → (value : List ℕ) × PiecesAt quote whole value behind
+value_ends quote whole rest literal at behind far e passes f =
+    far.reads (blanks literal) behind (last_literal quote rest literal at behind e passes f)
 
 -- a reference has a byte
 pub reference_is_some : (rest literal at : List ℕ) (character : ℕ) (behind : List ℕ) → rest ≡ literal ++ at → BeginsWithReference at character behind →

@@ -8,7 +8,7 @@ use Rattle.xml_spec.specs.Ascii.{tab, line_feed, carriage_return, hyphen, ampers
 use Rattle.xml_spec.specs.Bytes.{AllPass, has, begins_with, no_two}
 use Rattle.xml_spec.specs.Characters.{is_name_char, IsName}
 use Rattle.xml_spec.specs.Tree as tree
-use Rattle.xml_spec.specs.Syntax.{is_white, is_quote, Piece, print_piece, is_literal, IsPiece, Assignment, print_assignment, IsAssignment, Tag, print_tag, IsTag, IsProcessing, Token}
+use Rattle.xml_spec.specs.Syntax.{is_white, is_quote, Piece, print_piece, is_literal, IsPiece, Assignment, print_assignment, IsAssignment, Tag, print_tag, IsTag, IsProcessingInstruction, Token}
 use Rattle.xml_spec.specs.Meaning.{piece_value, attribute_of, attributes_of}
 use Rattle.xml_spec.specs.Laws.{BeginsWith}
 use Rattle.xml_tokens.specs.declared.class.Class.{Class}
@@ -34,9 +34,9 @@ is_character_byte b = not (b == less_than || b == ampersand)
 abbrev pub is_value_byte : ℕ → ℕ → Bool
 is_value_byte quote b = not (b == less_than || b == ampersand || b == quote)
 
--- a byte that stays as it is in a value
+-- a byte of a value that means itself
 abbrev pub is_kept_byte : ℕ → Bool
-is_kept_byte b = not (b == tab || b == line_feed || b == carriage_return)
+is_kept_byte b = not (b == tab || b == line_feed || b == carriage_return || b == ampersand)
 
 -- the bytes of a class
 abbrev pub is_in : Class → ℕ → Bool
@@ -175,14 +175,14 @@ pub record CharactersAt (bytes text behind : List ℕ) : Type 0 where
   pub ends : IsFalse (begins_with is_character_byte behind)
 
 -- the text of a comment and the mark that closes it
-pub record RemarkAt (bytes text behind : List ℕ) : Type 0 where
+pub record CommentAt (bytes text behind : List ℕ) : Type 0 where
   pub apart : IsFalse (has (codes "--") (text ++ hyphen ∷ []))
   pub split : bytes ≡ text ++ (codes "-->" ++ behind)
 
 -- an instruction behind its sign
-pub record ProcessingAt (bytes target value behind : List ℕ) : Type 0 where
+pub record ProcessingInstructionAt (bytes target value behind : List ℕ) : Type 0 where
   pub space : List ℕ
-  pub valid : IsProcessing target space value
+  pub valid : IsProcessingInstruction target space value
   pub split : bytes ≡ target ++ (space ++ (value ++ (codes "?>" ++ behind)))
 
 -- no name begins the bytes, and so on
@@ -222,11 +222,11 @@ NoEnd bytes = (name behind : List ℕ) → ¬ (EndAt bytes name behind)
 abbrev pub NoCharacters : List ℕ → Type 0
 NoCharacters bytes = (text behind : List ℕ) → ¬ (CharactersAt bytes text behind)
 
-abbrev pub NoRemark : List ℕ → Type 0
-NoRemark bytes = (text behind : List ℕ) → ¬ (RemarkAt bytes text behind)
+abbrev pub NoComment : List ℕ → Type 0
+NoComment bytes = (text behind : List ℕ) → ¬ (CommentAt bytes text behind)
 
-abbrev pub NoProcessing : List ℕ → Type 0
-NoProcessing bytes = (target value behind : List ℕ) → ¬ (ProcessingAt bytes target value behind)
+abbrev pub NoProcessingInstruction : List ℕ → Type 0
+NoProcessingInstruction bytes = (target value behind : List ℕ) → ¬ (ProcessingInstructionAt bytes target value behind)
 
 -- no valid token begins the bytes
 abbrev pub NoToken : List ℕ → Type 0

@@ -4,6 +4,8 @@ ghost use Rattle.std.specs.Prelude.{◌≡◌, ◌≤◌, ◌++◌, length, take
 ghost use Rattle.xml_spec.specs.Bytes.{AllPass, begins_with};
 ghost use Rattle.xml_tokens.specs.Lexing.{is_name_byte, is_in, IsCut};
 
+use xml_chars::is_white;
+
 /// A class of bytes. A run of them ends where a text may be cut.
 #[derive(Clone, Copy, Debug, PartialEq, Eq)]
 pub(crate) enum Class {
@@ -15,7 +17,7 @@ pub(crate) enum Class {
     Characters,
     /// The bytes that may stand in a value in these quotes.
     Value(u8),
-    /// The bytes that stay as they are in a value.
+    /// The bytes of a value that mean themselves.
     Kept,
 }
 
@@ -43,10 +45,10 @@ impl Class {
                         | b';'
                         | b'#'
                 ),
-            Class::White => matches!(byte, b' ' | b'\t' | b'\r' | b'\n'),
+            Class::White => is_white(byte),
             Class::Characters => !matches!(byte, b'<' | b'&'),
             Class::Value(quote) => byte != b'<' && byte != b'&' && byte != quote,
-            Class::Kept => !matches!(byte, b'\t' | b'\n' | b'\r'),
+            Class::Kept => !matches!(byte, b'\t' | b'\n' | b'\r' | b'&'),
         }
     }
 }

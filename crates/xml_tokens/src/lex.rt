@@ -9,7 +9,7 @@ ghost use Rattle.xml_spec.specs.Syntax.{Token};
 ghost use Rattle.xml_spec.specs.Laws.{BeginsWith};
 ghost use Rattle.xml_tokens.specs.Views.{Shows};
 ghost use Rattle.xml_tokens.specs.Markup.{NoTokens};
-ghost use Rattle.xml_tokens.specs.Lexing.{CharactersAt, NoCharacters, RemarkAt, NoRemark, ProcessingAt, NoProcessing, ReadsToken};
+ghost use Rattle.xml_tokens.specs.Lexing.{CharactersAt, NoCharacters, CommentAt, NoComment, ProcessingInstructionAt, NoProcessingInstruction, ReadsToken};
 
 use crate::class::{Class, split_run};
 use crate::marks::{has_mark, split_mark, strip_byte, strip_word};
@@ -45,7 +45,7 @@ fn text_token<'a>(rest: &'a str) -> Option<(Markup<'a>, &'a str)>
 
 /// What the comment behind `<!--` holds, and what follows it.
 fn comment<'a>(rest: &'a str) -> Option<(&'a str, &'a str)>
-    ensures { MatchOption result (NoRemark rest.now) (λ found. RemarkAt rest.now found.0.now found.1.now) }
+    ensures { MatchOption result (NoComment rest.now) (λ found. CommentAt rest.now found.0.now found.1.now) }
 {
     let (text, close) = split_mark(rest, "--")?;
     let behind = strip_byte(close, b'>')?;
@@ -74,7 +74,7 @@ fn is_target(name: &str) -> bool
 
 /// The instruction behind `<?`, and what follows it.
 fn instruction<'a>(rest: &'a str) -> Option<(&'a str, &'a str, &'a str)>
-    ensures { MatchOption result (NoProcessing rest.now) (λ found. ProcessingAt rest.now found.0.now found.1.now found.2.now) }
+    ensures { MatchOption result (NoProcessingInstruction rest.now) (λ found. ProcessingInstructionAt rest.now found.0.now found.1.now found.2.now) }
 {
     let (target, given) = name(rest)?;
     if !is_target(target) {

@@ -12,6 +12,7 @@ mod tags;
 #[cfg(test)]
 mod tests;
 mod token;
+mod value;
 mod values;
 
 pub use head::behind_head;
@@ -19,3 +20,4 @@ pub use lex::next_token;
 pub use lines::put_line_ends;
 pub use tags::bare_start;
 pub use token::{Attribute, Markup, TokenFault};
+pub use value::AttributeValue;

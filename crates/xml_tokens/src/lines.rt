@@ -1,12 +1,11 @@
-// Line ends, and white space in values.
+// Line ends and tabs.
 
-ghost use Rattle.std.specs.Prelude.{◌≡◌, ◌++◌, map, string_bytes};
+ghost use Rattle.std.specs.Prelude.{◌≡◌, ◌++◌, string_bytes};
 ghost use Rattle.std.specs.Option.{MatchOption};
 ghost use Rattle.std.specs.Result.{OnOk};
-ghost use Rattle.xml_spec.specs.Meaning.{as_blank, line_ends};
+ghost use Rattle.xml_spec.specs.Meaning.{line_ends};
 ghost use Rattle.xml_tokens.specs.Lexing.{NoBlank, BlankAt};
 
-use crate::class::{Class, split_run};
 use crate::marks::{split_mark, strip_byte};
 use std::alloc::AllocError;
 
@@ -28,7 +27,7 @@ pub fn put_line_ends(text: &str, out: &mut String) -> Result<(), AllocError>
 }
 
 /// What follows a tab or a line end.
-fn strip_blank<'a>(rest: &'a str) -> Option<&'a str>
+pub(crate) fn strip_blank<'a>(rest: &'a str) -> Option<&'a str>
     ensures { MatchOption result (NoBlank rest.now) (λ behind. BlankAt rest.now behind.now) }
 {
     if let Some(behind) = strip_byte(rest, b'\r') {
@@ -38,24 +37,4 @@ fn strip_blank<'a>(rest: &'a str) -> Option<&'a str>
         return Some(behind);
     }
     strip_byte(rest, b'\t')
-}
-
-/// Appends a literal part of a value, with a space for each tab and each line end (XML 1.0, 2.11 and 3.3.3).
-///
-/// # Errors
-///
-/// Memory ran out: a part of the text may have been appended.
-pub(crate) fn put_blanks(literal: &str, out: &mut String) -> Result<(), AllocError>
-    ensures ok { OnOk result (string_bytes out.new ≡ string_bytes out.old ++ map as_blank (line_ends literal.now)) }
-{
-    let mut rest = literal;
-    'blanks: loop {
-        let (kept, at) = split_run(rest, Class::Kept);
-        out.push_str(kept)?;
-        let Some(behind) = strip_blank(at) else {
-            return Ok(());
-        };
-        out.push(' ')?;
-        rest = behind;
-    }
 }

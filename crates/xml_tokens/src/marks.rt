@@ -2,6 +2,7 @@
 
 ghost use Rattle.std.specs.Prelude.{◌≡◌, ℕ, ◌<◌, List, ◌∷◌, ◌++◌, length};
 ghost use Rattle.std.specs.Option.{MatchOption};
+ghost use Rattle.std.specs.Char.{encode_utf8};
 ghost use Rattle.xml_spec.specs.Bytes.{has};
 ghost use Rattle.xml_tokens.specs.Lexing.{CutAt};
 
@@ -21,6 +22,15 @@ pub(crate) fn strip_word<'a>(rest: &'a str, word: &str) -> Option<&'a str>
     ensures { MatchOption result ((x : List ℕ) → ¬ (rest.now ≡ word.now ++ x)) (λ behind. rest.now ≡ word.now ++ behind.now) }
 {
     rest.strip_prefix(word)
+}
+
+/// What follows this character, where the text begins with it.
+pub(crate) fn strip_character<'a>(rest: &'a str, character: char) -> Option<&'a str>
+    ensures { MatchOption result ((x : List ℕ) → ¬ (rest.now ≡ encode_utf8 character ++ x)) (λ behind. rest.now ≡ encode_utf8 character ++ behind.now) }
+{
+    let mut bytes = [0; 4];
+    let word = character.encode_utf8(&mut bytes);
+    strip_word(rest, word)
 }
 
 /// What stands before the first place of this mark, and what stands behind it.

@@ -14,7 +14,6 @@ use crate::class::{Class, begins_name, split_run};
 use crate::marks::strip_byte;
 use crate::token::{Attribute, TokenFault};
 use crate::values::value;
-use std::alloc::Global;
 
 /// Whether the byte is ASCII and may begin a name.
 fn is_name_start_byte(byte: u8) -> bool
@@ -110,8 +109,8 @@ pub(crate) fn equals<'a>(rest: &'a str) -> Option<&'a str>
 ///
 /// # Errors
 ///
-/// `Invalid`: no such thing stands there. `NoMemory`.
-fn assigned<'a>(alloc: Global, rest: &'a str) -> Result<(Attribute<'a>, &'a str), TokenFault>
+/// `Invalid`: no such thing stands there.
+fn assigned<'a>(rest: &'a str) -> Result<(Attribute<'a>, &'a str), TokenFault>
     ensures reading { IfOk result (λ found. AssignedAt rest.now (attribute_view found.0) found.1.now) }
     ensures refused { IfErr result (IsFaultFor (NoAssigned rest.now)) }
 {
@@ -121,7 +120,7 @@ fn assigned<'a>(alloc: Global, rest: &'a str) -> Result<(Attribute<'a>, &'a str)
     let Some(quote) = equals(sign) else {
         return Err(TokenFault::Invalid);
     };
-    let (value, behind) = value(alloc, quote)?;
+    let (value, behind) = value(quote)?;
     Ok((Attribute { name, value }, behind))
 }
 
@@ -129,9 +128,8 @@ fn assigned<'a>(alloc: Global, rest: &'a str) -> Result<(Attribute<'a>, &'a str)
 ///
 /// # Errors
 ///
-/// `Invalid`: no white space and attribute stand there. `NoMemory`.
+/// `Invalid`: no white space and attribute stand there.
 pub(crate) fn assignment<'a>(
-    alloc: Global,
     space: &str,
     rest: &'a str,
 ) -> Result<(Attribute<'a>, &'a str), TokenFault>
@@ -143,5 +141,5 @@ pub(crate) fn assignment<'a>(
     if space.is_empty() {
         return Err(TokenFault::Invalid);
     }
-    assigned(alloc, rest)
+    assigned(rest)
 }

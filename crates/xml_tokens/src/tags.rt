@@ -45,7 +45,7 @@ fn listed<'a>(alloc: Global, whole: &'a str) -> Result<(Vec<Attribute<'a>>, &'a 
         if !begins_name(at) {
             return Ok((attributes, at));
         }
-        let (attribute, behind) = assignment(alloc, space, at)?;
+        let (attribute, behind) = assignment(space, at)?;
         attributes.push(attribute)?;
         rest = behind;
     }

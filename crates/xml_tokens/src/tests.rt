@@ -1,5 +1,5 @@
 //! Tokens as XML 1.0 (fifth edition) has them, by its own examples and by what its productions forbid.
-use crate::{TokenFault, behind_head, next_token, put_line_ends};
+use crate::{Markup, TokenFault, behind_head, next_token, put_line_ends};
 use std::alloc::Global;
 use std::process::Abort;
 use std::test::Fail;
@@ -15,7 +15,7 @@ fn shown(rt: &impl Abort, alloc: Global, text: &str) -> Result<(String, usize), 
 }
 
 // Texts, the token that each begins with, and how many bytes follow it.
-const TOKENS: [(&str, &str, usize); 34] = [
+const TOKENS: [(&str, &str, usize); 31] = [
     // 2.5
     (
         "<!-- declarations for <head> & <body> -->.",
@@ -56,7 +56,7 @@ const TOKENS: [(&str, &str, usize); 34] = [
     // 3.1
     (
         "<termdef id=\"dt-dog\" term=\"dog\">",
-        "Start { name: \"termdef\", attributes: [Attribute { name: \"id\", value: \"dt-dog\" }, Attribute { name: \"term\", value: \"dog\" }] }",
+        "Start { name: \"termdef\", attributes: [Attribute { name: \"id\", value: AttributeValue { written: \"dt-dog\" } }, Attribute { name: \"term\", value: AttributeValue { written: \"dog\" } }] }",
         0,
     ),
     ("</termdef >.", "End { name: \"termdef\" }", 1),
@@ -65,28 +65,12 @@ const TOKENS: [(&str, &str, usize); 34] = [
     ("<a:\u{E9}\n= '>' />", "", 0),
     (
         "<a:\u{E9} \u{E8}\n= '>' />",
-        "Empty { name: \"a:\u{E9}\", attributes: [Attribute { name: \"\u{E8}\", value: \">\" }] }",
+        "Empty { name: \"a:\u{E9}\", attributes: [Attribute { name: \"\u{E8}\", value: AttributeValue { written: \">\" } }] }",
         0,
     ),
     (
         "<a b=''>",
-        "Start { name: \"a\", attributes: [Attribute { name: \"b\", value: \"\" }] }",
-        0,
-    ),
-    // 3.3.3
-    (
-        "<a b='\u{E9}\r\n\t\r \n&#9;&#xD;&#10;\"&lt;'>",
-        "Start { name: \"a\", attributes: [Attribute { name: \"b\", value: \"\u{E9}     \\t\\r\\n\\\"<\" }] }",
-        0,
-    ),
-    (
-        "<a b=\"'&apos;\">",
-        "Start { name: \"a\", attributes: [Attribute { name: \"b\", value: \"''\" }] }",
-        0,
-    ),
-    (
-        "<a b='&#13;\n'>",
-        "Start { name: \"a\", attributes: [Attribute { name: \"b\", value: \"\\r \" }] }",
+        "Start { name: \"a\", attributes: [Attribute { name: \"b\", value: AttributeValue { written: \"\" } }] }",
         0,
     ),
     // what is none
@@ -145,6 +129,33 @@ fn what_no_token_begins_is_refused(rt: HostRuntime) -> Result<(), Fail> {
     for text in REFUSED {
         let (found, _) = shown(&rt, rt.alloc(), text)?;
         assert_eq!(rt; found.as_str(), "", "{text}");
+    }
+    Ok(())
+}
+
+// Start tags, and the value of the attribute of each (3.3.3).
+const VALUES: [(&str, &str); 4] = [
+    (
+        "<a b='\u{E9}\r\n\t\r \n&#9;&#xD;&#10;\"&lt;'>",
+        "\u{E9}     \t\r\n\"<",
+    ),
+    ("<a b=\"'&apos;\">", "''"),
+    ("<a b='&#13;\n'>", "\r "),
+    ("<a b=''>", ""),
+];
+
+#[test]
+fn values_are_normalized(rt: HostRuntime) -> Result<(), Fail> {
+    for (text, expected) in VALUES {
+        assert!(rt; 0 < text.len());
+        let Ok((Markup::Start { attributes, .. }, _)) = next_token(rt.alloc(), text) else {
+            return Err(Fail::from("refused"));
+        };
+        for attribute in &attributes {
+            assert!(rt; attribute.value.is(expected), "{text}");
+            let value = attribute.value.text(rt.alloc())?;
+            assert_eq!(rt; value.as_str(), expected, "{text}");
+        }
     }
     Ok(())
 }

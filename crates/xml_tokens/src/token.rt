@@ -1,14 +1,15 @@
 // What is read of a document.
 
+use crate::value::AttributeValue;
 use std::alloc::{AllocError, AllocFailed};
 
-/// An attribute: its name as written and its normalized value.
+/// An attribute: its name as written, and its value.
 #[derive(Debug, Drop)]
 pub struct Attribute<'a> {
     /// The name as it is written.
     pub name: &'a str,
-    /// The value, with its references replaced and its white space normalized (XML 1.0, 3.3.3).
-    pub value: String,
+    /// The value.
+    pub value: AttributeValue<'a>,
 }
 
 /// One token of a document (XML 1.0, 2.4 to 3.1).

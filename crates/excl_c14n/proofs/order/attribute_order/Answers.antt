@@ -1,12 +1,12 @@
 use Rattle.std.proofs.Common.{◌-◌, ◌≤◌, length, sym, ap, ◌∙◌, subst, arith}
-use Rattle.excl_c14n.specs.Levels.{in_force}
+use Rattle.excl_c14n.specs.NodeByNode.{scope_inside}
 use Rattle.excl_c14n.proofs.Ordered.{IsOrder, attribute_there, none_ordered, one_more_ordered, one_passed, all_ordered}
 use Rattle.excl_c14n.proofs.Placing.{no_names, one_namespace, names_in_order, put_where_named, one_more_named}
 use Rattle.excl_c14n.proofs.order.attribute_order.Goals as goal
 
 pub loop-i-init : goal.loop-i-init
 loop-i-init c =
-    let scope = in_force c.args.bindings.now.scope in
+    let scope = scope_inside c.args.doc.now.tree c.args.n.0 in
     let tree = c.args.doc.now.tree in
     record {
       counted = c.attr_count-i.ensures;
@@ -23,7 +23,7 @@ loop-i-preserved-then-is_some c =
     record {
       counted = c.loop-i.invariant.counted;
       ordered =
-          one_passed (in_force c.args.bindings.now.scope) c.args.doc.now.tree c.args.n.0 c.attr_count-i.result i c.loop-i.i c.loop-i.order.items
+          one_passed (scope_inside c.args.doc.now.tree c.args.n.0) c.args.doc.now.tree c.args.n.0 c.attr_count-i.result i c.loop-i.i c.loop-i.order.items
           c.declared.result (omega arith) (omega arith)
           (attribute_there c.args.doc.now.tree c.args.n.0 c.attr_count-i.result i c.loop-i.invariant.counted (omega arith))
           c.declared.ensures (sym c.is_some.ensures ∙ c.if-is_some.true) c.loop-i.invariant.ordered;
@@ -32,12 +32,12 @@ loop-i-preserved-then-is_some c =
 
 pub place_of-place-requires-clause-prefixes : goal.place_of-place-requires-clause-prefixes
 place_of-place-requires-clause-prefixes c =
-    one_namespace (in_force c.args.bindings.now.scope) c.args.doc.now.tree c.args.n.0 c.name_of_attribute-name.result c.loop-i.order.items
+    one_namespace (scope_inside c.args.doc.now.tree c.args.n.0) c.args.doc.now.tree c.args.n.0 c.name_of_attribute-name.result c.loop-i.order.items
     c.loop-i.names.items c.as_slice.result.now c.loop-i.invariant.named c.as_slice.ensures.value c.name_of_attribute-name.ensures.prefix
 
 pub place_of-place-requires-clause-order : goal.place_of-place-requires-clause-order
 place_of-place-requires-clause-order c =
-    names_in_order (in_force c.args.bindings.now.scope) c.args.doc.now.tree c.args.n.0 c.attr_count-i.result c.loop-i.i c.loop-i.order.items
+    names_in_order (scope_inside c.args.doc.now.tree c.args.n.0) c.args.doc.now.tree c.args.n.0 c.attr_count-i.result c.loop-i.i c.loop-i.order.items
     c.loop-i.names.items c.as_slice.result.now c.loop-i.invariant.named c.loop-i.invariant.ordered c.as_slice.ensures.value
 
 pub insert-requires-in-loop-i : goal.insert-requires-in-loop-i
@@ -47,7 +47,7 @@ insert-requires-in-loop-i c =
 
 pub loop-i-preserved : goal.loop-i-preserved
 loop-i-preserved c =
-    let scope = in_force c.args.bindings.now.scope in
+    let scope = scope_inside c.args.doc.now.tree c.args.n.0 in
     let tree = c.args.doc.now.tree in
     let i = c.loop-i.i - 1 in
     record {
@@ -70,5 +70,5 @@ loop-i-preserved c =
 
 pub returns : goal.returns
 returns c =
-    all_ordered (in_force c.args.bindings.now.scope) c.args.doc.now.tree c.args.n.0 c.attr_count-i.result c.loop-i.i c.loop-i.order.items
+    all_ordered (scope_inside c.args.doc.now.tree c.args.n.0) c.args.doc.now.tree c.args.n.0 c.attr_count-i.result c.loop-i.i c.loop-i.order.items
     c.loop-i.invariant.counted c.loop-i.invariant.ordered (omega arith)

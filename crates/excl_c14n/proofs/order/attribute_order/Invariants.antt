@@ -1,4 +1,4 @@
-use Rattle.excl_c14n.specs.Levels.{in_force}
+use Rattle.excl_c14n.specs.NodeByNode.{scope_inside}
 use Rattle.excl_c14n.proofs.Ordered.{IsOrder, HasCount}
 use Rattle.excl_c14n.proofs.Placing.{AreNamesOf}
 use Rattle.excl_c14n.proofs.order.attribute_order.Given as goal
@@ -6,6 +6,6 @@ use Rattle.excl_c14n.proofs.order.attribute_order.Given as goal
 abbrev pub invariant-loop-i : goal.invariant-loop-i
 invariant-loop-i l = record {
   counted : HasCount l.doc.tree l.n.0 l.initial.i;
-  ordered : IsOrder (in_force l.bindings.scope) l.doc.tree l.n.0 l.initial.i l.i l.order.items;
-  named : AreNamesOf (in_force l.bindings.scope) l.doc.tree l.n.0 l.order.items l.names.items;
+  ordered : IsOrder (scope_inside l.doc.tree l.n.0) l.doc.tree l.n.0 l.initial.i l.i l.order.items;
+  named : AreNamesOf (scope_inside l.doc.tree l.n.0) l.doc.tree l.n.0 l.order.items l.names.items;
 }

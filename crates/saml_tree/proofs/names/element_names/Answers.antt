@@ -12,12 +12,12 @@ pub returns-clause-named : goal.returns-clause-named
 returns-clause-named c =
     let table = c.args.spaces.now.table in
     let attributes = map attribute_view c.args.attributes.now in
-    let apart : are_apart (map (λ a. a.name) attributes) ≡ true = cc in
-    let tested : c.are_expanded_apart.result ≡ true = cc in
+    let apart : are_apart (map (λ a. a.name) attributes) ≡ true = sym c.in_ok-apart.ensures ∙ c.if-not-apart.false in
+    let tested : c.in_ok-differ.differ ≡ true = c.if-not-differ.false in
     named_from (scope_of c.args.spaces.now) c.args.name.now attributes c.in-Some.ensures.0 c.in_ok-list.ensures.well apart
     (sym (ap are_apart_expanded c.in_ok-list.ensures.ok.are)
     ∙ ap (λ (list : List Expanded). are_apart_expanded (map (expanded_view table) list)) (sym c.deref.ensures.value)
-    ∙ sym c.are_expanded_apart.ensures ∙ tested)
+    ∙ sym c.in_ok-differ.ensures ∙ tested)
 
 pub returns-clause-resolved : goal.returns-clause-resolved
 returns-clause-resolved c = record {
@@ -36,20 +36,20 @@ returns-in_err-list-clause-err c =
       | inr bad ↦ inr (bad.0, λ n. bad.1 (well_attributes (scope_of c.args.spaces.now) c.args.name.now (map attribute_view c.args.attributes.now) n))
     ])
 
-pub returns-then-not-are_apart-clause-err : goal.returns-then-not-are_apart-clause-err
-returns-then-not-are_apart-clause-err c =
+pub returns-then-not-apart-clause-err : goal.returns-then-not-apart-clause-err
+returns-then-not-apart-clause-err c =
     let attributes = map attribute_view c.args.attributes.now in
-    let found : are_apart (map (λ a. a.name) attributes) ≡ false = cc in
+    let found : are_apart (map (λ a. a.name) attributes) ≡ false = sym c.in_ok-apart.ensures ∙ c.if-not-apart.true in
     inr (refl, λ n. absurd (let clash : true ≡ false = sym (names_apart (scope_of c.args.spaces.now) c.args.name.now attributes n) ∙ found in cc))
 
-pub returns-then-not-are_expanded_apart-clause-err : goal.returns-then-not-are_expanded_apart-clause-err
-returns-then-not-are_expanded_apart-clause-err c =
+pub returns-then-not-differ-clause-err : goal.returns-then-not-differ-clause-err
+returns-then-not-differ-clause-err c =
     let table = c.args.spaces.now.table in
     let attributes = map attribute_view c.args.attributes.now in
     let scope = scope_of c.args.spaces.now in
-    let tested : c.are_expanded_apart.result ≡ false = cc in
+    let tested : c.in_ok-differ.differ ≡ false = c.if-not-differ.true in
     let found : are_apart_expanded (map (listed scope) attributes) ≡ false =
     sym (ap are_apart_expanded c.in_ok-list.ensures.ok.are)
     ∙ ap (λ (list : List Expanded). are_apart_expanded (map (expanded_view table) list)) (sym c.deref.ensures.value)
-    ∙ sym c.are_expanded_apart.ensures ∙ tested in
+    ∙ sym c.in_ok-differ.ensures ∙ tested in
     inr (refl, λ n. absurd (let clash : true ≡ false = sym (expanded_are_apart scope c.args.name.now attributes n) ∙ found in cc))

@@ -1,10 +1,11 @@
 use Rattle.std.proofs.Common.{rules, ◌≡◌, false, ◌∷◌, ◌++◌, [], length, sym, ◌∙◌, ap, subst, arith}
 use Rattle.std.proofs.lemmas.Result.{err_from_is_err_and}
 use Rattle.saml_tree.specs.RowTests.{is_small_token}
-use Rattle.saml_tree.specs.Views.{outline_view}
+use Rattle.saml_tree.specs.Links.{depths_of, AreLinkedSoFar}
+use Rattle.saml_tree.specs.Views.{outline_view, row_views, links_of}
 use Rattle.xml_spec.specs.Syntax.{print_tokens}
 use Rattle.saml_tree.proofs.Reading.{after, Progress, reads_more, reads_printed, more_progress, no_place, no_tokens, not_complete}
-use Rattle.saml_tree.proofs.Following.{more_small, more_follows, builder_depth, token_length, empty_list, no_token, not_taken, rows_read, rows_within, not_kept}
+use Rattle.saml_tree.proofs.Following.{more_small, more_follows, builder_depth, none_open, no_items, token_length, empty_list, no_token, not_taken, rows_read, rows_within, not_kept}
 use Rattle.saml_tree.proofs.read.read_rows.Goals as goal
 
 pub take-requires-clause-tail : goal.take-requires-clause-tail
@@ -84,6 +85,7 @@ tokens-preserved c =
     sym read.1.level ∙ sym c.depth.ensures in
     record {
       utf8 = search rules;
+      linked = c.in_ok-take-2.ensures.linked c.tokens.invariant.linked;
       outline = c.take.ensures.text ∙ c.tokens.invariant.outline;
       read = (
         read.0 ++ found.0 ∷ [],
@@ -116,3 +118,13 @@ returns-clause-limits c =
     let ended : c.tokens.left.now ≡ [] = empty_list c.tokens.left.now (sym c.is_empty.ensures ∙ c.tokens-test.false) in
     rows_within c.args.text.now c.args.rest.now c.tokens.left.now read.0 (outline_view c.tokens.outline) read.1 ended
     (sym c.is_complete.ensures ∙ c.if-not-is_complete.false) c.tokens.builder read.2
+
+pub returns-clause-linked : goal.returns-clause-linked
+returns-clause-linked c =
+    let read = c.tokens.invariant.read in
+    let builder = c.tokens.builder in
+    let closed : length builder.open_elements.items ≡ 0 =
+    builder_depth builder (after c.args.text.now c.args.rest.now read.0) read.2.view ∙ sym read.1.level
+    ∙ none_open (outline_view c.tokens.outline) (sym c.is_complete.ensures ∙ c.if-not-is_complete.false) in
+    subst (λ numbers. AreLinkedSoFar (depths_of (row_views builder.rows.items)) (links_of builder.rows.items) numbers)
+    (no_items builder.open_elements.items closed) c.tokens.invariant.linked

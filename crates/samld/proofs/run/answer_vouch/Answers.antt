@@ -1,5 +1,24 @@
-use Rattle.samld.proofs.Answering.{rose_since}
+use Rattle.std.proofs.Common.{ℕ, List, subst}
+use Rattle.xml_spec.specs.declared.TheConstants.{MAX_DOCUMENT_LENGTH}
+use Rattle.samld.specs.declared.limits.TheConstants.{GREATEST_KEY}
+use Rattle.samld.specs.Answers.{Answer}
+use Rattle.samld.specs.Vouch.{OfVouch}
+use Rattle.samld.specs.Running.{Vouch, OfFile, OfCommand}
+use Rattle.samld.specs.Views.{answer_view}
+use Rattle.samld.proofs.Answering.{if_ok_map, read_whole}
 use Rattle.samld.proofs.run.answer_vouch.Goals as goal
 
-pub returns-in-Some-clause-err : goal.returns-in-Some-clause-err
-returns-in-Some-clause-err g c = λ e. rose_since _ _ _ c.read.ensures.never_falls (c.answer_with_key.ensures.err e)
+pub returns-in-Some-clause-ok : goal.returns-in-Some-clause-ok
+returns-in-Some-clause-ok g c =
+    let told = g.F.Files.holds c.args.files.now in
+    let id = c.args.id.now in
+    let key_file = c.args.key_file.now in
+    let later : List ℕ → Answer → Type 0 = λ bytes. OfFile (OfVouch id key_file bytes) told key_file GREATEST_KEY in
+    let whole = rw c.in-Some.is at c.in_ok-bytes.ensures.ok in
+    if_ok_map c.answer_with_key.result
+    (λ answer. OfFile (OfVouch id key_file c.deref.result.now) (g.F.Files.holds c.read.new.files) key_file GREATEST_KEY (answer_view answer))
+    (λ answer. OfCommand told (Vouch c.args.file.now id key_file) (answer_view answer))
+    (λ answer h. read_whole later told c.args.file.now MAX_DOCUMENT_LENGTH c.in-Some.bytes.items whole (answer_view answer)
+    (subst (λ bytes. OfFile (OfVouch id key_file bytes) told key_file GREATEST_KEY (answer_view answer)) c.deref.ensures.value
+    (subst (λ holds. OfFile (OfVouch id key_file c.deref.result.now) holds key_file GREATEST_KEY (answer_view answer)) c.in_ok-bytes.ensures.same h)))
+    c.answer_with_key.ensures.ok

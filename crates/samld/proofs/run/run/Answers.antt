@@ -1,7 +1,19 @@
-use Rattle.std.proofs.Common.{inl}
-use Rattle.samld.proofs.Completeness.{answers_done}
+use Rattle.std.proofs.Common.{Some, sym, ap, ◌∙◌}
+use Rattle.std.specs.Option.{option_map}
+use Rattle.samld.specs.Running.{OfCommand, Answers}
+use Rattle.samld.specs.Views.{command_view}
+use Rattle.samld.proofs.Answering.{weaker, answered, settled}
+use Rattle.samld.proofs.Completeness.{accepted_yes}
 use Rattle.samld.proofs.run.run.Goals as goal
 
-pub returns-in-Ok-put-clause-complete : goal.returns-in-Ok-put-clause-complete
-returns-in-Ok-put-clause-complete g c = λ accepts _ _.
-    inl (answers_done c.args.words.now (g.F.Files.holds c.args.files.now) c.in-Ok.status c.in-Ok.text accepts c.in-Ok.ensures.ok)
+pub returns-in-Some-clause-complete : goal.returns-in-Some-clause-complete
+returns-in-Some-clause-complete g c = λ accepted no_read no_write.
+    let words = c.args.words.now in
+    let told = g.F.Files.holds c.args.files.now in
+    let old = g.K.Sink.taken c.args.out.now in
+    let new = g.K.Sink.taken c.run_command.new.out in
+    let command = command_view c.in-Some.command in
+    settled (Answers words told) old new c.run_command.result (accepted_yes words told accepted)
+    (λ e. no_read (c.run_command.ensures.read_fault e)) (λ e. no_write (c.run_command.ensures.write_fault e))
+    (weaker (OfCommand told command) (Answers words told) old new c.run_command.result
+    (answered words told command (sym c.command_of.ensures ∙ ap (option_map command_view) c.in-Some.is)) c.run_command.ensures.ends)

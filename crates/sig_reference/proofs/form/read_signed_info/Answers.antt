@@ -1,74 +1,56 @@
-use Rattle.std.proofs.Common.{ℕ, refl, sym, ap, ◌∙◌, subst}
+use Rattle.std.proofs.Common.{◌≡◌, ℕ, sym, ap, ◌∙◌, subst}
 use Rattle.std.proofs.lemmas.Result.{err_from_is_err_and}
-use Rattle.sig_reference.specs.Kids.{kids_at}
+use Rattle.xml_spec.specs.Tree.{Nodes}
+use Rattle.tree_read.specs.Children.{element_children}
 use Rattle.sig_reference.specs.Form.{IsCanonicalization, IsReference}
-use Rattle.sig_reference.specs.Views.{reference_parts}
-use Rattle.sig_reference.proofs.Shapes.{fault_on, first_is, behind_first, first_child, second_child, third_child, joined_three, reference_with}
+use Rattle.sig_reference.proofs.Shapes.{fault_on, of_document, by_name, first_is, behind_first}
 use Rattle.sig_reference.proofs.form.read_signed_info.Goals as goal
 
-pub returns-in_err-canonicalization-clause-differs : goal.returns-in_err-canonicalization-clause-differs
-returns-in_err-canonicalization-clause-differs c =
-    let tree = c.args.doc.now.tree in
+pub returns-in_err-canonicalization-clause-other : goal.returns-in_err-canonicalization-clause-other
+returns-in_err-canonicalization-clause-other c =
     let p = err_from_is_err_and c.from_residual.result c.from_residual.ensures.1 in
-    rw (p.1, p.2) (fault_on c.in_err-canonicalization.field-0.0 _ _ c.in_err-canonicalization.ensures.differs (λ no parts here i.
-    no i.canonicalization _ (c.of-kids.ensures ∙ ap (kids_at tree) (sym here) ∙ i.kids)))
+    rw (p.1, p.2) (λ parts here i.
+    c.in_err-canonicalization.ensures.other i.canonicalization _
+    (c.of-children.ensures.left ∙ ap (element_children c.args.at.doc.now.tree) (sym here) ∙ i.children ∙ by_name c.ds.ensures))
 
-pub returns-in_err-method-clause-differs : goal.returns-in_err-method-clause-differs
-returns-in_err-method-clause-differs c =
-    let tree = c.args.doc.now.tree in
+pub returns-in_err-method-clause-other : goal.returns-in_err-method-clause-other
+returns-in_err-method-clause-other c =
     let p = err_from_is_err_and c.from_residual-in_err-method.result c.from_residual-in_err-method.ensures.1 in
-    rw (p.1, p.2) (fault_on c.in_err-method.field-0.0 _ _ c.in_err-method.ensures.differs (λ no parts here i.
-    no i.method _ (behind_first c.in_ok-canonicalization.ensures.taken (c.of-kids.ensures ∙ ap (kids_at tree) (sym here) ∙ i.kids))))
+    rw (p.1, p.2) (λ parts here i.
+    c.in_err-method.ensures.other i.method _
+    (behind_first c.in_ok-canonicalization.ensures.taken (c.of-children.ensures.left ∙ ap (element_children c.args.at.doc.now.tree) (sym here) ∙ i.children)
+    ∙ by_name c.ds-2.ensures))
 
-pub returns-in_err-reference-clause-differs : goal.returns-in_err-reference-clause-differs
-returns-in_err-reference-clause-differs c =
-    let tree = c.args.doc.now.tree in
+pub returns-in_err-reference-clause-other : goal.returns-in_err-reference-clause-other
+returns-in_err-reference-clause-other c =
     let p = err_from_is_err_and c.from_residual-in_err-reference.result c.from_residual-in_err-reference.ensures.1 in
-    rw (p.1, p.2) (fault_on c.in_err-reference.field-0.0 _ _ c.in_err-reference.ensures.differs (λ no parts here i.
-    no i.reference _ (behind_first c.in_ok-method.ensures.taken
-    (behind_first c.in_ok-canonicalization.ensures.taken (c.of-kids.ensures ∙ ap (kids_at tree) (sym here) ∙ i.kids)))))
+    rw (p.1, p.2) (λ parts here i.
+    c.in_err-reference.ensures.other i.reference _
+    (behind_first c.in_ok-method.ensures.taken
+    (behind_first c.in_ok-canonicalization.ensures.taken (c.of-children.ensures.left ∙ ap (element_children c.args.at.doc.now.tree) (sym here) ∙ i.children))
+    ∙ by_name c.ds-3.ensures))
 
-pub read_canonicalization-requires : goal.read_canonicalization-requires
-read_canonicalization-requires c =
-    (first_child c.args.doc.now.tree c.args.node.0 (sym c.of-kids.ensures ∙ c.in_ok-canonicalization.ensures.taken)).1
-
-pub returns-in_err-prefixes-clause-differs : goal.returns-in_err-prefixes-clause-differs
-returns-in_err-prefixes-clause-differs c =
-    let tree = c.args.doc.now.tree in
+pub returns-in_err-prefixes-clause-other : goal.returns-in_err-prefixes-clause-other
+returns-in_err-prefixes-clause-other c =
+    let at = c.in_ok-canonicalization.canonicalization in
+    let same : c.args.at.doc.now ≡ at.doc.now = sym (c.in_ok-canonicalization.ensures.there ∙ c.of-children.ensures.document) in
     let p = err_from_is_err_and c.from_residual-in_err-prefixes.result c.from_residual-in_err-prefixes.ensures.1 in
-    rw (p.1, p.2) (fault_on c.in_err-prefixes.field-0.0 _ _ c.in_err-prefixes.ensures.differs (λ no parts here i.
-    no parts.info_prefixes (subst (λ (n : ℕ). IsCanonicalization tree n parts.info_prefixes)
-    (first_is (c.of-kids.ensures ∙ ap (kids_at tree) (sym here) ∙ i.kids) c.in_ok-canonicalization.ensures.taken) i.canonical)))
+    rw (p.1, p.2) (fault_on c.in_err-prefixes.field-0.0 _ _ c.in_err-prefixes.ensures.other (λ no parts here i.
+    let first =
+    first_is (c.of-children.ensures.left ∙ ap (element_children c.args.at.doc.now.tree) (sym here) ∙ i.children) c.in_ok-canonicalization.ensures.taken in
+    no parts.info_prefixes (of_document (λ (tree : Nodes). IsCanonicalization tree at.node.0 parts.info_prefixes) same
+    (subst (λ (n : ℕ). IsCanonicalization c.args.at.doc.now.tree n parts.info_prefixes) first i.canonical))))
 
-pub read_method-requires : goal.read_method-requires
-read_method-requires c =
-    (second_child c.args.doc.now.tree c.args.node.0 (sym c.of-kids.ensures ∙ c.in_ok-canonicalization.ensures.taken) c.in_ok-method.ensures.taken).1
-
-pub read_reference-requires : goal.read_reference-requires
-read_reference-requires c =
-    (third_child c.args.doc.now.tree c.args.node.0 (sym c.of-kids.ensures ∙ c.in_ok-canonicalization.ensures.taken) c.in_ok-method.ensures.taken
-    c.in_ok-reference.ensures.taken).1
-
-pub returns-in_err-reference-2-clause-differs : goal.returns-in_err-reference-2-clause-differs
-returns-in_err-reference-2-clause-differs c =
-    let tree = c.args.doc.now.tree in
+pub returns-in_err-reference-2-clause-other : goal.returns-in_err-reference-2-clause-other
+returns-in_err-reference-2-clause-other c =
+    let at = c.in_ok-reference.reference in
+    let same : c.args.at.doc.now ≡ at.doc.now =
+    sym (c.in_ok-reference.ensures.there ∙ c.take-2.ensures.document ∙ c.take.ensures.document ∙ c.of-children.ensures.document) in
     let p = err_from_is_err_and c.from_residual-in_err-reference-2.result c.from_residual-in_err-reference-2.ensures.1 in
-    rw (p.1, p.2) (fault_on c.in_err-reference-2.field-0.0 _ _ c.in_err-reference-2.ensures.differs (λ no parts here i.
+    rw (p.1, p.2) (fault_on c.in_err-reference-2.field-0.0 _ _ c.in_err-reference-2.ensures.other (λ no parts here i.
     let third =
     first_is (behind_first c.in_ok-method.ensures.taken
-    (behind_first c.in_ok-canonicalization.ensures.taken (c.of-kids.ensures ∙ ap (kids_at tree) (sym here) ∙ i.kids)))
+    (behind_first c.in_ok-canonicalization.ensures.taken (c.of-children.ensures.left ∙ ap (element_children c.args.at.doc.now.tree) (sym here) ∙ i.children)))
     c.in_ok-reference.ensures.taken in
-    no parts (subst (λ (n : ℕ). IsReference tree n parts) third i.referred)))
-
-pub returns-clause-ok : goal.returns-clause-ok
-returns-clause-ok c =
-    let tree = c.args.doc.now.tree in
-    record {
-      canonicalization = c.in_ok-canonicalization.canonicalization.0;
-      method = c.in_ok-method.method.0;
-      reference = c.in_ok-reference.reference.0;
-      kids = joined_three (sym c.of-kids.ensures ∙ c.in_ok-canonicalization.ensures.taken) c.in_ok-method.ensures.taken c.in_ok-reference.ensures.taken c.in_ok-end.ensures.done;
-      canonical = c.in_ok-prefixes.ensures.ok;
-      signed = c.in_ok-read_method.ensures.ok;
-      referred = reference_with tree c.in_ok-reference.reference.0 (reference_parts c.in_ok-reference-2.reference) _ refl refl refl c.in_ok-reference-2.ensures.ok;
-    }
+    no parts (of_document (λ (tree : Nodes). IsReference tree at.node.0 parts) same
+    (subst (λ (n : ℕ). IsReference c.args.at.doc.now.tree n parts) third i.referred))))

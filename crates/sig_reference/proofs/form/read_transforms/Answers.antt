@@ -1,24 +1,20 @@
-use Rattle.std.proofs.Common.{ℕ, sym, ◌∙◌, subst}
+use Rattle.std.proofs.Common.{◌≡◌, ℕ, sym, ◌∙◌, subst}
 use Rattle.std.proofs.lemmas.Result.{err_from_is_err_and, IfErr-weaker}
+use Rattle.xml_spec.specs.Tree.{Nodes}
 use Rattle.sig_reference.specs.Form.{IsCanonicalization}
-use Rattle.sig_reference.proofs.Shapes.{fault_on, first_is, behind_first, first_child, second_child}
+use Rattle.sig_reference.proofs.Shapes.{fault_on, of_document, by_name, first_is, behind_first}
 use Rattle.sig_reference.proofs.form.read_transforms.Goals as goal
 
-pub returns-in_err-first-clause-differs : goal.returns-in_err-first-clause-differs
-returns-in_err-first-clause-differs c =
+pub returns-in_err-first-clause-other : goal.returns-in_err-first-clause-other
+returns-in_err-first-clause-other c =
     let p = err_from_is_err_and c.from_residual.result c.from_residual.ensures.1 in
-    rw (p.1, p.2) (fault_on c.in_err-first.field-0.0 _ _ c.in_err-first.ensures.differs (λ no prefixes t. no t.first _ (c.of-kids.ensures ∙ t.kids)))
+    rw (p.1, p.2) (λ prefixes t. c.in_err-first.ensures.other t.first _ (c.of-children.ensures.left ∙ t.children ∙ by_name c.ds.ensures))
 
-pub read_method-requires : goal.read_method-requires
-read_method-requires c = (first_child c.args.doc.now.tree c.args.node.0 (sym c.of-kids.ensures ∙ c.in_ok-first.ensures.taken)).1
-
-pub read_canonicalization-requires : goal.read_canonicalization-requires
-read_canonicalization-requires c =
-    (second_child c.args.doc.now.tree c.args.node.0 (sym c.of-kids.ensures ∙ c.in_ok-first.ensures.taken) c.in_ok-second.ensures.taken).1
-
-pub returns-clause-differs : goal.returns-clause-differs
-returns-clause-differs c =
-    let tree = c.args.doc.now.tree in
+pub returns-clause-other : goal.returns-clause-other
+returns-clause-other c =
+    let at = c.in_ok-second.second in
+    let same : c.args.at.doc.now ≡ at.doc.now = sym (c.in_ok-second.ensures.there ∙ c.take.ensures.document ∙ c.of-children.ensures.document) in
     IfErr-weaker c.read_canonicalization.result _ _ (λ fault says. fault_on fault _ _ says (λ no prefixes t.
-    let second = first_is (behind_first c.in_ok-first.ensures.taken (c.of-kids.ensures ∙ t.kids)) c.in_ok-second.ensures.taken in
-    no prefixes (subst (λ (n : ℕ). IsCanonicalization tree n prefixes) second t.canonical))) c.read_canonicalization.ensures.differs
+    let second = first_is (behind_first c.in_ok-first.ensures.taken (c.of-children.ensures.left ∙ t.children)) c.in_ok-second.ensures.taken in
+    no prefixes (of_document (λ (tree : Nodes). IsCanonicalization tree at.node.0 prefixes) same
+    (subst (λ (n : ℕ). IsCanonicalization c.args.at.doc.now.tree n prefixes) second t.canonical)))) c.read_canonicalization.ensures.other

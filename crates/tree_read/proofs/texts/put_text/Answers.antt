@@ -9,7 +9,7 @@ use Rattle.tree_read.proofs.texts.put_text.Goals as goal
 use Rattle.tree_read.proofs.texts.put_text.Goals.{in-Text+in_ok-put_text-in-Text, in-Element}
 
 pub last_below-last-requires : goal.last_below-last-requires
-last_below-last-requires c = element_there c.args.at.doc.now.tree c.args.at.node.0 c.requires.element
+last_below-last-requires c = element_there c.args.at.doc.now.tree c.args.at.node.0 c.args.at.element
 
 pub loop-before-init : goal.loop-before-init
 loop-before-init c = record {

@@ -1,5 +1,5 @@
 use Rattle.std.proofs.Common.{refl}
-use Rattle.xml_spec.specs.Syntax.{Section, Remark, Alone}
+use Rattle.xml_spec.specs.Syntax.{Section, CommentItem, Alone}
 use Rattle.xml_tokens.proofs.MarkReadings.{no_section_token, no_comment_token, neither_token, section_begins, comment_begins}
 use Rattle.xml_tokens.proofs.lex.section_or_comment.Goals as goal
 
@@ -24,7 +24,7 @@ returns-in_err-text-2 c =
 
 pub returns : goal.returns
 returns c = (
-  Alone (Remark c.in_ok-text-2.text.now),
+  Alone (CommentItem c.in_ok-text-2.text.now),
   refl,
   comment_begins c.args.rest.now c.in_ok-inner.inner.now c.in_ok-text-2.text.now c.in_ok-text-2.behind.now c.in_ok-inner.ensures c.in_ok-text-2.ensures,
 )

@@ -1,45 +1,82 @@
-use Rattle.std.proofs.Common.{◌++◌, Option, sym, ap, ◌∙◌, subst, arith}
-use Rattle.std.proofs.lemmas.List.{append-nil}
-use Rattle.xml_spec.specs.Numbering.{from_node}
+use Rattle.std.proofs.Common.{suc, ◌++◌, Option, refl, sym, ap, ◌∙◌, subst, append_assoc, arith}
+use Rattle.std.proofs.lemmas.Result.{on_ok_weaker, on_err_weaker}
+use Rattle.xml_spec.specs.Numbering.{from_node, kids_of}
+use Rattle.xml_spec.specs.Canonical.{print_end}
 use Rattle.xml_spec.specs.Names.{declarations, inner_scope}
 use Rattle.saml_tree.specs.declared.node.NodeNo.{NodeNo}
 use Rattle.saml_tree.specs.Elements.{name_in, attributes_in}
+use Rattle.canon_octets.specs.Places.{AppendsPart}
+use Rattle.canon_octets.proofs.Underway.{same_rest, underway, complete}
+use Rattle.canon_octets.proofs.Appending.{on_err, part_of_first, part_of_second, last_ok, last_err}
 use Rattle.excl_c14n.specs.Levels.{BindingsView, in_force}
-use Rattle.excl_c14n.specs.NodeByNode.{written_in, node_form}
+use Rattle.excl_c14n.specs.NodeByNode.{written_in, start_in, node_form, nodes_form}
 use Rattle.excl_c14n.proofs.Answering.{on_ok_anyway}
+use Rattle.excl_c14n.proofs.Below.{IsInside, kids_inside, next_inside}
 use Rattle.excl_c14n.proofs.Nesting.{kept_below}
 use Rattle.excl_c14n.proofs.Opening.{scope_below, rendered_below, scope_level_below, rendered_level_below, ended}
 use Rattle.excl_c14n.proofs.Walking.{number_of, form_from, IsBehind, kids_form, kids_behind, next_behind, behind_both}
-use Rattle.excl_c14n.proofs.Written.{skipped_form, text_written, comment_form, instruction_written, element_written, one_more_written}
+use Rattle.excl_c14n.proofs.Written.{skipped_form, text_written, comment_form, instruction_written, element_form, one_more_written, one_written_partly}
 use Rattle.excl_c14n.proofs.walk.Walk.+put_node.Goals as goal
 
 pub returns-then-skips-clause-form : goal.returns-then-skips-clause-form
-returns-then-skips-clause-form t c =
-    sym (ap (λ xs. c.args.out.now.items ++ xs)
-    (skipped_form c.args.self.now.listed (number_of c.args.self.now.skip) (in_force c.args.bindings.now.scope) (in_force c.args.bindings.now.rendered) c.args.n.0
-    (from_node c.args.self.now.doc.now.tree c.args.n.0) (sym c.skips.ensures ∙ c.if-skips.true)) ∙ append-nil c.args.out.now.items)
+returns-then-skips-clause-form g t c =
+    subst (g.O.Octets.appends c.args.out.now c.args.out.now)
+    (sym (skipped_form c.args.self.now.listed (number_of c.args.self.now.skip) (in_force c.args.bindings.now.scope) (in_force c.args.bindings.now.rendered) c.args.n.0
+    (from_node c.args.self.now.doc.now.tree c.args.n.0) (sym c.skips.ensures ∙ c.if-skips.true)))
+    (g.met.O.Octets.composes.nothing c.args.out.now)
 
 pub returns-in-Text-clause-form : goal.returns-in-Text-clause-form
-returns-in-Text-clause-form t c =
-    text_written c.args.self.now.listed (number_of c.args.self.now.skip) (in_force c.args.bindings.now.scope) (in_force c.args.bindings.now.rendered) c.args.n.0
-    (from_node c.args.self.now.doc.now.tree c.args.n.0) c.put_text.result
-    c.args.out.now.items c.put_text.new.out.items (sym c.skips.ensures ∙ c.if-skips.false) c.in-Text.ensures c.put_text.ensures
+returns-in-Text-clause-form g t c =
+    on_ok_weaker c.put_text.result
+    (text_written c.args.self.now.listed (number_of c.args.self.now.skip) (in_force c.args.bindings.now.scope) (in_force c.args.bindings.now.rendered)
+    (g.O.Octets.appends c.args.out.now c.put_text.new.out) c.args.n.0
+    (from_node c.args.self.now.doc.now.tree c.args.n.0) (sym c.skips.ensures ∙ c.if-skips.false) c.in-Text.ensures) c.put_text.ensures.ok
+
+pub returns-in-Text-clause-err : goal.returns-in-Text-clause-err
+returns-in-Text-clause-err g t c =
+    on_err_weaker c.put_text.result
+    (text_written c.args.self.now.listed (number_of c.args.self.now.skip) (in_force c.args.bindings.now.scope) (in_force c.args.bindings.now.rendered)
+    (AppendsPart g.O.Octets.appends c.args.out.now c.put_text.new.out) c.args.n.0
+    (from_node c.args.self.now.doc.now.tree c.args.n.0) (sym c.skips.ensures ∙ c.if-skips.false) c.in-Text.ensures) c.put_text.ensures.err
 
 pub returns-in-Comment-clause-form : goal.returns-in-Comment-clause-form
-returns-in-Comment-clause-form t c =
-    sym (ap (λ xs. c.args.out.now.items ++ xs)
-    (comment_form c.args.self.now.listed (number_of c.args.self.now.skip) (in_force c.args.bindings.now.scope) (in_force c.args.bindings.now.rendered) c.args.n.0
-    (from_node c.args.self.now.doc.now.tree c.args.n.0) c.in-Comment.ensures)
-    ∙ append-nil c.args.out.now.items)
+returns-in-Comment-clause-form g t c =
+    subst (g.O.Octets.appends c.args.out.now c.args.out.now)
+    (sym (comment_form c.args.self.now.listed (number_of c.args.self.now.skip) (in_force c.args.bindings.now.scope) (in_force c.args.bindings.now.rendered) c.args.n.0
+    (from_node c.args.self.now.doc.now.tree c.args.n.0) c.in-Comment.ensures))
+    (g.met.O.Octets.composes.nothing c.args.out.now)
 
 pub returns-in-Instruction-clause-form : goal.returns-in-Instruction-clause-form
-returns-in-Instruction-clause-form t c =
-    instruction_written c.args.self.now.listed (number_of c.args.self.now.skip) (in_force c.args.bindings.now.scope) (in_force c.args.bindings.now.rendered) c.args.n.0
-    (from_node c.args.self.now.doc.now.tree c.args.n.0) c.put_instruction.result c.args.out.now.items c.put_instruction.new.out.items
-    (sym c.skips.ensures ∙ c.if-skips.false) c.in-Instruction.ensures c.put_instruction.ensures
+returns-in-Instruction-clause-form g t c =
+    on_ok_weaker c.put_instruction.result
+    (instruction_written c.args.self.now.listed (number_of c.args.self.now.skip) (in_force c.args.bindings.now.scope) (in_force c.args.bindings.now.rendered)
+    (g.O.Octets.appends c.args.out.now c.put_instruction.new.out) c.args.n.0
+    (from_node c.args.self.now.doc.now.tree c.args.n.0) (sym c.skips.ensures ∙ c.if-skips.false) c.in-Instruction.ensures) c.put_instruction.ensures.ok
+
+pub returns-in-Instruction-clause-err : goal.returns-in-Instruction-clause-err
+returns-in-Instruction-clause-err g t c =
+    on_err_weaker c.put_instruction.result
+    (instruction_written c.args.self.now.listed (number_of c.args.self.now.skip) (in_force c.args.bindings.now.scope) (in_force c.args.bindings.now.rendered)
+    (AppendsPart g.O.Octets.appends c.args.out.now c.put_instruction.new.out) c.args.n.0
+    (from_node c.args.self.now.doc.now.tree c.args.n.0) (sym c.skips.ensures ∙ c.if-skips.false) c.in-Instruction.ensures) c.put_instruction.ensures.err
+
+pub returns-in_err-begin-clause-err : goal.returns-in_err-begin-clause-err
+returns-in_err-begin-clause-err g t c =
+    let listed = c.args.self.now.listed in
+    let skip = number_of c.args.self.now.skip in
+    let tree = c.args.self.now.doc.now.tree in
+    let nodes = from_node tree c.args.n.0 in
+    let scope = in_force c.args.bindings.now.scope in
+    let rendered = in_force c.args.bindings.now.rendered in
+    let first = start_in listed scope rendered (name_in nodes) (attributes_in nodes) in
+    let kids = nodes_form listed skip (suc c.args.n.0) (inner_scope (attributes_in nodes) scope) (written_in listed scope rendered (name_in nodes) (attributes_in nodes) ++ rendered) (kids_of nodes) in
+    on_err c.from_residual.result
+    (subst (AppendsPart g.O.Octets.appends c.args.out.now c.begin.new.out) (sym (element_form listed skip scope rendered c.args.n.0 nodes (inner_scope (attributes_in nodes) scope) (written_in listed scope rendered (name_in nodes) (attributes_in nodes) ++ rendered)
+    (sym c.skips.ensures ∙ c.if-skips.false) c.in-Element.ensures refl refl))
+    (part_of_first g.met.O.Octets.composes c.args.out.now c.begin.new.out first (kids ++ print_end (name_in nodes)) c.in_err-begin.ensures.err))
 
 pub loop-next-init : goal.loop-next-init
-loop-next-init t c =
+loop-next-init g t c =
     let listed = c.args.self.now.listed in
     let skip = number_of c.args.self.now.skip in
     let tree = c.args.self.now.doc.now.tree in
@@ -47,14 +84,16 @@ loop-next-init t c =
     let rendered = in_force c.begin.new.bindings.rendered in
     record {
       written =
-          ap (λ xs. c.begin.new.out.items ++ xs)
-          (ap (form_from listed skip scope rendered tree) c.first_kid-next.ensures.number ∙ sym (kids_form listed skip scope rendered tree c.args.n.0));
+          same_rest g.O.Octets.appends c.begin.new.out c.begin.new.out _ _ _
+          (kids_form listed skip scope rendered tree c.args.n.0 ∙ ap (form_from listed skip scope rendered tree) (sym c.first_kid-next.ensures.number))
+          (underway g.met.O.Octets.composes c.begin.new.out _);
       same = λ i. c.begin.new.bindings;
       behind = subst (IsBehind tree c.args.n.0) (sym c.first_kid-next.ensures.number) (kids_behind tree c.args.n.0);
+      inside = subst (IsInside tree c.args.n.0) (sym c.first_kid-next.ensures.number) (kids_inside tree c.args.n.0);
     }
 
 pub put_node-requires : goal.put_node-requires
-put_node-requires t c =
+put_node-requires g t c _ outlived =
     let tree = c.args.self.now.doc.now.tree in
     let nodes = from_node tree c.args.n.0 in
     let listed = c.args.self.now.listed in
@@ -65,18 +104,25 @@ put_node-requires t c =
     let now = c.loop-next.invariant.same ∙ c.in_ok-begin.ensures.bound in (
       omega (arith, kid.0, kid.1, c.decreases),
       (
-        kid.1,
+        outlived,
         (
-          c.requires.names,
-          kept_below listed (inner_scope (attributes_in nodes) (in_force before.scope)) (in_force c.loop-next.bindings.scope) (in_force before.rendered)
-              (in_force c.loop-next.bindings.rendered) (name_in nodes) (attributes_in nodes) _
-              (scope_below before c.loop-next.bindings bs shown now) (rendered_below before c.loop-next.bindings bs shown now),
+          kid.1,
+          (
+            c.requires.names,
+            (
+              scope_below before c.loop-next.bindings bs shown now ∙ ap (inner_scope (attributes_in nodes)) c.requires.scope
+                  ∙ sym (subst (λ (o : Option NodeNo). IsInside tree c.args.n.0 (number_of o)) c.in-Some.is c.loop-next.invariant.inside),
+              kept_below listed (inner_scope (attributes_in nodes) (in_force before.scope)) (in_force c.loop-next.bindings.scope) (in_force before.rendered)
+                  (in_force c.loop-next.bindings.rendered) (name_in nodes) (attributes_in nodes) _
+                  (scope_below before c.loop-next.bindings bs shown now) (rendered_below before c.loop-next.bindings bs shown now),
+            ),
+          ),
         ),
       ),
     )
 
 pub loop-next-preserved : goal.loop-next-preserved
-loop-next-preserved t c =
+loop-next-preserved g t c =
     let listed = c.args.self.now.listed in
     let skip = number_of c.args.self.now.skip in
     let tree = c.args.self.now.doc.now.tree in
@@ -85,37 +131,26 @@ loop-next-preserved t c =
     let kid = c.in-Some.kid.0 in
     record {
       written =
-          ap (λ o. c.put_node.new.out.items ++ form_from listed skip scope rendered tree o) c.next-next.ensures.number
-          ∙ one_more_written listed skip scope rendered tree kid c.loop-next.out.items c.put_node.new.out.items _
-          (ap (λ o. c.loop-next.out.items ++ form_from listed skip scope rendered tree (number_of o)) (sym c.in-Some.is) ∙ c.loop-next.invariant.written)
-          (c.in_ok-put_node.ensures.form
-          ∙ ap (λ (v : BindingsView). c.loop-next.out.items ++ node_form listed skip kid (in_force v.scope) (in_force v.rendered) (from_node tree kid))
-          c.loop-next.invariant.same);
+          same_rest g.O.Octets.appends c.begin.new.out c.put_node.new.out _ _ _ (ap (form_from listed skip scope rendered tree) (sym c.next-next.ensures.number))
+          (one_more_written listed skip scope rendered g.met.O.Octets.composes c.begin.new.out c.loop-next.out c.put_node.new.out tree kid _
+          (same_rest g.O.Octets.appends c.begin.new.out c.loop-next.out _ _ _ (ap (λ o. form_from listed skip scope rendered tree (number_of o)) c.in-Some.is)
+          c.loop-next.invariant.written)
+          (subst (λ (v : BindingsView). g.O.Octets.appends c.loop-next.out c.put_node.new.out (node_form listed skip kid (in_force v.scope) (in_force v.rendered) (from_node tree kid)))
+          c.loop-next.invariant.same c.in_ok-put_node.ensures.form));
       same = c.in_ok-put_node.ensures.same ∙ c.loop-next.invariant.same;
       behind =
           behind_both tree c.args.n.0 kid (number_of c.next-next.result)
           (subst (λ (o : Option NodeNo). IsBehind tree c.args.n.0 (number_of o)) c.in-Some.is c.loop-next.invariant.behind)
           (subst (IsBehind tree kid) (sym c.next-next.ensures.number) (next_behind tree kid));
+      inside =
+          subst (IsInside tree c.args.n.0) (sym c.next-next.ensures.number)
+          (next_inside tree c.args.n.0 kid
+          (subst (λ (o : Option NodeNo). IsInside tree c.args.n.0 (number_of o)) c.in-Some.is c.loop-next.invariant.inside));
     }
 
-pub leave-requires-clause-scope : goal.leave-requires-clause-scope
-leave-requires-clause-scope t c =
-    let nodes = from_node c.args.self.now.doc.now.tree c.args.n.0 in
-    let before = c.args.bindings.now in
-    scope_level_below before c.loop-next.bindings (declarations (attributes_in nodes))
-    (written_in c.args.self.now.listed (in_force before.scope) (in_force before.rendered) (name_in nodes) (attributes_in nodes))
-    (c.loop-next.invariant.same ∙ c.in_ok-begin.ensures.bound)
-
-pub leave-requires-clause-rendered : goal.leave-requires-clause-rendered
-leave-requires-clause-rendered t c =
-    let nodes = from_node c.args.self.now.doc.now.tree c.args.n.0 in
-    let before = c.args.bindings.now in
-    rendered_level_below before c.loop-next.bindings (declarations (attributes_in nodes))
-    (written_in c.args.self.now.listed (in_force before.scope) (in_force before.rendered) (name_in nodes) (attributes_in nodes))
-    (c.loop-next.invariant.same ∙ c.in_ok-begin.ensures.bound)
-
-pub returns-clause-form : goal.returns-clause-form
-returns-clause-form t c =
+pub returns-in_err-put_node-clause-err : goal.returns-in_err-put_node-clause-err
+returns-in_err-put_node-clause-err g t c =
+    let law = g.met.O.Octets.composes in
     let listed = c.args.self.now.listed in
     let skip = number_of c.args.self.now.skip in
     let tree = c.args.self.now.doc.now.tree in
@@ -124,17 +159,89 @@ returns-clause-form t c =
     let below = c.begin.new.bindings in
     let bs = declarations (attributes_in nodes) in
     let shown = written_in listed (in_force before.scope) (in_force before.rendered) (name_in nodes) (attributes_in nodes) in
-    element_written listed skip (in_force before.scope) (in_force before.rendered) c.args.n.0 nodes c.put_end.result
-    (in_force below.scope) (in_force below.rendered) c.args.out.now.items c.begin.new.out.items
-    c.loop-next.out.items c.put_end.new.out.items (sym c.skips.ensures ∙ c.if-skips.false) c.in-Element.ensures
-    (scope_below before below bs shown c.in_ok-begin.ensures.bound) (rendered_below before below bs shown c.in_ok-begin.ensures.bound)
-    c.in_ok-begin.ensures.start
-    (ap (λ o. c.loop-next.out.items ++ form_from listed skip (in_force below.scope) (in_force below.rendered) tree (number_of o)) (sym c.in_default.is)
-    ∙ c.loop-next.invariant.written)
-    c.put_end.ensures
+    let first = start_in listed (in_force before.scope) (in_force before.rendered) (name_in nodes) (attributes_in nodes) in
+    let kids = nodes_form listed skip (suc c.args.n.0) (in_force below.scope) (in_force below.rendered) (kids_of nodes) in
+    let form =
+    element_form listed skip (in_force before.scope) (in_force before.rendered) c.args.n.0 nodes (in_force below.scope) (in_force below.rendered)
+    (sym c.skips.ensures ∙ c.if-skips.false) c.in-Element.ensures (scope_below before below bs shown c.in_ok-begin.ensures.bound)
+    (rendered_below before below bs shown c.in_ok-begin.ensures.bound) in
+    on_err c.from_residual-in_err-put_node.result
+    (subst (AppendsPart g.O.Octets.appends c.args.out.now c.put_node.new.out) (sym form)
+    (part_of_second law c.args.out.now c.begin.new.out c.put_node.new.out first (kids ++ print_end (name_in nodes)) c.in_ok-begin.ensures.start
+    (part_of_first law c.begin.new.out c.put_node.new.out kids (print_end (name_in nodes))
+    (one_written_partly listed skip (in_force below.scope) (in_force below.rendered) law c.begin.new.out c.loop-next.out c.put_node.new.out tree c.in-Some.kid.0 _
+    (same_rest g.O.Octets.appends c.begin.new.out c.loop-next.out _ _ _
+    (ap (λ o. form_from listed skip (in_force below.scope) (in_force below.rendered) tree (number_of o)) c.in-Some.is) c.loop-next.invariant.written)
+    (subst (λ (v : BindingsView). AppendsPart g.O.Octets.appends c.loop-next.out c.put_node.new.out
+    (node_form listed skip c.in-Some.kid.0 (in_force v.scope) (in_force v.rendered) (from_node tree c.in-Some.kid.0)))
+    c.loop-next.invariant.same c.in_err-put_node.ensures.err)))))
+
+pub leave-requires-clause-scope : goal.leave-requires-clause-scope
+leave-requires-clause-scope g t c =
+    let nodes = from_node c.args.self.now.doc.now.tree c.args.n.0 in
+    let before = c.args.bindings.now in
+    scope_level_below before c.loop-next.bindings (declarations (attributes_in nodes))
+    (written_in c.args.self.now.listed (in_force before.scope) (in_force before.rendered) (name_in nodes) (attributes_in nodes))
+    (c.loop-next.invariant.same ∙ c.in_ok-begin.ensures.bound)
+
+pub leave-requires-clause-rendered : goal.leave-requires-clause-rendered
+leave-requires-clause-rendered g t c =
+    let nodes = from_node c.args.self.now.doc.now.tree c.args.n.0 in
+    let before = c.args.bindings.now in
+    rendered_level_below before c.loop-next.bindings (declarations (attributes_in nodes))
+    (written_in c.args.self.now.listed (in_force before.scope) (in_force before.rendered) (name_in nodes) (attributes_in nodes))
+    (c.loop-next.invariant.same ∙ c.in_ok-begin.ensures.bound)
+
+pub returns-clause-form : goal.returns-clause-form
+returns-clause-form g t c =
+    let law = g.met.O.Octets.composes in
+    let listed = c.args.self.now.listed in
+    let skip = number_of c.args.self.now.skip in
+    let tree = c.args.self.now.doc.now.tree in
+    let nodes = from_node tree c.args.n.0 in
+    let before = c.args.bindings.now in
+    let below = c.begin.new.bindings in
+    let bs = declarations (attributes_in nodes) in
+    let shown = written_in listed (in_force before.scope) (in_force before.rendered) (name_in nodes) (attributes_in nodes) in
+    let first = start_in listed (in_force before.scope) (in_force before.rendered) (name_in nodes) (attributes_in nodes) in
+    let kids = nodes_form listed skip (suc c.args.n.0) (in_force below.scope) (in_force below.rendered) (kids_of nodes) in
+    let form =
+    element_form listed skip (in_force before.scope) (in_force before.rendered) c.args.n.0 nodes (in_force below.scope) (in_force below.rendered)
+    (sym c.skips.ensures ∙ c.if-skips.false) c.in-Element.ensures (scope_below before below bs shown c.in_ok-begin.ensures.bound)
+    (rendered_below before below bs shown c.in_ok-begin.ensures.bound) in
+    let done =
+    complete law c.begin.new.out c.loop-next.out _ kids
+    (ap (λ o. form_from listed skip (in_force below.scope) (in_force below.rendered) tree (number_of o)) c.in_default.is) c.loop-next.invariant.written in
+    last_ok law c.put_end.result c.args.out.now c.loop-next.out c.put_end.new.out (first ++ kids) (print_end (name_in nodes)) _
+    (append_assoc first kids (print_end (name_in nodes)) ∙ sym form)
+    (law.joined c.args.out.now c.begin.new.out c.loop-next.out first kids c.in_ok-begin.ensures.start done) c.put_end.ensures.ok
+
+pub returns-clause-err : goal.returns-clause-err
+returns-clause-err g t c =
+    let law = g.met.O.Octets.composes in
+    let listed = c.args.self.now.listed in
+    let skip = number_of c.args.self.now.skip in
+    let tree = c.args.self.now.doc.now.tree in
+    let nodes = from_node tree c.args.n.0 in
+    let before = c.args.bindings.now in
+    let below = c.begin.new.bindings in
+    let bs = declarations (attributes_in nodes) in
+    let shown = written_in listed (in_force before.scope) (in_force before.rendered) (name_in nodes) (attributes_in nodes) in
+    let first = start_in listed (in_force before.scope) (in_force before.rendered) (name_in nodes) (attributes_in nodes) in
+    let kids = nodes_form listed skip (suc c.args.n.0) (in_force below.scope) (in_force below.rendered) (kids_of nodes) in
+    let form =
+    element_form listed skip (in_force before.scope) (in_force before.rendered) c.args.n.0 nodes (in_force below.scope) (in_force below.rendered)
+    (sym c.skips.ensures ∙ c.if-skips.false) c.in-Element.ensures (scope_below before below bs shown c.in_ok-begin.ensures.bound)
+    (rendered_below before below bs shown c.in_ok-begin.ensures.bound) in
+    let done =
+    complete law c.begin.new.out c.loop-next.out _ kids
+    (ap (λ o. form_from listed skip (in_force below.scope) (in_force below.rendered) tree (number_of o)) c.in_default.is) c.loop-next.invariant.written in
+    last_err law c.put_end.result c.args.out.now c.loop-next.out c.put_end.new.out (first ++ kids) (print_end (name_in nodes)) _
+    (append_assoc first kids (print_end (name_in nodes)) ∙ sym form)
+    (law.joined c.args.out.now c.begin.new.out c.loop-next.out first kids c.in_ok-begin.ensures.start done) c.put_end.ensures.err
 
 pub returns-clause-same : goal.returns-clause-same
-returns-clause-same t c =
+returns-clause-same g t c =
     let nodes = from_node c.args.self.now.doc.now.tree c.args.n.0 in
     let before = c.args.bindings.now in
     on_ok_anyway c.put_end.result

@@ -1,4 +1,4 @@
-use Rattle.std.proofs.Common.{◌≡◌, ℕ, true, List, Some, None, is_some, inr, refl, sym, ◌∙◌, arith}
+use Rattle.std.proofs.Common.{◌≡◌, ℕ, true, List, string_bytes, ap, Some, None, is_some, inr, refl, sym, ◌∙◌, arith}
 use Rattle.std.specs.BTreeMap.{get_by_text}
 use Rattle.std.specs.Map.{update}
 use Rattle.std.specs.Str.{bytes_eq}
@@ -9,14 +9,15 @@ use Rattle.saml_tree.proofs.ids.Ids.add.Goals as goal
 
 pub returns-then-contains_key-clause-err : goal.returns-then-contains_key-clause-err
 returns-then-contains_key-clause-err c =
-    let there : is_some (get_by_text c.args.self.now.index c.args.value.now) ≡ true = sym c.contains_key.ensures ∙ c.if-contains_key.true in
-    let last : Identifier = record { value = c.args.value.now; node = c.args.node } in
+    let there : is_some (get_by_text c.args.self.now.index (string_bytes c.args.value)) ≡ true =
+    ap (λ (v : List ℕ). is_some (get_by_text c.args.self.now.index v)) (sym c.as_str.ensures.value) ∙ sym c.contains_key.ensures ∙ c.if-contains_key.true in
+    let last : Identifier = record { value = string_bytes c.args.value; node = c.args.node } in
     inr (refl, λ before indexed once. not_once before c.args.self.now last indexed there once)
 
 pub returns-clause-ok : goal.returns-clause-ok
 returns-clause-ok c = λ before indexed.
-    let free : get_by_text c.args.self.now.index c.args.value.now ≡ None =
-    not_found (get_by_text c.args.self.now.index c.args.value.now) (sym c.contains_key.ensures ∙ c.if-contains_key.false) in
-    let updated : (value : List ℕ) → get_by_text c.insert.new.self value ≡ update bytes_eq (get_by_text c.args.self.now.index) c.args.value.now (Some c.args.node) value = λ value. grind (arith, text_keys) in
-    let last : Identifier = record { value = c.args.value.now; node = c.args.node } in
+    let free : get_by_text c.args.self.now.index (string_bytes c.args.value) ≡ None =
+    not_found (get_by_text c.args.self.now.index (string_bytes c.args.value)) (ap (λ (v : List ℕ). is_some (get_by_text c.args.self.now.index v)) (sym c.as_str.ensures.value) ∙ sym c.contains_key.ensures ∙ c.if-contains_key.false) in
+    let updated : (value : List ℕ) → get_by_text c.insert.new.self value ≡ update bytes_eq (get_by_text c.args.self.now.index) (string_bytes c.args.value) (Some c.args.node) value = λ value. grind (arith, text_keys) in
+    let last : Identifier = record { value = string_bytes c.args.value; node = c.args.node } in
     indexed_more before c.args.self.now (record { index = c.insert.new.self }) last indexed free updated

@@ -1,10 +1,10 @@
-use Rattle.std.proofs.Common.{◌≡◌, ◌<◌, ◌+◌, true, false, ◌++◌, codes, length, take, inl, inr, sym, ◌∙◌, subst, arith}
+use Rattle.std.proofs.Common.{◌≡◌, ◌<◌, ◌+◌, true, false, ◌++◌, codes, length, take, string_bytes, inl, inr, sym, ◌∙◌, subst, arith}
 use Rattle.std.specs.Str.{bytes_eq}
 use Rattle.std.proofs.lemmas.Result.{err_from_is_err_and}
 use Rattle.saml_tree.specs.Index.{AreOnce}
 use Rattle.saml_tree.proofs.OwnIds.{ids_of, one_id, taken_other, once_taken}
 use Rattle.saml_tree.proofs.ids.Ids.add_all.Goals as goal
-use Rattle.saml_tree.proofs.ids.Ids.add_all.Goals.{then-eq+in_ok-add, else-eq}
+use Rattle.saml_tree.proofs.ids.Ids.add_all.Goals.{then-eq+in_ok-value+in_ok-add, else-eq}
 
 pub returns-in_err-add-clause-err : goal.returns-in_err-add-clause-err
 returns-in_err-add-clause-err c =
@@ -12,7 +12,7 @@ returns-in_err-add-clause-err c =
     let items = c.args.attributes.now in
     let fits : i < length items = omega arith in
     let named : bytes_eq c.attribute-item.result.name.now (codes "ID") ≡ true = sym c.eq.ensures ∙ c.if-eq.true in
-    let p = err_from_is_err_and c.from_residual.result c.from_residual.ensures.1 in
+    let p = err_from_is_err_and c.from_residual-in_err-add.result c.from_residual-in_err-add.ensures.1 in
     rw (p.1, p.2) (elim c.in_err-add.ensures.err [
       | inl memory ↦ inl memory
       | inr bad ↦ inr (
@@ -20,7 +20,7 @@ returns-in_err-add-clause-err c =
         λ before indexed once.
             bad.1 (before ++ ids_of c.args.node (take i items)) (c.loop-attribute.invariant before indexed)
             (subst AreOnce
-            (one_id before c.args.node items i c.attribute-item.result c.as_str.result.now fits c.attribute-item.is named c.as_str.ensures.value)
+            (one_id before c.args.node items i c.attribute-item.result (string_bytes c.in_ok-value.value) fits c.attribute-item.is named c.in_ok-value.ensures)
             (once_taken before c.args.node items (i + 1) once)),
       )
     ])
@@ -32,9 +32,9 @@ loop-attribute-preserved c = λ before indexed.
     let fits : i < length items = omega arith in
     let so_far = c.loop-attribute.invariant before indexed in
     elim c.if-eq.branch [
-      | then-eq+in_ok-add w ↦
+      | then-eq+in_ok-value+in_ok-add w ↦
           let named : bytes_eq c.attribute-item.result.name.now (codes "ID") ≡ true = sym c.eq.ensures ∙ w.if-eq.true in
-          let same = one_id before c.args.node items i c.attribute-item.result w.as_str.result.now fits c.attribute-item.is named w.as_str.ensures.value in
+          let same = one_id before c.args.node items i c.attribute-item.result (string_bytes w.in_ok-value.value) fits c.attribute-item.is named w.in_ok-value.ensures in
           rw (w.self-is, same) (w.in_ok-add.ensures.ok (before ++ ids_of c.args.node (take i items)) so_far)
       | else-eq w ↦
           let named : bytes_eq c.attribute-item.result.name.now (codes "ID") ≡ false = sym c.eq.ensures ∙ w.if-eq.false in

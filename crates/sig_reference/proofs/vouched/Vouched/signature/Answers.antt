@@ -1,12 +1,8 @@
-use Rattle.std.proofs.Common.{◌<◌, subst}
+use Rattle.std.proofs.Common.{subst}
 use Rattle.saml_tree.specs.Elements.{IsElement}
 use Rattle.sig_reference.specs.Vouching.{VouchedView}
-use Rattle.sig_reference.proofs.Standing.{vouched_below, vouched_element}
+use Rattle.sig_reference.proofs.Standing.{vouched_element}
 use Rattle.sig_reference.proofs.vouched.Vouched.signature.Goals as goal
-
-pub returns-clause-below : goal.returns-clause-below
-returns-clause-below c =
-    subst (λ (v : VouchedView). v.node < v.signature) c.self.view_is (vouched_below _ c.self.invariant.1)
 
 pub returns-clause-element : goal.returns-clause-element
 returns-clause-element c =

@@ -1,0 +1,4 @@
+pub mod Appending
+pub mod Escaping
+pub mod Underway
+pub mod Starting

@@ -1,0 +1,5 @@
+pub mod Places
+pub mod Composing
+pub mod Hashed
+pub mod Names
+pub mod Escapes

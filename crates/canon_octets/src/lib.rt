@@ -1,0 +1,30 @@
+//! Places that take bytes piece by piece, and the tags, texts and values of the canonical form of XML, put into one of
+//! them (Canonical XML 1.0, 2.3).
+//!
+//! ```
+//! let mut hash = HashOctets::new();
+//! put_start(QualifiedName { prefix: "p", local: "a" }, &mut hash)?;
+//! put_declaration("p", "urn:u", &mut hash)?;
+//! hash.put(b">")?;
+//! put_end(QualifiedName { prefix: "p", local: "a" }, &mut hash)?;
+//! let digest = hash.finish();
+//! ```
+//!
+//! No call takes memory but a `put` into a [`ByteList`] or a `Vec`, and no piece is longer than what it comes from. Contracts see
+//! which bytes were appended from one state of a place to the next: all that a call says, or, where the place has no
+//! memory, a part of them from the first on.
+#![tactic(auto)]
+
+mod escape;
+mod hash;
+mod octets;
+mod tags;
+#[cfg(test)]
+mod tests;
+
+pub use escape::{escape_text, escape_value};
+pub use hash::{HashOctets, MacOctets};
+pub use octets::{ByteList, Octets};
+pub use tags::{
+    QualifiedName, put_attribute, put_declaration, put_end, put_instruction, put_start,
+};

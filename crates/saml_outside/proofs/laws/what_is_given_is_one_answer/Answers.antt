@@ -1,5 +1,0 @@
-use Rattle.saml_outside.proofs.GivesLaws.{values, faults, refuses}
-use Rattle.saml_outside.proofs.laws.what_is_given_is_one_answer.Goals as goal
-
-pub returns : goal.returns
-returns g c = record { values = values; faults = faults; refuses = refuses }

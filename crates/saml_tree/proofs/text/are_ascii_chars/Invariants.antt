@@ -1,7 +1,0 @@
-use Rattle.std.proofs.Common.{◌≡◌, take}
-use Rattle.std.specs.List.{list_all}
-use Rattle.saml_tree.specs.AsciiTexts.{is_ascii_char}
-use Rattle.saml_tree.proofs.text.are_ascii_chars.Given as goal
-
-abbrev pub invariant-loop-byte : goal.invariant-loop-byte
-invariant-loop-byte l = l.all ≡ list_all is_ascii_char (take l.byte-index l.bytes)
