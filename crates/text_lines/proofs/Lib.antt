@@ -1,0 +1,4 @@
+pub mod Lining
+pub mod Numerals
+pub mod Saying
+pub mod Texts

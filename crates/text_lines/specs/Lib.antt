@@ -1,0 +1,5 @@
+pub mod Examples
+pub mod Lines
+pub mod Numbers
+pub mod Views
+pub mod Words

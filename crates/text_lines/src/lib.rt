@@ -1,0 +1,27 @@
+//! Files that people write: lines of words.
+//!
+//! ```
+//! let mut lines = Lines::new(text);
+//! while let Some(said) = lines.next_said() {
+//!     match said {
+//!         Said::Line { number, text } => { /* line `number` says `text` */ }
+//!         Said::NoText { number } => return Err(Fault::Line(number)),
+//!     }
+//! }
+//! ```
+//!
+//! A text is UTF-8 of characters that XML allows, in lines that a line feed ends. Empty lines and those that begin with
+//! `#` are passed over; all are counted. One space separates two words. A contract sees `Lines` as the list of what is
+//! still to be said. No call takes memory, and each is linear in what it looks at.
+#![tactic(auto)]
+
+pub mod laws;
+mod line;
+mod number;
+#[cfg(test)]
+mod tests;
+mod word;
+
+pub use line::{Lines, Said};
+pub use number::number_of;
+pub use word::{Parts, Words, parts_of};
