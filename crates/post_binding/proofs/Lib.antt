@@ -1,0 +1,7 @@
+mod Appending
+mod Base64
+mod Escaped
+mod Escaping
+mod Examples
+mod Markup
+mod Posting

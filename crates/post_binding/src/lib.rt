@@ -1,0 +1,39 @@
+//! Forms and pages of the HTTP POST binding (SAML Bindings 3.5).
+//!
+//! ```
+//! let body = post_body(alloc, Field::Response, message, Some("token"))?;
+//! let posted = read_form(alloc, body.as_slice())?;
+//! let page = login_page(alloc, "pending")?;
+//! ```
+//!
+//! [`read_form`] gives what the definition `form` gives over the pairs of `form_urlencoded`: the field, the message and the
+//! relay, or the first fault of [`FormFault`]. Names are decoded before they are compared. What [`post_body`] makes is read
+//! as what it was made of ([`laws::what_is_posted_is_read`]).
+//!
+//! A page is the program's own markup around texts that are escaped ([`Page`]). So no text that a user or a peer gives
+//! ends the element or the attribute that it stands in ([`laws::pages_have_their_own_markup`]), and it is read there as
+//! itself ([`laws::an_escaped_text_is_read_again`]).
+//!
+//! Contracts see a body and a page as their bytes. `NoMemory` may come in place of any other answer, and then what a call
+//! was lent is as before.
+#![tactic(auto)]
+
+mod escape;
+mod fault;
+pub mod laws;
+mod page;
+mod pages;
+mod posted;
+mod reading;
+#[cfg(test)]
+mod tests;
+mod text;
+mod writing;
+
+pub use escape::escape_html;
+pub use fault::FormFault;
+pub use page::Page;
+pub use pages::{auto_form, end_page, login_page, user_page};
+pub use posted::{Field, MESSAGE_LIMIT, Posted, RELAY_LIMIT};
+pub use reading::{read_fields, read_form};
+pub use writing::post_body;

@@ -1,0 +1,148 @@
+//! A form is read: the message that it carries, or the values of named fields.
+ghost use Rattle.std.specs.Prelude.{◌≡◌, IfOk};
+ghost use Rattle.owned_values.specs.Gives.{Gives};
+ghost use Rattle.post_binding.specs.Form.{pairs, values, field_name, relay_name, message_of, message_field, relay_field, fault_of, form, the_value, fields};
+ghost use Rattle.post_binding.specs.Occurrences.{IsOccurrence};
+
+use crate::fault::FormFault;
+use crate::posted::{Field, MESSAGE_LIMIT, Posted, RELAY_LIMIT};
+use crate::text::{decoded, has_replacement, is_name, without_white};
+use base64::DecodeAllocError;
+use base64::engine::general_purpose::STANDARD;
+use form_urlencoded::raw_pairs;
+use owned_values::{Blob, NoMemory, Text, Texts};
+use std::alloc::Global;
+
+/// How often a name stands in a form.
+#[derive(Drop)]
+enum Occurrence {
+    Absent,
+    Once(Text),
+    Repeated,
+}
+
+/// How often `name` stands in the form, with its value where it stands once.
+fn occurrence_of(alloc: Global, body: &[u8], name: &str) -> Result<Occurrence, NoMemory>
+    ensures { IfOk result (λ found. IsOccurrence found (values name.now (pairs body.now))) }
+{
+    let mut found = None;
+    for (encoded_name, encoded_value) in raw_pairs(body) {
+        if is_name(alloc, encoded_name, name)? {
+            if found.is_some() {
+                return Ok(Occurrence::Repeated);
+            }
+            found = Some(decoded(alloc, encoded_value)?);
+        }
+    }
+    match found {
+        None => Ok(Occurrence::Absent),
+        Some(value) => Ok(Occurrence::Once(value)),
+    }
+}
+
+/// The message that the text of a field stands for.
+///
+/// # Errors
+///
+/// `BadBase64` where it is no base64; then `TooLarge` where the message has more than [`MESSAGE_LIMIT`] bytes.
+fn decode_message(alloc: Global, text: &str) -> Result<Blob, FormFault>
+    ensures { Gives (λ message. message) fault_of result (message_of text.now) }
+{
+    let symbols = without_white(alloc, text.as_bytes())?;
+    let message = match STANDARD.decode(alloc, symbols.as_slice()) {
+        Ok(message) => message,
+        Err(DecodeAllocError::OutOfMemory) => return Err(FormFault::NoMemory),
+        Err(DecodeAllocError::DecodeError(_)) => return Err(FormFault::BadBase64),
+    };
+    if message.len() > MESSAGE_LIMIT {
+        return Err(FormFault::TooLarge(message.len() as u64));
+    }
+    Ok(Blob::of(alloc, message.as_slice())?)
+}
+
+/// The one message of a form, as its text, and its field.
+///
+/// # Errors
+///
+/// `BadForm`, exactly where the messages are not one in all, or U+FFFD stands in the text.
+fn read_message_field(alloc: Global, body: &[u8]) -> Result<(Field, Text), FormFault>
+    ensures { Gives (λ found. found) fault_of result (message_field (values (field_name Field.Request) (pairs body.now)) (values (field_name Field.Response) (pairs body.now))) }
+{
+    let request = occurrence_of(alloc, body, Field::Request.name())?;
+    let response = occurrence_of(alloc, body, Field::Response.name())?;
+    let (field, text) = match (request, response) {
+        (Occurrence::Once(text), Occurrence::Absent) => (Field::Request, text),
+        (Occurrence::Absent, Occurrence::Once(text)) => (Field::Response, text),
+        _ => return Err(FormFault::BadForm),
+    };
+    if has_replacement(text.as_str()) {
+        return Err(FormFault::BadForm);
+    }
+    Ok((field, text))
+}
+
+/// The relay of a form, where it has one.
+///
+/// # Errors
+///
+/// `BadForm`, exactly where there are two, or the relay has more than [`RELAY_LIMIT`] bytes, or U+FFFD stands in it.
+fn read_relay(alloc: Global, body: &[u8]) -> Result<Option<Text>, FormFault>
+    ensures { Gives (λ relay. relay) fault_of result (relay_field (values relay_name (pairs body.now))) }
+{
+    match occurrence_of(alloc, body, "RelayState")? {
+        Occurrence::Absent => Ok(None),
+        Occurrence::Once(relay) => {
+            if relay.len() > RELAY_LIMIT || has_replacement(relay.as_str()) {
+                return Err(FormFault::BadForm);
+            }
+            Ok(Some(relay))
+        }
+        Occurrence::Repeated => Err(FormFault::BadForm),
+    }
+}
+
+/// The message of a form, with its relay (SAML Bindings 3.5).
+///
+/// # Errors
+///
+/// The first that holds. `BadForm`: the pairs named SAMLRequest or SAMLResponse are not one in all, or RelayState
+/// stands twice or has more than [`RELAY_LIMIT`] bytes, or U+FFFD stands in one of these values. `BadBase64`: without
+/// white space the value is no base64 with its padding. `TooLarge`: the message has more than [`MESSAGE_LIMIT`] bytes.
+/// `NoMemory` may come in place of any answer.
+pub fn read_form(alloc: Global, body: &[u8]) -> Result<Posted, FormFault>
+    ensures { Gives (λ posted. posted) fault_of result (form body.now) }
+{
+    let (field, text) = read_message_field(alloc, body)?;
+    let relay = read_relay(alloc, body)?;
+    let message = decode_message(alloc, text.as_str())?;
+    Ok(Posted {
+        field,
+        message,
+        relay,
+    })
+}
+
+/// The value of a field. `None`, exactly where the name is absent or doubled, or U+FFFD stands in the value.
+fn read_field(alloc: Global, body: &[u8], name: &str) -> Result<Option<Text>, NoMemory>
+    ensures { IfOk result (λ found. found ≡ the_value (values name.now (pairs body.now))) }
+{
+    match occurrence_of(alloc, body, name)? {
+        Occurrence::Once(value) if !has_replacement(value.as_str()) => Ok(Some(value)),
+        _ => Ok(None),
+    }
+}
+
+/// The values of the named fields of a form, in the order of the names. `None`, exactly where one of the names is absent
+/// or doubled, or U+FFFD stands in its value.
+pub fn read_fields(alloc: Global, body: &[u8], names: &Texts) -> Result<Option<Texts>, NoMemory>
+    ensures { IfOk result (λ found. found ≡ fields body.now names.now) }
+{
+    let mut found = Texts::new(alloc);
+    for name in names.as_slice() {
+        match read_field(alloc, body, name.as_str())? {
+            Some(value) => found.push(value)?,
+            None => return Ok(None),
+        }
+    }
+    Ok(Some(found))
+}

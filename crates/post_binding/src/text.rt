@@ -1,0 +1,61 @@
+// Texts of a form's fields.
+ghost use Rattle.std.specs.Prelude.{◌≡◌, not, filter, IfOk};
+ghost use Rattle.std.specs.Str.{bytes_eq};
+ghost use Rattle.xml_spec.specs.Syntax.{is_white};
+ghost use Rattle.post_binding.specs.Form.{decoded, has_replacement};
+
+use form_urlencoded::decode;
+use owned_values::{NoMemory, Text};
+use std::alloc::Global;
+
+// U+FFFD in UTF-8.
+const REPLACEMENT: [u8; 3] = [0xEF, 0xBF, 0xBD];
+
+/// The text that a name or a value of a form stands for.
+pub(crate) fn decoded(alloc: Global, encoded: &[u8]) -> Result<Text, NoMemory>
+    ensures { IfOk result (λ text. text ≡ decoded encoded.now) }
+{
+    let text = decode(alloc, encoded)?;
+    Text::of(alloc, text.as_str())
+}
+
+/// Whether an encoded name stands for `name`.
+pub(crate) fn is_name(alloc: Global, encoded: &[u8], name: &str) -> Result<bool, NoMemory>
+    ensures { IfOk result (λ is. is ≡ bytes_eq (decoded encoded.now) name.now) }
+{
+    let text = decode(alloc, encoded)?;
+    Ok(text.as_str() == name)
+}
+
+/// Whether U+FFFD stands in the text.
+pub(crate) fn has_replacement(text: &str) -> bool
+    ensures { result ≡ has_replacement text.now }
+{
+    let mut rest = text.as_bytes();
+    while let [_, others @ ..] = rest {
+        if rest.starts_with(&REPLACEMENT) {
+            return true;
+        }
+        rest = others;
+    }
+    false
+}
+
+// Whether the byte is white space (XML 1.0, 2.3, S).
+fn is_white(byte: u8) -> bool
+    ensures { result ≡ is_white byte }
+{
+    matches!(byte, b' ' | b'\t' | b'\r' | b'\n')
+}
+
+/// The bytes that are no white space.
+pub(crate) fn without_white(alloc: Global, bytes: &[u8]) -> Result<Vec<u8>, NoMemory>
+    ensures { IfOk result (λ kept. kept.items ≡ filter (λ b. not (is_white b)) bytes.now) }
+{
+    let kept = bytes
+        .iter()
+        .filter(|byte| !is_white(**byte))
+        .copied()
+        .collect(alloc)?;
+    Ok(kept)
+}
