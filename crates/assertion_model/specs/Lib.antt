@@ -1,0 +1,5 @@
+pub mod Assertion
+pub mod Contents
+pub mod Instants
+pub mod Login
+pub mod Moments
