@@ -1,0 +1,4 @@
+pub mod Texts
+pub mod Reading
+pub mod Refusals
+mod Examples

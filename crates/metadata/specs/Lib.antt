@@ -1,0 +1,3 @@
+pub mod Metadata
+pub mod Making
+pub mod Faults
