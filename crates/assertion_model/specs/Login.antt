@@ -14,6 +14,10 @@ use Rattle.tree_read.specs.Children.{is_name}
 use Rattle.tree_read.specs.Texts.{trimmed}
 use Rattle.owned_values.specs.declared.attributes.Attribute.{Attribute}
 use Rattle.assertion_model.specs.declared.login.Login.{Login}
+use Rattle.assertion_model.specs.declared.parts.Head.{Head}
+use Rattle.assertion_model.specs.declared.parts.Confirmed.{Confirmed}
+use Rattle.assertion_model.specs.declared.parts.Valid.{Valid}
+use Rattle.assertion_model.specs.declared.parts.Session.{Session}
 use Rattle.assertion_model.specs.Contents.{Part, named, names, text, value, only, at_most_one, first, each}
 use Rattle.assertion_model.specs.Instants.{moment_of, moment_if_any}
 
@@ -37,13 +41,8 @@ has_value local wanted part = is_equal (value local part.attributes)
 abbrev pub some_text : List ℕ → Option (List ℕ)
 some_text bytes = where_holds (not (is_empty bytes)) (Some bytes)
 
--- Profiles, 4.1.4.2: what the SubjectConfirmationData of the consumed confirmation says
-pub record Confirmed : Type 0 where
-  pub recipient : List ℕ
-  pub request : List ℕ
-  pub until : ℕ
-
--- it has a Recipient, an InResponseTo that is not empty and a NotOnOrAfter, and no NotBefore
+-- Profiles, 4.1.4.2: the SubjectConfirmationData of the consumed confirmation has a Recipient, an InResponseTo that is not
+-- empty and a NotOnOrAfter, and no NotBefore
 abbrev pub confirmed : Part → Option Confirmed
 confirmed part =
     where_holds (not (is_some (value (codes "NotBefore") part.attributes)))
@@ -66,12 +65,6 @@ user_name kids =
   where
     is_none_named : List ℕ → Bool
     is_none_named local = not (is_some (first (children local kids)))
-
--- Core, 2.5.1: when the assertion is valid, and for whom
-pub record Valid : Type 0 where
-  pub not_before : Option ℕ
-  pub not_on_or_after : Option ℕ
-  pub audiences : List (List (List ℕ))
 
 -- Core, 2.5.1: the conditions that this profile knows
 abbrev pub is_known : ExpandedName → Bool
@@ -99,21 +92,20 @@ abbrev pub valid_if_any : Option Part → Option Valid
 valid_if_any None = Some (record { not_before = None; not_on_or_after = None; audiences = [] })
 valid_if_any (Some conditions) = valid conditions
 
--- Core, 2.7.2: the session that the first AuthnStatement says
-pub record Session : Type 0 where
-  pub index : Option (List ℕ)
-  pub until : Option ℕ
-
+-- Core, 2.7.2: the session that an AuthnStatement says
 abbrev pub session : Part → Option Session
 session statement =
     option_map (λ until. record { index = value (codes "SessionIndex") statement.attributes; until = until })
     (moment_if_any (value (codes "SessionNotOnOrAfter") statement.attributes))
 
--- Core, 2.7.2: there is an AuthnStatement, and each has an AuthnInstant that tells a moment
+-- Core, 2.7.2: the moments that AuthnStatements tell, each by its AuthnInstant
+abbrev pub instants : List Part → Option (List ℕ)
+instants statements =
+    each (λ (statement : Part). option_and_then moment_of (value (codes "AuthnInstant") statement.attributes)) statements
+
+-- Core, 2.7.2: there is an AuthnStatement, and each tells its moment
 abbrev pub authentication : List Part → Option Session
-authentication statements =
-    option_and_then (λ instants. option_and_then session (first statements))
-    (each (λ (statement : Part). option_and_then moment_of (value (codes "AuthnInstant") statement.attributes)) statements)
+authentication statements = option_and_then (λ moments. option_and_then session (first statements)) (instants statements)
 
 -- Core, 2.7.3.1: an Attribute has a Name; its values are the texts of its AttributeValues
 abbrev pub attribute : Part → Option Attribute
@@ -126,12 +118,7 @@ abbrev pub attributes : Contents → Option (List Attribute)
 attributes kids =
     each attribute (flat_map (λ (statement : Part). children (codes "Attribute") statement.kids) (children (codes "AttributeStatement") kids))
 
--- Core, 2.3.3: what the attributes of the Assertion say
-pub record Head : Type 0 where
-  pub id : List ℕ
-  pub issued : ℕ
-
--- Version 2.0, an ID that is not empty, and an IssueInstant that tells a moment
+-- Core, 2.3.3: Version 2.0, an ID that is not empty, and an IssueInstant that tells a moment
 abbrev pub head : Part → Option Head
 head assertion =
     where_holds (has_value (codes "Version") (codes "2.0") assertion)

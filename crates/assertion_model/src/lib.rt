@@ -1,18 +1,30 @@
-//! Assertions that log a user in (SAML Core 2; SAML Profiles 4.1.4): what a login is, and the element that is made of one.
+//! Assertions that log a user in (SAML Core 2; SAML Profiles 4.1.4): what a login is, the element that is made of one, and
+//! the login of an element that is vouched for.
 //!
 //! A contract sees a `Login` as its texts, moments and lists. `make_assertion` gives the element that `assertion` of
-//! `Assertion.antt` says, with moments that are written in full.
+//! `Assertion.antt` says, with moments that are written in full. `read_login` gives the login that `login` of `Login.antt`
+//! says of the content of the element without its own Signature.
 #![tactic(auto)]
 
 mod audiences;
+mod conditions;
+mod fault;
 pub mod laws;
 mod login;
+mod look;
 mod make;
 mod moments;
+mod parts;
 mod pieces;
+mod read;
+mod statements;
+mod subject;
 #[cfg(test)]
 mod tests;
+mod values;
 
 pub use audiences::Audiences;
+pub use fault::LoginFault;
 pub use login::Login;
 pub use make::make_assertion;
+pub use read::read_login;
