@@ -1,12 +1,17 @@
 -- Worked examples of the login of a content: one with everything in it, and one for each condition that fails.
 use Rattle.std.proofs.Common.{◌≡◌, ℕ, List, [], ◌∷◌, codes, Some, None, refl}
+use Rattle.xml_spec.specs.Tree.{Nodes}
 use Rattle.xml_spec.specs.Content.{ContentAttribute, Contents, NoContents, ElementContent, TextContent}
 use Rattle.saml_names.specs.Names.{saml, samlp}
 use Rattle.saml_names.specs.Uris.{bearer}
 use Rattle.saml_time.specs.Calendar.{days_of_years, days_of_months}
+use Rattle.element_make.specs.declared.names.Ns.TheVariants.{Saml}
+use Rattle.element_make.specs.Made.{joined, tree_of}
 use Rattle.assertion_model.specs.declared.login.Login.{Login}
+use Rattle.assertion_model.specs.Assertion as make
 use Rattle.assertion_model.specs.Instants.{moment_of}
 use Rattle.assertion_model.specs.Login.{login, confirmation, valid, user_name, attributes, authentication, children}
+use Rattle.assertion_model.specs.Places.{name_place, value_places}
 
 abbrev element : List ℕ → List ContentAttribute → Contents → Contents → Contents
 element local given kids rest = ElementContent (saml local) given kids rest
@@ -150,3 +155,23 @@ untold_instant = refl
 
 no_attribute_name : attributes (element (codes "AttributeStatement") [] (element (codes "Attribute") [] NoContents NoContents) NoContents) ≡ None
 no_attribute_name = refl
+
+-- WHERE A LOGIN IS READ
+
+-- node 2 is the NameID; 6 and 8 are the values of the first Attribute, and 12 is that of the other statement
+abbrev placed : Nodes
+placed = tree_of (record {
+  ns = Saml;
+  local = codes "Assertion";
+  attributes = [];
+  kids =
+      joined (make.part (codes "Subject") [] (make.holding (codes "NameID") (codes "alice")))
+      (joined (make.statements (record { name = codes "mail"; values = codes "a@b" ∷ codes "a@c" ∷ [] } ∷ []))
+      (make.statements (record { name = codes "role"; values = codes "user" ∷ [] } ∷ [])));
+})
+
+place_of_name : name_place placed 0 ≡ Some 2
+place_of_name = refl
+
+places_of_values : value_places placed 0 ≡ 6 ∷ 8 ∷ 12 ∷ []
+places_of_values = refl

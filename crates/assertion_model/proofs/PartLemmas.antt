@@ -14,11 +14,11 @@ use Rattle.assertion_model.specs.Contents.{Part, named, names, text}
 use Rattle.assertion_model.specs.Parts.{part_in, part_at}
 
 -- these are node k of the tree and those behind it in its list, and they stand in this scope
-record Stands (tree : Nodes) (k : ℕ) (scope : Scope) (nodes : Nodes) : Type 0 where
-  found : from_node tree k ≡ nodes
-  inside : scope_at outermost tree k ≡ scope
+pub record Stands (tree : Nodes) (k : ℕ) (scope : Scope) (nodes : Nodes) : Type 0 where
+  pub found : from_node tree k ≡ nodes
+  pub inside : scope_at outermost tree k ≡ scope
 
-behind : (tree : Nodes) (k : ℕ) (scope : Scope) (nodes : Nodes) → Stands tree k scope nodes → 0 < size (rest_of nodes) →
+pub behind : (tree : Nodes) (k : ℕ) (scope : Scope) (nodes : Nodes) → Stands tree k scope nodes → 0 < size (rest_of nodes) →
     Stands tree (suc (k + size (kids_of nodes))) scope (rest_of nodes)
 behind tree k scope nodes here h =
     let there : 0 < size (rest_of (from_node tree k)) = subst (λ nodes. 0 < size (rest_of nodes)) (sym here.found) h in
@@ -28,7 +28,7 @@ behind tree k scope nodes here h =
     }
 
 -- behind a node that has no kids
-next : (tree : Nodes) (k : ℕ) (scope : Scope) (nodes : Nodes) → size (kids_of nodes) ≡ 0 → Stands tree k scope nodes → 0 < size (rest_of nodes) →
+pub next : (tree : Nodes) (k : ℕ) (scope : Scope) (nodes : Nodes) → size (kids_of nodes) ≡ 0 → Stands tree k scope nodes → 0 < size (rest_of nodes) →
     Stands tree (suc k) scope (rest_of nodes)
 next tree k scope nodes none here h =
     let place : suc (k + size (kids_of nodes)) ≡ suc k = omega (arith, none) in
@@ -57,7 +57,7 @@ one_more : (f : ℕ → Part) (b : Bool) (p : Part) (k : ℕ) (ps : List Part) (
 one_more f true p k ps ks one others = λ i. sym one i ∷ others i
 one_more f false p k ps ks one others = others
 
-some : (n : ℕ) → 0 < suc n
+pub some : (n : ℕ) → 0 < suc n
 some n = omega arith
 
 named_in : (wanted : ExpandedName) (tree : Nodes) (scope : Scope) (k : ℕ) (nodes : Nodes) → (0 < size nodes → Stands tree k scope nodes) →

@@ -27,7 +27,7 @@ use Rattle.assertion_model.specs.Parts.{part_in, part_at, own_signature, login_a
 use Rattle.assertion_model.proofs.PartLemmas.{named_behind_text}
 use Rattle.assertion_model.proofs.ValueLemmas.{name_is}
 
-abbrev signature : ExpandedName
+abbrev pub signature : ExpandedName
 signature = ds (codes "Signature")
 
 no_number : (k : ℕ) (ks : List ℕ) → [] ≡ k ∷ ks → ⊥
@@ -176,3 +176,23 @@ pub login_is : (tree : Nodes) (k : ℕ) → IsElement tree k →
 login_is tree k element =
     ap login (content_kept tree k (own_signature tree k))
     ∙ login_in (scope_at outermost tree k) k (from_node tree k) (own_signature tree k) element refl
+
+-- what has a login is an element
+login_of_element : (scope : Scope) (k : ℕ) (nodes : Nodes) (l : Login) →
+    login (content_nodes scope (kept nodes k (first (walk.named signature (elements_of (scope_of_kids scope nodes) (suc k) (kids_of nodes)))))) ≡ Some l →
+    kind_of nodes ≡ Some kinds.Element
+login_of_element scope k NoNodes l e = absurd (cc)
+login_of_element scope k (Element name given kids rest) l e = refl
+login_of_element scope k (Text bytes rest) l e = absurd (cc)
+login_of_element scope k (Comment bytes rest) l e = absurd (cc)
+login_of_element scope k (Instruction target value rest) l e = absurd (cc)
+
+-- what has a login is an Assertion, and its parts say the login
+pub login_said : (tree : Nodes) (k : ℕ) (l : Login) → login_at tree k ≡ Some l → login_of (part_at tree k) ≡ Some l
+login_said tree k l e =
+    let element = login_of_element (scope_at outermost tree k) k (from_node tree k) l (sym (ap login (content_kept tree k (own_signature tree k))) ∙ e) in
+    which (is_name (saml (codes "Assertion")) (name_of_node tree k)) (sym (login_is tree k element) ∙ e)
+  where
+    which : (b : Bool) → where_holds b (login_of (part_at tree k)) ≡ Some l → login_of (part_at tree k) ≡ Some l
+    which true h = h
+    which false h = absurd (let clash : None ≡ Some l = h in cc)

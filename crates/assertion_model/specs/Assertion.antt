@@ -1,10 +1,11 @@
 -- The element that is made of a login: SAML Core, 2.3.3, 2.4, 2.5 and 2.7; SAML Profiles, 4.1.4.2. There is no white space
 -- between elements.
-use Rattle.std.specs.Prelude.{◌≡◌, ℕ, List, [], ◌∷◌, ◌++◌, codes, Option, None, Some, IfSome}
+use Rattle.std.specs.Prelude.{◌≡◌, ◌≢◌, ℕ, List, [], ◌∷◌, ◌++◌, codes, Option, None, Some, IfSome}
 use Rattle.std.specs.List.{AllByRecursion}
 use Rattle.xml_spec.specs.Tree as tree
 use Rattle.xml_spec.specs.Characters.{IsText}
 use Rattle.saml_names.specs.Uris.{bearer, password}
+use Rattle.tree_read.specs.Texts.{trimmed}
 use Rattle.owned_values.specs.declared.attributes.Attribute.{Attribute}
 use Rattle.element_make.specs.declared.names.Ns.TheVariants.{Saml}
 use Rattle.element_make.specs.Made.{MadeNodes, NothingMade, MadeElement, MadeText, joined, Made}
@@ -113,3 +114,20 @@ pub record CanBeMade (login : Login) : Type 0 where
   pub name : IsText login.name
   pub index : IfSome login.index IsText
   pub attributes : AllByRecursion IsStatable login.attributes
+
+-- a text without white space at its ends
+abbrev pub IsTrimmed : List ℕ → Type 0
+IsTrimmed text = trimmed text ≡ text
+
+-- audiences of a restriction that is read again as it was made: there is one, and reading trims none
+pub record IsAudienceList (texts : List (List ℕ)) : Type 0 where
+  pub some : texts ≢ []
+  pub each : AllByRecursion IsTrimmed texts
+
+-- A login that is read again as it was made: the assertion and the request have an ID, each restriction has an audience,
+-- and reading trims neither the issuer nor an audience.
+pub record CanBeRead (login : Login) : Type 0 where
+  pub id : login.id ≢ []
+  pub request : login.request ≢ []
+  pub issuer : IsTrimmed login.issuer
+  pub audiences : AllByRecursion IsAudienceList login.audiences

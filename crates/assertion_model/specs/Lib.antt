@@ -5,4 +5,5 @@ pub mod Instants
 pub mod Login
 pub mod Moments
 pub mod Parts
+pub mod Places
 pub mod Reading

@@ -51,6 +51,13 @@ impl Audiences {
         &self.items[i]
     }
 
+    /// The audiences themselves, a list for each restriction, in order.
+    pub fn as_slice(&self) -> &[Texts]
+        ensures { result.now ≡ self.now }
+    {
+        self.items.as_slice()
+    }
+
     /// Puts a restriction at the end. Where there is no memory the list is as it was, and `audiences` is let go.
     pub fn push(&mut self, audiences: Texts) -> Result<(), NoMemory>
         ensures ok { OnOk result (self.new ≡ self.old ++ audiences ∷ []) }

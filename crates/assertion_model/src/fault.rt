@@ -1,5 +1,6 @@
 // Why an element is not read as a login.
 
+use owned_values::NoMemory;
 use tree_read::ShapeFault;
 
 /// Why an assertion was not read.
@@ -22,5 +23,16 @@ impl From<ShapeFault> for LoginFault {
             ShapeFault::WrongShape => LoginFault::BadAssertion,
             ShapeFault::NoMemory => LoginFault::NoMemory,
         }
+    }
+}
+
+impl From<NoMemory> for LoginFault {
+    ghost use Rattle.std.specs.Prelude.{◌≡◌};
+    ghost use Rattle.assertion_model.specs.declared.fault.LoginFault.TheVariants.{NoMemory};
+
+    ghost from_gives = { λ _ e. e ≡ NoMemory };
+
+    fn from(_: NoMemory) -> LoginFault {
+        LoginFault::NoMemory
     }
 }

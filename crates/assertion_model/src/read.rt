@@ -1,5 +1,5 @@
 // The login of an assertion that is vouched for.
-ghost use Rattle.std.specs.Prelude.{◌≡◌, codes, IfOk, IfErr};
+ghost use Rattle.std.specs.Prelude.{◌≡◌, ◌≤◌, codes, IfOk, IfErr};
 ghost use Rattle.saml_names.specs.Names.{saml};
 ghost use Rattle.tree_read.specs.Children.{is_name};
 ghost use Rattle.tree_read.specs.Views.{tree_of};
@@ -16,6 +16,7 @@ use crate::look::{only_child, trimmed_text_of};
 use crate::statements::{read_attributes, read_authentication};
 use crate::subject::{read_confirmation, read_head, read_user_name};
 use saml_names::SAML;
+use saml_time::LAST;
 use sig_reference::Vouched;
 use std::alloc::Global;
 use tree_read::{At, ShapeFault};
@@ -34,7 +35,8 @@ fn is_assertion(at: At<'_, '_>) -> bool
 ///
 /// `WrongShape`, exactly where it says no login.
 fn read_assertion(alloc: Global, at: At<'_, '_>) -> Result<Login, ShapeFault>
-    ensures { Reads result (login_of (part_of at.entry)) }
+    ensures read { Reads result (login_of (part_of at.entry)) }
+    ensures bound { IfOk result (λ login. login.confirm_until ≤ LAST) }
 {
     let head = read_head(alloc, at)?;
     let issuer = only_child(at, "Issuer")?;
@@ -70,6 +72,7 @@ fn read_assertion(alloc: Global, at: At<'_, '_>) -> Result<Login, ShapeFault>
 /// `BadAssertion`, exactly where the element has no login.
 pub fn read_login(alloc: Global, v: &Vouched<'_, '_>) -> Result<Login, LoginFault>
     ensures read { IfOk result (λ login. login_at v.now.document.tree v.now.node ≡ Some login) }
+    ensures bound { IfOk result (λ login. login.confirm_until ≤ LAST) }
     ensures bad { IfErr result (λ fault. IsLoginFault fault (login_at v.now.document.tree v.now.node ≡ None)) }
 {
     let at = v.at();

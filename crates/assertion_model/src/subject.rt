@@ -1,5 +1,5 @@
 // The head and the Subject of an assertion.
-ghost use Rattle.std.specs.Prelude.{◌≡◌, codes, filter};
+ghost use Rattle.std.specs.Prelude.{◌≡◌, ◌≤◌, codes, filter, IfOk};
 ghost use Rattle.std.specs.Option.{option_map};
 ghost use Rattle.saml_names.specs.Uris.{bearer};
 ghost use Rattle.assertion_model.specs.Contents.{first};
@@ -14,6 +14,7 @@ use crate::parts::{Confirmed, Head};
 use crate::values::{moment_at, some_text_at, text_at};
 use owned_values::Text;
 use saml_names::BEARER;
+use saml_time::LAST;
 use std::alloc::Global;
 use tree_read::{At, ShapeFault};
 
@@ -39,7 +40,8 @@ pub(crate) fn read_head(alloc: Global, at: At<'_, '_>) -> Result<Head, ShapeFaul
 ///
 /// `WrongShape`, exactly where it does not say what it has to.
 fn read_confirmed(alloc: Global, at: At<'_, '_>) -> Result<Confirmed, ShapeFault>
-    ensures { Reads result (confirmed (part_of at.entry)) }
+    ensures read { Reads result (confirmed (part_of at.entry)) }
+    ensures bound { IfOk result (λ confirmed. confirmed.until ≤ LAST) }
 {
     if has_attribute(at, "NotBefore") {
         return Err(ShapeFault::WrongShape);
@@ -74,7 +76,8 @@ fn bearer_confirmation<'d, 'a>(at: At<'d, 'a>) -> Option<At<'d, 'a>>
 ///
 /// `WrongShape`, exactly where there is none, or it does not say what it has to.
 pub(crate) fn read_confirmation(alloc: Global, at: At<'_, '_>) -> Result<Confirmed, ShapeFault>
-    ensures { Reads result (confirmation (part_of at.entry).kids) }
+    ensures read { Reads result (confirmation (part_of at.entry).kids) }
+    ensures bound { IfOk result (λ confirmed. confirmed.until ≤ LAST) }
 {
     let Some(consumed) = bearer_confirmation(at) else {
         return Err(ShapeFault::WrongShape);

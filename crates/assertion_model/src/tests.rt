@@ -4,7 +4,7 @@
 ghost use Rattle.std.specs.Prelude.{IfOk};
 ghost use Rattle.assertion_model.specs.Assertion.{CanBeMade};
 
-use crate::{Audiences, Login, make_assertion, read_login};
+use crate::{Audiences, Login, make_assertion, read_login, read_places};
 use owned_values::{Attributes, Text, Texts};
 use saml_tree::read_document;
 use sig_reference::verify;
@@ -73,6 +73,11 @@ fn a_signed_assertion_is_read(rt: HostRuntime) -> Result<(), Fail> {
             assert!(rt; login.not_on_or_after == Some(1_704_067_500_000));
             assert!(rt; login.audiences.len() == 1);
             assert!(rt; login.attributes.is_empty());
+            let places = read_places(rt.alloc(), &vouched)?;
+            assert!(rt;
+                doc.bytes_of(places.name) == b"<saml:NameID>alice</saml:NameID>".as_slice()
+            );
+            assert!(rt; places.values.len() == 0);
         }
         Err(_) => assert!(rt; false),
     }

@@ -1,5 +1,5 @@
 // The values of attributes, read as what they have to be.
-ghost use Rattle.std.specs.Prelude.{◌≡◌};
+ghost use Rattle.std.specs.Prelude.{◌≡◌, ◌≤◌, IfOk, IfSome};
 ghost use Rattle.std.specs.Option.{option_and_then};
 ghost use Rattle.assertion_model.specs.Contents.{value};
 ghost use Rattle.assertion_model.specs.Instants.{moment_of, moment_if_any};
@@ -9,13 +9,14 @@ ghost use Rattle.assertion_model.specs.Reading.{Reads};
 
 use crate::look::value_of;
 use owned_values::Text;
-use saml_time::read_instant;
+use saml_time::{LAST, read_instant};
 use std::alloc::Global;
 use tree_read::{At, ShapeFault};
 
 /// The moment that a text tells (SAML Core, 1.3.3).
 pub(crate) fn moment(text: &str) -> Option<u64>
-    ensures { result ≡ moment_of text.now }
+    ensures told { result ≡ moment_of text.now }
+    ensures bound { IfSome result (λ ms. ms ≤ LAST) }
 {
     read_instant(text)
 }
@@ -43,7 +44,8 @@ pub(crate) fn some_text_at(alloc: Global, at: At<'_, '_>, local: &str) -> Result
 
 /// The moment that the value of an attribute tells, which has to be there.
 pub(crate) fn moment_at(alloc: Global, at: At<'_, '_>, local: &str) -> Result<u64, ShapeFault>
-    ensures { Reads result (option_and_then moment_of (value local.now (part_of at.entry).attributes)) }
+    ensures read { Reads result (option_and_then moment_of (value local.now (part_of at.entry).attributes)) }
+    ensures bound { IfOk result (λ ms. ms ≤ LAST) }
 {
     let text = text_at(alloc, at, local)?;
     match moment(text.as_str()) {

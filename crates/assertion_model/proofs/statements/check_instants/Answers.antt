@@ -13,5 +13,5 @@ pub loop-statement-preserved : goal.loop-statement-preserved
 loop-statement-preserved c =
     let done = c.loop-statement.invariant in (
       done.0 ++ c.in_ok-moment_at.field-0 ∷ [],
-      each_more instant _ done.0 _ _ _ c.in_ok-moment_at.field-0 done.1 c.in-Some.ensures c.in_ok-moment_at.ensures,
+      each_more instant _ done.0 _ _ _ c.in_ok-moment_at.field-0 done.1 c.in-Some.ensures c.in_ok-moment_at.ensures.read,
     )

@@ -1,0 +1,3 @@
+mod Examples
+pub mod Fitting
+pub mod Nesting
