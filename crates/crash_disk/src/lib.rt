@@ -1,0 +1,34 @@
+//! A disk of two files that may crash at any moment.
+//!
+//! ```
+//! let mut disk = MemDisk::of(alloc, b"abc", b"")?;
+//! disk.write_at(FileNo::Zero, 3, b"d")?;      // a read gives abcd, a crash may leave abc and any fourth byte
+//! disk.sync(FileNo::Zero)?;                   // a crash leaves abcd
+//! disk.stop_at(1, 0);
+//! disk.cut(FileNo::Zero, 0).is_err();         // the disk stops, and all that was not synced is lost
+//! disk.restart();                             // abcd again
+//! ```
+//!
+//! A contract sees what a disk tells of itself: of each file what a read gives, what the last sync kept, the least and
+//! the greatest length since then, and the ranges that were written since then. The disk rule, in `specs/Disk.antt`,
+//! says which images a crash may leave of that. A disk that does not tell, as one over real files, meets the same
+//! contract. `left_since` is what a crash at some moment from one on might have left, so that a clause can speak of
+//! every moment inside a call (`specs/Moments.antt`).
+//!
+//! A call answers [`Failed`] only where the count of faults rose in it. What it then did is no more than begun.
+#![tactic(auto)]
+
+mod change;
+mod disk;
+mod file_no;
+pub mod laws;
+mod mem_disk;
+mod mem_file;
+mod range;
+#[cfg(test)]
+mod tests;
+
+pub use change::{Change, Taken};
+pub use disk::Disk;
+pub use file_no::{Failed, FileNo};
+pub use mem_disk::MemDisk;
