@@ -1,0 +1,6 @@
+pub mod Orders
+pub mod Places
+pub mod Adding
+pub mod Finding
+pub mod Changing
+pub mod OneOrder

@@ -1,0 +1,4 @@
+pub mod Examples
+pub mod Rows
+pub mod Order
+pub mod Indexed
