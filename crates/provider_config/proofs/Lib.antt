@@ -1,0 +1,4 @@
+pub mod IdpRunning
+pub mod Numbers
+pub mod Running
+pub mod Sharing

@@ -1,0 +1,11 @@
+use Rattle.std.proofs.Common.{subst, sym, ◌∙◌, arith}
+use Rattle.provider_config.specs.Drafts.{config_from}
+use Rattle.provider_config.proofs.Numbers.{AreSmall, small_numbers}
+use Rattle.provider_config.proofs.Running.{at_first}
+use Rattle.provider_config.proofs.read.read_sp_config.Goals as goal
+
+pub loop-said-init : goal.loop-said-init
+loop-said-init c = record {
+  config = (λ i. config_from c.args.purpose (c.new-draft.ensures i) (c.new-lines.ensures i)) ∙ at_first c.args.purpose c.args.text.now;
+  small = subst AreSmall (sym c.new-lines.ensures) (small_numbers c.args.text.now (omega (arith, c.requires)));
+}

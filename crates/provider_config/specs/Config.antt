@@ -1,0 +1,189 @@
+-- The lines of a config: which of them make one, and what it says.
+use Rattle.std.specs.Prelude.{ℕ, ◌≤◌, ◌*◌, Bool, true, false, ◌&&◌, not, List, [], ◌∷◌, ◌++◌, codes, Option, None, Some, Result, Ok, Err, ok_or, if◌then◌else◌}
+use Rattle.std.specs.List.{filter_map, list_any}
+use Rattle.std.specs.Str.{bytes_eq}
+use Rattle.text_lines.specs.Lines.{Said, Says, NoText, said}
+use Rattle.provider_config.specs.declared.config.FileRole.{FileRole}
+use Rattle.provider_config.specs.declared.config.FileRole.TheVariants as roles
+use Rattle.provider_config.specs.declared.config.NamedFile.{NamedFile}
+use Rattle.provider_config.specs.declared.config.Times.{Times}
+use Rattle.provider_config.specs.declared.config.AskedLine.{AskedLine}
+use Rattle.provider_config.specs.declared.config.OpenedLine.{OpenedLine}
+use Rattle.provider_config.specs.declared.config.SpLines.{SpLines}
+use Rattle.provider_config.specs.declared.line.TheConstants.{MILLIS, MOST_SKEW}
+use Rattle.provider_config.specs.declared.line.Purpose.{Purpose}
+use Rattle.provider_config.specs.declared.line.SpLine.{SpLine}
+use Rattle.provider_config.specs.declared.line.SpLine.TheVariants.{Entity, Base, Listen, Idp, KeyIn, KeyOut, IdKey, Skew, NextIn, Asked, Opened}
+use Rattle.provider_config.specs.Line.{line_of}
+use Rattle.provider_config.specs.Shared.{and_then, the, ◌>>=◌}
+
+-- ---- the lines of a text
+
+-- the key that a line begins with
+abbrev pub key_of : SpLine → List ℕ
+key_of (Entity name) = codes "entity"
+key_of (Base address) = codes "base"
+key_of (Listen place) = codes "listen"
+key_of (Idp name) = codes "idp"
+key_of (KeyIn name) = codes "key_in"
+key_of (KeyOut name) = codes "key_out"
+key_of (IdKey name) = codes "id_key"
+key_of (Skew milliseconds) = codes "skew"
+key_of (NextIn name times) = codes "next_in"
+key_of (Asked line) = codes "asked"
+key_of (Opened line) = codes "opened"
+
+-- a key that may stand in any number of lines; every other stands once
+abbrev pub may_repeat : SpLine → Bool
+may_repeat (Asked line) = true
+may_repeat (Opened line) = true
+may_repeat line = false
+
+-- the line has a key that stands in one of the lines before it
+abbrev pub doubles : SpLine → List SpLine → Bool
+doubles line before = not (may_repeat line) && list_any (λ other. bytes_eq (key_of other) (key_of line)) before
+
+-- the line, unless it doubles a key
+abbrev pub fresh : List SpLine → Option SpLine → Option SpLine
+fresh before None = None
+fresh before (Some line) = if doubles line before then None else Some line
+
+-- the line that is said behind these lines, or the number of a bad one
+abbrev pub line_behind : Purpose → List SpLine → Said → Result SpLine ℕ
+line_behind purpose before (Says number text) = ok_or (fresh before (line_of purpose text)) number
+line_behind purpose before (NoText number) = Err number
+
+-- these lines and those that are said behind them, or the number of the first that is bad
+abbrev pub lines_from : Purpose → List SpLine → List Said → Result (List SpLine) ℕ
+lines_from purpose before [] = Ok before
+lines_from purpose before (next ∷ others) =
+    and_then (λ line. lines_from purpose (before ++ line ∷ []) others) (line_behind purpose before next)
+
+-- ---- what lines say
+
+-- moments in order
+abbrev pub AreInOrder : Times → Type 0
+AreInOrder moments = moments.from ≤ moments.until
+
+-- what a line says is within its bounds
+abbrev pub IsSound : SpLine → Type 0
+IsSound (Skew milliseconds) = milliseconds ≤ MILLIS * MOST_SKEW
+IsSound (NextIn name moments) = AreInOrder moments
+IsSound line = Unit {0}
+
+abbrev pub entity : SpLine → Option (List ℕ)
+entity (Entity name) = Some name
+entity line = None
+
+abbrev pub base : SpLine → Option (List ℕ)
+base (Base address) = Some address
+base line = None
+
+abbrev pub listen : SpLine → Option (List ℕ)
+listen (Listen place) = Some place
+listen line = None
+
+abbrev pub skew : SpLine → Option ℕ
+skew (Skew milliseconds) = Some milliseconds
+skew line = None
+
+abbrev pub times : SpLine → Option Times
+times (NextIn name moments) = Some moments
+times line = None
+
+abbrev pub file : SpLine → Option NamedFile
+file (Idp name) = Some (record { role = roles.Idp; name = name })
+file (KeyIn name) = Some (record { role = roles.KeyIn; name = name })
+file (KeyOut name) = Some (record { role = roles.KeyOut; name = name })
+file (IdKey name) = Some (record { role = roles.IdKey; name = name })
+file (NextIn name moments) = Some (record { role = roles.NextIn; name = name })
+file line = None
+
+abbrev pub asked : SpLine → Option AskedLine
+asked (Asked row) = Some row
+asked line = None
+
+abbrev pub opened : SpLine → Option OpenedLine
+opened (Opened row) = Some row
+opened line = None
+
+-- what lines say together
+pub record Found : Type 0 where
+  pub entity : Option (List ℕ)
+  pub base : Option (List ℕ)
+  pub listen : Option (List ℕ)
+  pub skew : Option ℕ
+  pub files : List NamedFile
+  pub next_in : Option Times
+  pub asked : List AskedLine
+  pub opened : List OpenedLine
+
+abbrev pub found : List SpLine → Found
+found lines =
+    record {
+      entity = the entity lines;
+      base = the base lines;
+      listen = the listen lines;
+      skew = the skew lines;
+      files = filter_map file lines;
+      next_in = the times lines;
+      asked = filter_map asked lines;
+      opened = filter_map opened lines;
+    }
+
+-- ---- a config
+
+-- the names and places, the files in the order of their lines, and the rows
+pub record Config : Type 0 where
+  pub entity : List ℕ
+  pub base : List ℕ
+  pub listen : List ℕ
+  pub skew : ℕ
+  pub files : List NamedFile
+  pub next_in : Option Times
+  pub asked : List AskedLine
+  pub opened : List OpenedLine
+
+abbrev pub same_role : FileRole → FileRole → Bool
+same_role roles.Idp roles.Idp = true
+same_role roles.KeyIn roles.KeyIn = true
+same_role roles.KeyOut roles.KeyOut = true
+same_role roles.IdKey roles.IdKey = true
+same_role roles.NextIn roles.NextIn = true
+same_role role other = false
+
+-- a file of this role is named
+abbrev pub has_file : FileRole → List NamedFile → Bool
+has_file role files = list_any (λ named. same_role named.role role) files
+
+-- the files that each config names
+abbrev pub has_files : List NamedFile → Bool
+has_files files = has_file roles.Idp files && has_file roles.KeyIn files && has_file roles.KeyOut files && has_file roles.IdKey files
+
+-- the config of what is found; none where a key is missing
+abbrev pub complete : Found → Option Config
+complete found = do
+  entity ← found.entity
+  base ← found.base
+  listen ← found.listen
+  skew ← found.skew
+  if has_files found.files then Some (record { entity = entity; base = base; listen = listen; skew = skew; files = found.files; next_in = found.next_in; asked = found.asked; opened = found.opened }) else None
+
+-- the config of a text, or the number of the first line that is bad; 0 where no line is bad and a key is missing
+abbrev pub sp_config : Purpose → List ℕ → Result Config ℕ
+sp_config purpose text = and_then (λ lines. ok_or (complete (found lines)) 0) (lines_from purpose [] (said text))
+
+-- ---- how contracts see what is read
+
+abbrev pub config_view : SpLines → Config
+config_view lines =
+    record {
+      entity = lines.entity;
+      base = lines.base;
+      listen = lines.listen;
+      skew = lines.skew;
+      files = lines.files.items;
+      next_in = lines.next_in;
+      asked = lines.asked.items;
+      opened = lines.opened.items;
+    }

@@ -1,0 +1,45 @@
+-- Words by which the code keeps the definitions: what is found so far, and what one more line adds.
+use Rattle.std.specs.Prelude.{ℕ, Bool, nat_le, List, [], ◌∷◌, count_by, Option, None, Some, Result, Err, ok_or, is_some, if◌then◌else◌}
+use Rattle.text_lines.specs.Lines.{Said, Says, NoText}
+use Rattle.provider_config.specs.declared.idp_config.TheConstants.{MAX_PEERS}
+use Rattle.provider_config.specs.declared.idp_line.IdpLine.{IdpLine}
+use Rattle.provider_config.specs.declared.idp_line.IdpLine.TheVariants.{Entity, Base, Listen, Users, IdKey, Skew, Sign, Peer}
+use Rattle.provider_config.specs.IdpLine.{line_of}
+use Rattle.provider_config.specs.IdpConfig.{Found, IdpConfig, entity, base, listen, skew, sign, file, has_users, has_id_key, is_peer_file, complete}
+use Rattle.provider_config.specs.Shared.{and_then, or_else, pushed}
+
+-- what is found with one more line
+abbrev pub taken : IdpLine → Found → Found
+taken line found =
+    record {
+      entity = or_else (entity line) found.entity;
+      base = or_else (base line) found.base;
+      listen = or_else (listen line) found.listen;
+      skew = or_else (skew line) found.skew;
+      sign = or_else (sign line) found.sign;
+      files = pushed found.files (file line);
+    }
+
+-- the key of the line was found as often as it may stand
+abbrev pub stands : IdpLine → Found → Bool
+stands (Entity name) found = is_some found.entity
+stands (Base address) found = is_some found.base
+stands (Listen place) found = is_some found.listen
+stands (Users name) found = has_users found.files
+stands (IdKey name) found = has_id_key found.files
+stands (Skew milliseconds) found = is_some found.skew
+stands (Sign mode) found = is_some found.sign
+stands (Peer names) found = nat_le MAX_PEERS (count_by is_peer_file found.files)
+
+abbrev pub unless_found : Found → Option IdpLine → Option IdpLine
+unless_found found None = None
+unless_found found (Some line) = if stands line found then None else Some line
+
+abbrev pub next_line : Found → Said → Result IdpLine ℕ
+next_line found (Says number text) = ok_or (unless_found found (line_of number text)) number
+next_line found (NoText number) = Err number
+
+-- the config of what is found and of what is still to be said
+abbrev pub config_from : Found → List Said → Result IdpConfig ℕ
+config_from found [] = ok_or (complete found) 0
+config_from found (next ∷ others) = and_then (λ line. config_from (taken line found) others) (next_line found next)

@@ -1,0 +1,9 @@
+pub mod Config
+pub mod Drafts
+pub mod Examples
+pub mod IdpConfig
+pub mod IdpDrafts
+pub mod IdpExamples
+pub mod IdpLine
+pub mod Line
+pub mod Shared

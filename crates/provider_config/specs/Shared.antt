@@ -1,0 +1,39 @@
+-- Words that the configs of both roles share.
+use Rattle.std.specs.Prelude.{ℕ, List, [], ◌∷◌, ◌++◌, Option, None, Some, Result, Ok, Err, option_and_then}
+use Rattle.text_lines.specs.Lines.{Said, Says, NoText}
+use Rattle.provider_config.specs.declared.fault.ConfigFault.{ConfigFault}
+use Rattle.provider_config.specs.declared.fault.ConfigFault.TheVariants as faults
+
+-- what follows where there is no fault
+abbrev pub and_then : {X Y F : Type 0} → (X → Result Y F) → Result X F → Result Y F
+and_then f (Ok x) = f x
+and_then f (Err fault) = Err fault
+
+infixl 10 ◌>>=◌
+abbrev pub ◌>>=◌ : {X Y : Type 0} → Option X → (X → Option Y) → Option Y
+o >>= f = option_and_then f o
+
+-- the first, or else the second
+abbrev pub or_else : {X : Type 0} → Option X → Option X → Option X
+or_else (Some x) other = Some x
+or_else None other = other
+
+-- what the line of a kind says, of which there is one at most
+abbrev pub the : {Line X : Type 0} → (Line → Option X) → List Line → Option X
+the says [] = None
+the says (line ∷ lines) = or_else (the says lines) (says line)
+
+-- the list with what a line adds
+abbrev pub pushed : {X : Type 0} → List X → Option X → List X
+pushed xs None = xs
+pushed xs (Some x) = xs ++ x ∷ []
+
+-- the number of a line
+abbrev pub number_said : Said → ℕ
+number_said (Says number text) = number
+number_said (NoText number) = number
+
+-- the number that a fault gives, none for want of memory
+abbrev pub fault_of : ConfigFault → Option ℕ
+fault_of (faults.Line number) = Some number
+fault_of faults.NoMemory = None

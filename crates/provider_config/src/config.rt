@@ -1,0 +1,76 @@
+//! What a config says.
+
+use owned_values::Text;
+
+/// The most bytes that a config may have.
+pub const MAX_CONFIG_LENGTH: usize = 262_144;
+
+/// What a named file holds.
+#[derive(Clone, Copy, Debug, PartialEq, Eq)]
+pub enum FileRole {
+    /// The metadata of the identity provider.
+    Idp,
+    /// The key that signs what the peer sends.
+    KeyIn,
+    /// The key that signs what is sent to the peer.
+    KeyOut,
+    /// The key that IDs are made with.
+    IdKey,
+    /// The key of the peer beside the first, for a time.
+    NextIn,
+}
+
+/// A file that a config names.
+#[derive(Debug, Drop)]
+pub struct NamedFile {
+    pub role: FileRole,
+    pub name: Text,
+}
+
+/// From when a key counts, and until when the key before it does: moments in milliseconds since 1970.
+#[derive(Clone, Copy, Debug, PartialEq, Eq)]
+pub struct Times {
+    pub from: u64,
+    pub until: u64,
+}
+
+/// A request that was asked.
+#[derive(Debug, Drop)]
+pub struct AskedLine {
+    pub request: Text,
+    pub relay: Text,
+    pub target: Text,
+    /// Until when it can be answered, in milliseconds since 1970.
+    pub until: u64,
+}
+
+/// A request that was answered.
+#[derive(Debug, Drop)]
+pub struct OpenedLine {
+    pub request: Text,
+    pub issuer: Text,
+    pub assertion: Text,
+    /// Until when the assertion is remembered, in milliseconds since 1970.
+    pub until: u64,
+}
+
+/// The lines of a service provider's config.
+#[derive(Debug, Drop)]
+pub struct SpLines {
+    /// The name of the provider.
+    pub entity: Text,
+    /// The address that the provider's own addresses begin with.
+    pub base: Text,
+    /// Where the provider listens.
+    pub listen: Text,
+    /// By how much clocks may differ, in milliseconds.
+    pub skew: u64,
+    /// The named files, in the order of their lines.
+    pub files: Vec<NamedFile>,
+    /// When the second key of the identity provider counts, where there is one.
+    pub next_in: Option<Times>,
+    /// What was asked, in the order of the lines.
+    pub asked: Vec<AskedLine>,
+    /// What was answered, in the order of the lines.
+    pub opened: Vec<OpenedLine>,
+}

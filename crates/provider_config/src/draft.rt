@@ -1,0 +1,171 @@
+// What is found in the lines of a config so far.
+
+ghost use Rattle.std.specs.Prelude.{◌≡◌, ◌≤◌, ◌*◌, [], ◌∷◌, ◌++◌, IfSome, IsTrue, OnOk};
+ghost use Rattle.std.specs.Option.{option_map};
+ghost use Rattle.provider_config.specs.Config as spec;
+ghost use Rattle.provider_config.specs.Drafts as drafts;
+
+use crate::config::{AskedLine, FileRole, NamedFile, OpenedLine, SpLines, Times};
+use crate::line::{MILLIS, MOST_SKEW, SpLine};
+use owned_values::{NoMemory, Text};
+use std::alloc::Global;
+use std::marker::Model;
+
+impl FileRole {
+    /// Whether the two are one.
+    fn is(self, other: FileRole) -> bool
+        ensures { result ≡ spec.same_role self other }
+    {
+        matches!(
+            (self, other),
+            (FileRole::Idp, FileRole::Idp)
+                | (FileRole::KeyIn, FileRole::KeyIn)
+                | (FileRole::KeyOut, FileRole::KeyOut)
+                | (FileRole::IdKey, FileRole::IdKey)
+                | (FileRole::NextIn, FileRole::NextIn)
+        )
+    }
+}
+
+/// Whether a file of this role is named.
+fn has_file(files: &[NamedFile], role: FileRole) -> bool
+    ensures { result ≡ spec.has_file role files.now }
+{
+    files.iter().any(|file| file.role.is(role))
+}
+
+/// Whether the files are named that each config names.
+fn has_files(files: &[NamedFile]) -> bool
+    ensures { result ≡ spec.has_files files.now }
+{
+    has_file(files, FileRole::Idp)
+        && has_file(files, FileRole::KeyIn)
+        && has_file(files, FileRole::KeyOut)
+        && has_file(files, FileRole::IdKey)
+}
+
+/// What is found so far.
+#[derive(Drop)]
+pub(crate) struct Draft {
+    entity: Option<Text>,
+    base: Option<Text>,
+    listen: Option<Text>,
+    skew: Option<u64>,
+    files: Vec<NamedFile>,
+    next_in: Option<Times>,
+    asked: Vec<AskedLine>,
+    opened: Vec<OpenedLine>,
+}
+
+impl Model for Draft {
+    ghost use Rattle.std.specs.Prelude.{◌≤◌, ◌*◌};
+    ghost use Rattle.std.specs.Option.{ForSome};
+    ghost use Rattle.provider_config.specs.Config as spec;
+    ghost use Rattle.provider_config.specs.declared.line.TheConstants.{MILLIS, MOST_SKEW};
+
+    ghost Value = { spec.Found };
+
+    ghost view = { λ d. record { entity = d.entity; base = d.base; listen = d.listen; skew = d.skew; files = d.files.items; next_in = d.next_in; asked = d.asked.items; opened = d.opened.items } };
+
+    ghost invariant = { λ d. ForSome d.skew (λ milliseconds. milliseconds ≤ MILLIS * MOST_SKEW) × ForSome d.next_in spec.AreInOrder };
+}
+
+impl Draft {
+    /// Nothing is found.
+    pub(crate) fn new(alloc: Global) -> Draft
+        ensures { result ≡ spec.found [] }
+    {
+        Draft {
+            entity: None,
+            base: None,
+            listen: None,
+            skew: None,
+            files: Vec::new(alloc),
+            next_in: None,
+            asked: Vec::new(alloc),
+            opened: Vec::new(alloc),
+        }
+    }
+
+    /// Whether the key of the line was found, and stands once.
+    pub(crate) fn stands(&self, line: &SpLine) -> bool
+        ensures { result ≡ drafts.stands line.now self.now }
+    {
+        match line {
+            SpLine::Entity(_) => self.entity.is_some(),
+            SpLine::Base(_) => self.base.is_some(),
+            SpLine::Listen(_) => self.listen.is_some(),
+            SpLine::Idp(_) => has_file(self.files.as_slice(), FileRole::Idp),
+            SpLine::KeyIn(_) => has_file(self.files.as_slice(), FileRole::KeyIn),
+            SpLine::KeyOut(_) => has_file(self.files.as_slice(), FileRole::KeyOut),
+            SpLine::IdKey(_) => has_file(self.files.as_slice(), FileRole::IdKey),
+            SpLine::Skew(_) => self.skew.is_some(),
+            SpLine::NextIn { .. } => self.next_in.is_some(),
+            SpLine::Asked(_) | SpLine::Opened(_) => false,
+        }
+    }
+
+    /// A file is named.
+    fn name_file(&mut self, role: FileRole, name: Text) -> Result<(), NoMemory>
+        ensures { OnOk result (self.new ≡ record self.old { files = self.old.files ++ record { role = role; name = name } ∷ [] }) }
+    {
+        self.files.push(NamedFile { role, name })?;
+        Ok(())
+    }
+
+    /// The line is found too.
+    pub(crate) fn take(&mut self, line: SpLine) -> Result<(), NoMemory>
+        requires { spec.IsSound line }
+        ensures { OnOk result (self.new ≡ drafts.taken line self.old) }
+    {
+        match line {
+            SpLine::Entity(name) => self.entity = Some(name),
+            SpLine::Base(address) => self.base = Some(address),
+            SpLine::Listen(place) => self.listen = Some(place),
+            SpLine::Idp(name) => self.name_file(FileRole::Idp, name)?,
+            SpLine::KeyIn(name) => self.name_file(FileRole::KeyIn, name)?,
+            SpLine::KeyOut(name) => self.name_file(FileRole::KeyOut, name)?,
+            SpLine::IdKey(name) => self.name_file(FileRole::IdKey, name)?,
+            SpLine::Skew(milliseconds) => self.skew = Some(milliseconds),
+            SpLine::NextIn { file, times } => {
+                self.next_in = Some(times);
+                self.name_file(FileRole::NextIn, file)?;
+            }
+            SpLine::Asked(row) => self.asked.push(row)?,
+            SpLine::Opened(row) => self.opened.push(row)?,
+        }
+        Ok(())
+    }
+
+    /// The lines of the config; none where a key is missing.
+    pub(crate) fn complete(self) -> Option<SpLines>
+        ensures value { option_map spec.config_view result ≡ spec.complete self }
+        ensures skew { IfSome result (λ lines. lines.skew ≤ MILLIS * MOST_SKEW) }
+        ensures times { IfSome result (λ lines. IfSome lines.next_in spec.AreInOrder) }
+        ensures files { IfSome result (λ lines. IsTrue (spec.has_files lines.files.items)) }
+    {
+        let Draft {
+            entity,
+            base,
+            listen,
+            skew,
+            files,
+            next_in,
+            asked,
+            opened,
+        } = self;
+        if !has_files(files.as_slice()) {
+            return None;
+        }
+        Some(SpLines {
+            entity: entity?,
+            base: base?,
+            listen: listen?,
+            skew: skew?,
+            files,
+            next_in,
+            asked,
+            opened,
+        })
+    }
+}

@@ -1,0 +1,34 @@
+//! The configs of providers: files of lines, each a key and its words.
+//!
+//! ```
+//! let lines = read_sp_config(alloc, text, Purpose::Serve)?;
+//! for file in &lines.files {
+//!     /* `file.name` has what `file.role` says */
+//! }
+//! ```
+//!
+//! A config is a text of lines ([`text_lines`]). Each key stands once, in any order; words are separated by one space.
+//! [`read_sp_config`] gives what the definition `sp_config` gives, and [`read_idp_config`] what `idp_config` gives: the
+//! values of the keys and the named files in the order of their lines, or the number of the first line that is bad
+//! ([`ConfigFault`]). Both are linear in the text. What the named files hold is not looked at here.
+#![tactic(auto)]
+
+mod config;
+mod draft;
+mod fault;
+mod idp_config;
+mod idp_draft;
+mod idp_line;
+mod idp_read;
+mod line;
+mod read;
+#[cfg(test)]
+mod tests;
+mod words;
+
+pub use config::{AskedLine, FileRole, MAX_CONFIG_LENGTH, NamedFile, OpenedLine, SpLines, Times};
+pub use fault::ConfigFault;
+pub use idp_config::{IdpFile, IdpLines, MAX_PEERS, PeerFiles, SignMode};
+pub use idp_read::read_idp_config;
+pub use line::{MILLIS, MOST_SKEW, Purpose};
+pub use read::read_sp_config;

@@ -1,0 +1,65 @@
+// A config is read.
+
+ghost use Rattle.std.specs.Prelude.{◌≡◌, ◌<◌, ◌≤◌, ◌*◌, ◌^◌, length, IfOk, IfSome, IsTrue};
+ghost use Rattle.owned_values.specs.Gives.{Gives};
+ghost use Rattle.text_lines.specs.Views.{said_view};
+ghost use Rattle.provider_config.specs.Config.{sp_config, config_view, AreInOrder, IsSound, has_files};
+ghost use Rattle.provider_config.specs.Drafts.{next_line};
+ghost use Rattle.provider_config.specs.Shared.{fault_of, number_said};
+
+use crate::config::{MAX_CONFIG_LENGTH, SpLines};
+use crate::draft::Draft;
+use crate::fault::ConfigFault;
+use crate::line::{MILLIS, MOST_SKEW, Purpose, SpLine, line_of};
+use std::alloc::Global;
+use text_lines::{Lines, Said};
+
+/// The line that is said next.
+///
+/// # Errors
+///
+/// `Line`, exactly where it is no text, is none of a config, or has a key that was found and stands once.
+fn next_line(
+    alloc: Global,
+    purpose: Purpose,
+    draft: &Draft,
+    said: Said<'_>,
+) -> Result<SpLine, ConfigFault>
+    requires { number_said (said_view said) < 2 ^ 32 }
+    ensures value { Gives (λ line. line) fault_of result (next_line purpose draft.now (said_view said.entry)) }
+    ensures sound { IfOk result IsSound }
+{
+    match said {
+        Said::Line { number, text } => match line_of(alloc, purpose, text)? {
+            Some(line) if !draft.stands(&line) => Ok(line),
+            _ => Err(ConfigFault::Line(number as u32)),
+        },
+        Said::NoText { number } => Err(ConfigFault::Line(number as u32)),
+    }
+}
+
+/// The lines of a service provider's config.
+///
+/// # Errors
+///
+/// `Line` with the number of the first line that is no text, is none of a config for this purpose, or has a key that
+/// stands in a line before it; with 0 where no line is bad and a key is missing. `NoMemory` may come in place of any
+/// answer.
+pub fn read_sp_config(alloc: Global, text: &[u8], purpose: Purpose) -> Result<SpLines, ConfigFault>
+    requires { length text.now ≤ MAX_CONFIG_LENGTH }
+    ensures value { Gives config_view fault_of result (sp_config purpose text.now) }
+    ensures skew { IfOk result (λ lines. lines.skew ≤ MILLIS * MOST_SKEW) }
+    ensures times { IfOk result (λ lines. IfSome lines.next_in AreInOrder) }
+    ensures files { IfOk result (λ lines. IsTrue (has_files lines.files.items)) }
+{
+    let mut draft = Draft::new(alloc);
+    let mut lines = Lines::new(text);
+    while let Some(said) = lines.next_said() {
+        let line = next_line(alloc, purpose, &draft, said)?;
+        draft.take(line)?;
+    }
+    match draft.complete() {
+        Some(lines) => Ok(lines),
+        None => Err(ConfigFault::Line(0)),
+    }
+}
