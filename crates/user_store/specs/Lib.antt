@@ -1,0 +1,4 @@
+pub mod Examples
+pub mod Line
+pub mod Places
+pub mod Store
