@@ -1,0 +1,12 @@
+pub mod Cutting
+pub mod Ending
+pub mod Numbers
+pub mod Naming
+pub mod Reading
+pub mod Extending
+pub mod Deciding
+pub mod Lasting
+pub mod Pairs
+pub mod Table
+pub mod Answering
+pub mod Clients

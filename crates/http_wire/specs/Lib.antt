@@ -1,0 +1,11 @@
+pub mod Answers
+pub mod Awaiting
+pub mod Clients
+pub mod Cookies
+pub mod Examples
+pub mod Found
+pub mod Heads
+pub mod Laws
+pub mod Lines
+pub mod Requests
+pub mod Views

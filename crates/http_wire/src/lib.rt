@@ -1,0 +1,53 @@
+//! Requests and answers of HTTP/1.1, as bytes (RFC 9110, 9112 and 6265).
+//!
+//! ```
+//! let mut awaited = Awaited::new(); // for each connection
+//! match awaited.look(&brought) {
+//!     Found::Whole(request) => answer(&request),
+//!     Found::More => { /* look again when `awaited.wanted()` bytes are there */ }
+//!     Found::Refused(status) => send(&out[..put_fixed(status, &mut out)]),
+//! }
+//! ```
+//!
+//! [`request_of`] and [`Awaited::look`] give what the definition `Reads` says of all the bytes that a connection has brought:
+//! a whole request, the beginning of one, or no request, and then the status that says why:
+//!
+//! | Status | Where |
+//! |---|---|
+//! | 400 | the head is no request head of `httparse`, has more than [`LINE_LIMIT`] lines or a target that is not visible ASCII, ends behind [`HEAD_LIMIT`] bytes, or its Content-Length stands twice or is not of 1 to 10 digits |
+//! | 501 | there is a Transfer-Encoding |
+//! | 411 | a POST has no Content-Length |
+//! | 413 | the body is longer than [`BODY_LIMIT`] bytes |
+//!
+//! How the bytes were cut on their way changes nothing, and no bytes behind a whole request or a refusal change it
+//! ([`laws`]). [`Awaited`] remembers how far a connection was looked at, so that a head that comes byte by byte is searched
+//! once, and a body that comes so costs no look at its head.
+//!
+//! [`cookie_of`] and [`is_form_type`] read two of the fields. [`full_answer`] makes an answer around a body, and
+//! [`put_fixed`] writes the one that names a verdict or a status; both write the text that `answer` says, which a client reads
+//! as the same status, fields and body ([`laws::an_answer_is_read_again`]). Only [`full_answer`] takes memory; there
+//! `NoMemory` may come in place of its answer.
+#![tactic(auto)]
+
+mod answer;
+mod cookie;
+mod cut;
+mod fixed;
+mod head;
+pub mod laws;
+mod limits;
+mod lines;
+mod media;
+mod method;
+mod request;
+mod status;
+#[cfg(test)]
+mod tests;
+
+pub use answer::{Answer, full_answer};
+pub use cookie::cookie_of;
+pub use fixed::{FIXED_ROOM, put_fixed};
+pub use limits::{BODY_LIMIT, HEAD_LIMIT, LINE_LIMIT};
+pub use media::is_form_type;
+pub use method::Method;
+pub use request::{Awaited, Found, HttpRequest, request_of};
