@@ -1,0 +1,10 @@
+pub mod Covering
+pub mod Examples
+pub mod Judging
+pub mod Keys
+pub mod Meant
+pub mod Opening
+pub mod Outstanding
+pub mod Shown
+pub mod Verdict
+pub mod Views

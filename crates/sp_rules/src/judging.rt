@@ -1,0 +1,162 @@
+// The verdict on a posted form (SAML Profiles, 4.1.4; SAML Bindings, 3.5).
+
+ghost use Rattle.std.specs.Prelude.{◌≡◌, ◌≤◌, ℕ, List, [], ◌∷◌, codes, length, None, Some, true, false, IfOk, IfErr, IfSome, OnOk, OnErr};
+ghost use Rattle.std.specs.List.{AllByRecursion};
+ghost use Rattle.saml_names.specs.Names.{saml};
+ghost use Rattle.saml_tree.specs.Documents.{IsSpelled};
+ghost use Rattle.saml_tree.specs.Elements.{IsElement};
+ghost use Rattle.post_binding.specs.Form.{form};
+ghost use Rattle.tree_read.specs.Children.{children};
+ghost use Rattle.tree_read.specs.Views.{tree_of};
+ghost use Rattle.sp_rules.specs.Judging.{IsJudged};
+ghost use Rattle.sp_rules.specs.Opening.{Posts, Asserts};
+ghost use Rattle.sp_rules.specs.Outstanding.{asked_for};
+ghost use Rattle.sp_rules.specs.Shown.{IsOpening};
+ghost use Rattle.sp_rules.specs.Verdict.{form_refusal, head_refusal, login_refusal, IsRefused};
+
+use crate::accepted::Accepted;
+use crate::config::{GREATEST_SKEW, SpConfig};
+use crate::cover::cover_of;
+use crate::judged::Judged;
+use crate::login::{
+    consumer_address, is_for, is_from, is_in_time, is_outstanding, is_relayed, is_sent_to,
+    is_unseen, is_unspent,
+};
+use crate::shown::accepted_of;
+use assertion_model::{Login, read_login, read_places};
+use owned_values::{Blob, Text};
+use post_binding::{Field, MESSAGE_LIMIT, read_form};
+use protocol_messages::{ResponseHead, read_response};
+use request_rows::{AskedRow, Rows};
+use saml_time::LAST;
+use saml_tree::{Doc, read_document};
+use std::alloc::Global;
+use tree_read::At;
+use verdict_codes::Verdict;
+
+/// Asks that a condition holds.
+fn ask(holds: bool, verdict: Verdict) -> Result<(), Verdict>
+    ensures ok { OnOk result (holds ≡ true) }
+    ensures err { IfErr result (λ e. (e ≡ verdict) × (holds ≡ false)) }
+{
+    if holds { Ok(()) } else { Err(verdict) }
+}
+
+/// The message of a form in which a Response was posted, with its relay.
+fn read_posted(alloc: Global, body: &[u8]) -> Result<(Blob, Option<Text>), Judged>
+    ensures posts { IfOk result (λ posted. Posts body.now posted.0 posted.1) }
+    ensures small { IfOk result (λ posted. length posted.0 ≤ MESSAGE_LIMIT) }
+    ensures refused { IfErr result (IsJudged (λ verdict. form_refusal (form body.now) ≡ Some verdict)) }
+{
+    let posted = read_form(alloc, body)?;
+    match posted.field {
+        Field::Response => Ok((posted.message, posted.relay)),
+        Field::Request => Err(Judged::Code(Verdict::BadForm)),
+    }
+}
+
+/// The one Assertion of a successful Response.
+fn the_assertion<'d, 'a>(root: At<'d, 'a>, head: &ResponseHead) -> Result<At<'d, 'a>, Verdict>
+    requires elements { AllByRecursion (λ n. IsElement (tree_of root) n) head.now.assertions }
+    ensures asserts { IfOk result (λ assertion. Asserts head.now assertion.node.0) }
+    ensures document { IfOk result (λ assertion. assertion.doc.now ≡ root.entry.doc.now) }
+    ensures refused { IfErr result (λ verdict. head_refusal head.now ≡ Some verdict) }
+{
+    ask(head.success, Verdict::NotSuccess)?;
+    match head.assertions.as_slice() {
+        [node] => Ok(At {
+            doc: root.doc,
+            node: *node,
+        }),
+        _ => Err(Verdict::NotOneAssertion),
+    }
+}
+
+/// The asked row of the request that a login answers, where it is meant for this provider and its request waits for it.
+fn asked_by<'r>(
+    alloc: Global,
+    config: &SpConfig,
+    rows: &'r Rows,
+    horizon: u64,
+    now: u64,
+    head: &ResponseHead,
+    relay: &Option<Text>,
+    login: &Login,
+) -> Result<&'r AskedRow, Judged>
+    requires now { now ≤ LAST }
+    requires skew { config.now.skew ≤ GREATEST_SKEW }
+    ensures asked { IfOk result (λ asked. asked_for rows.now horizon now login.now ≡ Some asked.now) }
+    ensures accepted { OnOk result (login_refusal config.now rows.now horizon now head.now relay.now login.now ≡ None) }
+    ensures refused { IfErr result (IsJudged (λ verdict. login_refusal config.now rows.now horizon now head.now relay.now login.now ≡ Some verdict)) }
+{
+    let address = consumer_address(alloc, config)?;
+    let asked = rows.asked_row(login.request.as_str(), now, horizon);
+    ask(is_from(config, head, login), Verdict::WrongIssuer)?;
+    ask(is_for(config, login), Verdict::WrongAudience)?;
+    ask(
+        is_sent_to(address.as_str(), head, login),
+        Verdict::WrongRecipient,
+    )?;
+    ask(is_in_time(config, now, login), Verdict::NotInTime)?;
+    ask(is_outstanding(asked, head, login), Verdict::NotOutstanding)?;
+    ask(is_unspent(rows, login), Verdict::RequestSpent)?;
+    ask(is_unseen(rows, horizon, now, login), Verdict::AssertionSeen)?;
+    ask(is_relayed(asked, relay), Verdict::RelayDiffers)?;
+    asked.ok_or(Judged::Code(Verdict::NotOutstanding))
+}
+
+/// The verdict on a document that was posted with a relay.
+fn judge_document(
+    alloc: Global,
+    config: &SpConfig,
+    rows: &Rows,
+    horizon: u64,
+    now: u64,
+    doc: &Doc<'_>,
+    relay: &Option<Text>,
+) -> Result<Accepted, Judged>
+    requires now { now ≤ LAST }
+    requires skew { config.now.skew ≤ GREATEST_SKEW }
+    requires times { IfSome config.now.next_in (λ next. next.from ≤ next.until) }
+    requires spelled { IsSpelled doc.now.text doc.now.tree }
+    ensures accepted { IfOk result (λ accepted. (body : List ℕ) → Posts body doc.now.text relay.now → IsOpening config.now rows.now horizon now body accepted) }
+    ensures refused { IfErr result (λ judged. (body : List ℕ) → Posts body doc.now.text relay.now → IsJudged (IsRefused config.now rows.now horizon now body) judged) }
+{
+    let root = At {
+        doc,
+        node: doc.root(),
+    };
+    let head = read_response(alloc, root)?;
+    let assertion = the_assertion(root, &head)?;
+    let cover = cover_of(alloc, config, now, root, assertion)?;
+    let login = read_login(alloc, &cover.assertion)?;
+    let asked = asked_by(alloc, config, rows, horizon, now, &head, relay, &login)?;
+    let places = read_places(alloc, &cover.assertion)?;
+    let target = asked.target.copy()?;
+    Ok(accepted_of(alloc, config, now, &cover, login, target, &places)?)
+}
+
+/// Judges a form that was posted to a provider's consumer address at a moment, over the rows that are visible at it and behind
+/// the horizon.
+///
+/// # Errors
+///
+/// The verdict of the first condition that fails. `NoMemory` may come in place of any other answer.
+pub fn judge(
+    alloc: Global,
+    config: &SpConfig,
+    rows: &Rows,
+    horizon: u64,
+    now: u64,
+    body: &[u8],
+) -> Result<Accepted, Judged>
+    requires now { now ≤ LAST }
+    requires skew { config.now.skew ≤ GREATEST_SKEW }
+    requires times { IfSome config.now.next_in (λ next. next.from ≤ next.until) }
+    ensures accepted { IfOk result (IsOpening config.now rows.now horizon now body.now) }
+    ensures refused { IfErr result (IsJudged (IsRefused config.now rows.now horizon now body.now)) }
+{
+    let (message, relay) = read_posted(alloc, body)?;
+    let doc = read_document(alloc, message.as_slice())?;
+    judge_document(alloc, config, rows, horizon, now, &doc, &relay)
+}
