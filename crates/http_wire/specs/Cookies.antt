@@ -25,7 +25,7 @@ without_spaces text = reverse (behind_spaces (reverse (behind_spaces text)))
 abbrev pub Pair : Type 0
 Pair = List ℕ × List ℕ
 
--- RFC 6265, 4.2.1: "cookie-pair = cookie-name "=" cookie-value": what stands round the first `=`, since a name holds none
+-- RFC 6265, 4.1.1: "cookie-pair = cookie-name "=" cookie-value": what stands round the first `=`, since a name holds none
 abbrev pub pair_of : List ℕ → Option Pair
 pair_of text =
     if list_any (λ b. b == equals_sign) text

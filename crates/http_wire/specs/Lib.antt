@@ -3,9 +3,9 @@ pub mod Awaiting
 pub mod Clients
 pub mod Cookies
 pub mod Examples
-pub mod Found
 pub mod Heads
 pub mod Laws
 pub mod Lines
 pub mod Requests
+pub mod Values
 pub mod Views

@@ -25,7 +25,7 @@ pub(crate) const LINES_TO_SIZE: &str =
 pub(crate) const LINES_FROM_SIZE: &str = "\r\nCache-Control: no-store\r\nConnection: close\r\n";
 
 /// An answer.
-#[derive(Drop)]
+#[derive(Debug, Drop)]
 pub enum Answer {
     /// The one that [`put_fixed`](crate::put_fixed) writes for this code.
     Fixed(u16),

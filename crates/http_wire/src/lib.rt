@@ -5,7 +5,10 @@
 //! match awaited.look(&brought) {
 //!     Found::Whole(request) => answer(&request),
 //!     Found::More => { /* look again when `awaited.wanted()` bytes are there */ }
-//!     Found::Refused(status) => send(&out[..put_fixed(status, &mut out)]),
+//!     Found::Refused(status) => {
+//!         let length = put_fixed(status, &mut out);
+//!         send(&out[..length]);
+//!     }
 //! }
 //! ```
 //!

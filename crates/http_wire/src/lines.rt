@@ -7,7 +7,7 @@ ghost use Rattle.std.specs.Option.{option_map};
 ghost use Rattle.std.specs.Str.Parse.{digits_value};
 ghost use Rattle.httparse.specs.Spans.{IsHeaderWithin, header_bytes};
 ghost use Rattle.http_wire.specs.Lines.{values, text_of, is_length, first_text, size_by, size_of};
-ghost use Rattle.http_wire.specs.Found.{AreValues};
+ghost use Rattle.http_wire.specs.Values.{AreValues};
 
 use crate::limits::{BODY_LIMIT, LENGTH_DIGITS};
 use crate::method::Method;

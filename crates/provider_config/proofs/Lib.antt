@@ -1,4 +1,6 @@
+pub mod Counts
 pub mod IdpRunning
 pub mod Numbers
 pub mod Running
 pub mod Sharing
+pub mod TextWords

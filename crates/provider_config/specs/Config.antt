@@ -2,6 +2,7 @@
 use Rattle.std.specs.Prelude.{ℕ, ◌≤◌, ◌*◌, Bool, true, false, ◌&&◌, not, List, [], ◌∷◌, ◌++◌, codes, Option, None, Some, Result, Ok, Err, ok_or, if◌then◌else◌}
 use Rattle.std.specs.List.{filter_map, list_any}
 use Rattle.std.specs.Str.{bytes_eq}
+use Rattle.xml_spec.specs.Characters.{IsText}
 use Rattle.text_lines.specs.Lines.{Said, Says, NoText, said}
 use Rattle.provider_config.specs.declared.config.FileRole.{FileRole}
 use Rattle.provider_config.specs.declared.config.FileRole.TheVariants as roles
@@ -65,8 +66,11 @@ lines_from purpose before (next ∷ others) =
 abbrev pub AreInOrder : Times → Type 0
 AreInOrder moments = moments.from ≤ moments.until
 
--- what a line says is within its bounds
+-- what a line says is within its bounds; a name, an address and a place are texts that XML allows
 abbrev pub IsSound : SpLine → Type 0
+IsSound (Entity name) = IsText name
+IsSound (Base address) = IsText address
+IsSound (Listen place) = IsText place
 IsSound (Skew milliseconds) = milliseconds ≤ MILLIS * MOST_SKEW
 IsSound (NextIn name moments) = AreInOrder moments
 IsSound line = Unit {0}

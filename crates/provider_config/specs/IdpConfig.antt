@@ -2,6 +2,7 @@
 use Rattle.std.specs.Prelude.{ℕ, ◌≤◌, ◌*◌, Bool, true, false, ◌&&◌, nat_le, List, [], ◌∷◌, ◌++◌, codes, count_by, Option, None, Some, unwrap_or, Result, Ok, Err, ok_or, if◌then◌else◌}
 use Rattle.std.specs.List.{filter_map, list_any}
 use Rattle.std.specs.Str.{bytes_eq}
+use Rattle.xml_spec.specs.Characters.{IsText}
 use Rattle.text_lines.specs.Lines.{Said, Says, NoText, said}
 use Rattle.provider_config.specs.declared.idp_config.IdpFile.{IdpFile}
 use Rattle.provider_config.specs.declared.idp_config.IdpFile.TheVariants as files
@@ -56,8 +57,11 @@ lines_from before (next ∷ others) =
 
 -- ---- what lines say
 
--- what a line says is within its bounds
+-- what a line says is within its bounds; a name, an address and a place are texts that XML allows
 abbrev pub IsSound : IdpLine → Type 0
+IsSound (Entity name) = IsText name
+IsSound (Base address) = IsText address
+IsSound (Listen place) = IsText place
 IsSound (Skew milliseconds) = milliseconds ≤ MILLIS * MOST_SKEW
 IsSound line = Unit {0}
 

@@ -1,5 +1,6 @@
 -- Words that the configs of both roles share.
 use Rattle.std.specs.Prelude.{ℕ, List, [], ◌∷◌, ◌++◌, Option, None, Some, Result, Ok, Err, option_and_then}
+use Rattle.xml_spec.specs.Characters.{IsText}
 use Rattle.text_lines.specs.Lines.{Said, Says, NoText}
 use Rattle.provider_config.specs.declared.fault.ConfigFault.{ConfigFault}
 use Rattle.provider_config.specs.declared.fault.ConfigFault.TheVariants as faults
@@ -37,3 +38,13 @@ number_said (NoText number) = number
 abbrev pub fault_of : ConfigFault → Option ℕ
 fault_of (faults.Line number) = Some number
 fault_of faults.NoMemory = None
+
+-- each is a text that XML allows (XML 1.0, 2.2)
+abbrev pub AreTexts : List (List ℕ) → Type 0
+AreTexts [] = Unit {0}
+AreTexts (word ∷ words) = IsText word × AreTexts words
+
+-- what is said is a text
+abbrev pub SaysText : Said → Type 0
+SaysText (Says number text) = IsText text
+SaysText (NoText number) = Unit {0}

@@ -2,6 +2,7 @@
 
 ghost use Rattle.std.specs.Prelude.{◌≡◌, ◌≤◌, ◌*◌, [], ◌∷◌, ◌++◌, IfSome, IsTrue, OnOk};
 ghost use Rattle.std.specs.Option.{option_map};
+ghost use Rattle.xml_spec.specs.Characters.{IsText};
 ghost use Rattle.provider_config.specs.Config as spec;
 ghost use Rattle.provider_config.specs.Drafts as drafts;
 
@@ -60,6 +61,7 @@ pub(crate) struct Draft {
 impl Model for Draft {
     ghost use Rattle.std.specs.Prelude.{◌≤◌, ◌*◌};
     ghost use Rattle.std.specs.Option.{ForSome};
+    ghost use Rattle.xml_spec.specs.Characters.{IsText};
     ghost use Rattle.provider_config.specs.Config as spec;
     ghost use Rattle.provider_config.specs.declared.line.TheConstants.{MILLIS, MOST_SKEW};
 
@@ -67,7 +69,7 @@ impl Model for Draft {
 
     ghost view = { λ d. record { entity = d.entity; base = d.base; listen = d.listen; skew = d.skew; files = d.files.items; next_in = d.next_in; asked = d.asked.items; opened = d.opened.items } };
 
-    ghost invariant = { λ d. ForSome d.skew (λ milliseconds. milliseconds ≤ MILLIS * MOST_SKEW) × ForSome d.next_in spec.AreInOrder };
+    ghost invariant = { λ d. ForSome d.entity IsText × ForSome d.base IsText × ForSome d.listen IsText × ForSome d.skew (λ milliseconds. milliseconds ≤ MILLIS * MOST_SKEW) × ForSome d.next_in spec.AreInOrder };
 }
 
 impl Draft {
@@ -142,6 +144,7 @@ impl Draft {
         ensures value { option_map spec.config_view result ≡ spec.complete self }
         ensures skew { IfSome result (λ lines. lines.skew ≤ MILLIS * MOST_SKEW) }
         ensures times { IfSome result (λ lines. IfSome lines.next_in spec.AreInOrder) }
+        ensures texts { IfSome result (λ lines. IsText lines.entity × IsText lines.base × IsText lines.listen) }
         ensures files { IfSome result (λ lines. IsTrue (spec.has_files lines.files.items)) }
     {
         let Draft {

@@ -2,6 +2,7 @@
 
 ghost use Rattle.std.specs.Prelude.{◌≡◌, ◌≤◌, ◌*◌, [], ◌∷◌, ◌++◌, IfSome, IsTrue, OnOk, count_by};
 ghost use Rattle.std.specs.Option.{option_map};
+ghost use Rattle.xml_spec.specs.Characters.{IsText};
 ghost use Rattle.provider_config.specs.IdpConfig as spec;
 ghost use Rattle.provider_config.specs.IdpDrafts as drafts;
 
@@ -77,6 +78,7 @@ pub(crate) struct IdpDraft {
 impl Model for IdpDraft {
     ghost use Rattle.std.specs.Prelude.{◌≤◌, ◌*◌};
     ghost use Rattle.std.specs.Option.{ForSome};
+    ghost use Rattle.xml_spec.specs.Characters.{IsText};
     ghost use Rattle.provider_config.specs.IdpConfig as spec;
     ghost use Rattle.provider_config.specs.declared.line.TheConstants.{MILLIS, MOST_SKEW};
 
@@ -84,7 +86,7 @@ impl Model for IdpDraft {
 
     ghost view = { λ d. record { entity = d.entity; base = d.base; listen = d.listen; skew = d.skew; sign = d.sign; files = d.files.items } };
 
-    ghost invariant = { λ d. ForSome d.skew (λ milliseconds. milliseconds ≤ MILLIS * MOST_SKEW) };
+    ghost invariant = { λ d. ForSome d.entity IsText × ForSome d.base IsText × ForSome d.listen IsText × ForSome d.skew (λ milliseconds. milliseconds ≤ MILLIS * MOST_SKEW) };
 }
 
 impl IdpDraft {
@@ -140,6 +142,7 @@ impl IdpDraft {
     pub(crate) fn complete(self) -> Option<IdpLines>
         ensures value { option_map spec.config_view result ≡ spec.complete self }
         ensures skew { IfSome result (λ lines. lines.skew ≤ MILLIS * MOST_SKEW) }
+        ensures texts { IfSome result (λ lines. IsText lines.entity × IsText lines.base × IsText lines.listen) }
         ensures files { IfSome result (λ lines. IsTrue (spec.has_files lines.files.items)) }
     {
         let IdpDraft {

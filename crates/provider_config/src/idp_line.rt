@@ -2,6 +2,8 @@
 
 ghost use Rattle.std.specs.Prelude.{◌≡◌, IfOk, IfSome};
 ghost use Rattle.provider_config.specs.IdpConfig.{IsSound};
+ghost use Rattle.provider_config.specs.Shared.{AreTexts};
+ghost use Rattle.xml_spec.specs.Characters.{IsText};
 ghost use Rattle.provider_config.specs.IdpLine as spec;
 
 use crate::idp_config::{PeerFiles, SignMode};
@@ -38,6 +40,7 @@ fn sign_of(word: &str) -> Option<SignMode>
 
 /// The line of a key and one word behind it.
 fn valued(alloc: Global, key: &str, value: &str) -> Result<Option<IdpLine>, NoMemory>
+    requires { IsText value.now }
     ensures value { IfOk result (λ line. line ≡ spec.valued key.now value.now) }
     ensures sound { IfOk result (λ line. IfSome line IsSound) }
 {
@@ -68,6 +71,7 @@ fn peer(line: u32, metadata: &Text, key_in: &Text, key_out: &Text) -> Result<Idp
 
 /// The line of these words, which has this number.
 fn spelled(alloc: Global, number: u32, words: &[Text]) -> Result<Option<IdpLine>, NoMemory>
+    requires { AreTexts words.now }
     ensures value { IfOk result (λ line. line ≡ spec.spelled number words.now) }
     ensures sound { IfOk result (λ line. IfSome line IsSound) }
 {
@@ -82,6 +86,7 @@ fn spelled(alloc: Global, number: u32, words: &[Text]) -> Result<Option<IdpLine>
 
 /// The line that a text spells, which has this number.
 pub(crate) fn line_of(alloc: Global, number: u32, text: &str) -> Result<Option<IdpLine>, NoMemory>
+    requires { IsText text.now }
     ensures value { IfOk result (λ line. line ≡ spec.line_of number text.now) }
     ensures sound { IfOk result (λ line. IfSome line IsSound) }
 {

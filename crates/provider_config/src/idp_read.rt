@@ -2,10 +2,11 @@
 
 ghost use Rattle.std.specs.Prelude.{◌≡◌, ◌<◌, ◌≤◌, ◌*◌, ◌^◌, length, IfOk, IsTrue};
 ghost use Rattle.owned_values.specs.Gives.{Gives};
+ghost use Rattle.xml_spec.specs.Characters.{IsText};
 ghost use Rattle.text_lines.specs.Views.{said_view};
 ghost use Rattle.provider_config.specs.IdpConfig.{idp_config, config_view, IsSound, has_files};
 ghost use Rattle.provider_config.specs.IdpDrafts.{next_line};
-ghost use Rattle.provider_config.specs.Shared.{fault_of, number_said};
+ghost use Rattle.provider_config.specs.Shared.{SaysText, fault_of, number_said};
 
 use crate::config::MAX_CONFIG_LENGTH;
 use crate::fault::ConfigFault;
@@ -22,7 +23,8 @@ use text_lines::{Lines, Said};
 ///
 /// `Line`, exactly where it is no text, is none of a config, or has a key that was found as often as it may stand.
 fn next_line(alloc: Global, draft: &IdpDraft, said: Said<'_>) -> Result<IdpLine, ConfigFault>
-    requires { number_said (said_view said) < 2 ^ 32 }
+    requires number { number_said (said_view said) < 2 ^ 32 }
+    requires text { SaysText (said_view said) }
     ensures value { Gives (λ line. line) fault_of result (next_line draft.now (said_view said.entry)) }
     ensures sound { IfOk result IsSound }
 {
@@ -46,6 +48,7 @@ pub fn read_idp_config(alloc: Global, text: &[u8]) -> Result<IdpLines, ConfigFau
     requires { length text.now ≤ MAX_CONFIG_LENGTH }
     ensures value { Gives config_view fault_of result (idp_config text.now) }
     ensures skew { IfOk result (λ lines. lines.skew ≤ MILLIS * MOST_SKEW) }
+    ensures texts { IfOk result (λ lines. IsText lines.entity × IsText lines.base × IsText lines.listen) }
     ensures files { IfOk result (λ lines. IsTrue (has_files lines.files.items)) }
 {
     let mut draft = IdpDraft::new(alloc);

@@ -11,6 +11,9 @@
 //! [`read_sp_config`] gives what the definition `sp_config` gives, and [`read_idp_config`] what `idp_config` gives: the
 //! values of the keys and the named files in the order of their lines, or the number of the first line that is bad
 //! ([`ConfigFault`]). Both are linear in the text. What the named files hold is not looked at here.
+//!
+//! What is read keeps the bounds that callers need: the skew is at most [`MOST_SKEW`] seconds, moments are in order, the
+//! name and the addresses are texts that XML allows, and each file that a config needs is named.
 #![tactic(auto)]
 
 mod config;
@@ -20,6 +23,7 @@ mod idp_config;
 mod idp_draft;
 mod idp_line;
 mod idp_read;
+pub mod laws;
 mod line;
 mod read;
 #[cfg(test)]

@@ -2,6 +2,8 @@
 
 ghost use Rattle.std.specs.Prelude.{◌≡◌, ◌≤◌, ◌*◌, IfOk, IfSome};
 ghost use Rattle.provider_config.specs.Config.{AreInOrder, IsSound};
+ghost use Rattle.provider_config.specs.Shared.{AreTexts};
+ghost use Rattle.xml_spec.specs.Characters.{IsText};
 ghost use Rattle.provider_config.specs.Line as spec;
 
 use crate::config::{AskedLine, OpenedLine, Times};
@@ -66,6 +68,7 @@ pub(crate) fn skew_of(word: &str) -> Option<u64>
 
 /// The line of a key and one word behind it.
 fn valued(alloc: Global, key: &str, value: &str) -> Result<Option<SpLine>, NoMemory>
+    requires { IsText value.now }
     ensures value { IfOk result (λ line. line ≡ spec.valued key.now value.now) }
     ensures sound { IfOk result (λ line. IfSome line IsSound) }
 {
@@ -152,6 +155,7 @@ fn opened(
 
 /// The line of these words.
 fn spelled(alloc: Global, purpose: Purpose, words: &[Text]) -> Result<Option<SpLine>, NoMemory>
+    requires { AreTexts words.now }
     ensures value { IfOk result (λ line. line ≡ spec.spelled purpose words.now) }
     ensures sound { IfOk result (λ line. IfSome line IsSound) }
 {
@@ -177,6 +181,7 @@ pub(crate) fn line_of(
     purpose: Purpose,
     text: &str,
 ) -> Result<Option<SpLine>, NoMemory>
+    requires { IsText text.now }
     ensures value { IfOk result (λ line. line ≡ spec.line_of purpose text.now) }
     ensures sound { IfOk result (λ line. IfSome line IsSound) }
 {

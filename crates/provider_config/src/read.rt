@@ -2,10 +2,11 @@
 
 ghost use Rattle.std.specs.Prelude.{◌≡◌, ◌<◌, ◌≤◌, ◌*◌, ◌^◌, length, IfOk, IfSome, IsTrue};
 ghost use Rattle.owned_values.specs.Gives.{Gives};
+ghost use Rattle.xml_spec.specs.Characters.{IsText};
 ghost use Rattle.text_lines.specs.Views.{said_view};
 ghost use Rattle.provider_config.specs.Config.{sp_config, config_view, AreInOrder, IsSound, has_files};
 ghost use Rattle.provider_config.specs.Drafts.{next_line};
-ghost use Rattle.provider_config.specs.Shared.{fault_of, number_said};
+ghost use Rattle.provider_config.specs.Shared.{SaysText, fault_of, number_said};
 
 use crate::config::{MAX_CONFIG_LENGTH, SpLines};
 use crate::draft::Draft;
@@ -25,7 +26,8 @@ fn next_line(
     draft: &Draft,
     said: Said<'_>,
 ) -> Result<SpLine, ConfigFault>
-    requires { number_said (said_view said) < 2 ^ 32 }
+    requires number { number_said (said_view said) < 2 ^ 32 }
+    requires text { SaysText (said_view said) }
     ensures value { Gives (λ line. line) fault_of result (next_line purpose draft.now (said_view said.entry)) }
     ensures sound { IfOk result IsSound }
 {
@@ -50,6 +52,7 @@ pub fn read_sp_config(alloc: Global, text: &[u8], purpose: Purpose) -> Result<Sp
     ensures value { Gives config_view fault_of result (sp_config purpose text.now) }
     ensures skew { IfOk result (λ lines. lines.skew ≤ MILLIS * MOST_SKEW) }
     ensures times { IfOk result (λ lines. IfSome lines.next_in AreInOrder) }
+    ensures texts { IfOk result (λ lines. IsText lines.entity × IsText lines.base × IsText lines.listen) }
     ensures files { IfOk result (λ lines. IsTrue (has_files lines.files.items)) }
 {
     let mut draft = Draft::new(alloc);
