@@ -3,6 +3,8 @@ pub mod Disk
 pub mod Examples
 pub mod Ranges
 pub mod Soundness
+pub mod Steps
+pub mod Torn
 pub mod InMemory
 pub mod Memory
 pub mod Moments

@@ -1,0 +1,42 @@
+//! Where the events of a program come from, where its answers go, and what time it is.
+//!
+//! ```
+//! let mut link = ListLink::new(alloc);
+//! link.add(LinkEvent::Started(1), b"")?;
+//! link.add(LinkEvent::Piece(1, 3), b"abc")?;
+//! let mut into = [0; 2];
+//! link.next(&mut into)?;                      // Started(1)
+//! link.next(&mut into)?;                      // Piece(1, 2), into is ab
+//! link.next(&mut into)?;                      // Piece(1, 1), into is cb
+//! link.next(&mut into)?;                      // Stop, and so for ever
+//! link.send(1, b"hello")?;
+//! link.sent(1);                               // hello
+//! ```
+//!
+//! A [`Clock`] and a [`Link`] are traits. Their ghost members say what is to come and what was sent, where the object
+//! tells it: [`ListClock`] and [`ListLink`] do, those over a real clock or real sockets do not. No call changes whether
+//! an object tells.
+//!
+//! A call of a link answers [`Failed`] only where the count of faults of its kind rose in it: one counts `listen` and
+//! `next`, the other `send`. After a `next` that failed what is to come is as before, and of a `send` that failed a
+//! prefix of the bytes went out. A clock can't fail.
+#![tactic(auto)]
+
+mod arrival;
+mod clock;
+mod faults;
+pub mod laws;
+mod link;
+mod list_clock;
+mod list_link;
+mod outbox;
+mod queue;
+#[cfg(test)]
+mod tests;
+
+pub use arrival::Arrival;
+pub use clock::Clock;
+pub use crash_disk::Failed;
+pub use link::{Link, LinkEvent};
+pub use list_clock::ListClock;
+pub use list_link::ListLink;
