@@ -1,0 +1,9 @@
+pub mod Ending
+pub mod Found
+pub mod Lasting
+pub mod Numbers
+pub mod Own
+pub mod Readings
+pub mod Serving
+pub mod Steps
+pub mod Tables

@@ -1,0 +1,4 @@
+use Rattle.conn_table.proofs.connection.Connection.new.Goals as goal
+
+pub invariant_of-result : goal.invariant_of-result
+invariant_of-result c = c.new-2.ensures _

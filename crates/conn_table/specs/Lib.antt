@@ -1,0 +1,9 @@
+pub mod Answers
+pub mod Calls
+pub mod Events
+pub mod Examples
+pub mod Exchange
+pub mod Kept
+pub mod Laws
+pub mod Served
+pub mod Table
