@@ -1,0 +1,7 @@
+mod Examples
+pub mod Digests
+pub mod Lists
+pub mod Meeting
+pub mod Sayings
+pub mod Shown
+pub mod Signing
