@@ -1,0 +1,6 @@
+pub mod Fronts
+pub mod Lists
+pub mod Loop
+pub mod Records
+pub mod SpOnce
+pub mod IdpOnce

@@ -1,0 +1,9 @@
+use Rattle.std.proofs.Common.{◌∙◌}
+use Rattle.ledger_records.proofs.Loop.{text_in_utf8, not_in_utf8}
+use Rattle.ledger_records.proofs.reading.text_of.Goals as goal
+
+pub returns-in_ok-of-in-Ok : goal.returns-in_ok-of-in-Ok
+returns-in_ok-of-in-Ok c = text_in_utf8 c.args.bytes.now c.in_ok-of-in-Ok.field-0 (c.in_ok-of-in-Ok.ensures ∙ c.in-Ok.ensures.cases.0) c.in-Ok.ensures.cases.1
+
+pub returns-in-Err : goal.returns-in-Err
+returns-in-Err c = not_in_utf8 c.args.bytes.now c.in-Err.ensures.cases.0

@@ -1,0 +1,6 @@
+pub mod Examples
+pub mod Fields
+pub mod SpRecord
+pub mod IdpRecord
+pub mod Reading
+pub mod Writing

@@ -1,0 +1,16 @@
+//! Laws of the definitions that the contracts cite. Each function does nothing: what it ensures is the law.
+ghost use Rattle.std.specs.Prelude.{◌≡◌, ℕ, List};
+ghost use Rattle.ledger_records.specs.declared.sp_record.SpRecord.{SpRecord};
+ghost use Rattle.ledger_records.specs.declared.idp_record.IdpRecord.{IdpRecord};
+ghost use Rattle.ledger_records.specs.SpRecord.{IsSpPayload};
+ghost use Rattle.ledger_records.specs.IdpRecord.{IsIdpPayload};
+
+/// A payload is one record of a service provider at most: the bytes of two records are equal only where the records are.
+pub fn a_payload_is_one_sp_record()
+    ensures { (version : ℕ) (payload : List ℕ) (one other : SpRecord) → IsSpPayload version payload one → IsSpPayload version payload other → one ≡ other }
+{}
+
+/// A payload is one record of an identity provider at most.
+pub fn a_payload_is_one_idp_record()
+    ensures { (payload : List ℕ) (one other : IdpRecord) → IsIdpPayload payload one → IsIdpPayload payload other → one ≡ other }
+{}

@@ -1,0 +1,31 @@
+//! The records that the ledgers of the two providers keep in their journals, as payloads.
+//!
+//! ```
+//! let record = SpRecord::Left(sp_record::Left { first: 4, moment, until, token, request });
+//! if record.payload_len() > room { /* the journal is full */ }
+//! let payload = record.payload(alloc)?;
+//! let same = read_sp_record(alloc, payload.as_slice(), 2)?;   // Some of that record
+//! ```
+//!
+//! A contract sees a record as its fields, and a payload as bytes. What a payload says is one definition for each
+//! provider: `IsSpPayload` of `specs/SpRecord.antt` and `IsIdpPayload` of `specs/IdpRecord.antt` list the fields of each
+//! kind of record in order, and `specs/Fields.antt` has the bytes of each kind of field. A payload is one record at most
+//! ([`laws`]).
+//!
+//! [`read_sp_record`] and [`read_idp_record`] answer none exactly where the payload is no record. A list grows as its items
+//! are read and is not reserved by its count, so memory and time are linear in the payload. `NoMemory` may come from each
+//! call that takes an allocator. `payload_len` takes no memory.
+#![tactic(auto)]
+
+pub mod idp_record;
+mod key_number;
+pub mod laws;
+mod reading;
+pub mod sp_record;
+#[cfg(test)]
+mod tests;
+mod writing;
+
+pub use idp_record::{IdpRecord, read_idp_record};
+pub use key_number::KeyNumber;
+pub use sp_record::{SpRecord, read_sp_record};
