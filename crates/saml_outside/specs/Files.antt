@@ -1,5 +1,5 @@
 -- Files, and what reading one of them answers.
-use Rattle.std.specs.Prelude.{◌≡◌, ℕ, ◌<◌, ◌≤◌, List, [], length, Option, None, Some, IfSome, IsSomeAnd, nat_lt, if◌then◌else◌}
+use Rattle.std.specs.Prelude.{◌≡◌, ℕ, ◌<◌, ◌≤◌, ◌⊎◌, List, [], length, Option, None, Some, IfSome, IsSomeAnd, nat_lt, if◌then◌else◌}
 use Rattle.std.specs.List.{find}
 use Rattle.std.specs.Option.{option_map}
 use Rattle.std.specs.Str.{bytes_eq}
@@ -25,6 +25,10 @@ Reads told name limit TooLong into =
     (into ≡ []) × IfSome told (λ files. IsSomeAnd (bytes_of files name) (λ bytes. limit < length bytes))
 Reads told name limit Failed into = into ≡ []
 Reads told name limit NoMemory into = into ≡ []
+
+-- reading this file of at most this many bytes answered that it can't be used
+abbrev pub IsUnread : Option (List File) → List ℕ → ℕ → Type 0
+IsUnread told name limit = Reads told name limit Absent [] ⊎ Reads told name limit TooLong []
 
 -- The answer that the content determines, and what it leaves in `into`.
 abbrev pub answer_of : Option (List ℕ) → ℕ → FileRead × List ℕ

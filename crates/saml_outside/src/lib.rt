@@ -9,6 +9,7 @@
 mod held_files;
 pub mod laws;
 mod reading;
+mod stop;
 mod taken_bytes;
 #[cfg(test)]
 mod tests;
@@ -17,6 +18,7 @@ mod writing;
 pub use held_files::{MemFiles, SteadyFiles};
 pub use owned_values::{Attribute, Attributes, Blob, NoMemory, Text, Texts};
 pub use reading::{FileRead, Files};
+pub use stop::{ReadStop, read_file};
 pub use taken_bytes::MemSink;
 pub use verdict_codes::Verdict;
 pub use writing::{Sink, SinkFailed};

@@ -1,5 +1,5 @@
 //! What no clause says: that there is memory for a call, and that a trait's object works through its bound.
-use crate::{FileRead, Files, MemFiles, MemSink, Sink, SinkFailed, SteadyFiles};
+use crate::{FileRead, Files, MemFiles, MemSink, Sink, SinkFailed, SteadyFiles, read_file};
 use std::test::Fail;
 
 fn read_of(files: &mut impl Files, name: &str, limit: u64, into: &mut Vec<u8>) -> (FileRead, u64) {
@@ -49,6 +49,9 @@ fn steady_files_are_read(rt: HostRuntime) -> Result<(), Fail> {
         (FileRead::Whole, 0)
     );
     assert_eq!(rt; into.as_slice(), b"new".as_slice());
+    let found = read_file(rt.alloc(), &mut files, "a", 3)?;
+    assert_eq!(rt; found.as_deref(), Some(b"new".as_slice()));
+    assert!(rt; read_file(rt.alloc(), &mut files, "a", 2)?.is_none());
     Ok(())
 }
 

@@ -1,8 +1,6 @@
 -- What is answered, and how a run ends with it.
-use Rattle.std.proofs.Common.{◌≡◌, ◌≢◌, ℕ, ◌+◌, ◌-◌, ◌^◌, ◌≤◌, ◌⊎◌, List, [], ◌∷◌, ◌++◌, Option, Some, None, Result, Ok, Err, IfOk, MatchOption, codes, append_assoc, inl, inr, refl, sym, subst, arith}
-use Rattle.std.proofs.Math.Nat.{min-le_left, min-le_right, le-min}
-use Rattle.saml_outside.specs.Counts.{Rose, one_more}
-use Rattle.saml_outside.specs.Files.{File}
+use Rattle.std.proofs.Common.{◌≡◌, ◌≢◌, ℕ, ◌⊎◌, List, [], ◌∷◌, ◌++◌, Option, Some, Result, Ok, Err, IfOk, MatchOption, codes, append_assoc, inl, inr, refl, sym, subst}
+use Rattle.saml_outside.specs.Files.{File, IsUnread}
 use Rattle.samld.specs.declared.status.Status.{Status}
 use Rattle.samld.specs.declared.status.Status.TheVariants as statuses
 use Rattle.samld.specs.Answers.{Answer, Printed, Refused, BadFile, Usage, status_of, IsYes}
@@ -13,7 +11,8 @@ use Rattle.saml_tree.specs.Documents.{IsRefused}
 use Rattle.saml_tree.specs.declared.node.TreeFault.{TreeFault}
 use Rattle.fault_verdicts.specs.Verdicts.{of_document}
 use Rattle.samld.specs.Documents.{OfDocument}
-use Rattle.samld.specs.Running.{Command, command_of, IsUnread, OfFile, OfCommand, Answers, IsVerdictOf, EndsWith, PrintsPart}
+use Rattle.samld.specs.Reading.{OfFile}
+use Rattle.samld.specs.Running.{Command, command_of, OfCommand, Answers, IsVerdictOf, EndsWith, PrintsPart}
 
 pub if_ok_map : {T E : Type 0} (r : Result T E) (P Q : T → Type 0) → ((x : T) → P x → Q x) → IfOk r P → IfOk r Q
 if_ok_map (Ok x) P Q f h = f x h
@@ -75,14 +74,6 @@ pub answered : (words : List (List ℕ)) (told : Option (List File)) (command : 
     (answer : Answer) → OfCommand told command answer → Answers words told answer
 answered words told command e answer h =
     subst (λ (o : Option Command). MatchOption o (answer ≡ Usage) (λ c. OfCommand told c answer)) (sym e) h
-
--- a count that rose since a later moment rose since an earlier one
-pub rose_since : (before middle now : ℕ) → before ≤ middle → Rose middle now → Rose before now
-rose_since before middle now h rose =
-    let left = min-le_left (before + 1) (2 ^ 64 - 1) in
-    let right = min-le_right (before + 1) (2 ^ 64 - 1) in
-    let both : one_more before ≤ one_more middle = le-min (omega arith) right in
-    omega arith
 
 -- a file that is absent or too long can't be used
 pub unread_bad : (meaning : List ℕ → Answer → Type 0) (told : Option (List File)) (file : List ℕ) (limit : ℕ) → IsUnread told file limit →

@@ -1,2 +1,4 @@
+pub mod Alone
 pub mod Answering
+pub mod Checking
 pub mod Completeness

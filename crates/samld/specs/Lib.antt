@@ -1,7 +1,10 @@
 pub mod Answers
 pub mod Canon
+pub mod Check
+pub mod CheckExamples
 pub mod Documents
 pub mod Exit
+pub mod Reading
 pub mod Running
 pub mod Streams
 pub mod Views

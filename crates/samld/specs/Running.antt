@@ -3,52 +3,51 @@ use Rattle.std.specs.Prelude.{◌≡◌, ℕ, ◌⊎◌, List, [], ◌∷◌, �
 use Rattle.std.specs.Str.{bytes_eq}
 use Rattle.std.specs.Option.{option_map}
 use Rattle.xml_spec.specs.declared.TheConstants.{MAX_DOCUMENT_LENGTH}
-use Rattle.saml_outside.specs.Files.{File, Reads}
-use Rattle.saml_outside.specs.declared.reading.FileRead.{FileRead}
-use Rattle.saml_outside.specs.declared.reading.FileRead.TheVariants as reads
+use Rattle.saml_outside.specs.Files.{File}
 use Rattle.verdict_codes.specs.declared.codes.Verdict.{Verdict}
-use Rattle.samld.specs.declared.limits.TheConstants.{GREATEST_KEY}
+use Rattle.saml_time.specs.declared.TheConstants.{LAST}
+use Rattle.text_lines.specs.Numbers.{number_of}
+use Rattle.sp_setup.specs.declared.limits.TheConstants.{GREATEST_KEY}
 use Rattle.samld.specs.declared.status.Status.{Status}
 use Rattle.samld.specs.declared.status.Status.TheVariants as statuses
-use Rattle.samld.specs.Answers.{Answer, Refused, BadFile, Usage, status_of, text_of, IsYes}
+use Rattle.samld.specs.Answers.{Answer, Refused, Usage, status_of, text_of, IsYes}
 use Rattle.samld.specs.Canon.{OfCanon}
+use Rattle.samld.specs.Check.{OfCheck}
+use Rattle.samld.specs.Reading.{OfFile}
 use Rattle.samld.specs.Vouch.{OfVouch}
 
 -- what the program is asked for: the canonical form of the element of a file that has this ID, or of the root; whether the
--- element of a file that has this ID is vouched for with the key in another file
+-- element of a file that has this ID is vouched for with the key in another file; what a provider with this config says at this
+-- moment to the form in another file
 pub data Command : Type 0 where
   Canon : (file : List ℕ) (id : Option (List ℕ)) → Command
   Vouch : (file id key_file : List ℕ) → Command
+  Check : (config body : List ℕ) (now : ℕ) → Command
 
--- the command of the words `canon FILE`, `canon FILE ID` and `vouch FILE ID KEYFILE`, which are the forms that the program
--- knows yet
+-- `check CONFIG BODYFILE NOW`, where NOW is a moment in milliseconds
+abbrev pub check_at : List ℕ → List ℕ → Option ℕ → Option Command
+check_at config body now = option_map (λ moment. Check config body moment) now
+
+-- three words behind the name of a command
+abbrev pub of_three : List ℕ → List ℕ → List ℕ → List ℕ → Option Command
+of_three word first second third =
+    if bytes_eq word (codes "vouch") then Some (Vouch first second third)
+    else if bytes_eq word (codes "check") then check_at first second (number_of LAST third) else None
+
+-- the command of the words `canon FILE`, `canon FILE ID`, `vouch FILE ID KEYFILE` and `check CONFIG BODYFILE NOW`, which are the
+-- forms that the program knows yet
 abbrev pub command_of : List (List ℕ) → Option Command
 command_of (word ∷ file ∷ []) = if bytes_eq word (codes "canon") then Some (Canon file None) else None
 command_of (word ∷ file ∷ id ∷ []) = if bytes_eq word (codes "canon") then Some (Canon file (Some id)) else None
-command_of (word ∷ file ∷ id ∷ key_file ∷ []) = if bytes_eq word (codes "vouch") then Some (Vouch file id key_file) else None
+command_of (word ∷ first ∷ second ∷ third ∷ []) = of_three word first second third
 command_of words = None
-
--- reading this file of at most this many bytes answered that it can't be used
-abbrev pub IsUnread : Option (List File) → List ℕ → ℕ → Type 0
-IsUnread told file limit = Reads told file limit reads.Absent [] ⊎ Reads told file limit reads.TooLong []
-
--- what was read of a file is answered with what its bytes ask for; a file that is absent or too long can't be used
-abbrev pub OfRead : (List ℕ → Answer → Type 0) → List ℕ → FileRead → List ℕ → Answer → Type 0
-OfRead meaning file reads.Whole bytes answer = meaning bytes answer
-OfRead meaning file reads.Absent bytes answer = answer ≡ BadFile file 0
-OfRead meaning file reads.TooLong bytes answer = answer ≡ BadFile file 0
-OfRead meaning file read bytes answer = ⊥
-
--- what a file of at most this many bytes is answered with, by what the files tell
-abbrev pub OfFile : (List ℕ → Answer → Type 0) → Option (List File) → List ℕ → ℕ → Answer → Type 0
-OfFile meaning told file limit answer =
-    (read : FileRead) × (bytes : List ℕ) × Reads told file limit read bytes × OfRead meaning file read bytes answer
 
 -- what a command is answered with: the files are read in the order in which they are named
 abbrev pub OfCommand : Option (List File) → Command → Answer → Type 0
 OfCommand told (Canon file id) answer = OfFile (OfCanon id) told file MAX_DOCUMENT_LENGTH answer
 OfCommand told (Vouch file id key_file) answer =
     OfFile (λ bytes. OfFile (OfVouch id key_file bytes) told key_file GREATEST_KEY) told file MAX_DOCUMENT_LENGTH answer
+OfCommand told (Check config body now) answer = OfCheck told config body now answer
 
 -- what words are answered with, by what the files tell
 abbrev pub Answers : List (List ℕ) → Option (List File) → Answer → Type 0

@@ -1,5 +1,7 @@
 -- How the definitions see a command and an answer.
+use Rattle.std.specs.Prelude.{◌≤◌}
 use Rattle.std.specs.Option.{option_map}
+use Rattle.saml_time.specs.declared.TheConstants.{LAST}
 use Rattle.samld.specs.Answers as answers
 use Rattle.samld.specs.Running as running
 use Rattle.samld.specs.declared.answer.Answer.{Answer}
@@ -10,9 +12,15 @@ use Rattle.samld.specs.declared.command.Command.TheVariants as commands
 abbrev pub command_view : Command → running.Command
 command_view (commands.Canon file id) = running.Canon file.now (option_map (λ text. text.now) id)
 command_view (commands.Vouch file id key_file) = running.Vouch file.now id.now key_file.now
+command_view (commands.Check config body now) = running.Check config.now body.now now
 
 abbrev pub answer_view : Answer → answers.Answer
 answer_view (kinds.Printed text) = answers.Printed text
 answer_view (kinds.Refused verdict) = answers.Refused verdict
-answer_view (kinds.BadFile file line) = answers.BadFile file.now line
+answer_view (kinds.BadFile file line) = answers.BadFile file line
 answer_view kinds.Usage = answers.Usage
+
+-- a moment that a command names has a written form
+abbrev pub HasMoment : Command → Type 0
+HasMoment (commands.Check config body now) = now ≤ LAST
+HasMoment command = Unit {0}

@@ -6,7 +6,7 @@ use Rattle.sig_reference.specs.declared.fault.SigFault.{SigFault}
 use Rattle.sig_reference.specs.Form.{Parts}
 use Rattle.sig_reference.specs.Signature.{Vouches, IsUnvouched}
 use Rattle.fault_verdicts.specs.Verdicts.{of_signature}
-use Rattle.samld.specs.declared.limits.TheConstants.{LEAST_KEY}
+use Rattle.sp_setup.specs.declared.limits.TheConstants.{LEAST_KEY}
 use Rattle.samld.specs.Answers.{Answer, Printed, Refused, BadFile}
 use Rattle.samld.specs.Documents.{OfDocument, OfElement}
 

@@ -2,28 +2,36 @@
 
 ghost use Rattle.std.specs.Prelude.{◌≡◌, ◌≢◌, ◌≤◌, IfOk};
 ghost use Rattle.saml_outside.specs.Counts.{Rose};
-ghost use Rattle.samld.specs.Answers.{text_of, status_of};
+ghost use Rattle.samld.specs.Answers.{BadFile, text_of, status_of};
 ghost use Rattle.samld.specs.Running.{EndsWith, Prints};
 ghost use Rattle.samld.specs.Views.{answer_view};
 
 use crate::status::Status;
-use saml_outside::{Blob, NoMemory, Sink, Verdict};
+use saml_outside::{Blob, NoMemory, Sink, Text, Verdict};
 use std::alloc::Global;
 
 /// What a command answers.
 #[derive(Debug, Drop)]
-pub(crate) enum Answer<'w> {
+pub(crate) enum Answer {
     /// The definition of the command says yes, and this is printed.
     Printed(Blob),
     /// The verdict on a message, a document or an element.
     Refused(Verdict),
     /// A named file can't be used: the line, or 0 for the whole file.
-    BadFile { file: &'w str, line: u64 },
+    BadFile { file: Text, line: u64 },
     /// The words are no command.
     Usage,
 }
 
-impl Answer<'_> {
+impl Answer {
+    /// That this line of a file, or with 0 the whole file, can't be used.
+    pub(crate) fn bad_file(alloc: Global, file: &str, line: u64) -> Result<Answer, NoMemory>
+        ensures { IfOk result (λ answer. answer_view answer ≡ BadFile file.now line) }
+    {
+        let file = Text::of(alloc, file)?;
+        Ok(Answer::BadFile { file, line })
+    }
+
     /// All that is printed.
     fn text(&self, alloc: Global) -> Result<Blob, NoMemory>
         ensures { IfOk result (λ text. text ≡ text_of (answer_view self.now)) }
@@ -31,7 +39,7 @@ impl Answer<'_> {
         match self {
             Answer::Printed(text) => text.copy(),
             Answer::Refused(verdict) => refusal(alloc, *verdict),
-            Answer::BadFile { file, line } => bad_file(alloc, file, *line),
+            Answer::BadFile { file, line } => bad_file(alloc, file.as_str(), *line),
             Answer::Usage => Blob::of(alloc, b"usage\n"),
         }
     }
@@ -77,7 +85,7 @@ fn refusal(alloc: Global, verdict: Verdict) -> Result<Blob, NoMemory>
 
 /// The line of a file that can't be used.
 fn bad_file(alloc: Global, file: &str, line: u64) -> Result<Blob, NoMemory>
-    ensures { IfOk result (λ text. text ≡ text_of (answer_view (Answer.BadFile file.entry line))) }
+    ensures { IfOk result (λ text. text ≡ text_of (BadFile file.now line)) }
 {
     let text = format!(in alloc; "bad {file} {line}\n")?;
     Blob::of(alloc, text.as_bytes())

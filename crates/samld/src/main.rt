@@ -6,6 +6,9 @@
 
 mod answer;
 mod canon;
+mod check;
+#[cfg(test)]
+mod check_tests;
 mod command;
 mod fs_files;
 mod limits;

@@ -1,77 +1,53 @@
 // What the program does with its words.
 
-ghost use Rattle.std.specs.Prelude.{◌≡◌, ◌≢◌, ◌≤◌, ◌⊎◌, length, IfOk, MatchOption, IsSome, Err};
+ghost use Rattle.std.specs.Prelude.{◌≡◌, ◌≢◌, ◌≤◌, ◌⊎◌, length, IfOk, IsSome, Err};
 ghost use Rattle.std.specs.Option.{option_map};
 ghost use Rattle.xml_spec.specs.declared.TheConstants.{MAX_DOCUMENT_LENGTH};
 ghost use Rattle.saml_outside.specs.Counts.{Rose};
-ghost use Rattle.saml_outside.specs.Files.{Reads};
-ghost use Rattle.saml_outside.specs.declared.reading.FileRead.TheVariants as reads;
 ghost use Rattle.samld.specs.Canon.{OfCanon};
+ghost use Rattle.samld.specs.Check.{rows_of, OfJudged};
 ghost use Rattle.samld.specs.Vouch.{OfVouch};
-ghost use Rattle.samld.specs.declared.limits.TheConstants.{GREATEST_KEY};
-ghost use Rattle.samld.specs.Running.{Canon, Vouch, command_of, IsUnread, OfFile, OfCommand, Answers, EndsWith, Accepts};
-ghost use Rattle.samld.specs.Views.{answer_view, command_view};
+ghost use Rattle.sp_setup.specs.declared.limits.TheConstants.{GREATEST_KEY};
+ghost use Rattle.sp_setup.specs.Views.{IsWithinBounds};
+ghost use Rattle.samld.specs.Reading.{OfFile};
+ghost use Rattle.samld.specs.Running.{Canon, Vouch, Check, command_of, OfCommand, Answers, EndsWith, Accepts};
+ghost use Rattle.samld.specs.Answers.{BadFile};
+ghost use Rattle.samld.specs.Views.{answer_view, command_view, HasMoment};
 
 use crate::answer::Answer;
 use crate::canon::canon;
+use crate::check::check;
 use crate::command::{Command, command_of};
-use crate::limits::GREATEST_KEY;
+use crate::limits::GREATEST_BODY;
 use crate::status::Status;
 use crate::vouch::vouch;
-use saml_outside::{FileRead, Files, NoMemory, Sink, Text};
+use saml_outside::{Files, NoMemory, ReadStop, Sink, Text, read_file};
+use saml_time::LAST;
+use sp_setup::{GREATEST_KEY, Purpose, SetUp, SetupFault, set_up};
 use std::alloc::Global;
 use xml_spec::MAX_DOCUMENT_LENGTH;
 
-/// Why nothing is answered.
-#[derive(Clone, Copy, Debug, PartialEq, Eq)]
-enum Stop {
-    ReadFault,
-    NoMemory,
-}
-
-impl From<NoMemory> for Stop {
-    ghost use Rattle.std.specs.Prelude.{◌≡◌};
-    ghost use Rattle.samld.specs.declared.run.Stop.TheVariants as stops;
-
-    ghost from_gives = { λ _ e. e ≡ stops.NoMemory };
-
-    fn from(_: NoMemory) -> Stop {
-        Stop::NoMemory
-    }
-}
-
-impl Stop {
-    /// How the run ends.
-    fn status(self) -> Status
-        ensures fault { result ≡ Status.ReadFault → self ≡ Stop.ReadFault }
-        ensures either { (result ≡ Status.ReadFault) ⊎ (result ≡ Status.NoMemory) }
-    {
-        match self {
-            Stop::ReadFault => Status::ReadFault,
-            Stop::NoMemory => Status::NoMemory,
-        }
-    }
-}
-
-/// The bytes of a file, or none where it can't be used.
-fn read<F: Files>(
-    alloc: Global,
-    files: &mut F,
-    name: &str,
-    limit: u64,
-) -> Result<Option<Vec<u8>>, Stop>
-    ensures ok { IfOk result (λ found. MatchOption found (IsUnread (F.holds files.old) name.now limit)
-        (λ bytes. Reads (F.holds files.old) name.now limit reads.Whole bytes.items)) }
-    ensures same { F.holds files.new ≡ F.holds files.old }
-    ensures never_falls { F.faults_of files.old ≤ F.faults_of files.new }
-    ensures err { result ≡ Err Stop.ReadFault → Rose (F.faults_of files.old) (F.faults_of files.new) }
+/// How a run ends where nothing is known of a file.
+fn status_of(stop: ReadStop) -> Status
+    ensures fault { result ≡ Status.ReadFault → stop ≡ ReadStop.ReadFault }
+    ensures either { (result ≡ Status.ReadFault) ⊎ (result ≡ Status.NoMemory) }
 {
-    let mut bytes = Vec::new(alloc);
-    match files.read_all(name, limit, &mut bytes) {
-        FileRead::Whole => Ok(Some(bytes)),
-        FileRead::Absent | FileRead::TooLong => Ok(None),
-        FileRead::Failed => Err(Stop::ReadFault),
-        FileRead::NoMemory => Err(Stop::NoMemory),
+    match stop {
+        ReadStop::ReadFault => Status::ReadFault,
+        ReadStop::NoMemory => Status::NoMemory,
+    }
+}
+
+/// Prints that a file can't be used.
+fn print_bad_file<K: Sink>(alloc: Global, file: &str, out: &mut K) -> Status
+    ensures ends { EndsWith (λ answer. answer ≡ BadFile file.now 0) (K.taken out.old) (K.taken out.new) result }
+    ensures no_read_fault { result ≢ Status.ReadFault }
+    ensures write_fault { result ≡ Status.WriteFault → Rose (K.faults_of out.old) (K.faults_of out.new) }
+    ensures never_falls { K.faults_of out.old ≤ K.faults_of out.new }
+{
+    match Answer::bad_file(alloc, file, 0) {
+        Ok(answer) => answer.print(alloc, out),
+        Err(NoMemory) => Status::NoMemory,
     }
 }
 
@@ -90,55 +66,52 @@ fn run_canon<F: Files, K: Sink>(
     ensures files_never_fall { F.faults_of files.old ≤ F.faults_of files.new }
     ensures out_never_falls { K.faults_of out.old ≤ K.faults_of out.new }
 {
-    let found = match read(alloc, files, file, MAX_DOCUMENT_LENGTH as u64) {
+    let found = match read_file(alloc, files, file, MAX_DOCUMENT_LENGTH as u64) {
         Ok(found) => found,
-        Err(stop) => return stop.status(),
+        Err(stop) => return status_of(stop),
     };
     match found {
         Some(bytes) => canon(alloc, &bytes, id, out),
-        None => Answer::BadFile { file, line: 0 }.print(alloc, out),
+        None => print_bad_file(alloc, file, out),
     }
 }
 
 /// What `vouch` answers for the bytes of the document, by what the files tell of the key.
-fn answer_with_key<'w, F: Files>(
+fn answer_with_key<F: Files>(
     alloc: Global,
     files: &mut F,
     bytes: &[u8],
     id: &str,
-    key_file: &'w str,
-) -> Result<Answer<'w>, Stop>
+    key_file: &str,
+) -> Result<Answer, ReadStop>
     requires { length bytes.now ≤ MAX_DOCUMENT_LENGTH }
     ensures ok { IfOk result (λ answer. OfFile (OfVouch id.now key_file.now bytes.now) (F.holds files.old) key_file.now GREATEST_KEY (answer_view answer)) }
     ensures same { F.holds files.new ≡ F.holds files.old }
-    ensures err { result ≡ Err Stop.ReadFault → Rose (F.faults_of files.old) (F.faults_of files.new) }
+    ensures err { result ≡ Err ReadStop.ReadFault → Rose (F.faults_of files.old) (F.faults_of files.new) }
     ensures never_falls { F.faults_of files.old ≤ F.faults_of files.new }
 {
-    match read(alloc, files, key_file, GREATEST_KEY)? {
+    match read_file(alloc, files, key_file, GREATEST_KEY)? {
         Some(key) => Ok(vouch(alloc, bytes, id, key_file, &key)?),
-        None => Ok(Answer::BadFile {
-            file: key_file,
-            line: 0,
-        }),
+        None => Ok(Answer::bad_file(alloc, key_file, 0)?),
     }
 }
 
 /// What `vouch` answers, by what the files tell.
-fn answer_vouch<'w, F: Files>(
+fn answer_vouch<F: Files>(
     alloc: Global,
     files: &mut F,
-    file: &'w str,
+    file: &str,
     id: &str,
-    key_file: &'w str,
-) -> Result<Answer<'w>, Stop>
+    key_file: &str,
+) -> Result<Answer, ReadStop>
     ensures ok { IfOk result (λ answer. OfCommand (F.holds files.old) (Vouch file.now id.now key_file.now) (answer_view answer)) }
     ensures same { F.holds files.new ≡ F.holds files.old }
-    ensures err { result ≡ Err Stop.ReadFault → Rose (F.faults_of files.old) (F.faults_of files.new) }
+    ensures err { result ≡ Err ReadStop.ReadFault → Rose (F.faults_of files.old) (F.faults_of files.new) }
     ensures never_falls { F.faults_of files.old ≤ F.faults_of files.new }
 {
-    match read(alloc, files, file, MAX_DOCUMENT_LENGTH as u64)? {
+    match read_file(alloc, files, file, MAX_DOCUMENT_LENGTH as u64)? {
         Some(bytes) => answer_with_key(alloc, files, &bytes, id, key_file),
-        None => Ok(Answer::BadFile { file, line: 0 }),
+        None => Ok(Answer::bad_file(alloc, file, 0)?),
     }
 }
 
@@ -160,7 +133,73 @@ fn run_vouch<F: Files, K: Sink>(
 {
     match answer_vouch(alloc, files, file, id, key_file) {
         Ok(answer) => answer.print(alloc, out),
-        Err(stop) => stop.status(),
+        Err(stop) => status_of(stop),
+    }
+}
+
+/// What `check` answers for a provider that is set up, by what the files tell of the form.
+fn answer_form<F: Files>(
+    alloc: Global,
+    files: &mut F,
+    setup: SetUp,
+    body: &str,
+    now: u64,
+) -> Result<Answer, ReadStop>
+    requires now { now ≤ LAST }
+    requires bounds { IsWithinBounds setup }
+    ensures ok { IfOk result (λ answer. OfFile (OfJudged (rows_of setup.asked.items setup.opened.items) setup.config now) (F.holds files.old) body.now GREATEST_BODY (answer_view answer)) }
+    ensures same { F.holds files.new ≡ F.holds files.old }
+    ensures err { result ≡ Err ReadStop.ReadFault → Rose (F.faults_of files.old) (F.faults_of files.new) }
+    ensures never_falls { F.faults_of files.old ≤ F.faults_of files.new }
+{
+    match read_file(alloc, files, body, GREATEST_BODY)? {
+        Some(bytes) => Ok(check(alloc, setup, now, &bytes)?),
+        None => Ok(Answer::bad_file(alloc, body, 0)?),
+    }
+}
+
+/// What `check` answers, by what the files tell.
+fn answer_check<F: Files>(
+    alloc: Global,
+    files: &mut F,
+    config: &str,
+    body: &str,
+    now: u64,
+) -> Result<Answer, ReadStop>
+    requires { now ≤ LAST }
+    ensures ok { IfOk result (λ answer. OfCommand (F.holds files.old) (Check config.now body.now now) (answer_view answer)) }
+    ensures same { F.holds files.new ≡ F.holds files.old }
+    ensures err { result ≡ Err ReadStop.ReadFault → Rose (F.faults_of files.old) (F.faults_of files.new) }
+    ensures never_falls { F.faults_of files.old ≤ F.faults_of files.new }
+{
+    match set_up(alloc, files, config, Purpose::Check) {
+        Ok(setup) => answer_form(alloc, files, setup, body, now),
+        Err(SetupFault::BadFile { file, line }) => Ok(Answer::BadFile { file, line }),
+        Err(SetupFault::ReadFault) => Err(ReadStop::ReadFault),
+        Err(SetupFault::NoMemory) => Err(ReadStop::NoMemory),
+    }
+}
+
+/// Prints what `check` answers, by what the files tell.
+fn run_check<F: Files, K: Sink>(
+    alloc: Global,
+    files: &mut F,
+    out: &mut K,
+    config: &str,
+    body: &str,
+    now: u64,
+) -> Status
+    requires { now ≤ LAST }
+    ensures ends { EndsWith (OfCommand (F.holds files.old) (Check config.now body.now now)) (K.taken out.old) (K.taken out.new) result }
+    ensures same { F.holds files.new ≡ F.holds files.old }
+    ensures read_fault { result ≡ Status.ReadFault → Rose (F.faults_of files.old) (F.faults_of files.new) }
+    ensures write_fault { result ≡ Status.WriteFault → Rose (K.faults_of out.old) (K.faults_of out.new) }
+    ensures files_never_fall { F.faults_of files.old ≤ F.faults_of files.new }
+    ensures out_never_falls { K.faults_of out.old ≤ K.faults_of out.new }
+{
+    match answer_check(alloc, files, config, body, now) {
+        Ok(answer) => answer.print(alloc, out),
+        Err(stop) => status_of(stop),
     }
 }
 
@@ -171,6 +210,7 @@ fn run_command<F: Files, K: Sink>(
     files: &mut F,
     out: &mut K,
 ) -> Status
+    requires { HasMoment command }
     ensures ends { EndsWith (OfCommand (F.holds files.old) (command_view command.entry)) (K.taken out.old) (K.taken out.new) result }
     ensures same { F.holds files.new ≡ F.holds files.old }
     ensures read_fault { result ≡ Status.ReadFault → Rose (F.faults_of files.old) (F.faults_of files.new) }
@@ -181,6 +221,7 @@ fn run_command<F: Files, K: Sink>(
     match command {
         Command::Canon { file, id } => run_canon(alloc, files, out, file, id),
         Command::Vouch { file, id, key_file } => run_vouch(alloc, files, out, file, id, key_file),
+        Command::Check { config, body, now } => run_check(alloc, files, out, config, body, now),
     }
 }
 
@@ -201,6 +242,8 @@ pub fn run<F: Files, K: Sink>(alloc: Global, words: &[Text], files: &mut F, out:
     ensures files_never_fall { F.faults_of files.old ≤ F.faults_of files.new }
     ensures out_never_falls { K.faults_of out.old ≤ K.faults_of out.new }
 {
+    sp_rules::laws::a_form_has_one_verdict();
+    sp_setup::laws::a_config_has_one_outcome();
     match command_of(words) {
         Some(command) => run_command(alloc, command, files, out),
         None => Answer::Usage.print(alloc, out),

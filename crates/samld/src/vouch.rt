@@ -8,15 +8,15 @@ ghost use Rattle.samld.specs.Vouch.{OfVouchedDocument, OfVouch};
 
 use crate::answer::Answer;
 use crate::canon::element_of;
-use crate::limits::LEAST_KEY;
 use fault_verdicts::{of_document, of_signature};
 use saml_outside::{Blob, NoMemory, Verdict};
 use saml_tree::{Doc, read_document};
 use sig_reference::verify;
+use sp_setup::LEAST_KEY;
 use std::alloc::Global;
 
 /// The refusal with this verdict; where there is none, memory ran out.
-fn refused<'w>(verdict: Option<Verdict>) -> Result<Answer<'w>, NoMemory>
+pub(crate) fn refused(verdict: Option<Verdict>) -> Result<Answer, NoMemory>
     ensures { IfOk result (λ answer. IsVerdictOf verdict (answer_view answer)) }
 {
     match verdict {
@@ -26,12 +26,7 @@ fn refused<'w>(verdict: Option<Verdict>) -> Result<Answer<'w>, NoMemory>
 }
 
 /// Whether the element of a document with this ID is vouched for with the key.
-fn vouch_document<'w>(
-    alloc: Global,
-    doc: &Doc<'_>,
-    id: &str,
-    key: &[u8],
-) -> Result<Answer<'w>, NoMemory>
+fn vouch_document(alloc: Global, doc: &Doc<'_>, id: &str, key: &[u8]) -> Result<Answer, NoMemory>
     ensures { IfOk result (λ answer. OfVouchedDocument id.now key.now doc.now.tree (answer_view answer)) }
 {
     let Some(node) = element_of(doc, Some(id)) else {
@@ -44,21 +39,18 @@ fn vouch_document<'w>(
 }
 
 /// What `vouch` answers for the bytes of a file and those of `key_file`, where it asks for the element with this ID.
-pub(crate) fn vouch<'w>(
+pub(crate) fn vouch(
     alloc: Global,
     bytes: &[u8],
     id: &str,
-    key_file: &'w str,
+    key_file: &str,
     key: &[u8],
-) -> Result<Answer<'w>, NoMemory>
+) -> Result<Answer, NoMemory>
     requires { length bytes.now ≤ MAX_DOCUMENT_LENGTH }
     ensures { IfOk result (λ answer. OfVouch id.now key_file.now bytes.now key.now (answer_view answer)) }
 {
     if key.len() < LEAST_KEY {
-        return Ok(Answer::BadFile {
-            file: key_file,
-            line: 0,
-        });
+        return Answer::bad_file(alloc, key_file, 0);
     }
     match read_document(alloc, bytes) {
         Ok(doc) => vouch_document(alloc, &doc, id, key),

@@ -1,5 +1,4 @@
 use Rattle.std.specs.Option.{option_map}
-use Rattle.fault_verdicts.specs.Verdicts.{of_document}
 use Rattle.samld.specs.Canon.{OfCanonDocument, OfCanon}
 use Rattle.samld.specs.Running.{IsVerdictOf}
 use Rattle.samld.proofs.Answering.{weaker, refused_document}

@@ -1,9 +1,10 @@
 use Rattle.std.proofs.Common.{ℕ, List, subst}
 use Rattle.xml_spec.specs.declared.TheConstants.{MAX_DOCUMENT_LENGTH}
-use Rattle.samld.specs.declared.limits.TheConstants.{GREATEST_KEY}
+use Rattle.sp_setup.specs.declared.limits.TheConstants.{GREATEST_KEY}
 use Rattle.samld.specs.Answers.{Answer}
 use Rattle.samld.specs.Vouch.{OfVouch}
-use Rattle.samld.specs.Running.{Vouch, OfFile, OfCommand}
+use Rattle.samld.specs.Reading.{OfFile}
+use Rattle.samld.specs.Running.{Vouch, OfCommand}
 use Rattle.samld.specs.Views.{answer_view}
 use Rattle.samld.proofs.Answering.{if_ok_map, read_whole}
 use Rattle.samld.proofs.run.answer_vouch.Goals as goal
@@ -16,7 +17,7 @@ returns-in-Some-clause-ok g c =
     let later : List ℕ → Answer → Type 0 = λ bytes. OfFile (OfVouch id key_file bytes) told key_file GREATEST_KEY in
     let whole = rw c.in-Some.is at c.in_ok-bytes.ensures.ok in
     if_ok_map c.answer_with_key.result
-    (λ answer. OfFile (OfVouch id key_file c.deref.result.now) (g.F.Files.holds c.read.new.files) key_file GREATEST_KEY (answer_view answer))
+    (λ answer. OfFile (OfVouch id key_file c.deref.result.now) (g.F.Files.holds c.read_file.new.files) key_file GREATEST_KEY (answer_view answer))
     (λ answer. OfCommand told (Vouch c.args.file.now id key_file) (answer_view answer))
     (λ answer h. read_whole later told c.args.file.now MAX_DOCUMENT_LENGTH c.in-Some.bytes.items whole (answer_view answer)
     (subst (λ bytes. OfFile (OfVouch id key_file bytes) told key_file GREATEST_KEY (answer_view answer)) c.deref.ensures.value

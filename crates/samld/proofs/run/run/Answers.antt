@@ -1,19 +1,24 @@
-use Rattle.std.proofs.Common.{Some, sym, ap, ◌∙◌}
+use Rattle.std.proofs.Common.{sym, ap, ◌∙◌}
 use Rattle.std.specs.Option.{option_map}
 use Rattle.samld.specs.Running.{OfCommand, Answers}
 use Rattle.samld.specs.Views.{command_view}
 use Rattle.samld.proofs.Answering.{weaker, answered, settled}
-use Rattle.samld.proofs.Completeness.{accepted_yes}
+use Rattle.samld.proofs.Completeness.{Laws, accepted_yes}
 use Rattle.samld.proofs.run.run.Goals as goal
 
 pub returns-in-Some-clause-complete : goal.returns-in-Some-clause-complete
 returns-in-Some-clause-complete g c = λ accepted no_read no_write.
+    let laws : Laws = record {
+      opened = c.a_form_has_one_verdict.ensures.opened;
+      set_up = c.a_config_has_one_outcome.ensures.set_up;
+      never_both = c.a_config_has_one_outcome.ensures.never_both;
+    } in
     let words = c.args.words.now in
     let told = g.F.Files.holds c.args.files.now in
     let old = g.K.Sink.taken c.args.out.now in
     let new = g.K.Sink.taken c.run_command.new.out in
     let command = command_view c.in-Some.command in
-    settled (Answers words told) old new c.run_command.result (accepted_yes words told accepted)
+    settled (Answers words told) old new c.run_command.result (accepted_yes laws words told accepted)
     (λ e. no_read (c.run_command.ensures.read_fault e)) (λ e. no_write (c.run_command.ensures.write_fault e))
     (weaker (OfCommand told command) (Answers words told) old new c.run_command.result
-    (answered words told command (sym c.command_of.ensures ∙ ap (option_map command_view) c.in-Some.is)) c.run_command.ensures.ends)
+    (answered words told command (sym c.command_of.ensures.command ∙ ap (option_map command_view) c.in-Some.is)) c.run_command.ensures.ends)

@@ -21,5 +21,5 @@ returns-in-None-clause-ends g c =
     let id = option_map (λ text. text.now) c.args.id in
     let told = g.F.Files.holds c.args.files.now in
     let unread = rw c.in-None.is at c.in-Ok.ensures.ok in
-    with_answer (OfCommand told (Canon c.args.file.now id)) (g.K.Sink.taken c.args.out.now) (g.K.Sink.taken c.print.new.out) c.print.result
-    (BadFile c.args.file.now 0) (unread_bad (OfCanon id) told c.args.file.now MAX_DOCUMENT_LENGTH unread) c.print.ensures.ends
+    with_answer (OfCommand told (Canon c.args.file.now id)) (g.K.Sink.taken c.args.out.now) (g.K.Sink.taken c.print_bad_file.new.out) c.print_bad_file.result
+    (BadFile c.args.file.now 0) (unread_bad (OfCanon id) told c.args.file.now MAX_DOCUMENT_LENGTH unread) c.print_bad_file.ensures.ends

@@ -1,0 +1,135 @@
+-- A config that names each file that is needed sets a provider up.
+use Rattle.std.proofs.Common.{◌≡◌, ℕ, ◌*◌, ◌<◌, ◌≤◌, Bool, true, false, ◌||◌, List, [], ◌∷◌, length, Option, None, Some, IfSome, IsTrue, is_some, refl, sym, ap, subst, ◌∙◌, arith}
+use Rattle.std.proofs.lemmas.Bool.{and_parts}
+use Rattle.saml_outside.specs.Files.{File}
+use Rattle.metadata.specs.declared.peer.Peer.{Peer}
+use Rattle.provider_config.specs.Config.{Config, AreInOrder, same_role, has_file, has_files}
+use Rattle.provider_config.specs.Shared.{◌>>=◌}
+use Rattle.provider_config.specs.declared.config.FileRole.{FileRole}
+use Rattle.provider_config.specs.declared.config.FileRole.TheVariants as roles
+use Rattle.provider_config.specs.declared.config.NamedFile.{NamedFile}
+use Rattle.provider_config.specs.declared.config.AskedLine.{AskedLine}
+use Rattle.provider_config.specs.declared.config.OpenedLine.{OpenedLine}
+use Rattle.provider_config.specs.declared.config.Times.{Times}
+use Rattle.provider_config.specs.declared.line.TheConstants.{MILLIS, MOST_SKEW}
+use Rattle.request_rows.specs.declared.rows.TheConstants.{ROW_LIMIT}
+use Rattle.sp_rules.specs.declared.config.NextKey.{NextKey}
+use Rattle.sp_rules.specs.declared.config.SpConfig.{SpConfig}
+use Rattle.sp_setup.specs.declared.loaded.Loaded.{Loaded}
+use Rattle.sp_setup.specs.declared.setup.SetUp.{SetUp}
+use Rattle.sp_setup.specs.Setup.{nothing, Loads, AreLoaded, next_of, config_of}
+use Rattle.sp_setup.specs.Views.{IsSetUpBy, IsWithinBounds}
+
+-- ---- each file that is needed was read
+
+-- what the file of a role holds is there
+abbrev is_loaded : FileRole → Loaded → Bool
+is_loaded roles.Idp loaded = is_some loaded.idp
+is_loaded roles.KeyIn loaded = is_some loaded.key_in
+is_loaded roles.NextIn loaded = is_some loaded.next_in
+is_loaded roles.KeyOut loaded = is_some loaded.key_out
+is_loaded roles.IdKey loaded = is_some loaded.id_key
+
+-- a file adds what its role says, and takes nothing away
+one_more : (other role : FileRole) (bytes : List ℕ) (before after : Loaded) → Loads other bytes before after →
+    is_loaded role after ≡ (same_role other role || is_loaded role before)
+one_more roles.Idp roles.Idp bytes before after h = ap (is_loaded roles.Idp) h.2
+one_more roles.Idp roles.KeyIn bytes before after h = ap (is_loaded roles.KeyIn) h.2
+one_more roles.Idp roles.NextIn bytes before after h = ap (is_loaded roles.NextIn) h.2
+one_more roles.Idp roles.KeyOut bytes before after h = ap (is_loaded roles.KeyOut) h.2
+one_more roles.Idp roles.IdKey bytes before after h = ap (is_loaded roles.IdKey) h.2
+one_more roles.KeyIn roles.Idp bytes before after h = ap (is_loaded roles.Idp) h.1
+one_more roles.KeyIn roles.KeyIn bytes before after h = ap (is_loaded roles.KeyIn) h.1
+one_more roles.KeyIn roles.NextIn bytes before after h = ap (is_loaded roles.NextIn) h.1
+one_more roles.KeyIn roles.KeyOut bytes before after h = ap (is_loaded roles.KeyOut) h.1
+one_more roles.KeyIn roles.IdKey bytes before after h = ap (is_loaded roles.IdKey) h.1
+one_more roles.NextIn roles.Idp bytes before after h = ap (is_loaded roles.Idp) h.1
+one_more roles.NextIn roles.KeyIn bytes before after h = ap (is_loaded roles.KeyIn) h.1
+one_more roles.NextIn roles.NextIn bytes before after h = ap (is_loaded roles.NextIn) h.1
+one_more roles.NextIn roles.KeyOut bytes before after h = ap (is_loaded roles.KeyOut) h.1
+one_more roles.NextIn roles.IdKey bytes before after h = ap (is_loaded roles.IdKey) h.1
+one_more roles.KeyOut roles.Idp bytes before after h = ap (is_loaded roles.Idp) h.1
+one_more roles.KeyOut roles.KeyIn bytes before after h = ap (is_loaded roles.KeyIn) h.1
+one_more roles.KeyOut roles.NextIn bytes before after h = ap (is_loaded roles.NextIn) h.1
+one_more roles.KeyOut roles.KeyOut bytes before after h = ap (is_loaded roles.KeyOut) h.1
+one_more roles.KeyOut roles.IdKey bytes before after h = ap (is_loaded roles.IdKey) h.1
+one_more roles.IdKey roles.Idp bytes before after h = ap (is_loaded roles.Idp) h.1
+one_more roles.IdKey roles.KeyIn bytes before after h = ap (is_loaded roles.KeyIn) h.1
+one_more roles.IdKey roles.NextIn bytes before after h = ap (is_loaded roles.NextIn) h.1
+one_more roles.IdKey roles.KeyOut bytes before after h = ap (is_loaded roles.KeyOut) h.1
+one_more roles.IdKey roles.IdKey bytes before after h = ap (is_loaded roles.IdKey) h.1
+
+swapped : (a b c : Bool) → ((a || b) || c) ≡ (b || (a || c))
+swapped true true c = refl
+swapped true false c = refl
+swapped false b c = refl
+
+all_more : (told : Option (List File)) (role : FileRole) (files : List NamedFile) (before after : Loaded) → AreLoaded told files before after →
+    (has_file role files || is_loaded role before) ≡ is_loaded role after
+all_more told role [] before after h = ap (is_loaded role) h
+all_more told role (named ∷ others) before after (middle, adds, rest) =
+    swapped (same_role named.role role) (has_file role others) (is_loaded role before)
+    ∙ ap (λ b. has_file role others || b) (sym (one_more named.role role adds.0 before middle adds.2))
+    ∙ all_more told role others middle after rest
+
+named_is_loaded : (told : Option (List File)) (role : FileRole) (files : List NamedFile) (before after : Loaded) → AreLoaded told files before after →
+    has_file role files ≡ true → is_loaded role after ≡ true
+named_is_loaded told role files before after h named =
+    sym (all_more told role files before after h) ∙ ap (λ b. b || is_loaded role before) named
+
+-- ---- what is set up
+
+some_of : (idp : Option Peer) (key_in key_out id_key : Option (List ℕ)) (make : Peer → List ℕ → List ℕ → List ℕ → SpConfig) →
+    is_some idp ≡ true → is_some key_in ≡ true → is_some key_out ≡ true → is_some id_key ≡ true →
+    (idp >>= λ i. key_in >>= λ k. key_out >>= λ o. id_key >>= λ d. Some (make i k o d)) ≡ None → ⊥
+some_of (Some i) (Some k) (Some o) (Some d) make has_idp has_in has_out has_id e = cc
+some_of None key_in key_out id_key make has_idp has_in has_out has_id e = cc
+some_of idp None key_out id_key make has_idp has_in has_out has_id e = cc
+some_of idp key_in None id_key make has_idp has_in has_out has_id e = cc
+some_of idp key_in key_out None make has_idp has_in has_out has_id e = cc
+
+pub is_set_up : (told : Option (List File)) (lines : Config) (loaded : Loaded) → IsTrue (has_files lines.files) → AreLoaded told lines.files nothing loaded →
+    config_of lines loaded ≡ None → ⊥
+is_set_up told lines loaded named all none =
+    let three = and_parts _ _ named in
+    let two = and_parts _ _ three.0 in
+    let one = and_parts _ _ two.0 in
+    some_of loaded.idp loaded.key_in loaded.key_out loaded.id_key _
+    (named_is_loaded told roles.Idp lines.files nothing loaded all one.0)
+    (named_is_loaded told roles.KeyIn lines.files nothing loaded all one.1)
+    (named_is_loaded told roles.KeyOut lines.files nothing loaded all two.1)
+    (named_is_loaded told roles.IdKey lines.files nothing loaded all three.1)
+    none
+
+-- what holds of each config that the lines make holds of the one that is set up
+made_of : (P : SpConfig → Type 0) (idp : Option Peer) (key_in key_out id_key : Option (List ℕ)) (make : Peer → List ℕ → List ℕ → List ℕ → SpConfig) (config : SpConfig) →
+    ((i : Peer) (k o d : List ℕ) → P (make i k o d)) →
+    (idp >>= λ i. key_in >>= λ k. key_out >>= λ o. id_key >>= λ d. Some (make i k o d)) ≡ Some config → P config
+made_of P (Some i) (Some k) (Some o) (Some d) make config each e = let is : make i k o d ≡ config = cc in subst P is (each i k o d)
+made_of P None key_in key_out id_key make config each e = absurd (cc)
+made_of P idp None key_out id_key make config each e = absurd (cc)
+made_of P idp key_in None id_key make config each e = absurd (cc)
+made_of P idp key_in key_out None make config each e = absurd (cc)
+
+next_in_order : (times : Option Times) (key : Option (List ℕ)) → IfSome times AreInOrder → IfSome (next_of times key) (λ (next : NextKey). next.from ≤ next.until)
+next_in_order (Some times) (Some key) h = h
+next_in_order (Some times) None h = tt
+next_in_order None key h = tt
+
+within_bounds : (lines : Config) (loaded : Loaded) (config : SpConfig) → config_of lines loaded ≡ Some config →
+    (config.skew ≡ lines.skew) × (config.next_in ≡ next_of lines.next_in loaded.next_in)
+within_bounds lines loaded config is =
+    made_of (λ made. (made.skew ≡ lines.skew) × (made.next_in ≡ next_of lines.next_in loaded.next_in)) loaded.idp loaded.key_in loaded.key_out loaded.id_key _ config
+    (λ i k o d. (refl, refl)) is
+
+-- what is set up can be judged by
+pub bounds : (told : Option (List File)) (lines : Config) (setup : SetUp) → IsSetUpBy told lines setup →
+    lines.skew ≤ MILLIS * MOST_SKEW → IfSome lines.next_in AreInOrder → length lines.asked < ROW_LIMIT → length lines.opened < ROW_LIMIT → IsWithinBounds setup
+bounds told lines setup h skew times asked opened =
+    let says = within_bounds lines h.loaded setup.config h.is.config in
+    record {
+      skew = omega (arith, says.0, skew);
+      times = subst (λ (next : Option NextKey). IfSome next (λ (n : NextKey). n.from ≤ n.until)) (sym says.1) (next_in_order lines.next_in h.loaded.next_in times);
+      asked = subst (λ (rows : List AskedLine). length rows < ROW_LIMIT) (sym h.is.asked) asked;
+      opened = subst (λ (rows : List OpenedLine). length rows < ROW_LIMIT) (sym h.is.opened) opened;
+    }

@@ -1,0 +1,5 @@
+pub mod Completing
+mod Examples
+pub mod Loading
+pub mod Outcomes
+pub mod Telling

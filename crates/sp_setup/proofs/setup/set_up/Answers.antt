@@ -1,0 +1,51 @@
+use Rattle.std.proofs.Common.{◌<◌, ℕ, List, length, Err, refl, ap, sym, ◌∙◌, subst, arith}
+use Rattle.saml_outside.specs.Files.{Reads}
+use Rattle.saml_outside.specs.declared.reading.FileRead.TheVariants as reads
+use Rattle.provider_config.specs.Config.{config_view}
+use Rattle.provider_config.specs.declared.config.TheConstants.{MAX_CONFIG_LENGTH}
+use Rattle.request_rows.specs.declared.rows.TheConstants.{ROW_LIMIT}
+use Rattle.sp_setup.specs.Faults.{IsFaultOf}
+use Rattle.sp_setup.specs.Setup.{nothing, IsFirstBad, IsBadSetUp, by_line, by_named}
+use Rattle.sp_setup.specs.Views.{IsSetUpBy, IsWithinBounds}
+use Rattle.sp_setup.proofs.Completing.{bounds}
+use Rattle.sp_setup.proofs.Telling.{if_ok_map, if_err_map, told, wider}
+use Rattle.sp_setup.proofs.setup.set_up.Goals as goal
+
+pub returns-in-Ok-clause-bounds : goal.returns-in-Ok-clause-bounds
+returns-in-Ok-clause-bounds g c =
+    let held = g.F.Files.holds c.read_file.new.files in
+    let lines = config_view c.in-Ok.lines in
+    let text = c.deref.result.now in
+    let there = rw c.in-Some.is at c.in_ok-bytes.ensures.ok in
+    let few : length text < ROW_LIMIT = omega (arith, there.0, ap length c.deref.ensures.value) in
+    let asked : length lines.asked < ROW_LIMIT = omega (arith, few, c.rows_are_fewer_than_bytes.ensures.asked c.args.purpose text lines c.in-Ok.ensures.value) in
+    let opened : length lines.opened < ROW_LIMIT = omega (arith, few, c.rows_are_fewer_than_bytes.ensures.opened c.args.purpose text lines c.in-Ok.ensures.value) in
+    if_ok_map (IsSetUpBy held lines) IsWithinBounds c.set_up_by.result
+    (λ setup h. bounds held lines setup h c.in-Ok.ensures.skew c.in-Ok.ensures.times asked opened) c.set_up_by.ensures.ok
+
+pub returns-in-Ok-clause-err : goal.returns-in-Ok-clause-err
+returns-in-Ok-clause-err g c =
+    let held = g.F.Files.holds c.args.files.now in
+    let file = c.args.file.now in
+    let lines = config_view c.in-Ok.lines in
+    let text = c.deref.result.now in
+    let bytes = rw c.in-Some.is at c.in_ok-bytes.ensures.ok in
+    let there = subst (λ (b : List ℕ). Reads held file MAX_CONFIG_LENGTH reads.Whole b) (sym c.deref.ensures.value) bytes in
+    let before = g.F.Files.faults_of c.args.files.now in
+    let middle = g.F.Files.faults_of c.read_file.new.files in
+    let now = g.F.Files.faults_of c.set_up_by.new.files in
+    let first = rw c.in_ok-bytes.ensures.same at c.set_up_by.ensures.err in
+    if_err_map (IsFaultOf (IsFirstBad held lines.files nothing) middle now) (IsFaultOf (IsBadSetUp held c.args.purpose file) before now) c.set_up_by.result
+    (λ fault. wider (IsFirstBad held lines.files nothing) (IsBadSetUp held c.args.purpose file) before middle now fault c.in_ok-bytes.ensures.never_falls
+    (λ bad line h. by_named text lines there c.in-Ok.ensures.value h)) first
+
+pub returns-in-Err-Line-clause-err : goal.returns-in-Err-Line-clause-err
+returns-in-Err-Line-clause-err g c =
+    let held = g.F.Files.holds c.args.files.now in
+    let file = c.args.file.now in
+    let text = c.deref.result.now in
+    let bytes = rw c.in-Some.is at c.in_ok-bytes.ensures.ok in
+    let there = subst (λ (b : List ℕ). Reads held file MAX_CONFIG_LENGTH reads.Whole b) (sym c.deref.ensures.value) bytes in
+    let spelled = rw c.in-Err-Line.field-0-is at c.in-Err-Line.ensures.value in
+    told (IsBadSetUp held c.args.purpose file) (g.F.Files.faults_of c.args.files.now) (g.F.Files.faults_of c.read_file.new.files) file c.from.result
+    c.bad_file-in-Err-Line.result (by_line text there (spelled ∙ ap Err (sym c.from.ensures)) refl) c.bad_file-in-Err-Line.ensures

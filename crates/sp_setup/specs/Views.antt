@@ -1,0 +1,36 @@
+-- How the definitions see what the code set up.
+use Rattle.std.specs.Prelude.{◌≡◌, ℕ, ◌<◌, ◌≤◌, List, length, Option, Some, IfSome}
+use Rattle.saml_outside.specs.Files.{File}
+use Rattle.provider_config.specs.Config.{Config}
+use Rattle.provider_config.specs.declared.line.Purpose.{Purpose}
+use Rattle.request_rows.specs.declared.rows.TheConstants.{ROW_LIMIT}
+use Rattle.sp_rules.specs.declared.config.TheConstants.{GREATEST_SKEW}
+use Rattle.sp_setup.specs.declared.loaded.Loaded.{Loaded}
+use Rattle.sp_setup.specs.declared.setup.SetUp.{SetUp}
+use Rattle.sp_setup.specs.Setup.{nothing, AreLoaded, config_of, IsSetUp}
+
+-- the lines and the files set a provider up so
+pub record IsConfigOf (lines : Config) (loaded : Loaded) (setup : SetUp) : Type 0 where
+  pub config : config_of lines loaded ≡ Some setup.config
+  pub asked : setup.asked.items ≡ lines.asked
+  pub opened : setup.opened.items ≡ lines.opened
+
+-- the files that these lines name are there, and set a provider up so
+pub record IsSetUpBy (told : Option (List File)) (lines : Config) (setup : SetUp) : Type 0 where
+  pub loaded : Loaded
+  pub all : AreLoaded told lines.files nothing loaded
+  pub is : IsConfigOf lines loaded setup
+
+-- the config in this file sets a provider up so
+pub record IsSetUpFrom (told : Option (List File)) (purpose : Purpose) (file : List ℕ) (setup : SetUp) : Type 0 where
+  pub lines : Config
+  pub is : IsSetUp told purpose file lines setup.config
+  pub asked : setup.asked.items ≡ lines.asked
+  pub opened : setup.opened.items ≡ lines.opened
+
+-- what is set up is within the bounds that judging asks for
+pub record IsWithinBounds (setup : SetUp) : Type 0 where
+  pub skew : setup.config.skew ≤ GREATEST_SKEW
+  pub times : IfSome setup.config.next_in (λ next. next.from ≤ next.until)
+  pub asked : length setup.asked.items < ROW_LIMIT
+  pub opened : length setup.opened.items < ROW_LIMIT

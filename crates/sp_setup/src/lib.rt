@@ -1,0 +1,27 @@
+//! A service provider is set up by its config and by the files that the config names.
+//!
+//! ```
+//! match set_up(alloc, files, "sp.conf", Purpose::Check) {
+//!     Ok(setup) => { /* judge by setup.config; setup.asked and setup.opened are the rows that the config names */ }
+//!     Err(SetupFault::BadFile { file, line }) => { /* this file, or its line, can't be used */ }
+//!     Err(SetupFault::ReadFault | SetupFault::NoMemory) => { /* nothing is known */ }
+//! }
+//! ```
+//!
+//! The config is read first, and then the files that it names, in the order of its lines; the first that can't be used is
+//! told (`IsBadSetUp` of `specs/Setup.antt`). Nothing that a file holds is used before the whole config is good. Where it is
+//! told what files there are, a config has one outcome ([`laws`]).
+#![tactic(auto)]
+
+mod fault;
+pub mod laws;
+mod limits;
+mod loaded;
+mod setup;
+#[cfg(test)]
+mod tests;
+
+pub use fault::SetupFault;
+pub use limits::{GREATEST_KEY, ID_KEY, LEAST_KEY};
+pub use provider_config::{AskedLine, OpenedLine, Purpose};
+pub use setup::{SetUp, set_up};
