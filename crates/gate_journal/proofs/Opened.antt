@@ -1,0 +1,97 @@
+-- What a disk stands for while a journal is opened.
+use Rattle.std.specs.Prelude.{◌==◌, nat_lt, if◌then◌else◌, IfSome, Option, None, Some, Result, Ok, Err}
+use Rattle.std.specs.Option.{option_map}
+use Rattle.std.proofs.Common.{◌≡◌, inl, inr, Bool, true, false, ℕ, [], refl, sym, ◌∙◌, ap, subst, arith}
+use Rattle.crash_disk.specs.declared.file_no.FileNo.TheVariants.{Zero, One}
+use Rattle.crash_disk.specs.Disk.{Image, DiskState, MayLeave, IsSettled, image_of, reads_of, settled_image}
+use Rattle.crash_disk.specs.Soundness.{only-settled_image}
+use Rattle.crash_disk.specs.Moments.{Leaves}
+use Rattle.gate_journal.specs.Format.{Committed, Kept, Fault, joined, journal, file_of}
+use Rattle.gate_journal.specs.Making.{IsMadeOrBlank, IsMade, first_journal, read_of}
+use Rattle.gate_journal.specs.Opening.{Opens}
+use Rattle.gate_journal.specs.Journal.{Opened, IsOwn}
+use Rattle.gate_journal.proofs.Files.{length_blank}
+use Rattle.gate_journal.proofs.Owning.{own_settled}
+
+pub if_some : (told : Option DiskState) (F : DiskState → Type 0) → ((d : DiskState) → told ≡ Some d → F d) → IfSome told F
+if_some None F each = tt
+if_some (Some d) F each = each d refl
+
+pub at_some : (told : Option DiskState) (F : DiskState → Type 0) (d : DiskState) → told ≡ Some d → IfSome told F → F d
+at_some told F d is has = subst (λ (o : Option DiskState). IfSome o F) is has
+
+abbrev one_of : Bool → Bool → Fault → Kept → Kept → Result (Option Kept) Fault
+one_of s t e x y = if s then Err e else if t then Ok (Some x) else Ok (Some y)
+
+not_none : (s t : Bool) (e : Fault) (x y : Kept) → one_of s t e x y ≡ Ok None → ⊥
+not_none true t e x y is = cc
+not_none false true e x y is = cc
+not_none false false e x y is = cc
+
+-- two files that are no fault and hold no journal hold nothing
+pub joined_none : (a b : Option Committed) → joined (Ok a) (Ok b) ≡ Ok None → (a ≡ None) × (b ≡ None)
+joined_none None None is = (refl, refl)
+joined_none (Some a) None is = absurd (cc)
+joined_none None (Some b) is = absurd (cc)
+joined_none (Some a) (Some b) is = absurd (not_none (a.header.generation == b.header.generation) (nat_lt b.header.generation a.header.generation) _ _ _ is)
+
+pub no_journal_told : (told : Option DiskState) (zero one : Option Committed) → IfSome told (λ d. file_of (reads_of d Zero) ≡ Ok zero) → joined (Ok zero) (Ok one) ≡ Ok None → file_of (read_of told Zero) ≡ Ok None
+no_journal_told None zero one gives is = length_blank [] (omega arith)
+no_journal_told (Some d) zero one gives is = gives ∙ ap Ok (joined_none zero one is).0
+
+module _ (told : Option DiskState) (d : DiskState) (is : told ≡ Some d) (reads : IfSome told (λ d. MayLeave d (image_of d))) where
+  -- before the syncs each image stands for itself
+  pub opens_now : (image : Image) → Leaves told image → Opens d image
+  opens_now image left = (image, subst (λ (o : Option DiskState). Leaves o image) is left, inl refl)
+
+  law : MayLeave d (image_of d)
+  law = at_some told (λ d. MayLeave d (image_of d)) d is reads
+
+  -- behind them what is read is left
+  pub opens_synced : (now : Option DiskState) → now ≡ Some (settled_image (image_of d)) → (image : Image) → Leaves now image → Opens d image
+  opens_synced now synced image left =
+      let may : MayLeave (settled_image (image_of d)) image = subst (λ (o : Option DiskState). Leaves o image) synced left in
+      (image_of d, law, inl (ap journal (only-settled_image (image_of d) image may)))
+
+  -- and while the first journal is made, there is none, or it
+  pub opens_making : (now : Option DiskState) (zero one : Option Committed) → now ≡ Some (settled_image (image_of d)) → IfSome now (λ d. file_of (reads_of d Zero) ≡ Ok zero) → IfSome now (λ d. file_of (reads_of d One) ≡ Ok one)
+      → joined (Ok zero) (Ok one) ≡ Ok None → (image : Image) → IsMadeOrBlank Zero first_journal (read_of now One) image → Opens d image
+  opens_making now zero one synced zero_is one_is none image (cases, beside) =
+      let parts = joined_none zero one none in
+      let z : file_of d.zero.reads ≡ Ok None = at_some now (λ d. file_of (reads_of d Zero) ≡ Ok zero) (settled_image (image_of d)) synced zero_is ∙ ap Ok parts.0 in
+      let o : file_of d.one.reads ≡ Ok None = at_some now (λ d. file_of (reads_of d One) ≡ Ok one) (settled_image (image_of d)) synced one_is ∙ ap Ok parts.1 in
+      let start : journal (image_of d) ≡ Ok None = ap (λ (r : Result (Option Committed) ℕ). joined r (file_of d.one.reads)) z ∙ ap (λ (r : Result (Option Committed) ℕ). joined (Ok None) r) o in
+      let other : file_of image.one ≡ Ok None = ap file_of (beside ∙ ap (λ (t : Option DiskState). read_of t One) synced) ∙ o in
+      elim cases [
+        | inl blank ↦ (image_of d, law, inl (ap (λ (r : Result (Option Committed) ℕ). joined r (file_of image.one)) blank ∙ ap (λ (r : Result (Option Committed) ℕ). joined (Ok None) r) other ∙ sym start))
+        | inr made ↦ (image_of d, law, inr (start, ap (λ (r : Result (Option Committed) ℕ). joined r (file_of image.one)) made ∙ ap (λ (r : Result (Option Committed) ℕ). joined (Ok (Some first_journal)) r) other))
+      ]
+
+-- the disk of a journal that was found
+pub own_found : (told : Option DiskState) (j : Opened) (zero one : Option Committed) → j.broken ≡ false → IfSome told (λ d. (d' : DiskState) × (d ≡ settled_image (image_of d'))) → IfSome told (λ d. file_of (reads_of d Zero) ≡ Ok zero)
+    → IfSome told (λ d. file_of (reads_of d One) ≡ Ok one) → joined (Ok zero) (Ok one) ≡ Ok (Some j.kept) → IsOwn told j
+own_found None j zero one whole settled zero_is one_is found = tt
+own_found (Some d) j zero one whole (d', is) zero_is one_is found =
+    own_settled (Some d) j whole (
+      subst IsSettled (sym is) (λ image may. only-settled_image (image_of d') image may),
+      ap (λ (r : Result (Option Committed) ℕ). joined r (file_of d.one.reads)) zero_is ∙ ap (λ (r : Result (Option Committed) ℕ). joined (Ok zero) r) one_is ∙ found,
+    )
+
+pub synced_told : (told now : Option DiskState) → now ≡ option_map (λ d. settled_image (image_of d)) told → IfSome now (λ d. (d' : DiskState) × (d ≡ settled_image (image_of d')))
+synced_told None now is = rw is tt
+synced_told (Some d) now is = rw is (d, refl)
+
+-- the disk of a journal that was made
+pub own_made : (told now : Option DiskState) (j : Opened) (zero one : Option Committed) → j.broken ≡ false → j.kept ≡ record { file = Zero; holds = first_journal } → IfSome told (λ d. file_of (reads_of d One) ≡ Ok one)
+    → joined (Ok zero) (Ok one) ≡ Ok None → IfSome now (IsMade Zero first_journal (read_of told One)) → IsOwn now j
+own_made told None j zero one whole kept one_is none made = tt
+own_made told (Some n) j zero one whole kept one_is none made =
+    let other : file_of (read_of told One) ≡ Ok None = none_beside told one one_is (joined_none zero one none).1 in
+    own_settled (Some n) j whole (
+      made.settled,
+      ap (λ (r : Result (Option Committed) ℕ). joined r (file_of n.one.reads)) made.holds_it ∙ ap (λ (r : Result (Option Committed) ℕ). joined (Ok (Some first_journal)) r) (ap file_of made.beside ∙ other) ∙ ap (λ (k : Kept). Ok (Some k)) (sym kept),
+    )
+  where
+    none_beside : (told : Option DiskState) (one : Option Committed) → IfSome told (λ d. file_of (reads_of d One) ≡ Ok one) → one ≡ None → file_of (read_of told One) ≡ Ok None
+    none_beside None one one_is none = length_blank [] (omega arith)
+    none_beside (Some d) one one_is none = one_is ∙ ap Ok none

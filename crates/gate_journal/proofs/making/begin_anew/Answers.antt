@@ -1,0 +1,54 @@
+use Rattle.std.specs.Prelude.{IfSome}
+use Rattle.std.proofs.Common.{List, ℕ, []}
+use Rattle.crash_disk.specs.declared.file_no.FileNo.{FileNo}
+use Rattle.crash_disk.specs.declared.change.Change.TheVariants.{Write, Cut, Sync}
+use Rattle.crash_disk.specs.Disk.{DiskState}
+use Rattle.gate_journal.specs.Making.{IsBlankBeside, IsClosed, IsFilling}
+use Rattle.gate_journal.proofs.Lifting.{done, on_ok}
+use Rattle.gate_journal.proofs.Running.{Run, begins, tries, does}
+use Rattle.gate_journal.proofs.Anew.{IsCut, IsSynced, anew_now, anew_cut, anew_is_cut, anew_synced, anew_write, anew_end}
+use Rattle.gate_journal.proofs.making.begin_anew.Goals as goal
+use Rattle.gate_journal.proofs.making.begin_anew.Goals.{In_ok-cut, In_ok-sync}
+use Rattle.gate_journal.proofs.making.begin_anew.Given.{Over}
+
+module _ (g : Over) (file : FileNo) (other : List ℕ) where
+  -- a run of the calls from the start on
+  abbrev Runs : (old now : g.row.D.Denot) → (DiskState → Type 0) → Type 0
+  Runs = Run g.D.Disk.told g.D.Disk.moment g.D.Disk.left_since (IsBlankBeside file other)
+
+  at_start : (disk : g.row.D.Denot) → IfSome (g.D.Disk.told disk) (IsClosed file other) → Runs disk disk (IsClosed file other)
+  at_start disk closed = begins g.D.Disk.told g.D.Disk.moment g.D.Disk.left_since (IsBlankBeside file other) disk (IsClosed file other) (g.met.D.Disk.only_now disk) closed (anew_now file other)
+
+was_cut : (g : Over) (c : In_ok-cut g) (other : List ℕ) → IfSome (g.D.Disk.told c.args.disk.now) (IsClosed c.args.file other) → Runs g c.args.file other c.args.disk.now c.cut.new.self (IsCut c.args.file other)
+was_cut g c other closed =
+    does c.cut.new.self (at_start g c.args.file other c.args.disk.now closed) (IsCut c.args.file other) (Cut c.args.file 72) c.cut.ensures.time c.in_ok-cut.ensures.changes (g.met.D.Disk.reads_an_image c.args.disk.now)
+    (λ d reads is. anew_cut c.args.file other d is) (λ d reads is. anew_is_cut c.args.file other d is)
+
+was_synced : (g : Over) (c : In_ok-sync g) (other : List ℕ) → Runs g c.args.file other c.args.disk.now c.cut.new.self (IsCut c.args.file other) → Runs g c.args.file other c.args.disk.now c.sync.new.self (IsSynced c.args.file other)
+was_synced g c other run =
+    does c.sync.new.self run (IsSynced c.args.file other) (Sync c.args.file) c.sync.ensures.time c.in_ok-sync.ensures.changes (g.met.D.Disk.reads_an_image c.cut.new.self)
+    (λ d reads is. is.state.each) (λ d reads is. anew_synced c.args.file other d is)
+
+pub returns-in_err-cut-clause-moments : goal.returns-in_err-cut-clause-moments
+returns-in_err-cut-clause-moments g c other closed =
+    tries c.cut.new.self (at_start g c.args.file other c.args.disk.now closed) (Cut c.args.file 72) c.cut.result c.cut.ensures.time c.cut.ensures.changes (g.met.D.Disk.reads_an_image c.args.disk.now)
+    (λ d reads is. anew_cut c.args.file other d is)
+
+pub returns-in_err-sync-clause-moments : goal.returns-in_err-sync-clause-moments
+returns-in_err-sync-clause-moments g c other closed =
+    let run = was_cut g (goal.at.returns-in_err-sync-clause-moments g c).In_ok-cut other closed in
+    tries c.sync.new.self run (Sync c.args.file) c.sync.result c.sync.ensures.time c.sync.ensures.changes (g.met.D.Disk.reads_an_image c.cut.new.self) (λ d reads is. is.state.each)
+
+pub returns-clause-moments : goal.returns-clause-moments
+returns-clause-moments g c other closed =
+    let at = goal.at.returns-clause-moments g c in
+    let run = was_synced g at.In_ok-sync other (was_cut g at.In_ok-cut other closed) in
+    tries c.write_at.new.self run (Write c.args.file 8 c.args.fields.now) c.write_at.result c.write_at.ensures.time c.write_at.ensures.changes (g.met.D.Disk.reads_an_image c.sync.new.self)
+    (λ d reads is. anew_write c.args.file other c.args.fields.now c.requires.fields d is)
+
+pub returns-clause-ok : goal.returns-clause-ok
+returns-clause-ok g c = on_ok c.write_at.result _ (λ x is other closed.
+    let at = goal.at.returns-clause-ok g c in
+    let run = was_synced g at.In_ok-sync other (was_cut g at.In_ok-cut other closed) in
+    done (Write c.args.file 8 c.args.fields.now) (g.D.Disk.told c.sync.new.self) (g.D.Disk.told c.write_at.new.self) (IsSynced c.args.file other) (IsFilling c.args.file c.args.fields.now [] other) (rw is at c.write_at.ensures.changes)
+    (g.met.D.Disk.reads_an_image c.sync.new.self) run.state (λ d reads is. anew_end c.args.file other c.args.fields.now c.requires.fields d is))

@@ -1,0 +1,96 @@
+use Rattle.std.specs.Prelude.{IfSome, Option, None, Some, Ok}
+use Rattle.std.specs.Option.{option_map}
+use Rattle.std.proofs.Common.{◌≡◌, sym, ◌∙◌, ap, subst, rules}
+use Rattle.crash_disk.specs.declared.file_no.FileNo.TheVariants.{Zero, One}
+use Rattle.crash_disk.specs.Disk.{DiskState, image_of, reads_of, settled_image}
+use Rattle.crash_disk.specs.Moments.{Leaves, LeavesOnly}
+use Rattle.crash_disk.specs.Steps.{then, weaker}
+use Rattle.gate_journal.specs.Format.{file_of, joined}
+use Rattle.gate_journal.specs.Making.{IsMadeOrBlank, first_journal, read_of}
+use Rattle.gate_journal.specs.Opening.{Opens}
+use Rattle.gate_journal.proofs.Opened.{if_some, no_journal_told, opens_now, opens_synced, opens_making, own_found, own_made, synced_told}
+use Rattle.gate_journal.proofs.opening.open_journal.Goals as goal
+use Rattle.gate_journal.proofs.opening.open_journal.Goals.{After-load-2, In_ok-one, After-make_first}
+use Rattle.gate_journal.proofs.opening.open_journal.Given.{Over}
+
+-- once both files were read
+module _ (g : Over) (c : After-load-2 g) where
+  same : g.D.Disk.told c.load-2.new.disk ≡ g.D.Disk.told c.sync_both.new.disk
+  same = c.load-2.ensures.same ∙ c.load.ensures.same
+
+  module _ (d : DiskState) (is : g.D.Disk.told c.args.disk.now ≡ Some d) where
+    synced : g.D.Disk.told c.sync_both.new.disk ≡ Some (settled_image (image_of d))
+    synced = c.in_ok-sync_both.ensures.ok ∙ ap (option_map (λ d. settled_image (image_of d))) is
+
+    both_read : LeavesOnly g.D.Disk.moment g.D.Disk.left_since c.args.disk.now c.load-2.new.disk (Opens d)
+    both_read =
+        let told = g.D.Disk.told in
+        let m = g.D.Disk.moment in
+        let l = g.D.Disk.left_since in
+        let d0 = c.args.disk.now in
+        let d1 = c.sync_both.new.disk in
+        let d2 = c.load.new.disk in
+        let reads = g.met.D.Disk.reads_an_image d0 in
+        let m1 = weaker m l d0 d1 (Leaves (told d0)) (Opens d) c.sync_both.ensures.moments (opens_now (told d0) d is reads) in
+        let m2 = then m l d0 d1 d2 (Opens d) (Leaves (told d1)) (Opens d) m1 c.load.ensures.moments (λ i p. p) (opens_synced (told d0) d is reads (told d1) synced) in
+        then m l d0 d2 c.load-2.new.disk (Opens d) (Leaves (told d2)) (Opens d) m2 c.load-2.ensures.moments (λ i p. p) (opens_synced (told d0) d is reads (told d2) (c.load.ensures.same ∙ synced))
+
+-- what they hold, where neither is a fault by itself
+module _ (g : Over) (c : In_ok-one g) where
+  zero_is : IfSome (g.D.Disk.told c.load-2.new.disk) (λ d. file_of (reads_of d Zero) ≡ Ok c.in_ok-zero.zero)
+  zero_is = subst (λ (o : Option DiskState). IfSome o (λ d. file_of (reads_of d Zero) ≡ Ok c.in_ok-zero.zero)) (sym (c.load-2.ensures.same ∙ c.load.ensures.same)) c.in_ok-zero.ensures.gives
+
+  one_is : IfSome (g.D.Disk.told c.load-2.new.disk) (λ d. file_of (reads_of d One) ≡ Ok c.in_ok-one.one)
+  one_is = subst (λ (o : Option DiskState). IfSome o (λ d. file_of (reads_of d One) ≡ Ok c.in_ok-one.one)) (sym c.load-2.ensures.same) c.in_ok-one.ensures.gives
+
+-- where they hold no journal
+none_is : (g : Over) (c : After-make_first g) → joined (Ok c.in_ok-zero.zero) (Ok c.in_ok-one.one) ≡ Ok None
+none_is g c = c.in_ok-file.ensures ∙ ap (λ (o : Option _). Ok (option_map (λ pair. record { file = pair.0; holds = pair.1 }) o)) c.in-None.is
+
+pub returns-in_err-one-clause-moments : goal.returns-in_err-one-clause-moments
+returns-in_err-one-clause-moments g c = if_some (g.D.Disk.told c.args.disk.now) (λ d. _) (both_read g (goal.at.returns-in_err-one-clause-moments g c).After-load-2)
+
+pub returns-in_err-file-clause-moments : goal.returns-in_err-file-clause-moments
+returns-in_err-file-clause-moments g c = if_some (g.D.Disk.told c.args.disk.now) (λ d. _) (both_read g (goal.at.returns-in_err-file-clause-moments g c).After-load-2)
+
+pub returns-in-Some-clause-moments : goal.returns-in-Some-clause-moments
+returns-in-Some-clause-moments g c = if_some (g.D.Disk.told c.args.disk.now) (λ d. _) (both_read g (goal.at.returns-in-Some-clause-moments g c).After-load-2)
+
+pub make_first-requires-clause-none : goal.make_first-requires-clause-none
+make_first-requires-clause-none g c =
+    no_journal_told (g.D.Disk.told c.load-2.new.disk) c.in_ok-zero.zero c.in_ok-one.one (zero_is g (goal.at.make_first-requires-clause-none g c).In_ok-one)
+    (c.in_ok-file.ensures ∙ ap (λ (o : Option _). Ok (option_map (λ pair. record { file = pair.0; holds = pair.1 }) o)) c.in-None.is)
+
+-- while the first journal is made
+making : (g : Over) (c : After-make_first g) → ((d : DiskState) → g.D.Disk.told c.args.disk.now ≡ Some d → LeavesOnly g.D.Disk.moment g.D.Disk.left_since c.args.disk.now c.load-2.new.disk (Opens d))
+    → ((d : DiskState) → g.D.Disk.told c.args.disk.now ≡ Some d → g.D.Disk.told c.load-2.new.disk ≡ Some (settled_image (image_of d))) → IfSome (g.D.Disk.told c.load-2.new.disk) (λ d. file_of (reads_of d Zero) ≡ Ok c.in_ok-zero.zero)
+    → IfSome (g.D.Disk.told c.load-2.new.disk) (λ d. file_of (reads_of d One) ≡ Ok c.in_ok-one.one) → IfSome (g.D.Disk.told c.args.disk.now) (λ d. LeavesOnly g.D.Disk.moment g.D.Disk.left_since c.args.disk.now c.make_first.new.disk (Opens d))
+making g c read settled zero one =
+    let told = g.D.Disk.told in
+    let d0 = c.args.disk.now in
+    let d3 = c.load-2.new.disk in
+    if_some (told d0) (λ d. _) (λ d is. then g.D.Disk.moment g.D.Disk.left_since d0 d3 c.make_first.new.disk (Opens d) (IsMadeOrBlank Zero first_journal (read_of (told d3) One)) (Opens d) (read d is) c.make_first.ensures.moments (λ i p. p)
+    (opens_making (told d0) d is (g.met.D.Disk.reads_an_image d0) (told d3) c.in_ok-zero.zero c.in_ok-one.one (settled d is) zero one (none_is g c)))
+
+pub returns-in_err-make_first-in-None-clause-moments : goal.returns-in_err-make_first-in-None-clause-moments
+returns-in_err-make_first-in-None-clause-moments g c =
+    let at = goal.at.returns-in_err-make_first-in-None-clause-moments g c in
+    making g at.After-make_first (both_read g at.After-load-2) (λ d is. same g at.After-load-2 ∙ synced g at.After-load-2 d is) (zero_is g at.In_ok-one) (one_is g at.In_ok-one)
+
+pub returns-in_ok-make_first-in-None-clause-moments : goal.returns-in_ok-make_first-in-None-clause-moments
+returns-in_ok-make_first-in-None-clause-moments g c =
+    let at = goal.at.returns-in_ok-make_first-in-None-clause-moments g c in
+    making g at.After-make_first (both_read g at.After-load-2) (λ d is. same g at.After-load-2 ∙ synced g at.After-load-2 d is) (zero_is g at.In_ok-one) (one_is g at.In_ok-one)
+
+pub returns-in_ok-make_first-in-None-clause-own : goal.returns-in_ok-make_first-in-None-clause-own
+returns-in_ok-make_first-in-None-clause-own g c =
+    let at = goal.at.returns-in_ok-make_first-in-None-clause-own g c in
+    own_made (g.D.Disk.told c.load-2.new.disk) (g.D.Disk.told c.make_first.new.disk) c.first.result c.in_ok-zero.zero c.in_ok-one.one (search rules) (search rules) (one_is g at.In_ok-one) (none_is g at.After-make_first) c.in_ok-make_first-in-None.ensures.ok
+
+pub returns-in-Some-clause-own : goal.returns-in-Some-clause-own
+returns-in-Some-clause-own g c =
+    let at = goal.at.returns-in-Some-clause-own g c in
+    let now = g.D.Disk.told c.load-2.new.disk in
+    let settled : IfSome now (λ d. (d' : DiskState) × (d ≡ settled_image (image_of d'))) =
+    subst (λ (o : Option DiskState). IfSome o (λ d. (d' : DiskState) × (d ≡ settled_image (image_of d')))) (sym (same g at.After-load-2)) (synced_told (g.D.Disk.told c.args.disk.now) (g.D.Disk.told c.sync_both.new.disk) c.in_ok-sync_both.ensures.ok) in
+    own_found now c.of.result c.in_ok-zero.zero c.in_ok-one.one (search rules) settled (zero_is g at.In_ok-one) (one_is g at.In_ok-one) (search rules)

@@ -1,0 +1,73 @@
+use Rattle.std.specs.Prelude.{All, vec_capacity}
+use Rattle.std.specs.Int.{w32, to_be_bytes}
+use Rattle.std.proofs.Common.{◌≡◌, ℕ, ◌+◌, ◌≤◌, List, [], ◌∷◌, ◌++◌, length, ◌∙◌, ap, subst, arith, length-append}
+use Rattle.std.proofs.lemmas.List.Elements.{All-tail}
+use Rattle.crash_disk.specs.declared.change.Change.TheVariants.{Write}
+use Rattle.crash_disk.specs.Disk.{reads_of}
+use Rattle.crash_disk.specs.Torn.{other_file}
+use Rattle.gate_journal.specs.Format.{bodies_of, gate_of}
+use Rattle.gate_journal.specs.Making.{IsClosed, IsFilling, read_of}
+use Rattle.gate_journal.proofs.Lifting.{beside_told, weaken}
+use Rattle.gate_journal.proofs.Running.{tries, does}
+use Rattle.gate_journal.proofs.Filling.{filling_blank, filling_more, filling_reads, text_fits, text_more}
+use Rattle.gate_journal.proofs.remaking.fill.Goals as goal
+use Rattle.gate_journal.proofs.remaking.fill.Goals.{After-deref}
+use Rattle.gate_journal.proofs.remaking.fill.Given.{Over}
+
+module _ (g : Over) (c : After-deref g) where
+  body_is : c.deref.result.now ≡ to_be_bytes w32 (length c.in-Some.record.now) ++ c.in-Some.record.now ++ gate_of c.in-Some.rest.now ∷ []
+  body_is =
+      c.deref.ensures.value ∙ c.fill_body.ensures.body ∙ ap (λ (l : List ℕ). to_be_bytes w32 (length l) ++ l ++ c.first_gate.result ∷ []) c.as_slice.ensures
+      ∙ ap (λ (n : ℕ). to_be_bytes w32 (length c.in-Some.record.now) ++ c.in-Some.record.now ++ n ∷ []) c.first_gate.ensures
+
+  abbrev front : List ℕ
+  front = c.loop-record.invariant.written.0
+
+  next : (front ++ c.deref.result.now) ++ bodies_of c.in-Some.rest.now ≡ bodies_of c.args.records.now
+  next = text_more front c.loop-record.left.now c.args.records.now c.in-Some.record.now c.in-Some.rest.now c.deref.result.now c.loop-record.invariant.written.1 c.in-Some.ensures.cases.0 body_is
+
+  fits : c.loop-record.at + length c.deref.result.now ≤ 134217728
+  fits =
+      text_fits front c.loop-record.left.now c.args.records.now c.in-Some.record.now c.in-Some.rest.now c.deref.result.now c.loop-record.invariant.written.1 c.in-Some.ensures.cases.0 body_is
+      c.loop-record.at c.loop-record.invariant.written.2 c.requires.fits
+
+pub write_at-requires : goal.write_at-requires
+write_at-requires g c =
+    let told0 = g.D.Disk.told c.args.disk.now in
+    let a = (goal.at.write_at-requires g c).After-deref in
+    let other = read_of told0 (other_file c.args.file) in
+    let run = c.loop-record.invariant.written.3 other (beside_told told0 c.args.file (IsClosed c.args.file) c.requires.closed) in
+    weaken (g.D.Disk.told c.loop-record.disk) (IsFilling c.args.file c.args.fields.now (front g a) other) (λ d. c.loop-record.at ≤ length (reads_of d c.args.file)) run.state
+    (λ d is. omega (arith, filling_reads c.args.file c.args.fields.now (front g a) other d is, c.loop-record.invariant.written.2))
+
+pub returns-in_err-write_at-clause-moments : goal.returns-in_err-write_at-clause-moments
+returns-in_err-write_at-clause-moments g c other closed =
+    let a = (goal.at.returns-in_err-write_at-clause-moments g c).After-deref in
+    tries c.write_at.new.self (c.loop-record.invariant.written.3 other closed) (Write c.args.file c.loop-record.at c.deref.result.now) c.write_at.result c.write_at.ensures.time c.write_at.ensures.changes (g.met.D.Disk.reads_an_image c.loop-record.disk)
+    (λ d reads is. filling_blank c.args.file c.args.fields.now (front g a ++ c.deref.result.now) other _ (filling_more c.args.file c.args.fields.now (front g a) c.deref.result.now other c.loop-record.at d c.loop-record.invariant.written.2 (fits g a) is))
+
+pub overflow_add-at : goal.overflow_add-at
+overflow_add-at g c = omega (arith, fits g (goal.at.overflow_add-at g c).After-deref, c.len.ensures, ap length c.deref.ensures.value)
+
+pub loop-record-preserved : goal.loop-record-preserved
+loop-record-preserved g c =
+    let a = (goal.at.loop-record-preserved g c).After-deref in
+    let body = c.deref.result.now in
+    let left_is = c.in-Some.ensures.cases.0 in
+    let room = c.fill_body.ensures.capacity in
+    record {
+      written = (
+        front g a ++ body,
+        next g a,
+        omega (arith, c.loop-record.invariant.written.2, c.len.ensures, ap length c.deref.ensures.value, length-append (front g a) body),
+        λ other closed. does c.write_at.new.self (c.loop-record.invariant.written.3 other closed) (IsFilling c.args.file c.args.fields.now (front g a ++ body) other) (Write c.args.file c.loop-record.at body) c.write_at.ensures.time
+            c.in_ok-write_at.ensures.changes (g.met.D.Disk.reads_an_image c.loop-record.disk)
+            (λ d reads is. filling_blank c.args.file c.args.fields.now (front g a ++ body) other _ (filling_more c.args.file c.args.fields.now (front g a) body other c.loop-record.at d c.loop-record.invariant.written.2 (fits g a) is))
+            (λ d reads is. filling_more c.args.file c.args.fields.now (front g a) body other c.loop-record.at d c.loop-record.invariant.written.2 (fits g a) is),
+      );
+      each = All-tail (λ p. length p ≤ 1048576) c.in-Some.record.now c.in-Some.rest.now (subst (All (λ p. length p ≤ 1048576)) left_is c.loop-record.invariant.each);
+      room = λ k d le.
+          omega (arith, room, All-tail (λ p. length p + 5 ≤ vec_capacity c.loop-record.body) c.in-Some.record.now c.in-Some.rest.now (subst (All (λ p. length p + 5 ≤ vec_capacity c.loop-record.body)) left_is c.loop-record.invariant.room) k d le);
+      never_falls = omega (arith, c.loop-record.invariant.never_falls, c.write_at.ensures.faults.never_falls);
+      in_range = c.write_at.ensures.faults.in_range;
+    }

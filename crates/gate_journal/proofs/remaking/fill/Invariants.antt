@@ -1,0 +1,19 @@
+use Rattle.std.specs.Prelude.{All, IfSome, vec_capacity}
+use Rattle.std.proofs.Common.{◌≡◌, ℕ, ◌+◌, ◌^◌, ◌<◌, ◌≤◌, List, ◌++◌, length}
+use Rattle.gate_journal.specs.Format.{bodies_of}
+use Rattle.gate_journal.specs.Making.{IsBlankBeside, IsClosed, IsFilling}
+use Rattle.gate_journal.proofs.Running.{Run}
+use Rattle.gate_journal.proofs.remaking.fill.Given as goal
+
+abbrev pub invariant-loop-record : goal.invariant-loop-record
+invariant-loop-record g l = record {
+  written : (front : List ℕ) × (front ++ bodies_of l.left ≡ bodies_of l.records) × (l.at ≡ 72 + length front) × ((other : List ℕ) → IfSome (g.D.Disk.told l.fn.disk) (IsClosed l.file other)
+      → Run g.D.Disk.told g.D.Disk.moment g.D.Disk.left_since (IsBlankBeside l.file other) l.fn.disk l.disk (IsFilling l.file l.fields front other));
+  each : All (λ payload. length payload ≤ 1048576) l.left;
+  room : All (λ payload. length payload + 5 ≤ vec_capacity l.body) l.left;
+  never_falls : g.D.Disk.faults_of l.fn.disk ≤ g.D.Disk.faults_of l.disk;
+  in_range : g.D.Disk.faults_of l.disk < 2 ^ 64;
+}
+
+abbrev pub decreases-loop-record : goal.decreases-loop-record
+decreases-loop-record g l = length l.left

@@ -1,0 +1,87 @@
+use Rattle.std.proofs.Common.{◌≡◌, ◌∙◌}
+use Rattle.crash_disk.specs.Disk.{Image}
+use Rattle.crash_disk.specs.Moments.{Leaves, LeavesOnly}
+use Rattle.crash_disk.specs.Steps.{started, goes_on}
+use Rattle.gate_journal.specs.Format.{body_of}
+use Rattle.gate_journal.proofs.Written.{Left, at_start, first_place, at_first, at_sync, second_place, at_second, at_return}
+use Rattle.gate_journal.proofs.writing.write_record.Goals as goal
+use Rattle.gate_journal.proofs.writing.write_record.Goals.{After-write_at, After-sync, After-write_at-2}
+use Rattle.gate_journal.proofs.writing.write_record.Given.{Over}
+
+-- the body is written
+module _ (g : Over) (c : After-write_at g) where
+  abbrev Either : Image → Type 0
+  Either = Left c.args.file c.args.end c.args.gate c.args.payload.now (g.D.Disk.told c.args.disk.now)
+
+  body_is : c.deref.result.now ≡ body_of c.args.payload.now
+  body_is = c.deref.ensures.value ∙ c.fill_body.ensures.body
+
+  first : (image : Image) → Leaves (g.D.Disk.told c.write_at.new.self) image → Either image
+  first image left =
+      let wrote = rw body_is at c.write_at.ensures.changes in
+      at_first c.args.file c.args.end c.args.gate c.args.payload.now (g.D.Disk.told c.args.disk.now) (g.met.D.Disk.reads_an_image c.args.disk.now) c.requires.ready c.write_at.result (g.D.Disk.told c.write_at.new.self) wrote image left
+
+  one : LeavesOnly g.D.Disk.moment g.D.Disk.left_since c.args.disk.now c.write_at.new.self Either
+  one =
+      let begun = started g.D.Disk.moment g.D.Disk.left_since c.args.disk.now Either (λ image left.
+      at_start c.args.file c.args.end c.args.gate c.args.payload.now (g.D.Disk.told c.args.disk.now) c.requires.ready image (g.met.D.Disk.only_now c.args.disk.now image left)) in
+      goes_on g.D.Disk.moment g.D.Disk.left_since c.args.disk.now c.args.disk.now c.write_at.new.self Either (g.D.Disk.told c.write_at.new.self) begun c.write_at.ensures.time first
+
+-- and synced
+two : (g : Over) (c : After-sync g) (P : Image → Type 0) → LeavesOnly g.D.Disk.moment g.D.Disk.left_since c.args.disk.now c.write_at.new.self P → ((image : Image) → Leaves (g.D.Disk.told c.write_at.new.self) image → P image)
+    → LeavesOnly g.D.Disk.moment g.D.Disk.left_since c.args.disk.now c.sync.new.self P
+two g c P so_far before =
+    goes_on g.D.Disk.moment g.D.Disk.left_since c.args.disk.now c.write_at.new.self c.sync.new.self P (g.D.Disk.told c.sync.new.self) so_far c.sync.ensures.time (λ image left. before image
+    (at_sync c.args.file c.args.end c.args.gate c.args.payload.now (g.D.Disk.told c.write_at.new.self) (g.met.D.Disk.reads_an_image c.write_at.new.self) c.sync.result (g.D.Disk.told c.sync.new.self) c.sync.ensures.changes image left))
+
+-- then the gate is opened
+module _ (g : Over) (c : After-write_at-2 g) where
+  abbrev Both : Image → Type 0
+  Both = Left c.args.file c.args.end c.args.gate c.args.payload.now (g.D.Disk.told c.args.disk.now)
+
+  second : (image : Image) → Leaves (g.D.Disk.told c.write_at-2.new.self) image → Both image
+  second image left =
+      let is : c.deref.result.now ≡ body_of c.args.payload.now = c.deref.ensures.value ∙ c.fill_body.ensures.body in
+      let wrote = rw is at c.in_ok-write_at.ensures.changes in
+      at_second c.args.file c.args.end c.args.gate c.args.payload.now (g.D.Disk.told c.args.disk.now) (g.D.Disk.told c.write_at.new.self) (g.D.Disk.told c.sync.new.self) (g.met.D.Disk.reads_an_image c.args.disk.now) c.requires.ready wrote
+      c.in_ok-sync.ensures.changes (g.met.D.Disk.reads_an_image c.sync.new.self) c.write_at-2.result (g.D.Disk.told c.write_at-2.new.self) c.write_at-2.ensures.changes image left
+
+  three : LeavesOnly g.D.Disk.moment g.D.Disk.left_since c.args.disk.now c.sync.new.self Both → LeavesOnly g.D.Disk.moment g.D.Disk.left_since c.args.disk.now c.write_at-2.new.self Both
+  three so_far = goes_on g.D.Disk.moment g.D.Disk.left_since c.args.disk.now c.sync.new.self c.write_at-2.new.self Both (g.D.Disk.told c.write_at-2.new.self) so_far c.write_at-2.ensures.time second
+
+pub write_at-requires : goal.write_at-requires
+write_at-requires g c = first_place c.args.file c.args.end c.args.gate c.args.payload.now (g.D.Disk.told c.args.disk.now) (g.met.D.Disk.reads_an_image c.args.disk.now) c.requires.ready
+
+pub returns-in_err-write_at-clause-moments : goal.returns-in_err-write_at-clause-moments
+returns-in_err-write_at-clause-moments g c = one g (goal.at.returns-in_err-write_at-clause-moments g c).After-write_at
+
+pub returns-in_err-sync-clause-moments : goal.returns-in_err-sync-clause-moments
+returns-in_err-sync-clause-moments g c =
+    let at = goal.at.returns-in_err-sync-clause-moments g c in
+    two g at.After-sync _ (one g at.After-write_at) (first g at.After-write_at)
+
+pub write_at-requires-2 : goal.write_at-requires-2
+write_at-requires-2 g c =
+    let is : c.deref.result.now ≡ body_of c.args.payload.now = c.deref.ensures.value ∙ c.fill_body.ensures.body in
+    let wrote = rw is at c.in_ok-write_at.ensures.changes in
+    second_place c.args.file c.args.end c.args.gate c.args.payload.now (g.D.Disk.told c.args.disk.now) (g.D.Disk.told c.write_at.new.self) (g.D.Disk.told c.sync.new.self) (g.met.D.Disk.reads_an_image c.args.disk.now) c.requires.ready wrote
+    c.in_ok-sync.ensures.changes
+
+pub returns-in_err-write_at-2-clause-moments : goal.returns-in_err-write_at-2-clause-moments
+returns-in_err-write_at-2-clause-moments g c =
+    let at = goal.at.returns-in_err-write_at-2-clause-moments g c in
+    three g at.After-write_at-2 (two g at.After-sync _ (one g at.After-write_at) (first g at.After-write_at))
+
+pub returns-clause-moments : goal.returns-clause-moments
+returns-clause-moments g c =
+    let at = goal.at.returns-clause-moments g c in
+    let so_far = three g at.After-write_at-2 (two g at.After-sync _ (one g at.After-write_at) (first g at.After-write_at)) in
+    goes_on g.D.Disk.moment g.D.Disk.left_since c.args.disk.now c.write_at-2.new.self c.sync-2.new.self _ (g.D.Disk.told c.sync-2.new.self) so_far c.sync-2.ensures.time (λ image left. second g at.After-write_at-2 image
+    (at_sync c.args.file c.args.end c.args.gate c.args.payload.now (g.D.Disk.told c.write_at-2.new.self) (g.met.D.Disk.reads_an_image c.write_at-2.new.self) c.sync-2.result (g.D.Disk.told c.sync-2.new.self) c.sync-2.ensures.changes image left))
+
+pub returns-clause-ok : goal.returns-clause-ok
+returns-clause-ok g c =
+    let is : c.deref.result.now ≡ body_of c.args.payload.now = c.deref.ensures.value ∙ c.fill_body.ensures.body in
+    let wrote = rw is at c.in_ok-write_at.ensures.changes in
+    at_return c.args.file c.args.end c.args.gate c.args.payload.now (g.D.Disk.told c.args.disk.now) (g.D.Disk.told c.write_at.new.self) (g.D.Disk.told c.sync.new.self) (g.met.D.Disk.reads_an_image c.args.disk.now) c.requires.ready wrote
+    c.in_ok-sync.ensures.changes (g.D.Disk.told c.write_at-2.new.self) (g.D.Disk.told c.sync-2.new.self) c.sync-2.result c.in_ok-write_at-2.ensures.changes c.sync-2.ensures.changes

@@ -1,0 +1,6 @@
+pub mod Examples
+pub mod Format
+pub mod Journal
+pub mod Making
+pub mod Opening
+pub mod Reading

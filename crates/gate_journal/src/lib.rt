@@ -1,0 +1,40 @@
+//! A journal: a list of records in one of two files of a disk that may crash at any moment.
+//!
+//! ```
+//! let mut journal = open_journal(alloc, &mut disk)?;   // what the files stand for; an empty journal where there is none
+//! journal.reserve(3)?;                                 // the memory for one record
+//! journal.append(&mut disk, b"abc")?;                  // in every image that a crash may leave from now on
+//! journal.records().len();
+//! journal.compact(&mut disk, &kept, horizon, next)?;   // these payloads alone from now on, in the other file
+//! ```
+//!
+//! What two files stand for is a function of their bytes alone, `journal` of `specs/Format.antt`: a list of payloads, a
+//! header and a version in one of them, no journal yet, or a fault at a place. A contract sees an opened journal as
+//! that, with the room that was reserved and whether a call has failed. Each call that changes the disk says what a
+//! crash at any moment of it may leave: `append` the records from before with the new one or without, `open_journal`
+//! and `reopen` what an image at their start stood for, `compact` and `migrate` the journal from before or the new one.
+//!
+//! [`Failed`] and [`OpenFault::DiskFault`] come only where the disk's count of faults rose. After [`Failed`] the journal
+//! is broken, and is opened again by `reopen`. [`OpenFault::Foreign`] comes exactly where the files stand for no list
+//! of records, and [`OpenFault::NoMemory`] may come from each call that allocates: `append` does not.
+#![tactic(auto)]
+
+mod compacting;
+mod fault;
+mod header;
+mod journal;
+mod making;
+mod opening;
+mod reading;
+mod record;
+mod remaking;
+#[cfg(test)]
+mod tests;
+mod writing;
+
+pub use crash_disk::{Disk, Failed, FileNo};
+pub use fault::OpenFault;
+pub use header::Header;
+pub use journal::Journal;
+pub use opening::open_journal;
+pub use record::Record;

@@ -1,0 +1,183 @@
+//! How a journal is opened.
+ghost use Rattle.std.specs.Prelude.{◌≡◌, ◌<◌, ◌≤◌, ◌^◌, None, Some, Ok, Err, true, false, length, take, IfOk, IfErr, IfSome, IsSomeAnd, OnOk, OnErr, MatchResult, MatchOption};
+ghost use Rattle.std.specs.Option.{option_map};
+ghost use Rattle.owned_values.specs.Gives.{Gives};
+ghost use Rattle.crash_disk.specs.Counts.{CountsFaults};
+ghost use Rattle.crash_disk.specs.Disk.{image_of, reads_of, settled_image};
+ghost use Rattle.crash_disk.specs.Moments.{Leaves, LeavesOnly};
+ghost use Rattle.crash_disk.specs.Torn.{IsQuietDisk};
+ghost use Rattle.gate_journal.specs.Format.{file_of, joined, journal};
+ghost use Rattle.gate_journal.specs.Making.{IsBlankBeside, IsMadeOrBlank, IsWritten, IsMade, fields_bytes, head_bytes, first_journal, read_of};
+ghost use Rattle.gate_journal.specs.Journal.{IsOwn};
+ghost use Rattle.gate_journal.specs.Opening.{open_fault_of, opened, Opens, CausesFaults, FaultIs};
+
+use crate::fault::FileFault;
+use crate::making::{begin_anew, commit, fields_of, head_of, put_head};
+use crate::reading::{Stored, read_file};
+use crate::{Disk, Failed, FileNo, Header, Journal, OpenFault};
+use std::alloc::Global;
+
+/// How long a header is.
+const HEAD_LENGTH: u64 = 72;
+
+/// One more byte than the greatest length of a file.
+const TOO_LONG: u64 = 134_217_729;
+
+/// Syncs both files, so that a crash leaves what a read gives.
+fn sync_both<D: Disk>(disk: &mut D) -> Result<(), Failed>
+    ensures ok { OnOk result (D.told disk.new ≡ option_map (λ d. settled_image (image_of d)) (D.told disk.old)) }
+    ensures moments { LeavesOnly D.moment D.left_since disk.old disk.new (Leaves (D.told disk.old)) }
+    ensures faults { CountsFaults result (D.faults_of disk.old) (D.faults_of disk.new) }
+{
+    disk.sync(FileNo::Zero)?;
+    disk.sync(FileNo::One)
+}
+
+/// The bytes of a file, or the first of them where it is too long.
+fn read_whole<D: Disk>(alloc: Global, disk: &mut D, file: FileNo) -> Result<Vec<u8>, OpenFault>
+    ensures bytes { IfOk result (λ bytes. IfSome (D.told disk.old) (λ d. bytes.items ≡ take 134217729 (reads_of d file))) }
+    ensures no_fault { IfErr result (λ e. open_fault_of e ≡ None) }
+    ensures same { D.told disk.new ≡ D.told disk.old }
+    ensures moments { LeavesOnly D.moment D.left_since disk.old disk.new (Leaves (D.told disk.old)) }
+    ensures faults { CausesFaults result (D.faults_of disk.old) (D.faults_of disk.new) }
+{
+    let size = disk.length(file)?.min(TOO_LONG);
+    let mut bytes = vec![in alloc; 0; size as usize]?;
+    let count = disk.read_at(file, 0, &mut bytes)?;
+    bytes.truncate(count);
+    Ok(bytes)
+}
+
+/// What a file of the disk holds, where it is committed.
+fn load<D: Disk>(alloc: Global, disk: &mut D, file: FileNo) -> Result<Option<Stored>, OpenFault>
+    ensures gives { IfSome (D.told disk.old) (λ d. MatchResult result (λ found. file_of (reads_of d file) ≡ Ok found) (FaultIs (file_of (reads_of d file)) file)) }
+    ensures same { D.told disk.new ≡ D.told disk.old }
+    ensures moments { LeavesOnly D.moment D.left_since disk.old disk.new (Leaves (D.told disk.old)) }
+    ensures faults { CausesFaults result (D.faults_of disk.old) (D.faults_of disk.new) }
+{
+    let bytes = read_whole(alloc, disk, file)?;
+    match read_file(alloc, &bytes) {
+        Ok(found) => Ok(found),
+        Err(FileFault::Foreign(place)) => Err(OpenFault::Foreign { file, place }),
+        Err(FileFault::Starved) => Err(OpenFault::NoMemory),
+    }
+}
+
+/// The journal of two files that are no fault by themselves: the committed one with the greater generation.
+fn choose(zero: Option<Stored>, one: Option<Stored>) -> Result<Option<(FileNo, Stored)>, OpenFault>
+    ensures { MatchResult result
+        (λ found. joined (Ok zero) (Ok one) ≡ Ok (option_map (λ pair. record { file = pair.0; holds = pair.1 }) found))
+        (λ fault. joined (Ok zero) (Ok one) ≡ Err (record { file = FileNo.One; place = 8 }) × (fault ≡ OpenFault.Foreign FileNo.One 8)) }
+{
+    match (zero, one) {
+        (None, None) => Ok(None),
+        (Some(zero), None) => Ok(Some((FileNo::Zero, zero))),
+        (None, Some(one)) => Ok(Some((FileNo::One, one))),
+        (Some(zero), Some(one)) => {
+            if zero.header.generation == one.header.generation {
+                return Err(OpenFault::Foreign {
+                    file: FileNo::One,
+                    place: 8,
+                });
+            }
+            if zero.header.generation > one.header.generation {
+                Ok(Some((FileNo::Zero, zero)))
+            } else {
+                Ok(Some((FileNo::One, one)))
+            }
+        }
+    }
+}
+
+/// The gate behind the last record.
+const CLOSED: u8 = 0;
+
+/// The header of the first journal.
+const FIRST: Header = Header {
+    generation: 1,
+    horizon: 0,
+    next: 1,
+};
+
+/// Writes all of the first journal but its commit to file 0, which holds none.
+fn prepare_first<D: Disk>(disk: &mut D, head: &[u8], fields: &[u8]) -> Result<(), Failed>
+    requires quiet { IfSome (D.told disk.old) IsQuietDisk }
+    requires none { file_of (read_of (D.told disk.old) FileNo.Zero) ≡ Ok None }
+    requires head { head.now ≡ head_bytes FIRST 0 }
+    requires fields { fields.now ≡ fields_bytes FIRST 0 }
+    ensures moments { LeavesOnly D.moment D.left_since disk.old disk.new (IsBlankBeside FileNo.Zero (read_of (D.told disk.old) FileNo.One)) }
+    ensures ok { OnOk result (IfSome (D.told disk.new) (IsWritten FileNo.Zero first_journal (read_of (D.told disk.old) FileNo.One))) }
+    ensures faults { CountsFaults result (D.faults_of disk.old) (D.faults_of disk.new) }
+{
+    if disk.length(FileNo::Zero)? < HEAD_LENGTH {
+        put_head(disk, FileNo::Zero, head)
+    } else {
+        begin_anew(disk, FileNo::Zero, fields)
+    }
+}
+
+/// Makes the first journal in file 0, where the two files hold none.
+fn make_first<D: Disk>(alloc: Global, disk: &mut D) -> Result<(), OpenFault>
+    requires quiet { IfSome (D.told disk.old) IsQuietDisk }
+    requires none { file_of (read_of (D.told disk.old) FileNo.Zero) ≡ Ok None }
+    ensures moments { LeavesOnly D.moment D.left_since disk.old disk.new (IsMadeOrBlank FileNo.Zero first_journal (read_of (D.told disk.old) FileNo.One)) }
+    ensures ok { OnOk result (IfSome (D.told disk.new) (IsMade FileNo.Zero first_journal (read_of (D.told disk.old) FileNo.One))) }
+    ensures no_fault { IfErr result (λ e. open_fault_of e ≡ None) }
+    ensures faults { CausesFaults result (D.faults_of disk.old) (D.faults_of disk.new) }
+{
+    let fields = fields_of(alloc, &FIRST, CLOSED)?;
+    let head = head_of(alloc, &fields)?;
+    prepare_first(disk, &head, &fields)?;
+    commit(disk, FileNo::Zero)?;
+    Ok(())
+}
+
+/// Opens the journal of a disk: what the two files stand for, or an empty journal in file 0 where they hold none yet.
+/// It begins with a sync of both files. At an error the disk may have been synced, or the empty journal made.
+///
+/// It answers [`OpenFault::Foreign`] where the files are no journal, [`OpenFault::DiskFault`] only where the disk's
+/// count of faults rose.
+pub fn open_journal<D: Disk>(alloc: Global, disk: &mut D) -> Result<Journal, OpenFault>
+    ensures gives { IfSome (D.told disk.old) (λ d. Gives (λ j. j.kept) open_fault_of result (opened (journal (image_of d)))) }
+    ensures whole { IfOk result (λ j. (j.broken ≡ false) × (j.spare ≡ None)) }
+    ensures own { IfOk result (λ j. IsOwn (D.told disk.new) j) }
+    // A crash at any moment of the call leaves what an image of the disk at its start stood for.
+    ensures moments { IfSome (D.told disk.old) (λ d. LeavesOnly D.moment D.left_since disk.old disk.new (Opens d)) }
+    ensures faults { CausesFaults result (D.faults_of disk.old) (D.faults_of disk.new) }
+{
+    sync_both(disk)?;
+    let zero = load(alloc, disk, FileNo::Zero)?;
+    let one = load(alloc, disk, FileNo::One)?;
+    match choose(zero, one)? {
+        Some((file, stored)) => Ok(Journal::of(alloc, file, stored)),
+        None => {
+            make_first(alloc, disk)?;
+            Ok(Journal::first(alloc, FIRST))
+        }
+    }
+}
+
+impl Journal {
+    /// Opens the journal again, as `open_journal` does. At an error it is broken, and else as it was.
+    pub fn reopen<D: Disk>(&mut self, disk: &mut D) -> Result<(), OpenFault>
+        ensures gives { IfSome (D.told disk.old) (λ d. Gives (λ _. self.new.kept) open_fault_of result (opened (journal (image_of d)))) }
+        ensures whole { OnOk result ((self.new.broken ≡ false) × (self.new.spare ≡ None)) }
+        ensures own { OnOk result (IsOwn (D.told disk.new) self.new) }
+        ensures err { OnErr result (self.new ≡ record self.old { broken = true }) }
+        // A crash at any moment of the call leaves what an image of the disk at its start stood for.
+        ensures moments { IfSome (D.told disk.old) (λ d. LeavesOnly D.moment D.left_since disk.old disk.new (Opens d)) }
+        ensures faults { CausesFaults result (D.faults_of disk.old) (D.faults_of disk.new) }
+    {
+        let alloc = self.allocator();
+        match open_journal(alloc, disk) {
+            Ok(opened) => {
+                *self = opened;
+                Ok(())
+            }
+            Err(fault) => {
+                self.broken = true;
+                Err(fault)
+            }
+        }
+    }
+}
