@@ -16,7 +16,7 @@ use sp_setup::LEAST_KEY;
 use std::alloc::Global;
 
 /// The refusal with this verdict; where there is none, memory ran out.
-pub(crate) fn refused(verdict: Option<Verdict>) -> Result<Answer, NoMemory>
+fn refused(verdict: Option<Verdict>) -> Result<Answer, NoMemory>
     ensures { IfOk result (λ answer. IsVerdictOf verdict (answer_view answer)) }
 {
     match verdict {
