@@ -1,6 +1,7 @@
 -- A payload is one record of an identity provider at most, and is read as that one.
-use Rattle.std.proofs.Common.{◌≡◌, ℕ, ◌<◌, ◌^◌, length, None, cond, eqb, List, Some, refl, sym, ap, ◌∙◌}
+use Rattle.std.proofs.Common.{◌≡◌, ℕ, ◌<◌, ◌^◌, length, None, cond, eqb, Bool, true, false, nat_lt, ◌≤◌, List, Option, Some, refl, sym, ap, ◌∙◌}
 use Rattle.std.specs.Prelude.{map}
+use Rattle.std.proofs.lemmas.Bool.{lt-ltb, le-ltb}
 use Rattle.ledger_records.specs.declared.idp_record.Pending.{Pending}
 use Rattle.ledger_records.specs.declared.idp_record.Issued.{Issued}
 use Rattle.ledger_records.specs.declared.idp_record.Ended.{Ended}
@@ -14,85 +15,9 @@ use Rattle.ledger_records.specs.IdpRecord.{idp_kind, idp_fields, IsIdpPayload}
 use Rattle.ledger_records.specs.Reading.{idp_forms, record_in}
 use Rattle.ledger_records.proofs.Fronts.{IsBytes, some_is}
 use Rattle.ledger_records.proofs.Lists.{form_of, record_takes, record_again}
-use Rattle.ledger_records.proofs.Records.{nth, number_of, text_of, optional_of, texts_of, attributes_of, flag_of}
+use Rattle.ledger_records.specs.Found.{idp_from, idp_record}
 
 -- ---- the record of given fields
-
-abbrev pending_from : List Field → Pending
-pending_from fs = record {
-  first = number_of (nth fs 0);
-  moment = number_of (nth fs 1);
-  until = number_of (nth fs 2);
-  pending = text_of (nth fs 3);
-  request = text_of (nth fs 4);
-  peer = text_of (nth fs 5);
-  consumer = text_of (nth fs 6);
-  relay = optional_of (nth fs 7);
-}
-
-abbrev issued_from : List Field → Issued
-issued_from fs = record {
-  first = number_of (nth fs 0);
-  moment = number_of (nth fs 1);
-  pending = optional_of (nth fs 2);
-  cookie = text_of (nth fs 3);
-  index = text_of (nth fs 4);
-  session_end = number_of (nth fs 5);
-  assertion = text_of (nth fs 6);
-  message = text_of (nth fs 7);
-  user = text_of (nth fs 8);
-  peer = text_of (nth fs 9);
-  consumer = text_of (nth fs 10);
-  request = text_of (nth fs 11);
-  relay = optional_of (nth fs 12);
-  until = number_of (nth fs 13);
-  attributes = attributes_of (nth fs 14);
-}
-
-abbrev ended_from : List Field → Ended
-ended_from fs = record {
-  first = number_of (nth fs 0);
-  moment = number_of (nth fs 1);
-  cookies = texts_of (nth fs 2);
-  message = text_of (nth fs 3);
-  request = text_of (nth fs 4);
-  peer = text_of (nth fs 5);
-  partial = flag_of (nth fs 6);
-}
-
-abbrev left_from : List Field → Left
-left_from fs = record {
-  first = number_of (nth fs 0);
-  moment = number_of (nth fs 1);
-  until = number_of (nth fs 2);
-  cookie = text_of (nth fs 3);
-  request = text_of (nth fs 4);
-  peer = text_of (nth fs 5);
-}
-
-abbrev confirmed_from : List Field → Confirmed
-confirmed_from fs = record {
-  moment = number_of (nth fs 1);
-  request = text_of (nth fs 2);
-}
-
-abbrev spoke_from : List Field → Spoke
-spoke_from fs = record {
-  first = number_of (nth fs 0);
-  moment = number_of (nth fs 1);
-  message = text_of (nth fs 2);
-  request = text_of (nth fs 3);
-  peer = text_of (nth fs 4);
-}
-
-abbrev idp_from : ℕ → List Field → IdpRecord
-idp_from kind fs =
-    cond (eqb kind 11) (kinds.Pending (pending_from fs))
-    (cond (eqb kind 12) (kinds.Issued (issued_from fs))
-    (cond (eqb kind 13) (kinds.Ended (ended_from fs))
-    (cond (eqb kind 14) (kinds.Left (left_from fs))
-    (cond (eqb kind 15) (kinds.Confirmed (confirmed_from fs))
-    (kinds.Spoke (spoke_from fs))))))
 
 idp_again : (r : IdpRecord) → idp_from (idp_kind r) (idp_fields r) ≡ r
 idp_again (kinds.Pending r) = refl
@@ -130,3 +55,28 @@ is_found payload r fits short read =
 -- what is not read is no record's payload
 pub is_none : (payload : List ℕ) → record_in idp_forms payload ≡ None → (r : IdpRecord) → ¬ (IsIdpPayload payload r)
 is_none payload none r h = absurd (cc (is_read payload r h))
+
+-- a record's payload is found as the record
+pub is_the_record : (payload : List ℕ) (r : IdpRecord) → IsIdpPayload payload r → idp_record payload ≡ Some r
+unfolding idp_record
+is_the_record payload r h = rw (lt-ltb (length payload) (2 ^ 32) h.short) (rw (is_read payload r h) (ap Some (idp_again r)))
+
+-- what is read is the record that is found
+pub found_is : (payload : List ℕ) (r : IdpRecord) → length payload < 2 ^ 32 → record_in idp_forms payload ≡ Some (idp_kind r, idp_fields r) → idp_record payload ≡ Some r
+unfolding idp_record
+found_is payload r short read = rw (lt-ltb (length payload) (2 ^ 32) short) (rw read (ap Some (idp_again r)))
+
+abbrev none_of : Option IdpRecord
+none_of = None
+
+none_either : (b : Bool) → cond b none_of none_of ≡ none_of
+none_either true = refl
+none_either false = refl
+
+pub none_is : (payload : List ℕ) → record_in idp_forms payload ≡ None → idp_record payload ≡ None
+unfolding idp_record
+none_is payload none = rw none (none_either (nat_lt (length payload) (2 ^ 32)))
+
+pub too_long_is_none : (payload : List ℕ) → 2 ^ 32 ≤ length payload → idp_record payload ≡ None
+unfolding idp_record
+too_long_is_none payload long = rw (le-ltb (length payload) (2 ^ 32) long) refl

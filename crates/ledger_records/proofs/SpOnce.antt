@@ -1,14 +1,10 @@
 -- A payload is one record of a service provider at most, and is read as that one.
-use Rattle.std.proofs.Common.{◌≡◌, ℕ, ◌<◌, ◌^◌, length, None, Bool, true, false, cond, eqb, List, [], ◌∷◌, Some, refl, sym, ap, ◌∙◌}
+use Rattle.std.proofs.Common.{◌≡◌, ℕ, ◌<◌, ◌≤◌, ◌^◌, nat_lt, length, None, Bool, true, false, cond, eqb, List, [], ◌∷◌, Option, Some, refl, sym, ap, ◌∙◌}
 use Rattle.std.specs.Prelude.{map}
-use Rattle.std.proofs.lemmas.Bool.{eqb-true}
+use Rattle.std.proofs.lemmas.Bool.{eqb-true, lt-ltb, le-ltb}
 use Rattle.ledger_records.specs.declared.key_number.KeyNumber.{KeyNumber}
 use Rattle.ledger_records.specs.declared.key_number.KeyNumber.TheVariants.{First}
-use Rattle.ledger_records.specs.declared.sp_record.Asked.{Asked}
 use Rattle.ledger_records.specs.declared.sp_record.Opened.{Opened}
-use Rattle.ledger_records.specs.declared.sp_record.Left.{Left}
-use Rattle.ledger_records.specs.declared.sp_record.Ended.{Ended}
-use Rattle.ledger_records.specs.declared.sp_record.Confirmed.{Confirmed}
 use Rattle.ledger_records.specs.declared.sp_record.SpRecord.{SpRecord}
 use Rattle.ledger_records.specs.declared.sp_record.SpRecord.TheVariants as kinds
 use Rattle.ledger_records.specs.Fields.{Field, Key}
@@ -16,67 +12,9 @@ use Rattle.ledger_records.specs.SpRecord.{opened, sp_kind, sp_fields, IsOfVersio
 use Rattle.ledger_records.specs.Reading.{KeyForm, sp_forms, record_in}
 use Rattle.ledger_records.proofs.Fronts.{IsBytes, some_is}
 use Rattle.ledger_records.proofs.Lists.{form_of, record_takes, record_again}
-use Rattle.ledger_records.proofs.Records.{nth, number_of, text_of, optional_of, texts_of, attributes_of, key_of}
+use Rattle.ledger_records.specs.Found.{nth, key_of, opened_from, sp_from, sp_record}
 
 -- ---- the record of given fields
-
-abbrev asked_from : List Field → Asked
-asked_from fs = record {
-  first = number_of (nth fs 0);
-  moment = number_of (nth fs 1);
-  until = number_of (nth fs 2);
-  target = text_of (nth fs 3);
-  request = text_of (nth fs 4);
-  relay = text_of (nth fs 5);
-}
-
-abbrev opened_from : List Field → Opened
-opened_from fs = record {
-  first = number_of (nth fs 0);
-  moment = number_of (nth fs 1);
-  until = number_of (nth fs 2);
-  request = text_of (nth fs 3);
-  issuer = text_of (nth fs 4);
-  assertion = text_of (nth fs 5);
-  assertion_until = number_of (nth fs 6);
-  token = text_of (nth fs 7);
-  name = text_of (nth fs 8);
-  index = optional_of (nth fs 9);
-  attributes = attributes_of (nth fs 10);
-  key = key_of (nth fs 11);
-}
-
-abbrev left_from : List Field → Left
-left_from fs = record {
-  first = number_of (nth fs 0);
-  moment = number_of (nth fs 1);
-  until = number_of (nth fs 2);
-  token = text_of (nth fs 3);
-  request = text_of (nth fs 4);
-}
-
-abbrev ended_from : List Field → Ended
-ended_from fs = record {
-  first = number_of (nth fs 0);
-  moment = number_of (nth fs 1);
-  tokens = texts_of (nth fs 2);
-  message = text_of (nth fs 3);
-  request = text_of (nth fs 4);
-}
-
-abbrev confirmed_from : List Field → Confirmed
-confirmed_from fs = record {
-  moment = number_of (nth fs 1);
-  request = text_of (nth fs 2);
-}
-
-abbrev sp_from : ℕ → List Field → SpRecord
-sp_from kind fs =
-    cond (eqb kind 1) (kinds.Asked (asked_from fs))
-    (cond (eqb kind 2) (kinds.Opened (opened_from fs))
-    (cond (eqb kind 3) (kinds.Left (left_from fs))
-    (cond (eqb kind 4) (kinds.Ended (ended_from fs))
-    (kinds.Confirmed (confirmed_from fs)))))
 
 -- the key that is found again
 key_again : (b : Bool) (key : KeyNumber) → (b ≡ true → key ≡ First) → key_of (nth (cond b [] (Key key ∷ [])) 0) ≡ key
@@ -127,3 +65,29 @@ is_found version payload r fits short read first =
 -- what is not read is no record's payload
 pub is_none : (version : ℕ) (payload : List ℕ) → record_in (sp_forms version) payload ≡ None → (r : SpRecord) → ¬ (IsSpPayload version payload r)
 is_none version payload none r h = absurd (cc (is_read version payload r h))
+
+-- a record's payload is found as the record
+pub is_the_record : (version : ℕ) (payload : List ℕ) (r : SpRecord) → IsSpPayload version payload r → sp_record version payload ≡ Some r
+unfolding sp_record
+is_the_record version payload r h =
+    rw (lt-ltb (length payload) (2 ^ 32) h.short) (rw (is_read version payload r h) (ap Some (sp_again version r h.key)))
+
+-- what is read is the record that is found
+pub found_is : (version : ℕ) (payload : List ℕ) (r : SpRecord) → length payload < 2 ^ 32 → record_in (sp_forms version) payload ≡ Some (sp_kind r, sp_fields version r) → IsOfVersion version r → sp_record version payload ≡ Some r
+unfolding sp_record
+found_is version payload r short read first = rw (lt-ltb (length payload) (2 ^ 32) short) (rw read (ap Some (sp_again version r first)))
+
+abbrev none_of : Option SpRecord
+none_of = None
+
+none_either : (b : Bool) → cond b none_of none_of ≡ none_of
+none_either true = refl
+none_either false = refl
+
+pub none_is : (version : ℕ) (payload : List ℕ) → record_in (sp_forms version) payload ≡ None → sp_record version payload ≡ None
+unfolding sp_record
+none_is version payload none = rw none (none_either (nat_lt (length payload) (2 ^ 32)))
+
+pub too_long_is_none : (version : ℕ) (payload : List ℕ) → 2 ^ 32 ≤ length payload → sp_record version payload ≡ None
+unfolding sp_record
+too_long_is_none version payload long = rw (le-ltb (length payload) (2 ^ 32) long) refl

@@ -3,4 +3,5 @@ pub mod Fields
 pub mod SpRecord
 pub mod IdpRecord
 pub mod Reading
+pub mod Found
 pub mod Writing

@@ -3,6 +3,7 @@ ghost use Rattle.std.specs.Prelude.{◌≡◌, ◌<◌, ◌^◌, map, length, If
 ghost use Rattle.ledger_records.specs.declared.idp_record.IdpRecord.{IdpRecord};
 ghost use Rattle.ledger_records.specs.Reading.{Reads, fields_in, pending_forms, issued_forms, idp_ended_forms, idp_left_forms, confirmed_forms, spoke_forms, record_in, idp_forms};
 ghost use Rattle.ledger_records.specs.IdpRecord.{pending, issued, ended, left, confirmed, spoke, idp_kind, idp_fields, idp_bytes, IsIdpPayload};
+ghost use Rattle.ledger_records.specs.Found.{idp_record};
 ghost use Rattle.ledger_records.specs.Writing.{field_view, capped};
 
 use crate::reading::{Fields, Unread};
@@ -435,6 +436,7 @@ fn record_of(alloc: Global, payload: &[u8]) -> Result<IdpRecord, Unread>
 pub fn read_idp_record(alloc: Global, payload: &[u8]) -> Result<Option<IdpRecord>, NoMemory>
     ensures found { IfOk result (λ found. IfSome found (IsIdpPayload payload.now)) }
     ensures none { IfOk result (λ found. IfNone found ((r : IdpRecord) → ¬ (IsIdpPayload payload.now r))) }
+    ensures is { IfOk result (λ found. found ≡ idp_record payload.now) }
 {
     if payload.len() > u32::MAX as usize {
         return Ok(None);

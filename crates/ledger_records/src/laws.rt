@@ -1,7 +1,8 @@
 //! Laws of the definitions that the contracts cite. Each function does nothing: what it ensures is the law.
-ghost use Rattle.std.specs.Prelude.{◌≡◌, ℕ, List};
+ghost use Rattle.std.specs.Prelude.{◌≡◌, ℕ, List, Some};
 ghost use Rattle.ledger_records.specs.declared.sp_record.SpRecord.{SpRecord};
 ghost use Rattle.ledger_records.specs.declared.idp_record.IdpRecord.{IdpRecord};
+ghost use Rattle.ledger_records.specs.Found.{sp_record, idp_record};
 ghost use Rattle.ledger_records.specs.SpRecord.{IsSpPayload};
 ghost use Rattle.ledger_records.specs.IdpRecord.{IsIdpPayload};
 
@@ -13,4 +14,10 @@ pub fn a_payload_is_one_sp_record()
 /// A payload is one record of an identity provider at most.
 pub fn a_payload_is_one_idp_record()
     ensures { (payload : List ℕ) (one other : IdpRecord) → IsIdpPayload payload one → IsIdpPayload payload other → one ≡ other }
+{}
+
+/// The record that a payload is is found as a function of its bytes.
+pub fn a_record_is_found_in_its_payload()
+    ensures sp { (version : ℕ) (payload : List ℕ) (r : SpRecord) → IsSpPayload version payload r → sp_record version payload ≡ Some r }
+    ensures idp { (payload : List ℕ) (r : IdpRecord) → IsIdpPayload payload r → idp_record payload ≡ Some r }
 {}

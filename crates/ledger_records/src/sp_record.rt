@@ -3,6 +3,7 @@ ghost use Rattle.std.specs.Prelude.{◌≡◌, ◌<◌, ◌^◌, map, length, If
 ghost use Rattle.ledger_records.specs.declared.sp_record.SpRecord.{SpRecord};
 ghost use Rattle.ledger_records.specs.Reading.{Reads, fields_in, asked_forms, opened_forms, left_forms, ended_forms, confirmed_forms, record_in, sp_forms};
 ghost use Rattle.ledger_records.specs.SpRecord.{asked, opened, left, ended, confirmed, sp_kind, sp_fields, sp_bytes, IsOfVersion, IsSpPayload};
+ghost use Rattle.ledger_records.specs.Found.{sp_record};
 ghost use Rattle.ledger_records.specs.Writing.{field_view, capped};
 
 use crate::KeyNumber;
@@ -347,6 +348,7 @@ pub fn read_sp_record(
 ) -> Result<Option<SpRecord>, NoMemory>
     ensures found { IfOk result (λ found. IfSome found (IsSpPayload version payload.now)) }
     ensures none { IfOk result (λ found. IfNone found ((r : SpRecord) → ¬ (IsSpPayload version payload.now r))) }
+    ensures is { IfOk result (λ found. found ≡ sp_record version payload.now) }
 {
     if payload.len() > u32::MAX as usize {
         return Ok(None);
