@@ -3,7 +3,7 @@ use Rattle.std.specs.Prelude.{◌≡◌, ◌⊎◌, ℕ, ◌+◌, ◌-◌, ◌�
 use Rattle.crash_disk.specs.declared.file_no.FileNo.{FileNo}
 use Rattle.crash_disk.specs.Disk.{Image, DiskState, MayLeave, IsSettled, image_of}
 use Rattle.crash_disk.specs.Torn.{other_file}
-use Rattle.gate_journal.specs.Format.{Kept, journal, end_of, gate_place}
+use Rattle.gate_journal.specs.Format.{Kept, journal, longest_file, longest_payload, end_of, gate_place}
 
 -- an opened journal
 pub record Opened : Type 0 where
@@ -34,10 +34,14 @@ kept_with payload kept = record kept { holds = record (kept.holds) { payloads = 
 abbrev pub IsBeforeOrAfter : List ℕ → Kept → Image → Type 0
 IsBeforeOrAfter payload kept image = (journal image ≡ Ok (Some kept)) ⊎ (journal image ≡ Ok (Some (kept_with payload kept)))
 
--- Payloads that fit a file of version 2.
-pub record Fits (payloads : List (List ℕ)) : Type 0 where
-  pub each : All (λ payload. length payload ≤ 1048576) payloads
-  pub file : end_of payloads ≤ 134217728
+-- Payloads that fit a file of a version.
+pub record FitsVersion (version : ℕ) (payloads : List (List ℕ)) : Type 0 where
+  pub each : All (λ payload. length payload ≤ longest_payload version) payloads
+  pub file : end_of payloads ≤ longest_file version
+
+-- Payloads that fit a file of version 2: each has at most 1048576 bytes, and the file 134217728.
+abbrev pub Fits : List (List ℕ) → Type 0
+Fits payloads = FitsVersion 2 payloads
 
 -- A journal made anew: these payloads, this horizon and this next number, in the other file, with the next generation
 -- and in version 2.

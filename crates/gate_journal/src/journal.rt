@@ -3,7 +3,7 @@ ghost use Rattle.std.specs.Prelude.{◌≡◌, ◌+◌, ◌-◌, ◌<◌, ◌≤
 ghost use Rattle.crash_disk.specs.Counts.{CountsFaults};
 ghost use Rattle.crash_disk.specs.Moments.{LeavesOnly};
 ghost use Rattle.gate_journal.specs.Format.{end_of, gate_place, sizes};
-ghost use Rattle.gate_journal.specs.Journal.{Fits, IsOwn, IsBeforeOrAfter, kept_with, room_of};
+ghost use Rattle.gate_journal.specs.Journal.{Fits, FitsVersion, IsOwn, IsBeforeOrAfter, kept_with, room_of};
 
 use crate::reading::{Bodies, Stored};
 use crate::writing::write_record;
@@ -80,7 +80,7 @@ impl Model for Journal {
     ghost use Rattle.std.specs.Prelude.{◌≡◌, ◌+◌, ◌-◌, ◌^◌, ◌<◌, ◌≤◌, [], All, length, vec_capacity};
     ghost use Rattle.std.specs.Option.{ForSome};
     ghost use Rattle.gate_journal.specs.Format.{end_of};
-    ghost use Rattle.gate_journal.specs.Journal.{Opened};
+    ghost use Rattle.gate_journal.specs.Journal.{FitsVersion, Opened};
 
     ghost Value = { Opened };
 
@@ -91,6 +91,7 @@ impl Model for Journal {
     } };
 
     ghost invariant = { λ j. (j.end ≡ end_of j.records.items) × (j.end ≤ 134217728) × (j.slot.items ≡ []) × (j.version ≡ 1 → j.header.generation < 2 ^ 64 - 1) × All (λ payload. length payload ≤ 1048576) j.records.items
+        × (j.version ≡ 1 → FitsVersion 1 j.records.items)
         × ForSome j.spare (λ n. n + 5 ≤ vec_capacity j.body)
         × ForSome j.spare (λ n. n ≤ vec_capacity j.slot)
         × ForSome j.spare (λ n. length j.records.items < vec_capacity j.records) };
@@ -143,9 +144,10 @@ impl Journal {
     }
 
     /// Makes room for a record whose payload has `length` bytes, so that `append` takes no memory. The room serves one
-    /// record.
+    /// record. Room that was there is kept.
     pub fn reserve(&mut self, length: usize) -> Result<(), NoMemory>
         ensures ok { OnOk result (IsSomeAnd self.new.spare (λ n. length ≤ n)) }
+        ensures more { IfSome self.old.spare (λ n. IsSomeAnd self.new.spare (λ m. n ≤ m)) }
         ensures kept { self.new.kept ≡ self.old.kept }
         ensures broken { self.new.broken ≡ self.old.broken }
         ensures err { OnErr result (self.new ≡ self.old) }
@@ -165,9 +167,11 @@ impl Journal {
         Ok(())
     }
 
-    /// That the records fit a file of version 2, as `compact` and `migrate` ask of what is kept. It does nothing.
+    /// That the records fit a file of version 2, as `compact` and `migrate` ask of what is kept, and one of version 1
+    /// where the journal has that version. It does nothing.
     pub fn records_fit(&self)
-        ensures { Fits self.now.kept.holds.payloads }
+        ensures two { Fits self.now.kept.holds.payloads }
+        ensures one { self.now.kept.holds.version ≡ 1 → FitsVersion 1 self.now.kept.holds.payloads }
     {
         let _end = self.end;
     }

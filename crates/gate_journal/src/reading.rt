@@ -47,12 +47,13 @@ pub struct Stored {
 impl Model for Stored {
     ghost use Rattle.std.specs.Prelude.{◌≡◌, ◌-◌, ◌^◌, ◌<◌, ◌≤◌, All, length};
     ghost use Rattle.gate_journal.specs.Format.{Committed, end_of};
+    ghost use Rattle.gate_journal.specs.Journal.{FitsVersion};
 
     ghost Value = { Committed };
 
     ghost view = { λ s. record { version = s.version; header = s.header; payloads = s.bodies.records.items } };
 
-    ghost invariant = { λ s. (s.bodies.end ≡ end_of s.bodies.records.items) × (s.bodies.end ≤ 134217728) × (s.version ≡ 1 → s.header.generation < 2 ^ 64 - 1) × All (λ payload. length payload ≤ 1048576) s.bodies.records.items };
+    ghost invariant = { λ s. (s.bodies.end ≡ end_of s.bodies.records.items) × (s.bodies.end ≤ 134217728) × (s.version ≡ 1 → s.header.generation < 2 ^ 64 - 1) × All (λ payload. length payload ≤ 1048576) s.bodies.records.items × (s.version ≡ 1 → FitsVersion 1 s.bodies.records.items) };
 }
 
 /// The number of eight bytes from a place on.
@@ -93,7 +94,7 @@ fn read_bodies(alloc: Global, file: &[u8], longest: usize) -> Result<Bodies, Fil
     ensures gives { Gives (λ b. b.records.items) fault_of result (payloads_of longest file.now) }
     ensures end { IfOk result (λ b. b.end ≡ end_of b.records.items) }
     ensures within { IfOk result (λ b. b.end ≤ length file.now) }
-    ensures each { IfOk result (λ b. All (λ payload. length payload ≤ 1048576) b.records.items) }
+    ensures each { IfOk result (λ b. All (λ payload. length payload ≤ longest) b.records.items) }
 {
     let mut records = Vec::new(alloc);
     let mut at = HEAD;

@@ -22,12 +22,11 @@ loop-gate-preserved c =
     let payload = take (at + 4 + size - (at + 4)) (drop (at + 4) file) in
     let records : c.push.new.self.items ≡ c.loop-gate.records.items ++ payload ∷ [] = search rules in
     let fit : size_of bodies ≤ c.args.longest = whole_fits c.args.longest bodies whole in
-    let limit = c.requires.longest in
-    let short : length payload ≤ 1048576 = omega (arith, length-take (at + 4 + size - (at + 4)) (drop (at + 4) file), length-drop (at + 4) file, size_is) in
+    let short : length payload ≤ c.args.longest = omega (arith, length-take (at + 4 + size - (at + 4)) (drop (at + 4) file), length-drop (at + 4) file, size_is) in
     record {
       within = omega arith;
       end = omega (arith, ap sizes records, sizes-push c.loop-gate.records.items payload, length-take (at + 4 + size - (at + 4)) (drop (at + 4) file), length-drop (at + 4) file, c.loop-gate.invariant.end, fits);
-      each = subst (All (λ p. length p ≤ 1048576)) (sym records) (All-append (λ p. length p ≤ 1048576) c.loop-gate.records.items (payload ∷ []) c.loop-gate.invariant.each (All-cons (λ p. length p ≤ 1048576) payload [] short (All-nil (λ p. length p ≤ 1048576))));
+      each = subst (All (λ p. length p ≤ c.args.longest)) (sym records) (All-append (λ p. length p ≤ c.args.longest) c.loop-gate.records.items (payload ∷ []) c.loop-gate.invariant.each (All-cons (λ p. length p ≤ c.args.longest) payload [] short (All-nil (λ p. length p ≤ c.args.longest))));
       read = read ∙ ap (λ (l : _). prefixed l (payloads_from c.args.longest (at + 4 + size + 1) (get_or file (at + 4 + size) 0) (drop (at + 4 + size + 1) file))) (sym records);
     }
 

@@ -8,7 +8,7 @@ abbrev pub invariant-loop-gate : goal.invariant-loop-gate
 invariant-loop-gate l = record {
   within : l.at ≤ length l.file;
   end : l.at ≡ end_of l.records.items;
-  each : All (λ payload. length payload ≤ 1048576) l.records.items;
+  each : All (λ payload. length payload ≤ l.longest) l.records.items;
   read : payloads_of l.longest l.file ≡ prefixed l.records.items (payloads_from l.longest l.at l.gate (drop l.at l.file));
 }
 

@@ -20,12 +20,14 @@ pub invariant_of-self-2 : goal.invariant_of-self-2
 invariant_of-self-2 g c =
     let records = c.keep.ensures.records in
     let longer : sizes c.keep.new.records.items ≡ sizes c.self.inside.records.items + (length c.args.payload.now + 5) = ap sizes records ∙ sizes-push c.self.inside.records.items c.args.payload.now in
-    let room : room_of (record { file = c.self.inside.file; holds = record { version = c.self.inside.version; header = c.self.inside.header; payloads = c.self.inside.records.items } }) ≡ room_of c.args.self.now.kept = ap (λ (j : Opened). room_of j.kept) c.self.view_is in (
+    let room : room_of (record { file = c.self.inside.file; holds = record { version = c.self.inside.version; header = c.self.inside.header; payloads = c.self.inside.records.items } }) ≡ room_of c.args.self.now.kept = ap (λ (j : Opened). room_of j.kept) c.self.view_is in
+    let version : c.self.inside.version ≡ 2 = ap (λ (j : Opened). j.kept.holds.version) c.self.view_is ∙ c.requires.version in (
       omega (arith, longer, c.self.invariant.0),
       omega (arith, room, c.requires.room, c.self.invariant.0, c.self.invariant.1),
       c.keep.ensures.slot,
       c.self.invariant.3,
       subst (All (λ p. length p ≤ 1048576)) (sym records) (All-append (λ p. length p ≤ 1048576) c.self.inside.records.items (c.args.payload.now ∷ []) c.self.invariant.4 (All-cons (λ p. length p ≤ 1048576) c.args.payload.now [] c.requires.longest (All-nil (λ p. length p ≤ 1048576)))),
+      λ one. absurd (omega (arith, version, one)),
       λ n is. absurd (cc),
       λ n is. absurd (cc),
       λ n is. absurd (cc),
