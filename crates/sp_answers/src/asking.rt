@@ -1,0 +1,74 @@
+//! How a login is asked for.
+ghost use Rattle.std.specs.Prelude.{◌≡◌, ◌≢◌, ◌≤◌, ◌++◌, [], IfOk};
+ghost use Rattle.xml_spec.specs.Characters.{IsText};
+ghost use Rattle.element_make.specs.Made.{written};
+ghost use Rattle.sp_answers.specs.Answers.{HoldsTexts, IsAskAnswer};
+ghost use Rattle.sp_rules.specs.Meant.{consumer};
+
+use element_make::Made;
+use http_wire::full_answer;
+use owned_values::{Blob, NoMemory, Text};
+use post_binding::{Field, auto_form};
+use protocol_messages::make_authn;
+use saml_time::LAST;
+use sig_reference::sign;
+use sp_rules::SpConfig;
+use std::alloc::Global;
+
+/// The status of a page.
+pub(crate) const OK: u16 = 200;
+
+/// The address to which responses go.
+fn consumer_of(alloc: Global, config: &SpConfig) -> Result<Text, NoMemory>
+    ensures { IfOk result (λ address. address ≡ consumer config.now) }
+{
+    let mut address = Text::of(alloc, config.base.as_str())?;
+    address.push("/acs")?;
+    Ok(address)
+}
+
+/// What is written of a made element.
+pub(crate) fn written(alloc: Global, made: Made) -> Result<Blob, NoMemory>
+    ensures { IfOk result (λ bytes. bytes ≡ written made) }
+{
+    let mut out = Vec::new(alloc);
+    made.put(&mut out)?;
+    Blob::of(alloc, out.as_slice())
+}
+
+/// The answer that asks the identity provider for a login, by a form that sends on a signed AuthnRequest of this ID, issued at
+/// `now`, with its relay state (SAML Profiles, 4.1.4.1; SAML Bindings, 3.5.4).
+pub fn ask_answer(
+    alloc: Global,
+    config: &SpConfig,
+    id: &str,
+    relay: &str,
+    now: u64,
+) -> Result<Blob, NoMemory>
+    requires config { HoldsTexts config.now }
+    requires id { IsText id.now }
+    requires named { id.now ≢ [] }
+    requires now { now ≤ LAST }
+    ensures { IfOk result (λ bytes. IsAskAnswer config.now id.now relay.now now bytes) }
+{
+    let service = config.idp.service.as_str();
+    let consumer = consumer_of(alloc, config)?;
+    let made = make_authn(
+        alloc,
+        id,
+        config.entity.as_str(),
+        service,
+        consumer.as_str(),
+        now,
+    )?;
+    let signed = sign(alloc, made, config.key_out.as_slice())?;
+    let message = written(alloc, signed)?;
+    let page = auto_form(
+        alloc,
+        service,
+        Field::Request,
+        message.as_slice(),
+        Some(relay),
+    )?;
+    full_answer(alloc, OK, None, None, page.as_slice())
+}
