@@ -1,0 +1,31 @@
+//! The clock, the disk and the connections of the system, behind the traits that a program is proved over.
+//!
+//! ```
+//! let mut clock = SystemClock::new(&rt);
+//! clock.now();                                // milliseconds since 1970
+//! let mut disk = FsDisk::new(&rt);
+//! disk.write_at(FileNo::Zero, 0, b"abc")?;    // journal.0 and journal.1 are there from here on
+//! disk.sync(FileNo::Zero)?;                   // a crash leaves abc
+//! let mut link = TcpLink::new(&rt);
+//! link.listen("127.0.0.1:8080")?;
+//! link.next(&mut into)?;                      // waits for a connection: Started(1)
+//! link.next(&mut into)?;                      // waits for its bytes: Piece(1, 18)
+//! link.send(1, b"HTTP/1.1 204 \r\n\r\n")?;
+//! link.close(1);
+//! ```
+//!
+//! None of them tells what it holds or what is to come, so a contract sees no more than their counts of faults: a call
+//! answers [`Failed`] only where the count rose in it. What real files and sockets do is trusted.
+#![tactic(auto)]
+
+mod faults;
+mod fs_disk;
+mod system_clock;
+mod tcp_link;
+#[cfg(test)]
+mod tests;
+
+pub use crash_disk::Failed;
+pub use fs_disk::FsDisk;
+pub use system_clock::SystemClock;
+pub use tcp_link::TcpLink;
