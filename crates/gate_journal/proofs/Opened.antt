@@ -1,5 +1,5 @@
 -- What a disk stands for while a journal is opened.
-use Rattle.std.specs.Prelude.{◌==◌, nat_lt, if◌then◌else◌, IfSome, Option, None, Some, Result, Ok, Err}
+use Rattle.std.specs.Prelude.{◌==◌, nat_lt, if◌then◌else◌, IfSome, IfNone, Option, None, Some, Result, Ok, Err}
 use Rattle.std.specs.Option.{option_map}
 use Rattle.std.proofs.Common.{◌≡◌, inl, inr, Bool, true, false, ℕ, [], refl, sym, ◌∙◌, ap, subst, arith}
 use Rattle.crash_disk.specs.declared.file_no.FileNo.TheVariants.{Zero, One}
@@ -8,7 +8,7 @@ use Rattle.crash_disk.specs.Soundness.{only-settled_image}
 use Rattle.crash_disk.specs.Moments.{Leaves}
 use Rattle.gate_journal.specs.Format.{Committed, Kept, Fault, joined, journal, file_of}
 use Rattle.gate_journal.specs.Making.{IsMadeOrBlank, IsMade, first_journal, read_of}
-use Rattle.gate_journal.specs.Opening.{Opens}
+use Rattle.gate_journal.specs.Opening.{Opens, IsEmptyOrNone}
 use Rattle.gate_journal.specs.Journal.{Opened, IsOwn}
 use Rattle.gate_journal.proofs.Files.{length_blank}
 use Rattle.gate_journal.proofs.Owning.{own_settled}
@@ -95,3 +95,19 @@ own_made told (Some n) j zero one whole kept one_is none made =
     none_beside : (told : Option DiskState) (one : Option Committed) → IfSome told (λ d. file_of (reads_of d One) ≡ Ok one) → one ≡ None → file_of (read_of told One) ≡ Ok None
     none_beside None one one_is none = length_blank [] (omega arith)
     none_beside (Some d) one one_is none = one_is ∙ ap Ok none
+
+-- a disk that does not tell
+pub if_none : (told : Option DiskState) (P : Type 0) → (told ≡ None → P) → IfNone told P
+if_none None P each = each refl
+if_none (Some d) P each = tt
+
+pub leaves_nothing : (told : Option DiskState) → told ≡ None → (P : Image → Type 0) (image : Image) → Leaves told image → P image
+leaves_nothing told is P image left = absurd (subst (λ (o : Option DiskState). Leaves o image) is left)
+
+pub untold_making : (told : Option DiskState) → told ≡ None → (image : Image) → IsMadeOrBlank Zero first_journal (read_of told One) image → IsEmptyOrNone image
+untold_making told is image (cases, beside) =
+    let other : file_of image.one ≡ Ok None = ap file_of (beside ∙ ap (λ (t : Option DiskState). read_of t One) is) ∙ length_blank [] (omega arith) in
+    elim cases [
+      | inl blank ↦ inl (ap (λ (r : Result (Option Committed) ℕ). joined r (file_of image.one)) blank ∙ ap (λ (r : Result (Option Committed) ℕ). joined (Ok None) r) other)
+      | inr made ↦ inr (ap (λ (r : Result (Option Committed) ℕ). joined r (file_of image.one)) made ∙ ap (λ (r : Result (Option Committed) ℕ). joined (Ok (Some first_journal)) r) other)
+    ]

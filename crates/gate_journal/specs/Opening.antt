@@ -28,6 +28,10 @@ Opens disk image =
     (start : Image) × MayLeave disk start
     × ((journal image ≡ journal start) ⊎ ((journal start ≡ Ok None) × (journal image ≡ Ok (Some (record { file = Zero; holds = first_journal })))))
 
+-- The image stands for no journal yet, or for the empty one.
+abbrev pub IsEmptyOrNone : Image → Type 0
+IsEmptyOrNone image = (journal image ≡ Ok None) ⊎ (journal image ≡ Ok (Some (record { file = Zero; holds = first_journal })))
+
 -- What a call that opens does to the count of faults: it never falls, and rises where the answer is DiskFault.
 pub record CausesFaults {T : Type 0} (result : Result T OpenFault) (before now : ℕ) : Type 0 where
   pub never_falls : before ≤ now

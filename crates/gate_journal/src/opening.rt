@@ -1,5 +1,5 @@
 //! How a journal is opened.
-ghost use Rattle.std.specs.Prelude.{◌≡◌, ◌<◌, ◌≤◌, ◌^◌, None, Some, Ok, Err, true, false, length, take, IfOk, IfErr, IfSome, IsSomeAnd, OnOk, OnErr, MatchResult, MatchOption};
+ghost use Rattle.std.specs.Prelude.{◌≡◌, ◌<◌, ◌≤◌, ◌^◌, None, Some, Ok, Err, true, false, length, take, IfOk, IfErr, IfSome, IfNone, IsSomeAnd, OnOk, OnErr, MatchResult, MatchOption};
 ghost use Rattle.std.specs.Option.{option_map};
 ghost use Rattle.owned_values.specs.Gives.{Gives};
 ghost use Rattle.crash_disk.specs.Counts.{CountsFaults};
@@ -9,7 +9,7 @@ ghost use Rattle.crash_disk.specs.Torn.{IsQuietDisk};
 ghost use Rattle.gate_journal.specs.Format.{file_of, joined, journal};
 ghost use Rattle.gate_journal.specs.Making.{IsBlankBeside, IsMadeOrBlank, IsWritten, IsMade, fields_bytes, head_bytes, first_journal, read_of};
 ghost use Rattle.gate_journal.specs.Journal.{IsOwn};
-ghost use Rattle.gate_journal.specs.Opening.{open_fault_of, opened, Opens, CausesFaults, FaultIs};
+ghost use Rattle.gate_journal.specs.Opening.{open_fault_of, opened, Opens, IsEmptyOrNone, CausesFaults, FaultIs};
 
 use crate::fault::FileFault;
 use crate::making::{begin_anew, commit, fields_of, head_of, put_head};
@@ -143,6 +143,8 @@ pub fn open_journal<D: Disk>(alloc: Global, disk: &mut D) -> Result<Journal, Ope
     ensures own { IfOk result (λ j. IsOwn (D.told disk.new) j) }
     // A crash at any moment of the call leaves what an image of the disk at its start stood for.
     ensures moments { IfSome (D.told disk.old) (λ d. LeavesOnly D.moment D.left_since disk.old disk.new (Opens d)) }
+    // Of a disk that does not tell, none is told but of an empty journal that is made.
+    ensures untold { IfNone (D.told disk.old) (LeavesOnly D.moment D.left_since disk.old disk.new IsEmptyOrNone) }
     ensures faults { CausesFaults result (D.faults_of disk.old) (D.faults_of disk.new) }
 {
     sync_both(disk)?;

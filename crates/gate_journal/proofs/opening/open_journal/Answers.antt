@@ -7,10 +7,10 @@ use Rattle.crash_disk.specs.Moments.{Leaves, LeavesOnly}
 use Rattle.crash_disk.specs.Steps.{then, weaker}
 use Rattle.gate_journal.specs.Format.{file_of, joined}
 use Rattle.gate_journal.specs.Making.{IsMadeOrBlank, first_journal, read_of}
-use Rattle.gate_journal.specs.Opening.{Opens}
-use Rattle.gate_journal.proofs.Opened.{if_some, no_journal_told, opens_now, opens_synced, opens_making, own_found, own_made, synced_told}
+use Rattle.gate_journal.specs.Opening.{Opens, IsEmptyOrNone}
+use Rattle.gate_journal.proofs.Opened.{if_some, if_none, leaves_nothing, untold_making, no_journal_told, opens_now, opens_synced, opens_making, own_found, own_made, synced_told}
 use Rattle.gate_journal.proofs.opening.open_journal.Goals as goal
-use Rattle.gate_journal.proofs.opening.open_journal.Goals.{After-load-2, In_ok-one, After-make_first}
+use Rattle.gate_journal.proofs.opening.open_journal.Goals.{After-sync_both, After-load, After-load-2, In_ok-one, After-make_first}
 use Rattle.gate_journal.proofs.opening.open_journal.Given.{Over}
 
 -- once both files were read
@@ -94,3 +94,65 @@ returns-in-Some-clause-own g c =
     let settled : IfSome now (λ d. (d' : DiskState) × (d ≡ settled_image (image_of d'))) =
     subst (λ (o : Option DiskState). IfSome o (λ d. (d' : DiskState) × (d ≡ settled_image (image_of d')))) (sym (same g at.After-load-2)) (synced_told (g.D.Disk.told c.args.disk.now) (g.D.Disk.told c.sync_both.new.disk) c.in_ok-sync_both.ensures.ok) in
     own_found now c.of.result c.in_ok-zero.zero c.in_ok-one.one (search rules) settled (zero_is g at.In_ok-one) (one_is g at.In_ok-one) (search rules)
+
+-- where the disk does not tell
+untold_sync : (g : Over) (c : After-sync_both g) → g.D.Disk.told c.args.disk.now ≡ None → LeavesOnly g.D.Disk.moment g.D.Disk.left_since c.args.disk.now c.sync_both.new.disk IsEmptyOrNone
+untold_sync g c is =
+    weaker g.D.Disk.moment g.D.Disk.left_since c.args.disk.now c.sync_both.new.disk (Leaves (g.D.Disk.told c.args.disk.now)) IsEmptyOrNone c.sync_both.ensures.moments (leaves_nothing (g.D.Disk.told c.args.disk.now) is IsEmptyOrNone)
+
+untold_load : (g : Over) (c : After-load g) → g.D.Disk.told c.args.disk.now ≡ None
+    → (g.D.Disk.told c.sync_both.new.disk ≡ None) × LeavesOnly g.D.Disk.moment g.D.Disk.left_since c.args.disk.now c.load.new.disk IsEmptyOrNone
+untold_load g c is =
+    let m = g.D.Disk.moment in
+    let l = g.D.Disk.left_since in
+    let d0 = c.args.disk.now in
+    let d1 = c.sync_both.new.disk in
+    let now : g.D.Disk.told d1 ≡ None = c.in_ok-sync_both.ensures.ok ∙ ap (option_map (λ d. settled_image (image_of d))) is in
+    let m1 = weaker m l d0 d1 (Leaves (g.D.Disk.told d0)) IsEmptyOrNone c.sync_both.ensures.moments (leaves_nothing (g.D.Disk.told d0) is IsEmptyOrNone) in
+    (now, then m l d0 d1 c.load.new.disk IsEmptyOrNone (Leaves (g.D.Disk.told d1)) IsEmptyOrNone m1 c.load.ensures.moments (λ i p. p) (leaves_nothing (g.D.Disk.told d1) now IsEmptyOrNone))
+
+untold_loads : (g : Over) (c : After-load-2 g) → LeavesOnly g.D.Disk.moment g.D.Disk.left_since c.args.disk.now c.load.new.disk IsEmptyOrNone → g.D.Disk.told c.sync_both.new.disk ≡ None
+    → (g.D.Disk.told c.load-2.new.disk ≡ None) × LeavesOnly g.D.Disk.moment g.D.Disk.left_since c.args.disk.now c.load-2.new.disk IsEmptyOrNone
+untold_loads g c first now =
+    let m = g.D.Disk.moment in
+    let l = g.D.Disk.left_since in
+    let d2 = c.load.new.disk in
+    let same : g.D.Disk.told d2 ≡ None = c.load.ensures.same ∙ now in
+    (c.load-2.ensures.same ∙ same, then m l c.args.disk.now d2 c.load-2.new.disk IsEmptyOrNone (Leaves (g.D.Disk.told d2)) IsEmptyOrNone first c.load-2.ensures.moments (λ i p. p) (leaves_nothing (g.D.Disk.told d2) same IsEmptyOrNone))
+
+pub returns-in_err-one-clause-untold : goal.returns-in_err-one-clause-untold
+returns-in_err-one-clause-untold g c =
+    let at = goal.at.returns-in_err-one-clause-untold g c in
+    if_none (g.D.Disk.told c.args.disk.now) _ (λ is. let one = untold_load g at.After-load is in (untold_loads g at.After-load-2 one.1 one.0).1)
+
+pub returns-in_err-file-clause-untold : goal.returns-in_err-file-clause-untold
+returns-in_err-file-clause-untold g c =
+    let at = goal.at.returns-in_err-file-clause-untold g c in
+    if_none (g.D.Disk.told c.args.disk.now) _ (λ is. let one = untold_load g at.After-load is in (untold_loads g at.After-load-2 one.1 one.0).1)
+
+pub returns-in-Some-clause-untold : goal.returns-in-Some-clause-untold
+returns-in-Some-clause-untold g c =
+    let at = goal.at.returns-in-Some-clause-untold g c in
+    if_none (g.D.Disk.told c.args.disk.now) _ (λ is. let one = untold_load g at.After-load is in (untold_loads g at.After-load-2 one.1 one.0).1)
+
+pub returns-in_err-zero-clause-untold : goal.returns-in_err-zero-clause-untold
+returns-in_err-zero-clause-untold g c = if_none (g.D.Disk.told c.args.disk.now) _ (λ is. (untold_load g (goal.at.returns-in_err-zero-clause-untold g c).After-load is).1)
+
+pub returns-in_err-sync_both-clause-untold : goal.returns-in_err-sync_both-clause-untold
+returns-in_err-sync_both-clause-untold g c = if_none (g.D.Disk.told c.args.disk.now) _ (untold_sync g (goal.at.returns-in_err-sync_both-clause-untold g c).After-sync_both)
+
+pub returns-in_err-make_first-in-None-clause-untold : goal.returns-in_err-make_first-in-None-clause-untold
+returns-in_err-make_first-in-None-clause-untold g c =
+    let at = goal.at.returns-in_err-make_first-in-None-clause-untold g c in
+    if_none (g.D.Disk.told c.args.disk.now) _ (λ is.
+    let one = untold_load g at.After-load is in
+    let two = untold_loads g at.After-load-2 one.1 one.0 in
+    then g.D.Disk.moment g.D.Disk.left_since c.args.disk.now c.load-2.new.disk c.make_first.new.disk IsEmptyOrNone (IsMadeOrBlank Zero first_journal (read_of (g.D.Disk.told c.load-2.new.disk) One)) IsEmptyOrNone two.1 c.make_first.ensures.moments (λ i p. p) (untold_making (g.D.Disk.told c.load-2.new.disk) two.0))
+
+pub returns-in_ok-make_first-in-None-clause-untold : goal.returns-in_ok-make_first-in-None-clause-untold
+returns-in_ok-make_first-in-None-clause-untold g c =
+    let at = goal.at.returns-in_ok-make_first-in-None-clause-untold g c in
+    if_none (g.D.Disk.told c.args.disk.now) _ (λ is.
+    let one = untold_load g at.After-load is in
+    let two = untold_loads g at.After-load-2 one.1 one.0 in
+    then g.D.Disk.moment g.D.Disk.left_since c.args.disk.now c.load-2.new.disk c.make_first.new.disk IsEmptyOrNone (IsMadeOrBlank Zero first_journal (read_of (g.D.Disk.told c.load-2.new.disk) One)) IsEmptyOrNone two.1 c.make_first.ensures.moments (λ i p. p) (untold_making (g.D.Disk.told c.load-2.new.disk) two.0))

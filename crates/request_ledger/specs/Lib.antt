@@ -1,0 +1,12 @@
+pub mod RowsOf
+pub mod Record
+pub mod Standing
+pub mod Ledger
+pub mod Keeping
+pub mod Loading
+pub mod Draft
+pub mod Drafts
+pub mod Compacting
+pub mod Linking
+pub mod Runs
+pub mod Laws

@@ -1,0 +1,82 @@
+-- How the code keeps the rows of records.
+use Rattle.std.specs.Prelude.{◌≡◌, ℕ, ◌+◌, ◌<◌, ◌≤◌, ◌^◌, max, true, false, List, [], length, slice_index, slice_index_or, slice_get, Some}
+use Rattle.request_rows.specs.declared.row.AskedRow.{AskedRow}
+use Rattle.request_rows.specs.declared.row.OpenedRow.{OpenedRow}
+use Rattle.request_rows.specs.declared.row.LeftRow.{LeftRow}
+use Rattle.request_rows.specs.Rows.{RowsView}
+use Rattle.ledger_records.specs.declared.sp_record.SpRecord.{SpRecord}
+use Rattle.ledger_records.specs.declared.sp_record.SpRecord.TheVariants as kinds
+use Rattle.ledger_rules.specs.Numbers.{AreBelow, above, has_number}
+use Rattle.request_ledger.specs.RowsOf.{SpRows, rows_after}
+use Rattle.request_ledger.specs.Record.{drawn}
+
+-- for how many more rows of each kind there is memory
+pub record RowSpare : Type 0 where
+  pub asked : ℕ
+  pub opened : ℕ
+  pub left : ℕ
+
+-- the rows, the least number above all that were drawn, and the memory that was made ready
+pub record StandingView : Type 0 where
+  pub rows : SpRows
+  pub next : ℕ
+  pub spare : RowSpare
+
+abbrev pub rows_in : RowsView → SpRows
+rows_in rows = record { asked = rows.asked; opened = rows.opened; left = rows.left }
+
+abbrev pub id_at : List (List ℕ) → ℕ → List ℕ
+id_at ids k = slice_index_or ids k []
+
+-- the IDs of rows begin with these numbers, which are below the next one
+pub record HaveNumbers (next : ℕ) (numbers : List ℕ) (ids : List (List ℕ)) : Type 0 where
+  pub long : length numbers ≡ length ids
+  pub each : (k : ℕ) → k < length ids → has_number (slice_index numbers k) (id_at ids k) ≡ true
+  pub below : AreBelow next numbers
+
+-- there is memory for the row of a record
+abbrev pub HasRoom : RowSpare → SpRecord → Type 0
+HasRoom spare (kinds.Asked r) = 0 < spare.asked
+HasRoom spare (kinds.Opened r) = 0 < spare.opened
+HasRoom spare (kinds.Left r) = 0 < spare.left
+HasRoom spare (kinds.Ended r) = Unit {0}
+HasRoom spare (kinds.Confirmed r) = Unit {0}
+
+-- no memory that was made ready is given up
+pub record KeepsRoom (old new : RowSpare) : Type 0 where
+  pub asked : old.asked ≤ new.asked
+  pub opened : old.opened ≤ new.opened
+  pub left : old.left ≤ new.left
+
+-- 32 bits hold the place of each row
+pub record AreCounted (rows : RowsView) : Type 0 where
+  pub asked : length rows.asked ≤ 4294967295
+  pub opened : length rows.opened ≤ 4294967295
+  pub left : length rows.left ≤ 4294967295
+
+-- and that of one more of each kind
+pub record AreFew (rows : SpRows) : Type 0 where
+  pub asked : length rows.asked < 4294967295
+  pub opened : length rows.opened < 4294967295
+  pub left : length rows.left < 4294967295
+
+-- at that place there is the session of this token, which is not closed, and no other session has it
+pub record IsOpenAt (opened : List OpenedRow) (token : List ℕ) (place : ℕ) : Type 0 where
+  pub row : OpenedRow
+  pub there : slice_get opened place ≡ Some row
+  pub token_is : row.token ≡ token
+  pub unclosed : row.closed ≡ false
+  pub only : (k : ℕ) (other : OpenedRow) → slice_get opened k ≡ Some other → other.token ≡ token → k ≡ place
+
+-- at that place there is the logout of this request, which is not confirmed, and no other logout has it
+pub record IsWaitingAt (left : List LeftRow) (request : List ℕ) (place : ℕ) : Type 0 where
+  pub row : LeftRow
+  pub there : slice_get left place ≡ Some row
+  pub request_is : row.request ≡ request
+  pub waits : row.confirmed ≡ false
+  pub only : (k : ℕ) (other : LeftRow) → slice_get left k ≡ Some other → other.request ≡ request → k ≡ place
+
+-- what stands after one record more
+pub record IsAfter (old new : StandingView) (r : SpRecord) : Type 0 where
+  pub rows : new.rows ≡ rows_after old.rows r
+  pub next : new.next ≡ max old.next (above (drawn r))

@@ -1,0 +1,47 @@
+//! A record that can be committed.
+ghost use Rattle.std.specs.Prelude.{◌≡◌, Some};
+ghost use Rattle.request_ledger.specs.Draft.{IsDrawn, drawn_id};
+
+use ledger_records::SpRecord;
+use owned_values::Blob;
+use saml_ids::Id;
+use std::marker::Model;
+
+/// A record that was drafted, its payload and the IDs that it draws. Contracts see it as the record.
+#[derive(Drop)]
+pub struct Draft {
+    pub(crate) entry: SpRecord,
+    pub(crate) payload: Blob,
+    pub(crate) ids: [Option<Id>; 2],
+}
+
+impl Model for Draft {
+    ghost use Rattle.ledger_records.specs.declared.sp_record.SpRecord.{SpRecord};
+    ghost use Rattle.ledger_records.specs.SpRecord.{IsSpPayload};
+    ghost use Rattle.request_ledger.specs.Draft.{HoldsIds};
+
+    ghost Value = { SpRecord };
+
+    ghost view = { λ d. d.entry };
+
+    ghost invariant = { λ d. IsSpPayload 2 d.payload d.entry × HoldsIds d.ids d.entry };
+}
+
+impl Draft {
+    /// The first ID that the record draws: the request of an Asked or a Left, the token of an Opened, the message of an
+    /// Ended.
+    pub fn first(&self) -> &Id
+        requires { IsDrawn self.now 0 }
+        ensures { Some result.now ≡ drawn_id self.now 0 }
+    {
+        self.ids[0].as_ref().unwrap()
+    }
+
+    /// The second ID that the record draws: the relay state of an Asked.
+    pub fn second(&self) -> &Id
+        requires { IsDrawn self.now 1 }
+        ensures { Some result.now ≡ drawn_id self.now 1 }
+    {
+        self.ids[1].as_ref().unwrap()
+    }
+}

@@ -1,0 +1,361 @@
+//! How records are drafted.
+ghost use Rattle.std.specs.Prelude.{◌≡◌, ◌≤◌, ◌<◌, ◌⊎◌, ◌↔◌, ◌&&◌, true, false, not, length, All, IsSome, IsSomeAnd, IsTrue, IfOk, IfSome, IfNone, OnOk, Some};
+ghost use Rattle.std.specs.Str.{bytes_eq};
+ghost use Rattle.ledger_records.specs.SpRecord.{sp_bytes};
+ghost use Rattle.ledger_records.specs.Writing.{capped};
+ghost use Rattle.ledger_rules.specs.Numbers.{NUMBER_END, is_xml_text};
+ghost use Rattle.request_rows.specs.Rows.{asked_row, is_spent, session_row, visible};
+ghost use Rattle.request_ledger.specs.RowsOf.{is_among};
+ghost use Rattle.request_ledger.specs.Record.{LAST, drawn};
+ghost use Rattle.request_ledger.specs.Standing.{HasRoom};
+ghost use Rattle.request_ledger.specs.Ledger.{KeepsSpare, IsFitting, next_number, rows_in};
+ghost use Rattle.request_ledger.specs.Draft.{HoldsIds};
+ghost use Rattle.request_ledger.specs.Drafts.{asked, opened, opened_with, left, ended, confirmed, is_empty, is_listed, is_ending, ending, is_waiting_now, AreSessionTexts, rows_of_kind, is_full, IsCause, Drafts, DraftsSome, IsDraftable, SameLedger};
+
+use crate::checks::END_OF_NUMBERS;
+use crate::draft::Draft;
+use crate::ledger::Ledger;
+use ledger_records::sp_record::{Asked, Confirmed, Ended, Left, Opened};
+use ledger_records::{KeyNumber, SpRecord};
+use ledger_rules::DraftFault;
+use owned_values::{NoMemory, Text, Texts};
+use request_rows::{LeftRow, NewSession, OpenedRow};
+use saml_ids::{Id, Kind, id_of};
+use std::alloc::Global;
+
+/// How many rows of one kind may be kept.
+pub const MOST_ROWS: usize = 65_536;
+
+/// How long a request or a logout may be answered, in milliseconds.
+const LIFE: u64 = 600_000;
+
+/// The greatest length of a payload, and what a body has beside it.
+const LONGEST_PAYLOAD: u64 = 1_048_576;
+
+const AROUND: u64 = 5;
+
+impl Ledger {
+    /// How many rows there are of a record's kind, where it has rows.
+    fn rows_of_kind(&self, entry: &SpRecord) -> Option<usize>
+        ensures { result ≡ rows_of_kind (rows_in self.now) entry.now }
+    {
+        let rows = self.rows();
+        match entry {
+            SpRecord::Asked(_) => Some(rows.asked().len()),
+            SpRecord::Opened(_) => Some(rows.opened().len()),
+            SpRecord::Left(_) => Some(rows.left().len()),
+            SpRecord::Ended(_) | SpRecord::Confirmed(_) => None,
+        }
+    }
+
+    /// How many rows there are of a record's kind, where there are as many as there may be, or more.
+    fn full_rows(&self, entry: &SpRecord) -> Option<u32>
+        ensures some { IfSome result (λ kept. (is_full (rows_in self.now) entry.now ≡ true) × (rows_of_kind (rows_in self.now) entry.now ≡ Some kept)) }
+        ensures none { IfNone result (is_full (rows_in self.now) entry.now ≡ false) }
+    {
+        self.has_few_rows();
+        let kept = self.rows_of_kind(entry)?;
+        if kept < MOST_ROWS {
+            return None;
+        }
+        Some(kept as u32)
+    }
+
+    /// Whether a record whose payload has this length fits.
+    fn is_fitting(&self, entry: &SpRecord, len: u64) -> bool
+        requires { len ≡ capped (length (sp_bytes 2 entry.now)) }
+        ensures { IsTrue result ↔ IsFitting self.now.held entry.now }
+    {
+        len <= LONGEST_PAYLOAD && len + AROUND <= self.journal.room() && are_before_end(entry)
+    }
+
+    /// Why a record is not drafted, beside want of memory; none where it can be.
+    fn refusal(&self, entry: &SpRecord) -> Option<DraftFault>
+        ensures some { IfSome result (IsCause self.now entry.now) }
+        ensures none { IfNone result ((is_full (rows_in self.now) entry.now ≡ false) × IsFitting self.now.held entry.now) }
+    {
+        if let Some(kept) = self.full_rows(entry) {
+            return Some(DraftFault::LedgerFull { kept });
+        }
+        let length = entry.payload_len();
+        if self.is_fitting(entry, length) {
+            return None;
+        }
+        Some(DraftFault::JournalFull {
+            length,
+            room: self.journal.room(),
+            next: self.next_number(),
+        })
+    }
+
+    /// Makes room for all that `commit` fills with a record whose payload has this length.
+    fn make_room(&mut self, entry: &SpRecord, len: usize) -> Result<(), NoMemory>
+        ensures same { SameLedger self.old self.new }
+        ensures spare { KeepsSpare self.old self.new }
+        ensures payload { OnOk result (IsSomeAnd self.new.payload_spare (λ n. len ≤ n)) }
+        ensures row { OnOk result (HasRoom self.new.spare entry.now) }
+    {
+        self.journal.reserve(len)?;
+        self.standing.reserve(entry)
+    }
+
+    /// The tokens of the live sessions of an issuer and a name whose index is listed, or of all of them.
+    fn ending(&self, now: u64, issuer: &str, name: &str, indexes: &Texts) -> Result<Texts, NoMemory>
+        ensures { IfOk result (λ tokens. tokens ≡ ending now self.now.held.header.horizon issuer.now name.now indexes.now (rows_in self.now).opened) }
+    {
+        let horizon = self.journal.header().horizon;
+        let mut tokens = Texts::new(self.alloc);
+        for row in self.rows().opened() {
+            if is_ending(row, now, horizon, issuer, name, indexes) {
+                tokens.push(row.token.copy()?)?;
+            }
+        }
+        Ok(tokens)
+    }
+
+    /// Whether a visible row of a logout that is not confirmed has this request.
+    fn is_waiting(&self, request: &str, now: u64) -> bool
+        ensures { result ≡ is_waiting_now (rows_in self.now).left request.now now self.now.held.header.horizon }
+    {
+        let horizon = self.journal.header().horizon;
+        self.rows()
+            .left()
+            .iter()
+            .any(|row| is_waiting_row(row, request, now, horizon))
+    }
+
+    /// Drafts a record of the ledger: makes its payload, and room for all that `commit` fills.
+    fn draft(&mut self, entry: SpRecord, ids: [Option<Id>; 2]) -> Result<Draft, DraftFault>
+        requires is { IsDraftable self.old.held entry }
+        requires ids { HoldsIds ids entry }
+        ensures drafts { Drafts self.old self.new entry result }
+        ensures same { SameLedger self.old self.new }
+        ensures spare { KeepsSpare self.old self.new }
+    {
+        if let Some(fault) = self.refusal(&entry) {
+            return Err(fault);
+        }
+        let payload = entry.payload(self.alloc)?;
+        self.make_room(&entry, payload.len())?;
+        Ok(Draft {
+            entry,
+            payload,
+            ids,
+        })
+    }
+
+    /// Drafts a request for a login, after which the user goes to the path `target`. The request may be answered for 600,000
+    /// ms from the moment `now` on. `first` of the draft is the ID of the request, `second` its relay state.
+    ///
+    /// Errors: [`DraftFault::LedgerFull`] exactly where 65,536 asked rows are kept or more; else
+    /// [`DraftFault::JournalFull`] exactly where the record does not fit; [`DraftFault::NoMemory`].
+    pub fn draft_ask(&mut self, now: u64, target: &str) -> Result<Draft, DraftFault>
+        requires moment { now ≤ LAST }
+        requires text { is_xml_text target.now ≡ true }
+        ensures drafts { Drafts self.old self.new (asked self.old.key (next_number self.old.held) now target.now) result }
+        ensures same { SameLedger self.old self.new }
+        ensures spare { KeepsSpare self.old self.new }
+    {
+        let first = self.next_number();
+        let request = id_of(&self.key, Kind::Request, first);
+        let relay = id_of(&self.key, Kind::Relay, first.wrapping_add(1));
+        let entry = SpRecord::Asked(Asked {
+            first,
+            moment: now,
+            until: now + LIFE,
+            target: Text::of(self.alloc, target)?,
+            request: Text::of(self.alloc, request.as_str())?,
+            relay: Text::of(self.alloc, relay.as_str())?,
+        });
+        self.draft(entry, [Some(request), Some(relay)])
+    }
+
+    /// Drafts a session for an accepted login. `first` of the draft is its token.
+    ///
+    /// The request of the login was asked, is visible and not spent. Errors are those of `draft_ask`, for the opened rows.
+    pub fn draft_session(&mut self, now: u64, new: &NewSession) -> Result<Draft, DraftFault>
+        requires moment { now ≤ LAST }
+        requires texts { AreSessionTexts new.now }
+        requires key { (new.now.key ≡ 1) ⊎ (new.now.key ≡ 2) }
+        requires asked { IsSome (asked_row (rows_in self.old).asked new.now.request now self.old.held.header.horizon) }
+        requires unspent { is_spent (rows_in self.old).opened new.now.request ≡ false }
+        ensures drafts { Drafts self.old self.new (opened self.old.key (next_number self.old.held) now new.now) result }
+        ensures same { SameLedger self.old self.new }
+        ensures spare { KeepsSpare self.old self.new }
+    {
+        let first = self.next_number();
+        let token = id_of(&self.key, Kind::Cookie, first);
+        let entry = session_record(self.alloc, first, now, &token, new)?;
+        self.draft(entry, [Some(token), None])
+    }
+
+    /// Drafts a logout of the live session of a token. `first` of the draft is the ID of the request.
+    ///
+    /// Errors are those of `draft_ask`, for the rows of logouts.
+    pub fn draft_leave(&mut self, now: u64, token: &str) -> Result<Draft, DraftFault>
+        requires moment { now ≤ LAST }
+        requires live { IsSome (session_row (rows_in self.old).opened token.now now self.old.held.header.horizon) }
+        ensures drafts { Drafts self.old self.new (left self.old.key (next_number self.old.held) now token.now) result }
+        ensures same { SameLedger self.old self.new }
+        ensures spare { KeepsSpare self.old self.new }
+    {
+        let first = self.next_number();
+        let request = id_of(&self.key, Kind::Request, first);
+        let entry = SpRecord::Left(Left {
+            first,
+            moment: now,
+            until: now + LIFE,
+            token: Text::of(self.alloc, token)?,
+            request: Text::of(self.alloc, request.as_str())?,
+        });
+        self.draft(entry, [Some(request), None])
+    }
+
+    /// Drafts the end of the live sessions of an issuer and a name whose index is listed, or of all of them where none is
+    /// listed; none exactly where there is no such session. `first` of the draft is the ID of the answer to `request`.
+    ///
+    /// Errors are those of `draft_ask`, without `LedgerFull`.
+    pub fn draft_end(
+        &mut self,
+        now: u64,
+        issuer: &str,
+        name: &str,
+        indexes: &Texts,
+        request: &str,
+    ) -> Result<Option<Draft>, DraftFault>
+        requires moment { now ≤ LAST }
+        requires text { is_xml_text request.now ≡ true }
+        ensures drafts { DraftsSome self.old self.new (is_empty (ending now self.old.held.header.horizon issuer.now name.now indexes.now (rows_in self.old).opened)) (ended self.old.key (next_number self.old.held) now (ending now self.old.held.header.horizon issuer.now name.now indexes.now (rows_in self.old).opened) request.now) result }
+        ensures same { SameLedger self.old self.new }
+        ensures spare { KeepsSpare self.old self.new }
+    {
+        let tokens = self.ending(now, issuer, name, indexes)?;
+        if tokens.is_empty() {
+            return Ok(None);
+        }
+        let first = self.next_number();
+        let message = id_of(&self.key, Kind::Message, first);
+        let entry = SpRecord::Ended(Ended {
+            first,
+            moment: now,
+            tokens,
+            message: Text::of(self.alloc, message.as_str())?,
+            request: Text::of(self.alloc, request)?,
+        });
+        Ok(Some(self.draft(entry, [Some(message), None])?))
+    }
+
+    /// Drafts that the logout of a request was confirmed; none exactly where no visible row of a logout that is not
+    /// confirmed has it. Errors are those of `draft_end`.
+    pub fn draft_confirm(&mut self, now: u64, request: &str) -> Result<Option<Draft>, DraftFault>
+        requires moment { now ≤ LAST }
+        ensures drafts { DraftsSome self.old self.new (not (is_waiting_now (rows_in self.old).left request.now now self.old.held.header.horizon)) (confirmed now request.now) result }
+        ensures same { SameLedger self.old self.new }
+        ensures spare { KeepsSpare self.old self.new }
+    {
+        if !self.is_waiting(request, now) {
+            return Ok(None);
+        }
+        let entry = SpRecord::Confirmed(Confirmed {
+            moment: now,
+            request: Text::of(self.alloc, request)?,
+        });
+        Ok(Some(self.draft(entry, [None, None])?))
+    }
+}
+
+/// Whether a logout is of this request, is not confirmed and is visible.
+fn is_waiting_row(row: &LeftRow, request: &str, now: u64, horizon: u64) -> bool
+    ensures { result ≡ (bytes_eq row.now.request request.now && not row.now.confirmed && visible row.now.until now horizon) }
+{
+    row.request.as_str() == request && !row.confirmed && now.max(horizon) < row.until
+}
+
+/// Whether a session lives at a moment, is of this issuer and name, and its index is listed or none is.
+fn is_ending(
+    row: &OpenedRow,
+    now: u64,
+    horizon: u64,
+    issuer: &str,
+    name: &str,
+    indexes: &Texts,
+) -> bool
+    ensures { result ≡ is_ending now horizon issuer.now name.now indexes.now row.now }
+{
+    !row.closed
+        && now.max(horizon) < row.until
+        && row.issuer.as_str() == issuer
+        && row.name.as_str() == name
+        && is_listed(indexes, &row.index)
+}
+
+/// Whether a text is among these.
+fn is_among(text: &Text, texts: &Texts) -> bool
+    ensures { result ≡ is_among text.now texts.now }
+{
+    texts
+        .as_slice()
+        .iter()
+        .any(|other| other.as_str() == text.as_str())
+}
+
+/// Whether an index is listed, or none is.
+fn is_listed(indexes: &Texts, index: &Option<Text>) -> bool
+    ensures { result ≡ is_listed indexes.now index.now }
+{
+    if indexes.is_empty() {
+        return true;
+    }
+    match index {
+        Some(index) => is_among(index, indexes),
+        None => false,
+    }
+}
+
+/// Whether the numbers that a record draws are below the end.
+fn are_before_end(entry: &SpRecord) -> bool
+    ensures { IsTrue result ↔ All (λ d. d.number < NUMBER_END) (drawn entry.now) }
+{
+    match entry {
+        SpRecord::Asked(r) => r.first < END_OF_NUMBERS - 1,
+        SpRecord::Opened(r) => r.first < END_OF_NUMBERS,
+        SpRecord::Left(r) => r.first < END_OF_NUMBERS,
+        SpRecord::Ended(r) => r.first < END_OF_NUMBERS,
+        SpRecord::Confirmed(_) => true,
+    }
+}
+
+/// The record of a session.
+fn session_record(
+    alloc: Global,
+    first: u64,
+    moment: u64,
+    token: &Id,
+    new: &NewSession,
+) -> Result<SpRecord, NoMemory>
+    requires { (new.now.key ≡ 1) ⊎ (new.now.key ≡ 2) }
+    ensures { IfOk result (λ r. r ≡ opened_with first moment token.now new.now) }
+{
+    let key = match new.key {
+        1 => KeyNumber::First,
+        _ => KeyNumber::Second,
+    };
+    let index = match &new.index {
+        Some(index) => Some(index.copy()?),
+        None => None,
+    };
+    Ok(SpRecord::Opened(Opened {
+        first,
+        moment,
+        until: new.until,
+        request: new.request.copy()?,
+        issuer: new.issuer.copy()?,
+        assertion: new.assertion.copy()?,
+        assertion_until: new.assertion_until,
+        token: Text::of(alloc, token.as_str())?,
+        name: new.name.copy()?,
+        index,
+        attributes: new.attributes.copy()?,
+        key,
+    }))
+}
