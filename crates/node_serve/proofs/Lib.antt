@@ -1,0 +1,7 @@
+pub mod Completing
+pub mod Leaving
+pub mod Moments
+pub mod Outgoing
+pub mod Refusing
+pub mod Rounds
+pub mod Taking

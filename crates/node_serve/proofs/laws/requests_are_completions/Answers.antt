@@ -1,0 +1,5 @@
+use Rattle.node_serve.proofs.Completing.{requests_are_completions}
+use Rattle.node_serve.proofs.laws.requests_are_completions.Goals as goal
+
+pub returns : goal.returns
+returns g c = requests_are_completions g.N.Node.step c.calls_give_completions.ensures

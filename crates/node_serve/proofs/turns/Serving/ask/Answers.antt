@@ -1,0 +1,26 @@
+use Rattle.std.proofs.Common.{refl, arith}
+use Rattle.http_wire.specs.Views.{request_view}
+use Rattle.node_serve.proofs.Taking.{clocked}
+use Rattle.node_serve.proofs.turns.Serving.ask.Goals as goal
+
+pub returns-clause-asked : goal.returns-clause-asked
+returns-clause-asked g c =
+    let before = c.args.self.now in (
+      record { conn = c.args.conn; request = request_view c.request.result; now = c.min-now.result; node = before.node.now; disk = g.D.Disk.told before.disk.now; answer = c.answer.result },
+      refl,
+      refl,
+      c.request.ensures,
+      record {
+        node = refl;
+        disk = refl;
+        moment = record {
+          moment = clocked (g.C.Clock.to_come before.clock.now) c.now.result c.min-now.result c.now.ensures.moment c.min-now.ensures;
+          limit = omega (arith, c.min-now.ensures);
+          later = c.now.ensures.later;
+        };
+        answers = c.answer.ensures.step;
+        link = refl;
+        send_faults = refl;
+      },
+      c.answer.ensures.moments,
+    )

@@ -1,0 +1,34 @@
+-- The laws of serving.
+use Rattle.std.specs.Prelude.{◌≡◌, ℕ, ◌<◌, min, List, [], ◌∷◌, length, map, flat_map, slice_index, Some}
+use Rattle.saml_time.specs.declared.TheConstants.{LAST}
+use Rattle.event_link.specs.Clocks.{moment_at}
+use Rattle.http_wire.specs.Requests.{Request, Reading, Whole, More, Refused}
+use Rattle.conn_table.specs.Events.{Completion, AreCompletions}
+use Rattle.conn_table.specs.Table.{Table}
+use Rattle.node_serve.specs.Worlds.{NodeStep, World}
+use Rattle.node_serve.specs.Turns.{Turn, history_of, asked_in, Run}
+
+-- the request of a connection that was completed by a whole one
+abbrev pub whole_of : ℕ → Reading → List (ℕ × Request)
+whole_of conn (Whole request) = (conn, request) ∷ []
+whole_of conn More = []
+whole_of conn (Refused status) = []
+
+-- the whole requests among what was completed, in order, each with its connection
+abbrev pub whole_requests : List Completion → List (ℕ × Request)
+whole_requests done = flat_map (λ completion. whole_of completion.conn completion.reading) done
+
+module _ {N : Type 0} (step : NodeStep N) where
+  -- The requests that the node was asked are, in order, the whole ones that the events complete.
+  abbrev pub RequestsAreCompletions : Type 0
+  RequestsAreCompletions =
+      (first : World N) (turns : List (Turn N)) (kept : Table) (now : World N) → Run step first turns kept now
+      → (done : List Completion) × AreCompletions (history_of turns) done
+      × (map (λ asked. (asked.conn, asked.request)) (asked_in turns) ≡ whole_requests done)
+
+  -- Each was asked at the next moment of the clock, at most LAST.
+  abbrev pub MomentsComeInOrder : Type 0
+  MomentsComeInOrder =
+      (first : World N) (turns : List (Turn N)) (kept : Table) (now : World N) (moments : List ℕ) → Run step first turns kept now
+      → first.clock ≡ Some moments → (k : ℕ) → k < length (asked_in turns)
+      → slice_index (map (λ asked. asked.now) (asked_in turns)) k ≡ min (moment_at moments k) LAST

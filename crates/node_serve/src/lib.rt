@@ -1,0 +1,45 @@
+//! Serving: a node answers the requests that connections bring, one after the other.
+//!
+//! ```
+//! let served = serve(alloc, &mut node, &mut link, &mut disk, &mut clock, 1_000_000)?;
+//! if served.stopped {
+//!     // the link gave Stop when served.events events were taken
+//! }
+//! ```
+//!
+//! | An event | What is done |
+//! |---|---|
+//! | a connection starts | it is kept; where it was kept already, it ended and starts anew |
+//! | as many are kept as there may be | the page of 503 is sent |
+//! | a piece, and its connection's bytes are a whole request | the node answers it at the clock's moment, or at [`LAST`](saml_time::LAST) where that is less, the answer is sent, and the connection is let go |
+//! | a piece, and they are refused | the page of the status is sent, and the connection is let go |
+//! | a piece, and they are the beginning of a request | they are kept |
+//! | a piece of a connection that is not kept | it is passed over |
+//! | there is no memory for a start or a piece | the page of the verdict NoMemory, 52, is sent, and the connection is let go |
+//! | a connection ends | it is let go |
+//!
+//! A connection on which something was sent is closed. A `send` that fails ends its connection alone.
+//!
+//! A contract sees a list of turns, one for each event (`specs/Turns.antt`). Each is a case with a name, and says what it does to
+//! the connections, the node, the disk, the link and the clock; of the node it cites the node's own `step` and nothing else.
+//! What a crash may leave at some moment of the call is what it may leave at its start, or inside one of the answers. By
+//! the [`laws`] the requests that the node was asked are the whole ones that the events complete, as `conn_table` defines it.
+//!
+//! [`serve`] answers [`ServeFault::LinkFault`] only where the link's count of faults rose, and [`ServeFault::NoMemory`] only
+//! before it began.
+#![tactic(auto)]
+
+mod codes;
+pub mod laws;
+mod limits;
+mod node;
+mod served;
+mod serving;
+#[cfg(test)]
+mod tests;
+mod turns;
+
+pub use limits::PIECE_ROOM;
+pub use node::Node;
+pub use served::{ServeFault, Served};
+pub use serving::serve;
