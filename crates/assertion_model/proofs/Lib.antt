@@ -11,6 +11,8 @@ pub mod PlaceLemmas
 pub mod ReadBack
 pub mod SaidLemmas
 pub mod SkipLemmas
+pub mod TextLemmas
 pub mod ToldMoments
+pub mod TrimLemmas
 pub mod ValueLemmas
 pub mod Writable

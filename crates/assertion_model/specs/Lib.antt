@@ -3,6 +3,7 @@ pub mod Contents
 pub mod Faults
 pub mod Instants
 pub mod Login
+pub mod LoginTexts
 pub mod Moments
 pub mod Parts
 pub mod Places

@@ -7,6 +7,7 @@ ghost use Rattle.xml_spec.specs.Tree.{Nodes};
 ghost use Rattle.xml_spec.specs.Document.{Spells};
 ghost use Rattle.xml_spec.specs.Identifiers.{IsSingle};
 ghost use Rattle.xml_spec.specs.Content.{content};
+ghost use Rattle.canon_laws.specs.Writable.{IsWritable};
 ghost use Rattle.element_make.specs.Made.{Made, IsMade, tree_of, written};
 ghost use Rattle.sig_reference.specs.Form.{Parts};
 ghost use Rattle.sig_reference.specs.Signature.{Vouches, VouchesFirst};
@@ -19,6 +20,7 @@ ghost use Rattle.assertion_model.specs.declared.login.Login.{Login};
 ghost use Rattle.assertion_model.specs.Assertion.{IsAssertionOf, CanBeRead};
 ghost use Rattle.assertion_model.specs.Instants.{moment_of};
 ghost use Rattle.assertion_model.specs.Login.{login};
+ghost use Rattle.assertion_model.specs.LoginTexts.{HoldsTexts};
 ghost use Rattle.assertion_model.specs.Parts.{own_signature, login_at};
 ghost use Rattle.assertion_model.specs.Places.{name_place, value_places, values_of, IsPlace, AreApart, IsPartOf};
 
@@ -47,6 +49,11 @@ pub fn the_first_signature_left_out_vouches()
 pub fn a_login_is_read_at_its_places()
     ensures name { (tree : Nodes) (e : ℕ) (login : Login) → login_at tree e ≡ Some login → option_map (text_of tree) (name_place tree e) ≡ Some login.name }
     ensures values { (tree : Nodes) (e : ℕ) (login : Login) → login_at tree e ≡ Some login → map (text_of tree) (value_places tree e) ≡ values_of login.attributes }
+{}
+
+/// The texts of a login that is read of a tree that can be written are texts that a document may hold (XML 1.0, 2.2).
+pub fn the_texts_of_a_login_are_texts()
+    ensures { (tree : Nodes) (e : ℕ) (login : Login) → IsWritable tree → login_at tree e ≡ Some login → HoldsTexts login }
 {}
 
 /// The places of a login are elements that lie in its element, and not in the own Signature of that.

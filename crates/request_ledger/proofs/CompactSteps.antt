@@ -12,7 +12,7 @@ use Rattle.request_ledger.specs.Record.{next_of, records_of}
 use Rattle.request_ledger.specs.Standing.{StandingView}
 use Rattle.request_ledger.specs.Ledger.{Held, next_number, ledger_in}
 use Rattle.request_ledger.specs.Keeping.{ok_records, records_in, held_in, StandsFor}
-use Rattle.request_ledger.specs.Compacting.{IsCompacted, IsOldOrCompacted}
+use Rattle.request_ledger.specs.Compacting.{IsCompacted, IsOldOrCompacted, LAST_GENERATION}
 use Rattle.request_ledger.specs.Linking.{AreFlags, AreRead, AreStanding, IsChosen}
 use Rattle.request_ledger.specs.declared.compacting.Chosen.{Chosen}
 use Rattle.request_ledger.proofs.RowLaws.{records_of-length}
@@ -81,16 +81,16 @@ module _ (now : ℕ) (kept : Kept) (standing : StandingView) (s : StandsFor kept
         };
       }
 
-  pub old_or_compacted : horizon ≡ max kept.holds.header.horizon now → next ≡ next_number (held_in kept)
+  pub old_or_compacted : horizon ≡ max kept.holds.header.horizon now → next ≡ next_number (held_in kept) → kept.holds.header.generation < LAST_GENERATION
       → (image : Image) → IsOldOrNew kept anew image → IsOldOrCompacted now (held_in kept) image
-  old_or_compacted at number image (inl old) = inl (stands_there kept standing image s old)
-  old_or_compacted at number image (inr new) = inr (held_in anew, compacted at number, stands_there anew c.standing image stands_anew new)
+  old_or_compacted at number less image (inl old) = inl (stands_there kept standing image s old)
+  old_or_compacted at number less image (inr new) = inr (held_in anew, inr (less, compacted at number), stands_there anew c.standing image stands_anew new)
 
-  pub leads : horizon ≡ max kept.holds.header.horizon now → next ≡ next_number (held_in kept) → (held : Held) → held_in kept ≡ held
+  pub leads : horizon ≡ max kept.holds.header.horizon now → next ≡ next_number (held_in kept) → kept.holds.header.generation < LAST_GENERATION → (held : Held) → held_in kept ≡ held
       → (payloads : List (List ℕ)) → payloads ≡ c.payloads.items → (image : Image) → IsOldOrNew kept (made_anew payloads horizon next kept) image → IsOldOrCompacted now held image
-  leads at number held same payloads these image is_there =
+  leads at number less held same payloads these image is_there =
       subst (λ h. IsOldOrCompacted now h image) same
-      (old_or_compacted at number image (subst (λ ps. IsOldOrNew kept (made_anew ps horizon next kept) image) these is_there))
+      (old_or_compacted at number less image (subst (λ ps. IsOldOrNew kept (made_anew ps horizon next kept) image) these is_there))
 
 pub old_or_compacted_ok : (now : ℕ) (old : Held) (image : Image) → IsOldOrCompacted now old image → IsOk (ledger_in image)
 old_or_compacted_ok now old image (inl is) = rw is refl

@@ -88,4 +88,4 @@ Compacts now old new = ((old.header.generation ≡ LAST_GENERATION) × (new ≡ 
 -- The image stands for the ledger from before, or for the one that was made anew.
 abbrev pub IsOldOrCompacted : ℕ → Held → Image → Type 0
 IsOldOrCompacted now old image =
-    (ledger_in image ≡ Ok (Some old)) ⊎ ((new : Held) × IsCompacted now old new × (ledger_in image ≡ Ok (Some new)))
+    (ledger_in image ≡ Ok (Some old)) ⊎ ((new : Held) × Compacts now old new × (ledger_in image ≡ Ok (Some new)))

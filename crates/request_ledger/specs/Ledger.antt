@@ -124,3 +124,7 @@ abbrev pub IsOpenedFrom : DiskState → Image → Type 0
 IsOpenedFrom disk image =
     (start : Image) × MayLeave disk start
     × ((ledger_in image ≡ ledger_in start) ⊎ ((held : Held) × (taken (ledger_in start) ≡ Ok held) × (ledger_in image ≡ Ok (Some held))))
+
+-- The same as far as the disk tells: of one that does not tell nothing is said.
+abbrev pub LeftByOpening : Option DiskState → Image → Type 0
+LeftByOpening told image = IfSome told (λ disk. IsOpenedFrom disk image)

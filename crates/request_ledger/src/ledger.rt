@@ -4,6 +4,7 @@ ghost use Rattle.crash_disk.specs.Counts.{CountsFaults};
 ghost use Rattle.crash_disk.specs.Moments.{LeavesOnly};
 ghost use Rattle.request_rows.specs.Rows.{session_row};
 ghost use Rattle.request_ledger.specs.RowsOf.{rows_of};
+ghost use Rattle.request_ledger.specs.Record.{AreRecords};
 ghost use Rattle.request_ledger.specs.Standing.{AreFew, rows_in as standing_rows};
 ghost use Rattle.request_ledger.specs.Ledger.{CanCommit, IsOwn, IsWithOrWithout, held_with, next_number, rows_in};
 
@@ -68,6 +69,13 @@ impl Ledger {
     /// That there are far fewer rows than 32 bits count, as each record takes room in the file. It does nothing.
     pub(crate) fn has_few_rows(&self)
         ensures { AreFew (rows_in self.now) }
+    {
+        self.journal.records_fit();
+    }
+
+    /// That the records are records of a ledger, each behind those before it. It does nothing.
+    pub fn holds_records(&self)
+        ensures { AreRecords self.now.held.records }
     {
         self.journal.records_fit();
     }

@@ -4,7 +4,7 @@ ghost use Rattle.owned_values.specs.Gives.{Gives};
 ghost use Rattle.crash_disk.specs.Disk.{Image, image_of};
 ghost use Rattle.crash_disk.specs.Moments.{Leaves, LeavesOnly};
 ghost use Rattle.gate_journal.specs.Opening.{open_fault_of, CausesFaults};
-ghost use Rattle.request_ledger.specs.Ledger.{IsOwn, IsOpenedFrom, held_of, ledger_in, some_held, taken};
+ghost use Rattle.request_ledger.specs.Ledger.{IsOwn, LeftByOpening, held_of, ledger_in, some_held, taken};
 ghost use Rattle.ledger_records.specs.SpRecord.{sp_bytes};
 ghost use Rattle.ledger_records.specs.Found.{sp_record};
 ghost use Rattle.request_ledger.specs.Standing.{AreFew};
@@ -151,7 +151,7 @@ fn open_both<D: Disk>(alloc: Global, disk: &mut D) -> Result<(Journal, Standing)
     ensures whole { IfOk result (λ pair. (pair.0.broken ≡ false) × StandsFor pair.0.kept.holds pair.1) }
     ensures own { IfOk result (λ pair. IsJournalsOwn (D.told disk.new) pair.0) }
     ensures err { OnErr result (((image : Image) → Leaves (D.told disk.old) image → IsOk (ledger_in image)) → (image : Image) → Leaves (D.told disk.new) image → IsOk (ledger_in image)) }
-    ensures moments { IfSome (D.told disk.old) (λ d. LeavesOnly D.moment D.left_since disk.old disk.new (IsOpenedFrom d)) }
+    ensures moments { LeavesOnly D.moment D.left_since disk.old disk.new (LeftByOpening (D.told disk.old)) }
     ensures faults { CausesFaults result (D.faults_of disk.old) (D.faults_of disk.new) }
 {
     let journal = open_journal(alloc, disk)?;
@@ -170,7 +170,7 @@ impl Ledger {
         ensures whole { IfOk result (λ l. (l.broken ≡ false) × (l.key ≡ key)) }
         ensures own { IfOk result (λ l. IsOwn (D.told disk.new) l) }
         // A crash at any moment of the call leaves what an image at its start stood for, or what is opened from that.
-        ensures moments { IfSome (D.told disk.old) (λ d. LeavesOnly D.moment D.left_since disk.old disk.new (IsOpenedFrom d)) }
+        ensures moments { LeavesOnly D.moment D.left_since disk.old disk.new (LeftByOpening (D.told disk.old)) }
         ensures faults { CausesFaults result (D.faults_of disk.old) (D.faults_of disk.new) }
     {
         let (journal, standing) = open_both(alloc, disk)?;
@@ -192,7 +192,7 @@ impl Ledger {
         ensures own_err { OnErr result (IsOwn (D.told disk.old) (record self.old { broken = true }) → IsOwn (D.told disk.new) self.new) }
         ensures key { self.new.key ≡ self.old.key }
         // A crash at any moment of the call leaves what an image at its start stood for, or what is opened from that.
-        ensures moments { IfSome (D.told disk.old) (λ d. LeavesOnly D.moment D.left_since disk.old disk.new (IsOpenedFrom d)) }
+        ensures moments { LeavesOnly D.moment D.left_since disk.old disk.new (LeftByOpening (D.told disk.old)) }
         ensures faults { CausesFaults result (D.faults_of disk.old) (D.faults_of disk.new) }
     {
         match open_both(self.alloc, disk) {

@@ -74,7 +74,7 @@ returns-in-Ok-clause-moments g c =
     weaker g.D.Disk.moment g.D.Disk.left_since c.args.disk.now c.compact.new.disk (IsOldOrNew kept (made_anew c.deref.result.now horizon next kept))
     (IsOldOrCompacted c.args.now c.args.self.now.held) c.compact.ensures.moments
     (leads c.args.now kept c.self.inside.standing c.self.invariant.0 c.in_ok-payloads.field-0 c.in_ok-payloads.ensures horizon next
-    (c.max-horizon.ensures ∙ ap (λ (h : Header). max h.horizon c.args.now) c.header-header.ensures) (c.next_number-next.ensures ∙ sym (ap next_number held))
+    (c.max-horizon.ensures ∙ ap (λ (h : Header). max h.horizon c.args.now) c.header-header.ensures) (c.next_number-next.ensures ∙ sym (ap next_number held)) (omega (arith, c.if-header.false, ap (λ (h : Header). h.generation) c.header-header.ensures))
     c.args.self.now.held (ap (λ (l : Opened). l.held) c.self.view_is) c.deref.result.now c.deref.ensures.value)
 
 pub returns-in-Err-NoMemory-clause-moments : goal.returns-in-Err-NoMemory-clause-moments
@@ -86,7 +86,7 @@ returns-in-Err-NoMemory-clause-moments g c =
     weaker g.D.Disk.moment g.D.Disk.left_since c.args.disk.now c.compact.new.disk (IsOldOrNew kept (made_anew c.deref.result.now horizon next kept))
     (IsOldOrCompacted c.args.now c.args.self.now.held) c.compact.ensures.moments
     (leads c.args.now kept c.self.inside.standing c.self.invariant.0 c.in_ok-payloads.field-0 c.in_ok-payloads.ensures horizon next
-    (c.max-horizon.ensures ∙ ap (λ (h : Header). max h.horizon c.args.now) c.header-header.ensures) (c.next_number-next.ensures ∙ sym (ap next_number held))
+    (c.max-horizon.ensures ∙ ap (λ (h : Header). max h.horizon c.args.now) c.header-header.ensures) (c.next_number-next.ensures ∙ sym (ap next_number held)) (omega (arith, c.if-header.false, ap (λ (h : Header). h.generation) c.header-header.ensures))
     c.args.self.now.held (ap (λ (l : Opened). l.held) c.self.view_is) c.deref.result.now c.deref.ensures.value)
 
 pub returns-in-Err-DiskFault-clause-own : goal.returns-in-Err-DiskFault-clause-own
@@ -99,7 +99,7 @@ returns-in-Err-DiskFault-clause-own g c =
     let so = weaker g.D.Disk.moment g.D.Disk.left_since c.args.disk.now c.compact.new.disk (IsOldOrNew kept (made_anew c.deref.result.now horizon next kept))
     Q c.compact.ensures.moments
     (leads c.args.now kept c.self.inside.standing c.self.invariant.0 c.in_ok-payloads.field-0 c.in_ok-payloads.ensures horizon next
-    (c.max-horizon.ensures ∙ ap (λ (h : Header). max h.horizon c.args.now) c.header-header.ensures) (c.next_number-next.ensures ∙ sym (ap next_number held))
+    (c.max-horizon.ensures ∙ ap (λ (h : Header). max h.horizon c.args.now) c.header-header.ensures) (c.next_number-next.ensures ∙ sym (ap next_number held)) (omega (arith, c.if-header.false, ap (λ (h : Header). h.generation) c.header-header.ensures))
     c.args.self.now.held held c.deref.result.now c.deref.ensures.value) in
     own_broken (g.D.Disk.told c.compact.new.disk) (opened_of c.compact.new.self c.self.inside.standing c.self.inside.key true) refl (λ image left.
     old_or_compacted_ok c.args.now c.args.self.now.held image
@@ -114,5 +114,5 @@ returns-in-Err-DiskFault-clause-moments g c =
     weaker g.D.Disk.moment g.D.Disk.left_since c.args.disk.now c.compact.new.disk (IsOldOrNew kept (made_anew c.deref.result.now horizon next kept))
     (IsOldOrCompacted c.args.now c.args.self.now.held) c.compact.ensures.moments
     (leads c.args.now kept c.self.inside.standing c.self.invariant.0 c.in_ok-payloads.field-0 c.in_ok-payloads.ensures horizon next
-    (c.max-horizon.ensures ∙ ap (λ (h : Header). max h.horizon c.args.now) c.header-header.ensures) (c.next_number-next.ensures ∙ sym (ap next_number held))
+    (c.max-horizon.ensures ∙ ap (λ (h : Header). max h.horizon c.args.now) c.header-header.ensures) (c.next_number-next.ensures ∙ sym (ap next_number held)) (omega (arith, c.if-header.false, ap (λ (h : Header). h.generation) c.header-header.ensures))
     c.args.self.now.held held c.deref.result.now c.deref.ensures.value)
