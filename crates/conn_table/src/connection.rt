@@ -1,11 +1,12 @@
 //! One connection.
-ghost use Rattle.std.specs.Prelude.{◌≡◌, ◌≢◌, ◌↔◌, [], ◌++◌, IsTrue};
+ghost use Rattle.std.specs.Prelude.{◌≡◌, ◌≢◌, ◌↔◌, [], ◌++◌, IsTrue, is_ok, if◌then◌else◌};
 ghost use Rattle.http_wire.specs.Requests.{Reads, Whole};
 ghost use Rattle.http_wire.specs.Views.{request_view};
 ghost use Rattle.conn_table.specs.Answers.{IsAnswer, IsWholeRequest};
 
 use crate::progress::{Progress, progress_of};
 use http_wire::{Awaited, Found, HttpRequest, laws, request_of};
+use owned_values::NoMemory;
 use std::alloc::Global;
 use std::marker::Model;
 
@@ -27,6 +28,17 @@ impl Model for Connection {
     ghost view = { λ c. record { conn = c.conn; bytes = c.buffer.items } };
 
     ghost invariant = { λ c. IsAwaited c.awaited c.buffer.items };
+}
+
+/// Puts a piece behind the bytes of a buffer.
+fn extend(buffer: &mut Vec<u8>, piece: &[u8]) -> Result<(), NoMemory>
+    ensures items { buffer.new.items ≡ (if is_ok result then buffer.old.items ++ piece.now else buffer.old.items) }
+{
+    match piece {
+        [byte] => buffer.push(*byte)?,
+        _ => buffer.extend_from_slice(piece)?,
+    }
+    Ok(())
 }
 
 impl Connection {
@@ -57,7 +69,7 @@ impl Connection {
         ensures unchanged { result ≡ Progress.NoMemory → self.new ≡ self.old }
     {
         laws::what_is_known_stays_true();
-        if self.buffer.extend_from_slice(piece).is_err() {
+        if extend(&mut self.buffer, piece).is_err() {
             return Progress::NoMemory;
         }
         progress_of(self.awaited.look(self.buffer.as_slice()))

@@ -8,7 +8,7 @@ use Rattle.conn_table.proofs.connection.Connection.take.Goals as goal
 pub look-requires : goal.look-requires
 look-requires c =
     let same : c.as_slice.result.now ≡ c.self.inside.buffer.items ++ c.args.piece.now =
-    c.as_slice.ensures.value ∙ brought _ c.self.inside.buffer.items _ c.args.piece.now c.extend_from_slice.ensures.items (sym c.is_err.ensures.value ∙ c.if-is_err.false) in
+    c.as_slice.ensures.value ∙ brought _ c.self.inside.buffer.items _ c.args.piece.now c.extend.ensures.items (sym c.is_err.ensures.value ∙ c.if-is_err.false) in
     subst (λ xs. IsAwaited c.self.inside.awaited xs) (sym same)
     (c.what_is_known_stays_true.ensures c.self.inside.awaited c.self.inside.buffer.items c.args.piece.now c.self.invariant)
 
