@@ -3,7 +3,8 @@ use Rattle.std.specs.Prelude.{◌≡◌, ℕ, ◌≤◌, min, List, take, Option
 use Rattle.std.specs.Option.{option_map}
 use Rattle.saml_time.specs.declared.TheConstants.{LAST}
 use Rattle.crash_disk.specs.Counts.{Rose}
-use Rattle.crash_disk.specs.Disk.{Image, DiskState}
+use Rattle.crash_disk.specs.Disk.{Image, DiskState, MayLeave, image_of}
+use Rattle.crash_disk.specs.Moments.{Leaves}
 use Rattle.event_link.specs.declared.link.LinkEvent.{LinkEvent}
 use Rattle.event_link.specs.declared.link.LinkEvent.TheVariants as events
 use Rattle.event_link.specs.Clocks.{now_of, later_of}
@@ -23,6 +24,14 @@ NodeStep N = N → Option DiskState → Request → ℕ → ℕ → ℕ → Answ
 -- What says what a crash inside an answer of a node may leave: node and disk before it, the request, the moment, the image.
 abbrev pub NodeLeaves : Type 0 → Type 1
 NodeLeaves N = N → Option DiskState → Request → ℕ → Image → Type 0
+
+-- What an answer does, with what a crash may leave: a disk reads as one of the images that a crash might leave when the request
+-- came; and once it is answered a crash leaves only what one inside the answer might leave.
+pub record IsAnswered {N : Type 0} (step : NodeStep N) (leaves : NodeLeaves N) (old : N) (disk : Option DiskState) (request : Request) (now before after : ℕ)
+    (answer : Answer) (new : N) (later : Option DiskState) : Type 0 where
+  pub does : step old disk request now before after answer new later
+  pub reads : IfSome disk (λ d. MayLeave d (image_of d))
+  pub left : (image : Image) → Leaves later image → leaves old disk request now image
 
 -- The node, and what the disk, the link and the clock tell.
 pub record World (N : Type 0) : Type 0 where

@@ -18,7 +18,11 @@ returns-clause-asked g c =
           limit = omega (arith, c.min-now.ensures);
           later = c.now.ensures.later;
         };
-        answers = c.answer.ensures.step;
+        answers = record {
+          does = c.answer.ensures.step;
+          reads = g.met.D.Disk.reads_an_image before.disk.now;
+          left = λ image left. c.answer.ensures.moments.each image (g.met.D.Disk.counts_now c.answer.new.disk (g.D.Disk.moment before.disk.now) image c.answer.ensures.moments.later left);
+        };
         link = refl;
         send_faults = refl;
       },
