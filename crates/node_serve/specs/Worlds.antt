@@ -25,12 +25,17 @@ NodeStep N = N → Option DiskState → Request → ℕ → ℕ → ℕ → Answ
 abbrev pub NodeLeaves : Type 0 → Type 1
 NodeLeaves N = N → Option DiskState → Request → ℕ → Image → Type 0
 
+-- What says that a disk is a node's own, as far as it tells.
+abbrev pub NodeOwns : Type 0 → Type 1
+NodeOwns N = N → Option DiskState → Type 0
+
 -- What an answer does, with what a crash may leave: a disk reads as one of the images that a crash might leave when the request
--- came; and once it is answered a crash leaves only what one inside the answer might leave.
-pub record IsAnswered {N : Type 0} (step : NodeStep N) (leaves : NodeLeaves N) (old : N) (disk : Option DiskState) (request : Request) (now before after : ℕ)
+-- came; once it is answered the disk is the node's own, and a crash leaves only what one inside the answer might leave.
+pub record IsAnswered {N : Type 0} (own : NodeOwns N) (step : NodeStep N) (leaves : NodeLeaves N) (old : N) (disk : Option DiskState) (request : Request) (now before after : ℕ)
     (answer : Answer) (new : N) (later : Option DiskState) : Type 0 where
   pub does : step old disk request now before after answer new later
   pub reads : IfSome disk (λ d. MayLeave d (image_of d))
+  pub owns : own new later
   pub left : (image : Image) → Leaves later image → leaves old disk request now image
 
 -- The node, and what the disk, the link and the clock tell.

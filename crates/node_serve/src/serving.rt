@@ -25,7 +25,7 @@ pub fn serve<N: Node, L: Link, D: Disk, C: Clock>(
     requires { N.own node.old (D.told disk.old) }
     // These turns were done, and a crash at any moment of the call leaves what it may leave at the start or inside an answer.
     ensures serves { (turns : List (Turn _))
-        × Serves (IsAnswered N.step N.leaves) budget turns (world node.old (D.told disk.old) (D.faults_of disk.old) (L.told link.old) (L.send_faults_of link.old) (C.to_come clock.old)) result (world node.new (D.told disk.new) (D.faults_of disk.new) (L.told link.new) (L.send_faults_of link.new) (C.to_come clock.new))
+        × Serves (IsAnswered N.own N.step N.leaves) budget turns (world node.old (D.told disk.old) (D.faults_of disk.old) (L.told link.old) (L.send_faults_of link.old) (C.to_come clock.old)) result (world node.new (D.told disk.new) (D.faults_of disk.new) (L.told link.new) (L.send_faults_of link.new) (C.to_come clock.new))
         × LeavesOnly D.moment D.left_since disk.old disk.new (MightLeave N.leaves (D.told disk.old) turns) }
     ensures own { N.own node.new (D.told disk.new) }
     ensures faults { D.faults_of disk.old ≤ D.faults_of disk.new }

@@ -21,6 +21,7 @@ returns-clause-asked g c =
         answers = record {
           does = c.answer.ensures.step;
           reads = g.met.D.Disk.reads_an_image before.disk.now;
+          owns = c.answer.ensures.own;
           left = λ image left. c.answer.ensures.moments.each image (g.met.D.Disk.counts_now c.answer.new.disk (g.D.Disk.moment before.disk.now) image c.answer.ensures.moments.later left);
         };
         link = refl;

@@ -14,7 +14,7 @@ pub loop-events-init : goal.loop-events-init
 loop-events-init g c =
     let first = c.args.self.now in
     record {
-      since = none_done (IsAnswered g.N.Node.step g.N.Node.leaves) g.N.Node.leaves g.D.Disk.moment g.D.Disk.left_since first.disk.now
+      since = none_done (IsAnswered g.N.Node.own g.N.Node.step g.N.Node.leaves) g.N.Node.leaves g.D.Disk.moment g.D.Disk.left_since first.disk.now
           (world_in g.D.Disk.told g.D.Disk.faults_of g.L.Link.told g.L.Link.send_faults_of g.C.Clock.to_come first) first.conns.now c.requires.none_kept (g.met.D.Disk.only_now first.disk.now);
       own = c.requires.own;
       faults = omega arith;
@@ -32,7 +32,7 @@ loop-events-preserved g c =
     let held = c.loop-events.invariant in
     let turn = rw c.if-not-branch.false at c.in_ok-turn.ensures.ok in
     record {
-      since = one_more_done (IsAnswered g.N.Node.step g.N.Node.leaves) g.N.Node.leaves g.D.Disk.moment g.D.Disk.left_since first.disk.now (at first) c.loop-events.events old.conns.now new.conns.now old.disk.now new.disk.now (at old) turn.1 (at new) turn.0 held.since turn.2 turn.3
+      since = one_more_done (IsAnswered g.N.Node.own g.N.Node.step g.N.Node.leaves) g.N.Node.leaves g.D.Disk.moment g.D.Disk.left_since first.disk.now (at first) c.loop-events.events old.conns.now new.conns.now old.disk.now new.disk.now (at old) turn.1 (at new) turn.0 held.since turn.2 turn.3
           (λ image later left. g.met.D.Disk.counts_now old.disk.now (g.D.Disk.moment first.disk.now) image later left) turn.4;
       own = c.turn.ensures.own;
       faults = omega (arith, held.faults, c.turn.ensures.disk_faults);
@@ -53,7 +53,7 @@ returns-in_err-turn g c =
     let fault : c.from_residual.result ≡ Err LinkFault = search rules in
     let more : length held.since.turns < c.args.budget = omega (arith, held.since.counted, c.loop-events-test.true) in
     record {
-      serves = ended (IsAnswered g.N.Node.step g.N.Node.leaves) g.N.Node.leaves g.D.Disk.moment g.D.Disk.left_since first.disk.now (at first) c.loop-events.events old.conns.now old.disk.now new.disk.now (at old) (at new) c.args.budget c.from_residual.result held.since same.1
+      serves = ended (IsAnswered g.N.Node.own g.N.Node.step g.N.Node.leaves) g.N.Node.leaves g.D.Disk.moment g.D.Disk.left_since first.disk.now (at first) c.loop-events.events old.conns.now old.disk.now new.disk.now (at old) (at new) c.args.budget c.from_residual.result held.since same.1
           (subst (λ (r : Result Served ServeFault). Ends c.args.budget held.since.turns (at old) r (at new)) (sym fault) (more, same.0));
       own = c.turn.ensures.own;
       disk_faults = omega (arith, held.faults, c.turn.ensures.disk_faults);
@@ -73,7 +73,7 @@ returns-then-not-branch g c =
     let more : length held.since.turns < c.args.budget = omega (arith, held.since.counted, c.loop-events-test.true) in
     let result : Result Served ServeFault = Ok (record { events = c.loop-events.events; stopped = true }) in
     record {
-      serves = ended (IsAnswered g.N.Node.step g.N.Node.leaves) g.N.Node.leaves g.D.Disk.moment g.D.Disk.left_since first.disk.now (at first) c.loop-events.events old.conns.now old.disk.now new.disk.now (at old) (at new) c.args.budget result held.since stop.1
+      serves = ended (IsAnswered g.N.Node.own g.N.Node.step g.N.Node.leaves) g.N.Node.leaves g.D.Disk.moment g.D.Disk.left_since first.disk.now (at first) c.loop-events.events old.conns.now old.disk.now new.disk.now (at old) (at new) c.args.budget result held.since stop.1
           (sym held.since.counted, (more, stop.0));
       own = c.turn.ensures.own;
       disk_faults = omega (arith, held.faults, c.turn.ensures.disk_faults);
@@ -91,7 +91,7 @@ returns g c =
     let all : length held.since.turns ≡ c.args.budget = omega (arith, held.since.counted, c.loop-events-test.false, c.loop-events.auto.events-end) in
     let result : Result Served ServeFault = Ok (record { events = c.args.budget; stopped = false }) in
     record {
-      serves = ended (IsAnswered g.N.Node.step g.N.Node.leaves) g.N.Node.leaves g.D.Disk.moment g.D.Disk.left_since first.disk.now (at first) c.loop-events.events last.conns.now last.disk.now last.disk.now (at last) (at last) c.args.budget result held.since refl
+      serves = ended (IsAnswered g.N.Node.own g.N.Node.step g.N.Node.leaves) g.N.Node.leaves g.D.Disk.moment g.D.Disk.left_since first.disk.now (at first) c.loop-events.events last.conns.now last.disk.now last.disk.now (at last) (at last) c.args.budget result held.since refl
           (sym all, (all, refl));
       own = held.own;
       disk_faults = held.faults;
