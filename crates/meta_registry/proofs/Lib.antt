@@ -1,0 +1,8 @@
+pub mod Picking
+pub mod Covered
+pub mod Reading
+pub mod Skipping
+pub mod Shown
+pub mod OneForm
+pub mod Outcomes
+mod Examples

@@ -1,0 +1,3 @@
+pub mod Aggregate
+pub mod Faults
+pub mod Listed
