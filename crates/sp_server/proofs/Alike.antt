@@ -1,0 +1,66 @@
+-- What a compaction leaves as it was: the answers at its moment.
+use Rattle.std.specs.Prelude.{IsSome, IsTrue, not, codes}
+use Rattle.std.specs.Option.{option_and_then}
+use Rattle.std.proofs.Common.{◌≡◌, inl, inr, ℕ, Bool, List, Option, None, Some, sym, subst, refl, ◌∙◌, arith}
+use Rattle.http_wire.specs.Requests.{Request}
+use Rattle.http_wire.specs.Cookies.{cookie_value}
+use Rattle.request_rows.specs.declared.row.AskedRow.{AskedRow}
+use Rattle.request_ledger.specs.RowsOf.{rows_of}
+use Rattle.request_ledger.specs.Record.{AreRecords}
+use Rattle.request_ledger.specs.Ledger.{Held}
+use Rattle.request_ledger.specs.Compacting.{Compacts}
+use Rattle.request_ledger.specs.Laws.{AnswerAlike, CompactionsChangeNoAnswer}
+use Rattle.sp_rules.specs.declared.accepted.Accepted.{Accepted}
+use Rattle.sp_rules.specs.declared.config.SpConfig.{SpConfig}
+use Rattle.sp_rules.specs.Opening.{Brought, Opens}
+use Rattle.sp_rules.specs.Outstanding.{asked_for}
+use Rattle.sp_rules.specs.Shown.{IsOpening}
+use Rattle.sp_server.specs.Step.{rows_seen, session_for}
+
+alike_self : (now : ℕ) (held : Held) → AnswerAlike now held held
+alike_self now held = record {
+  asked = λ request. refl;
+  spent = λ request is. refl;
+  seen = λ issuer assertion. refl;
+  session = λ token. refl;
+  ending = λ issuer name indexes. refl;
+  waiting = λ request. refl;
+}
+
+pub alike : (now : ℕ) (old new : Held) → CompactionsChangeNoAnswer → AreRecords old.records → Compacts now old new → AnswerAlike now new old
+alike now old new law are (inl same) = subst (λ (h : Held). AnswerAlike now h old) (sym same.1) (alike_self now old)
+alike now old new law are (inr made) = law now now old new are made.1 (omega arith)
+
+-- the session of a cookie
+and_then_same : {A B : Type 0} (f g : A → Option B) (o : Option A) → ((a : A) → f a ≡ g a) → option_and_then f o ≡ option_and_then g o
+and_then_same f g None each = refl
+and_then_same f g (Some a) each = each a
+
+pub session_alike : (now : ℕ) (one other : Held) (request : Request) → AnswerAlike now one other → session_for one now request ≡ session_for other now request
+session_alike now one other request like =
+    and_then_same _ _ (option_and_then (λ header. cookie_value header (codes "sp_sid")) request.cookie) (λ token. like.session token)
+
+-- a form that opens a session
+pub opens_alike : (config : SpConfig) (now : ℕ) (one other : Held) (body : List ℕ) (b : Brought) (row : AskedRow) → AnswerAlike now one other
+    → Opens config (rows_seen (rows_of other.records)) other.header.horizon now body b row → Opens config (rows_seen (rows_of one.records)) one.header.horizon now body b row
+opens_alike config now one other body b row like opens =
+    let request : asked_for (rows_seen (rows_of one.records)) one.header.horizon now b.login ≡ Some row = like.asked b.login.request ∙ opens.request in
+    let some : IsSome (asked_for (rows_seen (rows_of one.records)) one.header.horizon now b.login) = subst (λ (o : Option AskedRow). IsSome o) (sym request) refl in
+    record {
+      brings = opens.brings;
+      meant = opens.meant;
+      request = request;
+      outstanding = opens.outstanding;
+      unspent = subst (λ (s : Bool). IsTrue (not s)) (sym (like.spent b.login.request some)) opens.unspent;
+      unseen = subst (λ (s : Bool). IsTrue (not s)) (sym (like.seen b.login.issuer b.login.id)) opens.unseen;
+      relayed = opens.relayed;
+    }
+
+pub opening_alike : (config : SpConfig) (now : ℕ) (one other : Held) (body : List ℕ) (accepted : Accepted) → AnswerAlike now one other
+    → IsOpening config (rows_seen (rows_of other.records)) other.header.horizon now body accepted → IsOpening config (rows_seen (rows_of one.records)) one.header.horizon now body accepted
+opening_alike config now one other body accepted like opening = record {
+  brought = opening.brought;
+  asked = opening.asked;
+  opens = opens_alike config now one other body opening.brought opening.asked like opening.opens;
+  is = opening.is;
+}

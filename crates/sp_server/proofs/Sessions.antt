@@ -1,0 +1,88 @@
+-- When a session is opened.
+use Rattle.std.specs.Prelude.{Option, None, Some}
+use Rattle.std.proofs.Common.{◌≡◌, inl, inr, ℕ, List, sym, subst, refl, ◌∙◌}
+use Rattle.http_wire.specs.declared.answer.Answer.{Answer}
+use Rattle.http_wire.specs.Requests.{Request}
+use Rattle.ledger_records.specs.declared.sp_record.Opened.{Opened as OpenedRecord}
+use Rattle.ledger_records.specs.declared.sp_record.SpRecord.{SpRecord}
+use Rattle.ledger_records.specs.declared.sp_record.SpRecord.TheVariants as kinds
+use Rattle.verdict_codes.specs.declared.codes.Verdict.{Verdict}
+use Rattle.request_rows.specs.Rows.{RowsView}
+use Rattle.request_rows.specs.declared.row.AskedRow.{AskedRow}
+use Rattle.request_ledger.specs.Ledger.{Held}
+use Rattle.sp_rules.specs.declared.config.SpConfig.{SpConfig}
+use Rattle.sp_rules.specs.Opening.{Brought, Opens}
+use Rattle.sp_rules.specs.Verdict.{IsRefused}
+use Rattle.sp_server.specs.Step as steps
+use Rattle.sp_server.specs.Step.{Setup, Provider, Answers, HasPlace, Serves}
+use Rattle.sp_server.specs.Sessions.{OpensOver, GivesSession, OnlyWhereAFormOpens, WhereverAFormOpens, record_of}
+
+-- a form that opens a session is refused for nothing
+abbrev pub IsNotRefused : Type 0
+IsNotRefused = (config : SpConfig) (rows : RowsView) (horizon now : ℕ) (body : List ℕ) (b : Brought) (asked : AskedRow) (verdict : Verdict)
+    → Opens config rows horizon now body b asked → ¬ (IsRefused config rows horizon now body verdict)
+
+given : (setup : Setup) (held : Held) (request : Request) (now : ℕ) (answer : Answer) (adds : Option SpRecord) (r : OpenedRecord) → adds ≡ Some (kinds.Opened r)
+    → Answers setup held request now answer adds → GivesSession setup held request now (kinds.Opened r) answer
+given setup held request now answer adds r some (steps.ByStatus status to is none) = absurd (cc)
+given setup held request now answer adds r some (steps.ByMetadata to is none) = absurd (cc)
+given setup held request now answer adds r some (steps.BySession row to found is none) = absurd (cc)
+given setup held request now answer adds r some (steps.ByAsking bytes to none unexpired id relay page is ids shown) = absurd (cc)
+given setup held request now answer adds r some (steps.ByOpening b row to unexpired opens token is has shown) =
+    let same : record_of setup held now b ≡ kinds.Opened r = cc in
+    record {
+      brought = b;
+      row = row;
+      opens = record { posted = to; unexpired = unexpired; opens = opens };
+      is = sym same;
+      token = token;
+      has = subst (λ (x : SpRecord). steps.HasToken x token) same has;
+      answered = shown;
+    }
+given setup held request now answer adds r some (steps.ByVerdict verdict to unexpired refused is none) = absurd (cc)
+given setup held request now answer adds r some (steps.ByExpiry at expired is none) = absurd (cc)
+
+pub only_where : OnlyWhereAFormOpens
+only_where setup held request now answer r answers = given setup held request now answer (Some (kinds.Opened r)) r refl answers
+
+-- what is answered where a form opens a session
+record IsGiven (setup : Setup) (held : Held) (request : Request) (now : ℕ) (answer : Answer) (adds : Option SpRecord) : Type 0 where
+  r : SpRecord
+  is : adds ≡ Some r
+  gives : GivesSession setup held request now r answer
+
+answered : IsNotRefused → (setup : Setup) (held : Held) (request : Request) (now : ℕ) (answer : Answer) (adds : Option SpRecord) (b : Brought) (row : AskedRow)
+    → OpensOver setup held request now b row → Answers setup held request now answer adds → IsGiven setup held request now answer adds
+answered not_refused setup held request now answer adds b row over (steps.ByStatus status to is none) = absurd (let e = sym over.posted ∙ to in cc)
+answered not_refused setup held request now answer adds b row over (steps.ByMetadata to is none) = absurd (let e = sym over.posted ∙ to in cc)
+answered not_refused setup held request now answer adds b row over (steps.BySession found to live is none) = absurd (let e = sym over.posted ∙ to in cc)
+answered not_refused setup held request now answer adds b row over (steps.ByAsking bytes to none unexpired id relay page is ids shown) = absurd (let e = sym over.posted ∙ to in cc)
+answered not_refused setup held request now answer adds b row over (steps.ByOpening c asked to unexpired opens token is has shown) = record {
+  r = record_of setup held now c;
+  is = is;
+  gives = record { brought = c; row = asked; opens = record { posted = to; unexpired = unexpired; opens = opens }; is = refl; token = token; has = has; answered = shown };
+}
+answered not_refused setup held request now answer adds b row over (steps.ByVerdict verdict to unexpired refused is none) =
+    absurd (not_refused setup.config _ held.header.horizon now request.body b row verdict over.opens refused)
+answered not_refused setup held request now answer adds b row over (steps.ByExpiry at expired is none) = absurd (let e = sym over.unexpired ∙ expired in cc)
+
+-- there was room for what was wanted
+had_room : (setup : Setup) (found : Held) (request : Request) (now : ℕ) (other : Answer) (wanted : SpRecord)
+    → ((b : Brought) (row : AskedRow) → OpensOver setup found request now b row → HasPlace found (record_of setup found now b)) → IsGiven setup found request now other (Some wanted) → HasPlace found wanted
+had_room setup found request now other wanted room is =
+    let same : is.r ≡ wanted = (let e = is.is in cc) in
+    subst (HasPlace found) (sym is.gives.is ∙ same) (room is.gives.brought is.gives.row is.gives.opens)
+
+pub wherever : IsNotRefused → WhereverAFormOpens
+wherever not_refused found request now faults later answer old new b row over room calm (steps.Plain answers whole) =
+    absurd (let e = (answered not_refused old.setup found request now answer None b row over answers).is in cc)
+wherever not_refused found request now faults later answer old new b row over room calm (steps.Recorded r answers place whole) =
+    let is = answered not_refused old.setup found request now answer (Some r) b row over answers in
+    let same : is.r ≡ r = (let e = is.is in cc) in
+    inr (r, subst (λ (x : SpRecord). GivesSession old.setup found request now x answer) same is.gives, whole.is)
+wherever not_refused found request now faults later answer old new b row over room calm (steps.RecordedAfterCompaction held wanted r other wants none made answers place whole) =
+    absurd (none (had_room old.setup found request now other wanted room (answered not_refused old.setup found request now other (Some wanted) b row over wants)))
+wherever not_refused found request now faults later answer old new b row over room calm (steps.NoPlace held wanted r other another wants none made answers still is whole) =
+    absurd (none (had_room old.setup found request now other wanted room (answered not_refused old.setup found request now other (Some wanted) b row over wants)))
+wherever not_refused found request now faults later answer old new b row over room calm (steps.Failed wanted other wants risen is broken) = absurd (calm risen)
+wherever not_refused found request now faults later answer old new b row over room calm (steps.Starved held which is whole) = inl is

@@ -1,0 +1,66 @@
+-- A path to which a user can be sent back is a text of XML.
+use Rattle.std.proofs.Common.{◌≡◌, ℕ, ◌<◌, ◌≤◌, Bool, true, false, List, [], ◌∷◌, refl, ap, ◌∙◌, arith}
+use Rattle.std.specs.List.{list_all}
+use Rattle.std.specs.Prelude.{zero, suc, Option, None, Some, if◌then◌else◌}
+use Rattle.std.specs.Str.{chars, IsAscii}
+use Rattle.std.proofs.lemmas.Str.{chars-IsAscii}
+use Rattle.std.proofs.lemmas.Bool.Decides.{nat_tests}
+use Rattle.xml_spec.specs.Characters.{is_char}
+use Rattle.xml_spec.proofs.Tests.{and_true, both_true}
+use Rattle.http_wire.specs.declared.method.Method.{Method}
+use Rattle.http_wire.specs.Requests.{Request}
+use Rattle.ledger_rules.specs.Numbers.{is_xml_text}
+use Rattle.sp_server.specs.Routes.{To, Refused, Service, App, Consumer, Metadata, checked, is_method, is_path_byte, is_target, is_typed, route, service_at}
+
+graphic : (b : ℕ) → is_path_byte b ≡ true → (45 ≤ b) × (b < 127)
+graphic b h = grind (arith, nat_tests)
+
+is_allowed : (b : ℕ) → 45 ≤ b → b < 127 → is_char b ≡ true
+is_allowed b low high = grind (arith, nat_tests)
+
+are_allowed : (path : List ℕ) → list_all is_path_byte path ≡ true → list_all is_char path ≡ true
+are_allowed [] h = refl
+are_allowed (b ∷ path) h =
+    let both = both_true (is_path_byte b) (list_all is_path_byte path) h in
+    let range = graphic b both.0 in
+    and_true (is_char b) (list_all is_char path) (is_allowed b range.0 range.1) (are_allowed path both.1)
+
+are_ascii : (path : List ℕ) → list_all is_path_byte path ≡ true → IsAscii path
+are_ascii [] h i = omega arith
+are_ascii (b ∷ path) h zero = omega (arith, (graphic b (both_true (is_path_byte b) (list_all is_path_byte path) h).0).1)
+are_ascii (b ∷ path) h (suc i) = are_ascii path (both_true (is_path_byte b) (list_all is_path_byte path) h).1 i
+
+pub target_is_text : (path : List ℕ) → is_target path ≡ true → is_xml_text path ≡ true
+unfolding is_xml_text
+target_is_text path h =
+    let all = (both_true (Rattle.std.specs.Prelude.nat_le (Rattle.std.specs.Prelude.length path) 256) (list_all is_path_byte path) h).1 in
+    ap (list_all is_char) (chars-IsAscii path (are_ascii path all)) ∙ are_allowed path all
+
+-- the path of a request for a page of the application is one
+tested : (takes typed target : Bool) → (if takes then (if typed then (if target then To App else Refused 404) else Refused 415) else Refused 405) ≡ To App → target ≡ true
+tested true true true is = refl
+tested true true false is = cc
+tested true false target is = cc
+tested false typed target is = cc
+
+tested_consumer : (takes typed : Bool) → ¬ ((if takes then (if typed then To Consumer else Refused 415) else Refused 405) ≡ To App)
+tested_consumer true true is = cc
+tested_consumer true false is = cc
+tested_consumer false typed is = cc
+
+tested_metadata : (takes typed : Bool) → ¬ ((if takes then (if typed then To Metadata else Refused 415) else Refused 405) ≡ To App)
+tested_metadata true true is = cc
+tested_metadata true false is = cc
+tested_metadata false typed is = cc
+
+at_service : (request : Request) (method : Method) (service : Service) → checked request (Some (method, service)) ≡ To App → is_target request.path ≡ true
+at_service request method App is = tested (is_method method request.method) (is_typed method request.content_type) (is_target request.path) is
+at_service request method Consumer is = absurd (tested_consumer (is_method method request.method) (is_typed method request.content_type) is)
+at_service request method Metadata is = absurd (tested_metadata (is_method method request.method) (is_typed method request.content_type) is)
+
+at_any : (request : Request) (at : Option (Method × Service)) → checked request at ≡ To App → is_target request.path ≡ true
+at_any request None is = cc
+at_any request (Some at) is = at_service request at.0 at.1 is
+
+pub path_is_text : (request : Request) → route request ≡ To App → is_xml_text request.path ≡ true
+path_is_text request is = target_is_text request.path (at_any request (service_at request.path) is)

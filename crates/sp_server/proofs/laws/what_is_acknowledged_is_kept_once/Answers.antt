@@ -1,0 +1,7 @@
+use Rattle.sp_server.proofs.Services.{kept_once}
+use Rattle.sp_server.proofs.Texts.{texts_opened}
+use Rattle.sp_server.proofs.laws.what_is_acknowledged_is_kept_once.Goals as goal
+
+pub returns : goal.returns
+returns c =
+    kept_once (texts_opened c.a_spelled_tree_is_writable.ensures c.the_texts_of_a_login_are_texts.ensures) c.no_request_opens_twice_in_a_run.ensures

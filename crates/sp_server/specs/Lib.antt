@@ -1,0 +1,7 @@
+pub mod Routes
+pub mod Step
+pub mod Node
+pub mod Serving
+pub mod Views
+pub mod Histories
+pub mod Sessions

@@ -1,0 +1,54 @@
+-- When a session is opened: exactly where a posted form opens one.
+use Rattle.std.specs.Prelude.{◌≡◌, ◌⊎◌, ℕ, false, List, Some}
+use Rattle.crash_disk.specs.Counts.{Rose}
+use Rattle.http_wire.specs.declared.answer.Answer.{Answer}
+use Rattle.http_wire.specs.declared.answer.Answer.TheVariants.{Fixed, Full}
+use Rattle.http_wire.specs.Requests.{Request}
+use Rattle.ledger_records.specs.declared.sp_record.Opened.{Opened as OpenedRecord}
+use Rattle.ledger_records.specs.declared.sp_record.SpRecord.{SpRecord}
+use Rattle.ledger_records.specs.declared.sp_record.SpRecord.TheVariants as kinds
+use Rattle.request_rows.specs.declared.row.AskedRow.{AskedRow}
+use Rattle.request_ledger.specs.RowsOf.{rows_of}
+use Rattle.request_ledger.specs.Ledger.{Held, next_number, held_with}
+use Rattle.request_ledger.specs.Drafts.{opened}
+use Rattle.sp_rules.specs.Opening.{Brought, Opens}
+use Rattle.sp_rules.specs.Shown.{session_of}
+use Rattle.sp_answers.specs.Answers.{opened_answer}
+use Rattle.sp_server.specs.Routes.{Consumer, To, route}
+use Rattle.sp_server.specs.Step.{Setup, Provider, Answers, HasPlace, HasToken, Serves, NO_MEMORY, is_expired, rows_seen}
+
+-- Over a ledger, at a moment, the form that a request posts opens a session: the login that it brings answers this asked row.
+pub record OpensOver (setup : Setup) (held : Held) (request : Request) (now : ℕ) (b : Brought) (row : AskedRow) : Type 0 where
+  pub posted : route request ≡ To Consumer
+  pub unexpired : is_expired setup.expiry now ≡ false
+  pub opens : Opens setup.config (rows_seen (rows_of held.records)) held.header.horizon now request.body b row
+
+-- the record of the session of a login
+abbrev pub record_of : Setup → Held → ℕ → Brought → SpRecord
+record_of setup held now b = opened setup.config.id_key (next_number held) now (session_of setup.config now b.key.number b.login)
+
+-- This record and this answer give the session that the form opens: the user is sent to where the login began, with the session's
+-- token.
+pub record GivesSession (setup : Setup) (held : Held) (request : Request) (now : ℕ) (r : SpRecord) (answer : Answer) : Type 0 where
+  pub brought : Brought
+  pub row : AskedRow
+  pub opens : OpensOver setup held request now brought row
+  pub is : r ≡ record_of setup held now brought
+  pub token : List ℕ
+  pub has : HasToken r token
+  pub answered : answer ≡ Full (opened_answer row.target token)
+
+-- A session is recorded only where the form opens it.
+abbrev pub OnlyWhereAFormOpens : Type 0
+OnlyWhereAFormOpens =
+    (setup : Setup) (held : Held) (request : Request) (now : ℕ) (answer : Answer) (r : OpenedRecord)
+    → Answers setup held request now answer (Some (kinds.Opened r)) → GivesSession setup held request now (kinds.Opened r) answer
+
+-- And wherever one does, there is room for it and the disk does not fail, the session is recorded and given; or there was no memory.
+abbrev pub WhereverAFormOpens : Type 0
+WhereverAFormOpens =
+    (found : Held) (request : Request) (now faults later : ℕ) (answer : Answer) (old new : Provider) (b : Brought) (row : AskedRow)
+    → OpensOver old.setup found request now b row → ((other : Brought) (asked : AskedRow) → OpensOver old.setup found request now other asked → HasPlace found (record_of old.setup found now other))
+    → ¬ (Rose faults later) → Serves found request now (Rose faults later) answer old new
+    → (answer ≡ Fixed NO_MEMORY)
+    ⊎ ((r : SpRecord) × GivesSession old.setup found request now r answer × (new.ledger.held ≡ held_with r found))

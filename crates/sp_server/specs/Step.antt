@@ -1,0 +1,188 @@
+-- What a service provider does at one request.
+use Rattle.std.specs.Prelude.{◌≡◌, ◌⊎◌, ℕ, nat_le, Bool, true, false, List, codes, Option, None, Some, IfSome, Ok, Err, if◌then◌else◌}
+use Rattle.std.specs.Option.{option_and_then}
+use Rattle.crash_disk.specs.Disk.{Image, DiskState, image_of}
+use Rattle.http_wire.specs.declared.answer.Answer.{Answer}
+use Rattle.http_wire.specs.declared.answer.Answer.TheVariants.{Fixed, Full}
+use Rattle.http_wire.specs.Requests.{Request}
+use Rattle.http_wire.specs.Cookies.{cookie_value}
+use Rattle.verdict_codes.specs.Codes.{number_of}
+use Rattle.verdict_codes.specs.declared.codes.Verdict.{Verdict}
+use Rattle.access_policy.specs.declared.rule.Rule.{Rule}
+use Rattle.access_policy.specs.Decide as policies
+use Rattle.ledger_records.specs.declared.sp_record.SpRecord.{SpRecord}
+use Rattle.request_rows.specs.declared.row.AskedRow.{AskedRow}
+use Rattle.request_rows.specs.declared.row.OpenedRow.{OpenedRow}
+use Rattle.request_rows.specs.Rows.{RowsView, session_row}
+use Rattle.request_ledger.specs.RowsOf.{SpRows, rows_of}
+use Rattle.gate_journal.specs.Format.{Fault}
+use Rattle.request_ledger.specs.Ledger.{Held, Opened, IsFitting, IsOwn, LeftByOpening, ledger_in, taken, next_number, held_with}
+use Rattle.request_ledger.specs.Draft.{drawn_id}
+use Rattle.request_ledger.specs.Drafts.{asked, opened, is_full}
+use Rattle.request_ledger.specs.Compacting.{Compacts}
+use Rattle.sp_rules.specs.declared.config.SpConfig.{SpConfig}
+use Rattle.sp_rules.specs.Opening.{Brought, Opens}
+use Rattle.sp_rules.specs.Shown.{session_of}
+use Rattle.sp_rules.specs.Verdict.{IsRefused}
+use Rattle.sp_answers.specs.Answers.{IsAskAnswer, user_answer, denied_answer, opened_answer, metadata_answer}
+use Rattle.sp_server.specs.Routes.{App, Consumer, Metadata, To, Refused, route}
+
+-- what a provider is set up with: its config, the rules of its policy where it has one, and the moment at which its registry
+-- of metadata ends where it has one
+pub record Setup : Type 0 where
+  pub config : SpConfig
+  pub policy : Option (List Rule)
+  pub expiry : Option ℕ
+
+-- a provider: what it is set up with, and its ledger
+pub record Provider : Type 0 where
+  pub setup : Setup
+  pub ledger : Opened
+
+-- whether the registry has ended
+abbrev pub is_expired : Option ℕ → ℕ → Bool
+is_expired None now = false
+is_expired (Some moment) now = nat_le moment now
+
+-- the live session of the request's cookie
+abbrev pub session_for : Held → ℕ → Request → Option OpenedRow
+session_for held now request =
+    option_and_then (λ token. session_row (rows_of held.records).opened token now held.header.horizon)
+    (option_and_then (λ header. cookie_value header (codes "sp_sid")) request.cookie)
+
+-- what a session is answered: the page of the user where the policy allows it or there is none, else the rule that denies it
+abbrev pub by_decision : OpenedRow → policies.Answer → List ℕ
+by_decision row decision = if decision.allowed then user_answer row.name row.attributes else denied_answer decision.rule
+
+abbrev pub shown_to : Option (List Rule) → List ℕ → OpenedRow → List ℕ
+shown_to None path row = user_answer row.name row.attributes
+shown_to (Some rules) path row = by_decision row (policies.decide rules path row.name row.attributes)
+
+-- the rows as the verdict sees them
+abbrev pub rows_seen : SpRows → RowsView
+rows_seen rows = record { asked = rows.asked; opened = rows.opened; left = rows.left; spare = record { asked = 0; opened = 0; left = 0 } }
+
+-- the number of the code for an ended registry
+abbrev pub REGISTRY_EXPIRED : ℕ
+REGISTRY_EXPIRED = 70
+
+-- the IDs of a record
+abbrev pub HasIds : SpRecord → List ℕ → List ℕ → Type 0
+HasIds r first second = (drawn_id r 0 ≡ Some first) × (drawn_id r 1 ≡ Some second)
+
+abbrev pub HasToken : SpRecord → List ℕ → Type 0
+HasToken r token = drawn_id r 0 ≡ Some token
+
+-- What is answered to a request by this ledger at this moment where nothing fails, and the record that is added with it.
+pub data Answers (setup : Setup) (held : Held) (request : Request) (now : ℕ) (answer : Answer) (adds : Option SpRecord) : Type 0 where
+  -- there is no such service
+  ByStatus : (status : ℕ) → route request ≡ Refused status → answer ≡ Fixed status → adds ≡ None → Answers setup held request now answer adds
+  -- the metadata
+  ByMetadata : route request ≡ To Metadata → answer ≡ Full (metadata_answer setup.config) → adds ≡ None → Answers setup held request now answer adds
+  -- a page for a live session
+  BySession : (row : OpenedRow) → route request ≡ To App → session_for held now request ≡ Some row
+      → answer ≡ Full (shown_to setup.policy request.path row) → adds ≡ None → Answers setup held request now answer adds
+  -- without one a login is asked for, with the path as the target
+  ByAsking : (bytes : List ℕ) → route request ≡ To App → session_for held now request ≡ None → is_expired setup.expiry now ≡ false
+      → (id relay : List ℕ) → IsAskAnswer setup.config id relay now bytes
+      → adds ≡ Some (asked setup.config.id_key (next_number held) now request.path) → HasIds (asked setup.config.id_key (next_number held) now request.path) id relay
+      → answer ≡ Full bytes → Answers setup held request now answer adds
+  -- a posted form that opens a session
+  ByOpening : (b : Brought) (row : AskedRow) → route request ≡ To Consumer → is_expired setup.expiry now ≡ false
+      → Opens setup.config (rows_seen (rows_of held.records)) held.header.horizon now request.body b row
+      → (token : List ℕ)
+      → adds ≡ Some (opened setup.config.id_key (next_number held) now (session_of setup.config now b.key.number b.login))
+      → HasToken (opened setup.config.id_key (next_number held) now (session_of setup.config now b.key.number b.login)) token
+      → answer ≡ Full (opened_answer row.target token) → Answers setup held request now answer adds
+  -- a posted form that is refused
+  ByVerdict : (verdict : Verdict) → route request ≡ To Consumer → is_expired setup.expiry now ≡ false
+      → IsRefused setup.config (rows_seen (rows_of held.records)) held.header.horizon now request.body verdict
+      → answer ≡ Fixed (number_of verdict) → adds ≡ None → Answers setup held request now answer adds
+  -- the registry has ended: nothing is asked and no session is opened
+  ByExpiry : (route request ≡ To Consumer) ⊎ ((route request ≡ To App) × (session_for held now request ≡ None)) → is_expired setup.expiry now ≡ true
+      → answer ≡ Fixed REGISTRY_EXPIRED → adds ≡ None → Answers setup held request now answer adds
+
+-- there is room for a record: fewer rows of its kind are kept than may be, and it fits
+pub record HasPlace (held : Held) (r : SpRecord) : Type 0 where
+  pub few : is_full (rows_of held.records) r ≡ false
+  pub fits : IsFitting held r
+
+-- after a request the ledger is whole and holds this
+pub record IsWhole (old new : Provider) (held : Held) : Type 0 where
+  pub setup : new.setup ≡ old.setup
+  pub key : new.ledger.key ≡ old.ledger.key
+  pub unbroken : new.ledger.broken ≡ false
+  pub is : new.ledger.held ≡ held
+
+-- after a request the ledger is broken
+pub record IsBroken (old new : Provider) : Type 0 where
+  pub setup : new.setup ≡ old.setup
+  pub key : new.ledger.key ≡ old.ledger.key
+  pub is_broken : new.ledger.broken ≡ true
+
+-- the codes that a provider answers where it can't go on
+abbrev pub DISK_FAULT : ℕ
+DISK_FAULT = 50
+
+abbrev pub FULL : ℕ
+FULL = 51
+
+abbrev pub NO_MEMORY : ℕ
+NO_MEMORY = 52
+
+abbrev pub FOREIGN : ℕ
+FOREIGN = 53
+
+-- What is done at a request over the ledger that it finds: the request and the moment; whether the disk's count of faults rose;
+-- the answer; the provider before and after.
+pub data Serves (found : Held) (request : Request) (now : ℕ) (Risen : Type 0) (answer : Answer) (old new : Provider) : Type 0 where
+  -- nothing is recorded
+  Plain : Answers old.setup found request now answer None → IsWhole old new found → Serves found request now Risen answer old new
+  -- a record is added
+  Recorded : (r : SpRecord) → Answers old.setup found request now answer (Some r) → HasPlace found r → IsWhole old new (held_with r found)
+      → Serves found request now Risen answer old new
+  -- there was no place for it, and after one compaction there is
+  RecordedAfterCompaction : (held : Held) (wanted r : SpRecord) (other : Answer) → Answers old.setup found request now other (Some wanted)
+      → ¬ (HasPlace found wanted) → Compacts now found held → Answers old.setup held request now answer (Some r) → HasPlace held r
+      → IsWhole old new (held_with r held) → Serves found request now Risen answer old new
+  -- there is none after it either
+  NoPlace : (held : Held) (wanted r : SpRecord) (other another : Answer) → Answers old.setup found request now other (Some wanted)
+      → ¬ (HasPlace found wanted) → Compacts now found held → Answers old.setup held request now another (Some r) → ¬ (HasPlace held r)
+      → answer ≡ Fixed FULL → IsWhole old new held → Serves found request now Risen answer old new
+  -- a record was to be added, and the disk failed in the compaction or while the record was written
+  Failed : (wanted : SpRecord) (other : Answer) → Answers old.setup found request now other (Some wanted) → Risen → answer ≡ Fixed DISK_FAULT
+      → IsBroken old new → Serves found request now Risen answer old new
+  -- there was no memory: nothing is recorded, and one compaction may have been made
+  Starved : (held : Held) → (held ≡ found) ⊎ Compacts now found held → answer ≡ Fixed NO_MEMORY → IsWhole old new held
+      → Serves found request now Risen answer old new
+
+-- The step of a provider at one request. A ledger that is broken is opened again first.
+pub data Steps (old : Provider) (disk : Option DiskState) (request : Request) (now : ℕ) (Risen : Type 0) (answer : Answer) (new : Provider) : Type 0 where
+  WithLedger : old.ledger.broken ≡ false → Serves old.ledger.held request now Risen answer old new → Steps old disk request now Risen answer new
+  WithOpened : (found : Held) → old.ledger.broken ≡ true → IfSome disk (λ d. taken (ledger_in (image_of d)) ≡ Ok found)
+      → Serves found request now Risen answer old new → Steps old disk request now Risen answer new
+  -- the disk failed, it stands for no ledger, or there was no memory: the ledger stays broken
+  NotOpened : old.ledger.broken ≡ true → Risen → answer ≡ Fixed DISK_FAULT → IsBroken old new → Steps old disk request now Risen answer new
+  Strange : old.ledger.broken ≡ true → IfSome disk (λ d. (fault : Fault) × (taken (ledger_in (image_of d)) ≡ Err fault)) → answer ≡ Fixed FOREIGN
+      → IsBroken old new → Steps old disk request now Risen answer new
+  StarvedAtOpening : old.ledger.broken ≡ true → answer ≡ Fixed NO_MEMORY → IsBroken old new → Steps old disk request now Risen answer new
+
+-- What a crash while a request is served over a ledger may leave: this ledger, or it after one compaction, and either with the record
+-- that the request adds.
+pub data ServingLeaves (setup : Setup) (found : Held) (request : Request) (now : ℕ) (image : Image) : Type 0 where
+  Same : ledger_in image ≡ Ok (Some found) → ServingLeaves setup found request now image
+  Compacted : (held : Held) → Compacts now found held → ledger_in image ≡ Ok (Some held) → ServingLeaves setup found request now image
+  With : (held : Held) (r : SpRecord) (answer : Answer) → (held ≡ found) ⊎ Compacts now found held → Answers setup held request now answer (Some r)
+      → HasPlace held r → ledger_in image ≡ Ok (Some (held_with r held)) → ServingLeaves setup found request now image
+
+-- What a crash at a moment of a request may leave: that, and while a broken ledger is opened again what the disk stood for, or what is
+-- opened from it.
+pub data StepLeaves (old : Provider) (disk : Option DiskState) (request : Request) (now : ℕ) (image : Image) : Type 0 where
+  InLedger : old.ledger.broken ≡ false → ServingLeaves old.setup old.ledger.held request now image → StepLeaves old disk request now image
+  InOpened : (found : Held) → old.ledger.broken ≡ true → IfSome disk (λ d. taken (ledger_in (image_of d)) ≡ Ok found)
+      → ServingLeaves old.setup found request now image → StepLeaves old disk request now image
+  InOpening : old.ledger.broken ≡ true → LeftByOpening disk image → StepLeaves old disk request now image
+
+-- the disk is the provider's own
+abbrev pub OwnsDisk : Provider → Option DiskState → Type 0
+OwnsDisk provider disk = IsOwn disk provider.ledger

@@ -1,0 +1,34 @@
+//! The service provider: what it answers to each request, and what it records.
+//!
+//! ```
+//! let mut node = SpNode::start(alloc, config, &mut disk)?;     // opens the ledger of the disk
+//! let answer = node.answer(&request, now, &mut disk);          // one step: an answer, and at most one record
+//! ```
+//!
+//! | Request | Answer |
+//! |---|---|
+//! | GET `/app` and below, with the cookie of a live session | the page of the user, or the rule of the policy that denies it |
+//! | GET `/app` and below, without one | a form that asks the identity provider for a login; the request is recorded |
+//! | POST `/acs` | the verdict on the posted form; where it opens a session this is recorded, and the user is sent to where the login began |
+//! | GET `/metadata` | the metadata of the provider |
+//!
+//! What one request does is one definition, `Steps` of `specs/Step.antt`, by named cases: nothing is recorded; a record is
+//! added; it is added after one compaction that made room; there is no room (code 51); the disk failed (50); it holds no
+//! ledger (53); there was no memory (52). An answer that stands for a record is sent only where the record is in every image
+//! that a crash may leave. All pages are made before the record is written, so from then on only the disk can refuse.
+//!
+//! Over whole services the [`laws`] hold: a session is opened exactly where a posted form opens one, what an answer
+//! acknowledged is in the history of every ledger that a crash may leave, and no two sessions are of one request.
+#![tactic(auto)]
+
+mod answering;
+mod app;
+mod consumer;
+pub mod laws;
+mod node;
+mod recording;
+mod route;
+#[cfg(test)]
+mod tests;
+
+pub use node::SpNode;
