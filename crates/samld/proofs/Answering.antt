@@ -3,7 +3,7 @@ use Rattle.std.proofs.Common.{◌≡◌, ◌≢◌, ℕ, ◌⊎◌, List, [], �
 use Rattle.saml_outside.specs.Files.{File, IsUnread}
 use Rattle.samld.specs.declared.status.Status.{Status}
 use Rattle.samld.specs.declared.status.Status.TheVariants as statuses
-use Rattle.samld.specs.Answers.{Answer, Printed, Refused, BadFile, Usage, status_of, IsYes}
+use Rattle.samld.specs.Answers.{Answer, Printed, Refused, BadFile, Foreign, Usage, status_of, IsYes}
 use Rattle.saml_outside.specs.Files.{Reads}
 use Rattle.saml_outside.specs.declared.reading.FileRead.TheVariants as reads
 use Rattle.xml_spec.specs.Tree.{Nodes}
@@ -12,6 +12,7 @@ use Rattle.saml_tree.specs.declared.node.TreeFault.{TreeFault}
 use Rattle.fault_verdicts.specs.Verdicts.{of_document}
 use Rattle.samld.specs.Documents.{OfDocument}
 use Rattle.samld.specs.Reading.{OfFile}
+use Rattle.samld.specs.Serving.{Ran}
 use Rattle.samld.specs.Running.{Command, command_of, OfCommand, Answers, IsVerdictOf, EndsWith, PrintsPart}
 
 pub if_ok_map : {T E : Type 0} (r : Result T E) (P Q : T → Type 0) → ((x : T) → P x → Q x) → IfOk r P → IfOk r Q
@@ -25,6 +26,14 @@ line_is digits name = simp append_assoc
 pub bad_line_is : (file digits : List ℕ) →
     codes "bad " ++ (file ++ (32 ∷ (digits ++ 10 ∷ []))) ≡ codes "bad " ++ file ++ codes " " ++ digits ++ codes "\n"
 bad_line_is file digits = simp append_assoc
+
+pub foreign_line_is : (number digits : List ℕ) →
+    codes "foreign " ++ (number ++ (32 ∷ (digits ++ 10 ∷ []))) ≡ codes "foreign " ++ number ++ codes " " ++ digits ++ codes "\n"
+foreign_line_is number digits = simp append_assoc
+
+pub served_line_is : (digits why : List ℕ) →
+    codes "served " ++ (digits ++ (32 ∷ (why ++ 10 ∷ []))) ≡ codes "served " ++ digits ++ codes " " ++ why ++ codes "\n"
+served_line_is digits why = simp append_assoc
 
 part : (P Q : Answer → Type 0) (old new : Option (List ℕ)) → ((answer : Answer) → P answer → Q answer) → PrintsPart P old new → PrintsPart Q old new
 part P Q old new f h = (h.0, h.1, f h.0 h.2, h.3)
@@ -53,6 +62,7 @@ only_done : (status : Status) (answer : Answer) → IsYes answer → status ≡ 
 only_done status (Printed text) agrees e = inl e
 only_done status (Refused verdict) agrees e = absurd agrees
 only_done status (BadFile file line) agrees e = absurd agrees
+only_done status (Foreign file place) agrees e = absurd agrees
 only_done status Usage agrees e = absurd agrees
 
 -- where the definition says yes alone, a run that met no fault is done, or memory ran out
@@ -70,10 +80,10 @@ settled P old new statuses.LinkFault agrees read write h = only_done statuses.Li
 settled P old new statuses.ForeignJournal agrees read write h = only_done statuses.ForeignJournal h.0 (agrees h.0 h.1) h.2
 
 -- a command of the words is what they ask for
-pub answered : (words : List (List ℕ)) (told : Option (List File)) (command : Command) → command_of words ≡ Some command →
-    (answer : Answer) → OfCommand told command answer → Answers words told answer
-answered words told command e answer h =
-    subst (λ (o : Option Command). MatchOption o (answer ≡ Usage) (λ c. OfCommand told c answer)) (sym e) h
+pub answered : (words : List (List ℕ)) (told : Option (List File)) (ran : Ran) (command : Command) → command_of words ≡ Some command →
+    (answer : Answer) → OfCommand told ran command answer → Answers words told ran answer
+answered words told ran command e answer h =
+    subst (λ (o : Option Command). MatchOption o (answer ≡ Usage) (λ c. OfCommand told ran c answer)) (sym e) h
 
 -- a file that is absent or too long can't be used
 pub unread_bad : (meaning : List ℕ → Answer → Type 0) (told : Option (List File)) (file : List ℕ) (limit : ℕ) → IsUnread told file limit →

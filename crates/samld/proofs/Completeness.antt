@@ -24,7 +24,8 @@ use Rattle.samld.specs.Canon.{OfForm, OfCanonDocument, OfCanon}
 use Rattle.samld.specs.Check.{rows_of, OfJudged, OfCheck}
 use Rattle.samld.specs.Vouch.{OfVouching, OfVouchedDocument, OfVouch}
 use Rattle.samld.specs.Reading.{OfFile}
-use Rattle.samld.specs.Running.{Command, Canon, Vouch, Check, command_of, OfCommand, Answers, Accepts}
+use Rattle.samld.specs.Running.{Command, Canon, Vouch, Check, Sp, command_of, OfCommand, Answers, Accepts}
+use Rattle.samld.specs.Serving.{Unserved}
 use Rattle.samld.proofs.Alone.{SaysYesAlone, not_refused_too, not_bad_too, document_alone, element_alone, file_alone}
 
 form_alone : (tree : Nodes) (node : ℕ) → SaysYesAlone (OfForm tree node)
@@ -83,21 +84,23 @@ check_alone laws files file body now a b agrees (inr p) (inr q) =
     file_alone (OfJudged (rows_of q.0.asked q.0.opened) q.1 now) files body GREATEST_BODY (judged_alone laws (rows_of q.0.asked q.0.opened) q.1 now)
     a b agrees same q.3
 
-command_alone : Laws → (files : List File) (command : Command) → SaysYesAlone (OfCommand (Some files) command)
+command_alone : Laws → (files : List File) (command : Command) → SaysYesAlone (OfCommand (Some files) Unserved command)
 command_alone laws files (Canon file id) = file_alone (OfCanon id) files file _ (canon_alone id)
 command_alone laws files (Vouch file id key_file) =
     file_alone (λ bytes. OfFile (OfVouch id key_file bytes) (Some files) key_file _) files file _
     (λ bytes. file_alone (OfVouch id key_file bytes) files key_file _ (vouch_alone id key_file bytes))
 command_alone laws files (Check config body now) = check_alone laws files config body now
+command_alone laws files (Sp config events) = λ a b agrees p q. absurd p
 
-words_alone : Laws → (files : List File) (words : List (List ℕ)) → SaysYesAlone (Answers words (Some files))
+words_alone : Laws → (files : List File) (words : List (List ℕ)) → SaysYesAlone (Answers words (Some files) Unserved)
 words_alone laws files words a b agrees = which (command_of words)
   where
-    which : (o : Option Command) → MatchOption o (a ≡ Usage) (λ c. OfCommand (Some files) c a) → MatchOption o (b ≡ Usage) (λ c. OfCommand (Some files) c b) → IsYes b
+    which : (o : Option Command) → MatchOption o (a ≡ Usage) (λ c. OfCommand (Some files) Unserved c a) →
+        MatchOption o (b ≡ Usage) (λ c. OfCommand (Some files) Unserved c b) → IsYes b
     which None p q = absurd (subst IsYes p agrees)
     which (Some command) p q = command_alone laws files command a b agrees p q
 
 -- words and files that are accepted are answered with yes alone
-pub accepted_yes : Laws → (words : List (List ℕ)) (told : Option (List File)) → Accepts words told → (answer : Answer) → Answers words told answer → IsYes answer
+pub accepted_yes : Laws → (words : List (List ℕ)) (told : Option (List File)) → Accepts words told → (answer : Answer) → Answers words told Unserved answer → IsYes answer
 accepted_yes laws words told h answer a =
-    words_alone laws h.files words h.answer answer h.yes h.answered (subst (λ o. Answers words o answer) h.tells a)
+    words_alone laws h.files words h.answer answer h.yes h.answered (subst (λ o. Answers words o Unserved answer) h.tells a)

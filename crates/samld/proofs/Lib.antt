@@ -2,3 +2,4 @@ pub mod Alone
 pub mod Answering
 pub mod Checking
 pub mod Completeness
+pub mod Serving

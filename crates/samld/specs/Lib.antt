@@ -6,6 +6,7 @@ pub mod Documents
 pub mod Exit
 pub mod Reading
 pub mod Running
+pub mod Serving
 pub mod Streams
 pub mod Views
 pub mod Vouch

@@ -1,32 +1,47 @@
 -- What a run of the program prints, and with which status it ends.
-use Rattle.std.specs.Prelude.{◌≡◌, ℕ, ◌⊎◌, List, [], ◌∷◌, ◌++◌, take, Option, Some, None, MatchOption, if◌then◌else◌, codes}
+use Rattle.std.specs.Prelude.{◌≡◌, ◌≢◌, ℕ, ◌⊎◌, List, [], ◌∷◌, ◌++◌, take, Option, Some, None, MatchOption, Ok, Err, if◌then◌else◌, nat_le, codes}
 use Rattle.std.specs.Str.{bytes_eq}
-use Rattle.std.specs.Option.{option_map}
+use Rattle.std.specs.Option.{option_map, option_and_then}
 use Rattle.xml_spec.specs.declared.TheConstants.{MAX_DOCUMENT_LENGTH}
 use Rattle.saml_outside.specs.Files.{File}
 use Rattle.verdict_codes.specs.declared.codes.Verdict.{Verdict}
+use Rattle.crash_disk.specs.Disk.{DiskState}
 use Rattle.saml_time.specs.declared.TheConstants.{LAST}
 use Rattle.text_lines.specs.Numbers.{number_of}
 use Rattle.sp_setup.specs.declared.limits.TheConstants.{GREATEST_KEY}
+use Rattle.sp_runs.specs.Runs.{Outside, Runs, IsRunnable}
+use Rattle.samld.specs.declared.limits.TheConstants.{MOST_EVENTS}
 use Rattle.samld.specs.declared.status.Status.{Status}
 use Rattle.samld.specs.declared.status.Status.TheVariants as statuses
 use Rattle.samld.specs.Answers.{Answer, Refused, Usage, status_of, text_of, IsYes}
 use Rattle.samld.specs.Canon.{OfCanon}
 use Rattle.samld.specs.Check.{OfCheck}
 use Rattle.samld.specs.Reading.{OfFile}
+use Rattle.samld.specs.Serving.{Ran, Unserved, RanSp, OfRun, status_of_fault}
 use Rattle.samld.specs.Vouch.{OfVouch}
 
 -- what the program is asked for: the canonical form of the element of a file that has this ID, or of the root; whether the
 -- element of a file that has this ID is vouched for with the key in another file; what a provider with this config says at this
--- moment to the form in another file
+-- moment to the form in another file; that a service provider with this config serves, until so many events were taken
 pub data Command : Type 0 where
   Canon : (file : List ℕ) (id : Option (List ℕ)) → Command
   Vouch : (file id key_file : List ℕ) → Command
   Check : (config body : List ℕ) (now : ℕ) → Command
+  Sp : (config : List ℕ) (events : ℕ) → Command
 
 -- `check CONFIG BODYFILE NOW`, where NOW is a moment in milliseconds
 abbrev pub check_at : List ℕ → List ℕ → Option ℕ → Option Command
 check_at config body now = option_map (λ moment. Check config body moment) now
+
+-- `sp CONFIG EVENTS`, where EVENTS is a number from 1 on
+abbrev pub sp_of : List ℕ → Option ℕ → Option Command
+sp_of config events = option_and_then (λ count. if nat_le 1 count then Some (Sp config count) else None) events
+
+-- two words behind the name of a command
+abbrev pub of_two : List ℕ → List ℕ → List ℕ → Option Command
+of_two word first second =
+    if bytes_eq word (codes "canon") then Some (Canon first (Some second))
+    else if bytes_eq word (codes "sp") then sp_of first (number_of MOST_EVENTS second) else None
 
 -- three words behind the name of a command
 abbrev pub of_three : List ℕ → List ℕ → List ℕ → List ℕ → Option Command
@@ -34,24 +49,36 @@ of_three word first second third =
     if bytes_eq word (codes "vouch") then Some (Vouch first second third)
     else if bytes_eq word (codes "check") then check_at first second (number_of LAST third) else None
 
--- the command of the words `canon FILE`, `canon FILE ID`, `vouch FILE ID KEYFILE` and `check CONFIG BODYFILE NOW`, which are the
--- forms that the program knows yet
+-- the command of the words `canon FILE`, `canon FILE ID`, `vouch FILE ID KEYFILE`, `check CONFIG BODYFILE NOW` and
+-- `sp CONFIG EVENTS`, which are the forms that the program knows yet
 abbrev pub command_of : List (List ℕ) → Option Command
 command_of (word ∷ file ∷ []) = if bytes_eq word (codes "canon") then Some (Canon file None) else None
-command_of (word ∷ file ∷ id ∷ []) = if bytes_eq word (codes "canon") then Some (Canon file (Some id)) else None
+command_of (word ∷ first ∷ second ∷ []) = of_two word first second
 command_of (word ∷ first ∷ second ∷ third ∷ []) = of_three word first second third
 command_of words = None
 
--- what a command is answered with: the files are read in the order in which they are named
-abbrev pub OfCommand : Option (List File) → Command → Answer → Type 0
-OfCommand told (Canon file id) answer = OfFile (OfCanon id) told file MAX_DOCUMENT_LENGTH answer
-OfCommand told (Vouch file id key_file) answer =
-    OfFile (λ bytes. OfFile (OfVouch id key_file bytes) told key_file GREATEST_KEY) told file MAX_DOCUMENT_LENGTH answer
-OfCommand told (Check config body now) answer = OfCheck told config body now answer
+-- What a command does: `sp` runs a service provider, and the others leave all that is outside as it is.
+abbrev pub DoesCommand : Option (List File) → Command → Outside → Ran → Outside → Type 0
+DoesCommand told (Sp config events) before Unserved after = ⊥
+DoesCommand told (Sp config events) before (RanSp turns result) after = Runs told config events before turns result after
+DoesCommand told other before ran after = (ran ≡ Unserved) × (after ≡ before)
 
--- what words are answered with, by what the files tell
-abbrev pub Answers : List (List ℕ) → Option (List File) → Answer → Type 0
-Answers words told answer = MatchOption (command_of words) (answer ≡ Usage) (λ command. OfCommand told command answer)
+-- what the program does for words, by what the files tell
+abbrev pub Does : List (List ℕ) → Option (List File) → Outside → Ran → Outside → Type 0
+Does words told before ran after =
+    MatchOption (command_of words) ((ran ≡ Unserved) × (after ≡ before)) (λ command. DoesCommand told command before ran after)
+
+-- what a command is answered with: the files are read in the order in which they are named
+abbrev pub OfCommand : Option (List File) → Ran → Command → Answer → Type 0
+OfCommand told ran (Canon file id) answer = OfFile (OfCanon id) told file MAX_DOCUMENT_LENGTH answer
+OfCommand told ran (Vouch file id key_file) answer =
+    OfFile (λ bytes. OfFile (OfVouch id key_file bytes) told key_file GREATEST_KEY) told file MAX_DOCUMENT_LENGTH answer
+OfCommand told ran (Check config body now) answer = OfCheck told config body now answer
+OfCommand told ran (Sp config events) answer = OfRun ran answer
+
+-- what words are answered with, by what the files tell and what was done
+abbrev pub Answers : List (List ℕ) → Option (List File) → Ran → Answer → Type 0
+Answers words told ran answer = MatchOption (command_of words) (answer ≡ Usage) (λ command. OfCommand told ran command answer)
 
 -- a refusal with the verdict that there is
 abbrev pub IsVerdictOf : Option Verdict → Answer → Type 0
@@ -74,10 +101,30 @@ EndsWith meaning old new statuses.NoMemory = Prints old new [] ⊎ PrintsPart me
 EndsWith meaning old new status =
     (answer : Answer) × meaning answer × (status ≡ status_of answer) × Prints old new (text_of answer)
 
+-- What a run ends with behind what it did. A provider's run that ended early ends with the status of its fault, and nothing is
+-- printed.
+abbrev pub EndsAfter : Ran → (Answer → Type 0) → Option (List ℕ) → Option (List ℕ) → Status → Type 0
+EndsAfter Unserved meaning old new status = EndsWith meaning old new status
+EndsAfter (RanSp turns (Ok ended)) meaning old new status = (status ≢ statuses.ReadFault) × EndsWith meaning old new status
+EndsAfter (RanSp turns (Err fault)) meaning old new status = (status ≡ status_of_fault fault) × Prints old new []
+
+-- the command serves
+abbrev pub DoesServe : Option Command → Type 0
+DoesServe (Some (Sp config events)) = Unit {0}
+DoesServe other = ⊥
+
 -- the files tell, and by what they tell the definition says yes
 pub record Accepts (words : List (List ℕ)) (told : Option (List File)) : Type 0 where
   pub files : List File
   pub tells : told ≡ Some files
   pub answer : Answer
-  pub answered : Answers words (Some files) answer
+  pub answered : Answers words (Some files) Unserved answer
   pub yes : IsYes answer
+
+abbrev pub IsRunnableBy : Option (List File) → Option DiskState → Command → Type 0
+IsRunnableBy told disk (Sp config events) = IsRunnable told config disk
+IsRunnableBy told disk other = ⊥
+
+-- the words ask for a service provider that can be run
+abbrev pub AcceptsServing : List (List ℕ) → Option (List File) → Option DiskState → Type 0
+AcceptsServing words told disk = MatchOption (command_of words) ⊥ (λ command. IsRunnableBy told disk command)

@@ -13,11 +13,13 @@ abbrev pub command_view : Command → running.Command
 command_view (commands.Canon file id) = running.Canon file.now (option_map (λ text. text.now) id)
 command_view (commands.Vouch file id key_file) = running.Vouch file.now id.now key_file.now
 command_view (commands.Check config body now) = running.Check config.now body.now now
+command_view (commands.Sp config events) = running.Sp config.now events
 
 abbrev pub answer_view : Answer → answers.Answer
 answer_view (kinds.Printed text) = answers.Printed text
 answer_view (kinds.Refused verdict) = answers.Refused verdict
 answer_view (kinds.BadFile file line) = answers.BadFile file line
+answer_view (kinds.Foreign file place) = answers.Foreign file place
 answer_view kinds.Usage = answers.Usage
 
 -- a moment that a command names has a written form

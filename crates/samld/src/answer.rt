@@ -2,11 +2,12 @@
 
 ghost use Rattle.std.specs.Prelude.{◌≡◌, ◌≢◌, ◌≤◌, IfOk};
 ghost use Rattle.saml_outside.specs.Counts.{Rose};
-ghost use Rattle.samld.specs.Answers.{BadFile, text_of, status_of};
+ghost use Rattle.samld.specs.Answers.{BadFile, Foreign, file_number, text_of, status_of};
 ghost use Rattle.samld.specs.Running.{EndsWith, Prints};
 ghost use Rattle.samld.specs.Views.{answer_view};
 
 use crate::status::Status;
+use crash_disk::FileNo;
 use saml_outside::{Blob, NoMemory, Sink, Text, Verdict};
 use std::alloc::Global;
 
@@ -19,6 +20,8 @@ pub(crate) enum Answer {
     Refused(Verdict),
     /// A named file can't be used: the line, or 0 for the whole file.
     BadFile { file: Text, line: u64 },
+    /// What a file of the disk holds is no ledger, and the place in it of what is wrong, in bytes.
+    Foreign { file: FileNo, place: u64 },
     /// The words are no command.
     Usage,
 }
@@ -40,6 +43,7 @@ impl Answer {
             Answer::Printed(text) => text.copy(),
             Answer::Refused(verdict) => refusal(alloc, *verdict),
             Answer::BadFile { file, line } => bad_file(alloc, file.as_str(), *line),
+            Answer::Foreign { file, place } => foreign(alloc, *file, *place),
             Answer::Usage => Blob::of(alloc, b"usage\n"),
         }
     }
@@ -52,6 +56,7 @@ impl Answer {
             Answer::Printed(_) => Status::Done,
             Answer::Refused(_) => Status::Refused,
             Answer::BadFile { .. } => Status::BadInput,
+            Answer::Foreign { .. } => Status::ForeignJournal,
             Answer::Usage => Status::Usage,
         }
     }
@@ -88,5 +93,24 @@ fn bad_file(alloc: Global, file: &str, line: u64) -> Result<Blob, NoMemory>
     ensures { IfOk result (λ text. text ≡ text_of (BadFile file.now line)) }
 {
     let text = format!(in alloc; "bad {file} {line}\n")?;
+    Blob::of(alloc, text.as_bytes())
+}
+
+/// The number of a file of the disk.
+fn file_number(file: FileNo) -> u8
+    ensures { result ≡ file_number file }
+{
+    match file {
+        FileNo::Zero => 0,
+        FileNo::One => 1,
+    }
+}
+
+/// The line of a disk that holds no ledger.
+fn foreign(alloc: Global, file: FileNo, place: u64) -> Result<Blob, NoMemory>
+    ensures { IfOk result (λ text. text ≡ text_of (Foreign file place)) }
+{
+    let number = file_number(file);
+    let text = format!(in alloc; "foreign {number} {place}\n")?;
     Blob::of(alloc, text.as_bytes())
 }

@@ -1,7 +1,7 @@
 //! What no clause says: which forms `check` accepts, and that there is memory for it. The forms, and what is answered to them, were
 //! made by others.
 
-use crate::run::run;
+use crate::serve_tests::run_alone;
 use crate::status::Status;
 use saml_outside::{MemSink, NoMemory, SteadyFiles, Text};
 use std::alloc::Global;
@@ -116,7 +116,7 @@ fn check_of(
         words.push(Text::of(alloc, word)?)?;
     }
     let mut out = MemSink::new(alloc);
-    let status = run(alloc, &words, &mut files, &mut out);
+    let status = run_alone(alloc, &words, &mut files, &mut out);
     Ok((status, out))
 }
 

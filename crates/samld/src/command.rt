@@ -3,9 +3,10 @@
 ghost use Rattle.std.specs.Prelude.{◌≡◌, IfSome};
 ghost use Rattle.std.specs.Option.{option_map};
 ghost use Rattle.text_lines.specs.Numbers.{number_of};
-ghost use Rattle.samld.specs.Running.{check_at, command_of};
+ghost use Rattle.samld.specs.Running.{check_at, sp_of, of_two, of_three, command_of};
 ghost use Rattle.samld.specs.Views.{command_view, HasMoment};
 
+use crate::limits::MOST_EVENTS;
 use saml_outside::Text;
 use saml_time::LAST;
 use text_lines::number_of;
@@ -31,6 +32,11 @@ pub(crate) enum Command<'w> {
         body: &'w str,
         now: u64,
     },
+    /// That a service provider with this config serves, until so many events were taken.
+    Sp {
+        config: &'w str,
+        events: u64,
+    },
 }
 
 /// What `check CONFIG BODYFILE NOW` asks for, where NOW is a moment.
@@ -42,7 +48,51 @@ fn check_at<'w>(config: &'w str, body: &'w str, now: &str) -> Option<Command<'w>
     Some(Command::Check { config, body, now })
 }
 
-/// The command of the words `canon FILE`, `canon FILE ID`, `vouch FILE ID KEYFILE` and `check CONFIG BODYFILE NOW`.
+/// What `sp CONFIG EVENTS` asks for, where EVENTS is a number from 1 on.
+fn sp_of<'w>(config: &'w str, events: &str) -> Option<Command<'w>>
+    ensures command { option_map command_view result ≡ sp_of config.entry.now (number_of MOST_EVENTS events.now) }
+    ensures moment { IfSome result HasMoment }
+{
+    let events = number_of(events, MOST_EVENTS)?;
+    if events == 0 {
+        return None;
+    }
+    Some(Command::Sp { config, events })
+}
+
+/// The command of this name with two words behind it.
+fn of_two<'w>(word: &str, first: &'w str, second: &'w str) -> Option<Command<'w>>
+    ensures command { option_map command_view result ≡ of_two word.now first.entry.now second.entry.now }
+    ensures moment { IfSome result HasMoment }
+{
+    match word {
+        "canon" => Some(Command::Canon {
+            file: first,
+            id: Some(second),
+        }),
+        "sp" => sp_of(first, second),
+        _ => None,
+    }
+}
+
+/// The command of this name with three words behind it.
+fn of_three<'w>(word: &str, first: &'w str, second: &'w str, third: &'w str) -> Option<Command<'w>>
+    ensures command { option_map command_view result ≡ of_three word.now first.entry.now second.entry.now third.entry.now }
+    ensures moment { IfSome result HasMoment }
+{
+    match word {
+        "vouch" => Some(Command::Vouch {
+            file: first,
+            id: second,
+            key_file: third,
+        }),
+        "check" => check_at(first, second, third),
+        _ => None,
+    }
+}
+
+/// The command of the words `canon FILE`, `canon FILE ID`, `vouch FILE ID KEYFILE`, `check CONFIG BODYFILE NOW` and
+/// `sp CONFIG EVENTS`.
 pub(crate) fn command_of(words: &[Text]) -> Option<Command<'_>>
     ensures command { option_map command_view result ≡ command_of words.now }
     ensures moment { IfSome result HasMoment }
@@ -52,18 +102,13 @@ pub(crate) fn command_of(words: &[Text]) -> Option<Command<'_>>
             file: file.as_str(),
             id: None,
         }),
-        [word, file, id] if word.as_str() == "canon" => Some(Command::Canon {
-            file: file.as_str(),
-            id: Some(id.as_str()),
-        }),
-        [word, file, id, key_file] if word.as_str() == "vouch" => Some(Command::Vouch {
-            file: file.as_str(),
-            id: id.as_str(),
-            key_file: key_file.as_str(),
-        }),
-        [word, config, body, now] if word.as_str() == "check" => {
-            check_at(config.as_str(), body.as_str(), now.as_str())
-        }
+        [word, first, second] => of_two(word.as_str(), first.as_str(), second.as_str()),
+        [word, first, second, third] => of_three(
+            word.as_str(),
+            first.as_str(),
+            second.as_str(),
+            third.as_str(),
+        ),
         _ => None,
     }
 }

@@ -1,4 +1,7 @@
-// The limits of files.
+// The limits of files and words.
 
 /// The greatest length of a posted body, in bytes.
 pub(crate) const GREATEST_BODY: u64 = 1_048_576;
+
+/// The most events that a command may be told to take.
+pub(crate) const MOST_EVENTS: u64 = 1_000_000_000_000_000_000;

@@ -15,6 +15,9 @@ mod limits;
 mod run;
 #[cfg(test)]
 mod run_tests;
+mod serve;
+#[cfg(test)]
+mod serve_tests;
 mod status;
 mod stdout_sink;
 #[cfg(test)]
@@ -35,10 +38,12 @@ use status::Status;
 use std::alloc::Global;
 use std::env::Args;
 use std::io::ErrorKind;
+use std::net::Net;
 use std::process::ExitCode;
-use std::rt::{Env, Files};
+use std::rt::{Clock, Env, Files};
 use std::{env, io};
 use stdout_sink::StdoutSink;
+use system_objects::{FsDisk, SystemClock, TcpLink};
 
 // The words behind the first, which is the program's name.
 fn words_behind_name(alloc: Global, mut arguments: Args) -> Result<Vec<Text>, NoMemory>
@@ -62,13 +67,24 @@ fn words<R: Env + AllocGlobal>(rt: &R) -> Result<Vec<Text>, NoMemory> {
 }
 
 // Makes the real objects and runs the program over them.
-fn run_over<R: Env + Files + Print + AllocGlobal>(rt: &R) -> Status {
+fn run_over<R: Env + Files + Clock + Net + Print + AllocGlobal>(rt: &R) -> Status {
     let Ok(words) = words(rt) else {
         return Status::NoMemory;
     };
+    let mut link = TcpLink::new(rt);
+    let mut disk = FsDisk::new(rt);
+    let mut clock = SystemClock::new(rt);
     let mut files = FsFiles::new(rt);
     let mut out = StdoutSink::new(io::writer(rt));
-    run(rt.alloc(), &words, &mut files, &mut out)
+    run(
+        rt.alloc(),
+        &words,
+        &mut link,
+        &mut disk,
+        &mut clock,
+        &mut files,
+        &mut out,
+    )
 }
 
 // The exit status that says how a run ended.

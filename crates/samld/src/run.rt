@@ -1,16 +1,19 @@
 // What the program does with its words.
 
-ghost use Rattle.std.specs.Prelude.{◌≡◌, ◌≢◌, ◌≤◌, ◌⊎◌, length, IfOk, IsSome, Err};
+ghost use Rattle.std.specs.Prelude.{◌≡◌, ◌≢◌, ◌≤◌, ◌⊎◌, length, IfOk, IsSome, Some, Err};
 ghost use Rattle.std.specs.Option.{option_map};
 ghost use Rattle.xml_spec.specs.declared.TheConstants.{MAX_DOCUMENT_LENGTH};
+ghost use Rattle.crash_disk.specs.Moments.{LeavesOnly};
 ghost use Rattle.saml_outside.specs.Counts.{Rose};
+ghost use Rattle.sp_runs.specs.Runs.{RunLeaves, outside};
 ghost use Rattle.samld.specs.Canon.{OfCanon};
 ghost use Rattle.samld.specs.Check.{rows_of, OfJudged};
 ghost use Rattle.samld.specs.Vouch.{OfVouch};
 ghost use Rattle.sp_setup.specs.declared.limits.TheConstants.{GREATEST_KEY};
 ghost use Rattle.sp_setup.specs.Views.{IsWithinBounds};
 ghost use Rattle.samld.specs.Reading.{OfFile};
-ghost use Rattle.samld.specs.Running.{Canon, Vouch, Check, command_of, OfCommand, Answers, EndsWith, Accepts};
+ghost use Rattle.samld.specs.Running.{Canon, Vouch, Check, command_of, Does, DoesCommand, OfCommand, Answers, EndsWith, EndsAfter, Accepts, AcceptsServing, DoesServe, IsRunnableBy};
+ghost use Rattle.samld.specs.Serving.{Ran, Unserved, turns_of};
 ghost use Rattle.samld.specs.Answers.{BadFile};
 ghost use Rattle.samld.specs.Views.{answer_view, command_view, HasMoment};
 
@@ -19,8 +22,11 @@ use crate::canon::canon;
 use crate::check::check;
 use crate::command::{Command, command_of};
 use crate::limits::GREATEST_BODY;
+use crate::serve::run_provider;
 use crate::status::Status;
 use crate::vouch::vouch;
+use crash_disk::Disk;
+use event_link::{Clock, Link};
 use saml_outside::{Files, NoMemory, ReadStop, Sink, Text, read_file};
 use saml_time::LAST;
 use sp_setup::{GREATEST_KEY, Purpose, SetUp, SetupFault, set_up};
@@ -59,7 +65,7 @@ fn run_canon<F: Files, K: Sink>(
     file: &str,
     id: Option<&str>,
 ) -> Status
-    ensures ends { EndsWith (OfCommand (F.holds files.old) (Canon file.now (option_map (λ text. text.now) id.entry))) (K.taken out.old) (K.taken out.new) result }
+    ensures ends { EndsWith (OfCommand (F.holds files.old) Unserved (Canon file.now (option_map (λ text. text.now) id.entry))) (K.taken out.old) (K.taken out.new) result }
     ensures same { F.holds files.new ≡ F.holds files.old }
     ensures read_fault { result ≡ Status.ReadFault → Rose (F.faults_of files.old) (F.faults_of files.new) }
     ensures write_fault { result ≡ Status.WriteFault → Rose (K.faults_of out.old) (K.faults_of out.new) }
@@ -104,7 +110,7 @@ fn answer_vouch<F: Files>(
     id: &str,
     key_file: &str,
 ) -> Result<Answer, ReadStop>
-    ensures ok { IfOk result (λ answer. OfCommand (F.holds files.old) (Vouch file.now id.now key_file.now) (answer_view answer)) }
+    ensures ok { IfOk result (λ answer. OfCommand (F.holds files.old) Unserved (Vouch file.now id.now key_file.now) (answer_view answer)) }
     ensures same { F.holds files.new ≡ F.holds files.old }
     ensures err { result ≡ Err ReadStop.ReadFault → Rose (F.faults_of files.old) (F.faults_of files.new) }
     ensures never_falls { F.faults_of files.old ≤ F.faults_of files.new }
@@ -124,7 +130,7 @@ fn run_vouch<F: Files, K: Sink>(
     id: &str,
     key_file: &str,
 ) -> Status
-    ensures ends { EndsWith (OfCommand (F.holds files.old) (Vouch file.now id.now key_file.now)) (K.taken out.old) (K.taken out.new) result }
+    ensures ends { EndsWith (OfCommand (F.holds files.old) Unserved (Vouch file.now id.now key_file.now)) (K.taken out.old) (K.taken out.new) result }
     ensures same { F.holds files.new ≡ F.holds files.old }
     ensures read_fault { result ≡ Status.ReadFault → Rose (F.faults_of files.old) (F.faults_of files.new) }
     ensures write_fault { result ≡ Status.WriteFault → Rose (K.faults_of out.old) (K.faults_of out.new) }
@@ -167,7 +173,7 @@ fn answer_check<F: Files>(
     now: u64,
 ) -> Result<Answer, ReadStop>
     requires { now ≤ LAST }
-    ensures ok { IfOk result (λ answer. OfCommand (F.holds files.old) (Check config.now body.now now) (answer_view answer)) }
+    ensures ok { IfOk result (λ answer. OfCommand (F.holds files.old) Unserved (Check config.now body.now now) (answer_view answer)) }
     ensures same { F.holds files.new ≡ F.holds files.old }
     ensures err { result ≡ Err ReadStop.ReadFault → Rose (F.faults_of files.old) (F.faults_of files.new) }
     ensures never_falls { F.faults_of files.old ≤ F.faults_of files.new }
@@ -190,7 +196,7 @@ fn run_check<F: Files, K: Sink>(
     now: u64,
 ) -> Status
     requires { now ≤ LAST }
-    ensures ends { EndsWith (OfCommand (F.holds files.old) (Check config.now body.now now)) (K.taken out.old) (K.taken out.new) result }
+    ensures ends { EndsWith (OfCommand (F.holds files.old) Unserved (Check config.now body.now now)) (K.taken out.old) (K.taken out.new) result }
     ensures same { F.holds files.new ≡ F.holds files.old }
     ensures read_fault { result ≡ Status.ReadFault → Rose (F.faults_of files.old) (F.faults_of files.new) }
     ensures write_fault { result ≡ Status.WriteFault → Rose (K.faults_of out.old) (K.faults_of out.new) }
@@ -203,49 +209,98 @@ fn run_check<F: Files, K: Sink>(
     }
 }
 
-/// Prints what a command answers, by what the files tell.
-fn run_command<F: Files, K: Sink>(
+/// Does what a command asks for, and prints what it answers, by what the files tell.
+fn run_command<L: Link, D: Disk, C: Clock, F: Files, K: Sink>(
     alloc: Global,
     command: Command<'_>,
+    link: &mut L,
+    disk: &mut D,
+    clock: &mut C,
     files: &mut F,
     out: &mut K,
 ) -> Status
     requires { HasMoment command }
-    ensures ends { EndsWith (OfCommand (F.holds files.old) (command_view command.entry)) (K.taken out.old) (K.taken out.new) result }
-    ensures same { F.holds files.new ≡ F.holds files.old }
+    ensures ends { (ran : Ran)
+        × DoesCommand (F.holds files.old) (command_view command.entry) (outside (D.told disk.old) (D.faults_of disk.old) (L.told link.old) (L.faults_of link.old) (L.send_faults_of link.old) (C.to_come clock.old)) ran (outside (D.told disk.new) (D.faults_of disk.new) (L.told link.new) (L.faults_of link.new) (L.send_faults_of link.new) (C.to_come clock.new))
+        × EndsAfter ran (OfCommand (F.holds files.old) ran (command_view command.entry)) (K.taken out.old) (K.taken out.new) result
+        × LeavesOnly D.moment D.left_since disk.old disk.new (RunLeaves (D.told disk.old) (turns_of ran)) }
     ensures read_fault { result ≡ Status.ReadFault → Rose (F.faults_of files.old) (F.faults_of files.new) }
     ensures write_fault { result ≡ Status.WriteFault → Rose (K.faults_of out.old) (K.faults_of out.new) }
+    ensures disk_fault { result ≡ Status.DiskFault → DoesServe (Some (command_view command.entry)) × Rose (D.faults_of disk.old) (D.faults_of disk.new) }
+    ensures link_fault { result ≡ Status.LinkFault → DoesServe (Some (command_view command.entry)) × Rose (L.faults_of link.old) (L.faults_of link.new) }
+    ensures complete { IsRunnableBy (F.holds files.old) (D.told disk.old) (command_view command.entry) → ¬ (Rose (F.faults_of files.old) (F.faults_of files.new)) →
+        ¬ (Rose (K.faults_of out.old) (K.faults_of out.new)) → ¬ (Rose (L.faults_of link.old) (L.faults_of link.new)) → result ≢ Status.DiskFault →
+        (result ≡ Status.Done) ⊎ (result ≡ Status.NoMemory) }
+    ensures untouched { ¬ (DoesServe (Some (command_view command.entry))) → (link.new ≡ link.old) × (disk.new ≡ disk.old) × (clock.new ≡ clock.old) }
+    ensures same { F.holds files.new ≡ F.holds files.old }
     ensures files_never_fall { F.faults_of files.old ≤ F.faults_of files.new }
     ensures out_never_falls { K.faults_of out.old ≤ K.faults_of out.new }
+    ensures disk_never_falls { D.faults_of disk.old ≤ D.faults_of disk.new }
+    ensures link_never_falls { L.faults_of link.old ≤ L.faults_of link.new }
 {
     match command {
         Command::Canon { file, id } => run_canon(alloc, files, out, file, id),
         Command::Vouch { file, id, key_file } => run_vouch(alloc, files, out, file, id, key_file),
         Command::Check { config, body, now } => run_check(alloc, files, out, config, body, now),
+        Command::Sp { config, events } => run_provider(
+            alloc, config, events, link, disk, clock, files, out,
+        ),
     }
 }
 
-/// Runs the program for these words, and says how it ended.
-pub fn run<F: Files, K: Sink>(alloc: Global, words: &[Text], files: &mut F, out: &mut K) -> Status
-    ensures ends { EndsWith (Answers words.now (F.holds files.old)) (K.taken out.old) (K.taken out.new) result }
+/// Runs the program for these words, over this link, disk and clock, these files and this output, and says how it ended.
+///
+/// The command `sp` runs a service provider; it may end early where the disk fails while its ledger is opened, or the link
+/// fails. All other commands leave link, disk and clock as they are.
+pub fn run<L: Link, D: Disk, C: Clock, F: Files, K: Sink>(
+    alloc: Global,
+    words: &[Text],
+    link: &mut L,
+    disk: &mut D,
+    clock: &mut C,
+    files: &mut F,
+    out: &mut K,
+) -> Status
+    // What was done is what the words ask for, what was answered is what that asks for, and a crash at any moment leaves of the
+    // disk what one inside the opening of a ledger or inside an answer may leave.
+    ensures ends { (ran : Ran)
+        × Does words.now (F.holds files.old) (outside (D.told disk.old) (D.faults_of disk.old) (L.told link.old) (L.faults_of link.old) (L.send_faults_of link.old) (C.to_come clock.old)) ran (outside (D.told disk.new) (D.faults_of disk.new) (L.told link.new) (L.faults_of link.new) (L.send_faults_of link.new) (C.to_come clock.new))
+        × EndsAfter ran (Answers words.now (F.holds files.old) ran) (K.taken out.old) (K.taken out.new) result
+        × LeavesOnly D.moment D.left_since disk.old disk.new (RunLeaves (D.told disk.old) (turns_of ran)) }
+
+    // Each fault has a cause.
     ensures read_fault { result ≡ Status.ReadFault →
         IsSome (command_of words.now) × Rose (F.faults_of files.old) (F.faults_of files.new) }
     ensures write_fault { result ≡ Status.WriteFault → Rose (K.faults_of out.old) (K.faults_of out.new) }
+    ensures disk_fault { result ≡ Status.DiskFault →
+        DoesServe (command_of words.now) × Rose (D.faults_of disk.old) (D.faults_of disk.new) }
+    ensures link_fault { result ≡ Status.LinkFault →
+        DoesServe (command_of words.now) × Rose (L.faults_of link.old) (L.faults_of link.new) }
 
     // It does not give up by itself, but for want of memory.
     ensures complete { Accepts words.now (F.holds files.old) →
         ¬ (Rose (F.faults_of files.old) (F.faults_of files.new)) → ¬ (Rose (K.faults_of out.old) (K.faults_of out.new)) →
         (result ≡ Status.Done) ⊎ (result ≡ Status.NoMemory) }
+    // Nor where it serves, but where the disk failed while the ledger was opened.
+    ensures complete_serving { AcceptsServing words.now (F.holds files.old) (D.told disk.old) →
+        ¬ (Rose (F.faults_of files.old) (F.faults_of files.new)) → ¬ (Rose (K.faults_of out.old) (K.faults_of out.new)) →
+        ¬ (Rose (L.faults_of link.old) (L.faults_of link.new)) → result ≢ Status.DiskFault →
+        (result ≡ Status.Done) ⊎ (result ≡ Status.NoMemory) }
+
+    // Only a command that serves touches the link, the disk and the clock.
+    ensures untouched { ¬ (DoesServe (command_of words.now)) → (link.new ≡ link.old) × (disk.new ≡ disk.old) × (clock.new ≡ clock.old) }
 
     // The files hold what they held, and no count falls.
     ensures same { F.holds files.new ≡ F.holds files.old }
     ensures files_never_fall { F.faults_of files.old ≤ F.faults_of files.new }
     ensures out_never_falls { K.faults_of out.old ≤ K.faults_of out.new }
+    ensures disk_never_falls { D.faults_of disk.old ≤ D.faults_of disk.new }
+    ensures link_never_falls { L.faults_of link.old ≤ L.faults_of link.new }
 {
     sp_rules::laws::a_form_has_one_verdict();
     sp_setup::laws::a_config_has_one_outcome();
     match command_of(words) {
-        Some(command) => run_command(alloc, command, files, out),
+        Some(command) => run_command(alloc, command, link, disk, clock, files, out),
         None => Answer::Usage.print(alloc, out),
     }
 }

@@ -1,5 +1,5 @@
 //! What no clause says: what the program prints over known documents, and that there is memory for it.
-use crate::run::run;
+use crate::serve_tests::run_alone;
 use crate::status::Status;
 use saml_outside::{MemFiles, MemSink, NoMemory, SteadyFiles, Text};
 use std::alloc::Global;
@@ -153,7 +153,7 @@ fn answer_of(alloc: Global, words: &[Text], text: &str) -> Result<(Status, MemSi
     let mut files = SteadyFiles::new(alloc);
     files.add("x", text.as_bytes())?;
     let mut out = MemSink::new(alloc);
-    let status = run(alloc, words, &mut files, &mut out);
+    let status = run_alone(alloc, words, &mut files, &mut out);
     Ok((status, out))
 }
 
@@ -235,11 +235,20 @@ fn words_and_files_are_refused(rt: HostRuntime) -> Result<(), Fail> {
     let mut files = SteadyFiles::new(alloc);
     let mut out = MemSink::new(alloc);
     let mut words = Vec::new(alloc);
-    assert_eq!(rt; run(alloc, &words, &mut files, &mut out), Status::Usage);
+    assert_eq!(rt;
+        run_alone(alloc, &words, &mut files, &mut out),
+        Status::Usage
+    );
     words.push(Text::of(alloc, "canon")?)?;
-    assert_eq!(rt; run(alloc, &words, &mut files, &mut out), Status::Usage);
+    assert_eq!(rt;
+        run_alone(alloc, &words, &mut files, &mut out),
+        Status::Usage
+    );
     words.push(Text::of(alloc, "x")?)?;
-    assert_eq!(rt; run(alloc, &words, &mut files, &mut out), Status::BadInput);
+    assert_eq!(rt;
+        run_alone(alloc, &words, &mut files, &mut out),
+        Status::BadInput
+    );
     assert_eq!(rt; out.bytes(), b"usage\nusage\nbad x 0\n".as_slice());
     Ok(())
 }
@@ -253,12 +262,18 @@ fn faults_end_the_run(rt: HostRuntime) -> Result<(), Fail> {
     let mut out = MemSink::new(alloc);
     out.fail_at(1)?;
     let words = canon_words(alloc)?;
-    assert_eq!(rt; run(alloc, &words, &mut files, &mut out), Status::ReadFault);
     assert_eq!(rt;
-        run(alloc, &words, &mut files, &mut out),
+        run_alone(alloc, &words, &mut files, &mut out),
+        Status::ReadFault
+    );
+    assert_eq!(rt;
+        run_alone(alloc, &words, &mut files, &mut out),
         Status::WriteFault
     );
-    assert_eq!(rt; run(alloc, &words, &mut files, &mut out), Status::Done);
+    assert_eq!(rt;
+        run_alone(alloc, &words, &mut files, &mut out),
+        Status::Done
+    );
     assert_eq!(rt; out.bytes(), b"<a></a>".as_slice());
     Ok(())
 }

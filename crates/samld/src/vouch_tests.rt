@@ -1,7 +1,7 @@
 //! What no clause says: which signatures `vouch` accepts. The digest and the tag are those of Python's hashlib and hmac
 //! over the forms that `xmllint` prints.
 
-use crate::run::run;
+use crate::serve_tests::run_alone;
 use crate::status::Status;
 use saml_outside::{MemSink, NoMemory, SteadyFiles, Text};
 use std::alloc::Global;
@@ -103,7 +103,7 @@ fn vouch_of(
         words.push(Text::of(alloc, word)?)?;
     }
     let mut out = MemSink::new(alloc);
-    let status = run(alloc, &words, &mut files, &mut out);
+    let status = run_alone(alloc, &words, &mut files, &mut out);
     Ok((status, out))
 }
 

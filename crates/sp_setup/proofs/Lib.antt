@@ -3,3 +3,4 @@ mod Examples
 pub mod Loading
 pub mod Outcomes
 pub mod Telling
+pub mod Texts

@@ -1,9 +1,11 @@
 -- How the definitions see what the code set up.
 use Rattle.std.specs.Prelude.{◌≡◌, ℕ, ◌<◌, ◌≤◌, List, length, Option, Some, IfSome}
+use Rattle.xml_spec.specs.Characters.{IsText}
 use Rattle.saml_outside.specs.Files.{File}
 use Rattle.provider_config.specs.Config.{Config}
 use Rattle.provider_config.specs.declared.line.Purpose.{Purpose}
 use Rattle.request_rows.specs.declared.rows.TheConstants.{ROW_LIMIT}
+use Rattle.sp_rules.specs.declared.config.SpConfig.{SpConfig}
 use Rattle.sp_rules.specs.declared.config.TheConstants.{GREATEST_SKEW}
 use Rattle.sp_setup.specs.declared.loaded.Loaded.{Loaded}
 use Rattle.sp_setup.specs.declared.setup.SetUp.{SetUp}
@@ -34,3 +36,10 @@ pub record IsWithinBounds (setup : SetUp) : Type 0 where
   pub times : IfSome setup.config.next_in (λ next. next.from ≤ next.until)
   pub asked : length setup.asked.items < ROW_LIMIT
   pub opened : length setup.opened.items < ROW_LIMIT
+
+-- what is set up is called and reached by texts that a document may hold (XML 1.0, 2.2)
+pub record HasTexts (config : SpConfig) : Type 0 where
+  pub entity : IsText config.entity
+  pub base : IsText config.base
+  pub listen : IsText config.listen
+  pub service : IsText config.idp.service

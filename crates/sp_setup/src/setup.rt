@@ -4,7 +4,7 @@ ghost use Rattle.std.specs.Prelude.{◌≡◌, ◌≤◌, None, IfOk, IfErr, IsT
 ghost use Rattle.provider_config.specs.Config.{config_view, has_files};
 ghost use Rattle.sp_setup.specs.Faults.{IsFaultOf};
 ghost use Rattle.sp_setup.specs.Setup.{nothing, next_of, config_of, IsFirstBad, IsBadSetUp};
-ghost use Rattle.sp_setup.specs.Views.{IsConfigOf, IsSetUpBy, IsSetUpFrom, IsWithinBounds};
+ghost use Rattle.sp_setup.specs.Views.{IsConfigOf, IsSetUpBy, IsSetUpFrom, IsWithinBounds, HasTexts};
 
 use crate::fault::SetupFault;
 use crate::loaded::Loaded;
@@ -85,7 +85,8 @@ fn set_up_by<F: Files>(alloc: Global, files: &mut F, lines: SpLines) -> Result<S
 ///
 /// `BadFile` tells the first of these files that can't be used: the number of the line where a line of the config is bad,
 /// else 0. `ReadFault` comes only where the files' count of faults rose; want of memory may come in place of any other
-/// answer. What is set up is within the bounds that judging asks for.
+/// answer. What is set up is within the bounds that judging asks for, and its name and addresses are texts that a document
+/// may hold.
 pub fn set_up<F: Files>(
     alloc: Global,
     files: &mut F,
@@ -94,11 +95,13 @@ pub fn set_up<F: Files>(
 ) -> Result<SetUp, SetupFault>
     ensures ok { IfOk result (IsSetUpFrom (F.holds files.old) purpose file.now) }
     ensures bounds { IfOk result IsWithinBounds }
+    ensures texts { IfOk result (λ setup. HasTexts setup.config) }
     ensures err { IfErr result (IsFaultOf (IsBadSetUp (F.holds files.old) purpose file.now) (F.faults_of files.old) (F.faults_of files.new)) }
     ensures same { F.holds files.new ≡ F.holds files.old }
     ensures never_falls { F.faults_of files.old ≤ F.faults_of files.new }
 {
     provider_config::laws::rows_are_fewer_than_bytes();
+    canon_laws::a_spelled_tree_is_writable();
     let Some(bytes) = read_file(alloc, files, file, MAX_CONFIG_LENGTH as u64)? else {
         return Err(SetupFault::bad_file(alloc, file, 0));
     };

@@ -3,6 +3,7 @@ use Rattle.samld.specs.declared.limits.TheConstants.{GREATEST_BODY}
 use Rattle.samld.specs.Check.{rows_of, OfJudged}
 use Rattle.samld.specs.Reading.{OfFile}
 use Rattle.samld.specs.Running.{Check, OfCommand}
+use Rattle.samld.specs.Serving.{Unserved}
 use Rattle.samld.specs.Views.{answer_view}
 use Rattle.samld.proofs.Answering.{if_ok_map}
 use Rattle.samld.proofs.Checking.{by_set_up, by_bad}
@@ -16,7 +17,7 @@ returns-in-Ok-clause-ok g c =
     let body = c.args.body.now in
     let meaning = OfJudged (rows_of setup.asked.items setup.opened.items) setup.config now in
     if_ok_map c.answer_form.result (λ answer. OfFile meaning (g.F.Files.holds c.set_up.new.files) body GREATEST_BODY (answer_view answer))
-    (λ answer. OfCommand told (Check c.args.config.now body now) (answer_view answer))
+    (λ answer. OfCommand told Unserved (Check c.args.config.now body now) (answer_view answer))
     (λ answer h. by_set_up told c.args.config.now body setup now (answer_view answer) c.in-Ok.ensures.ok
     (subst (λ holds. OfFile meaning holds body GREATEST_BODY (answer_view answer)) c.in-Ok.ensures.same h))
     c.answer_form.ensures.ok

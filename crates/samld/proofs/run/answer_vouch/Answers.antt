@@ -5,6 +5,7 @@ use Rattle.samld.specs.Answers.{Answer}
 use Rattle.samld.specs.Vouch.{OfVouch}
 use Rattle.samld.specs.Reading.{OfFile}
 use Rattle.samld.specs.Running.{Vouch, OfCommand}
+use Rattle.samld.specs.Serving.{Unserved}
 use Rattle.samld.specs.Views.{answer_view}
 use Rattle.samld.proofs.Answering.{if_ok_map, read_whole}
 use Rattle.samld.proofs.run.answer_vouch.Goals as goal
@@ -18,7 +19,7 @@ returns-in-Some-clause-ok g c =
     let whole = rw c.in-Some.is at c.in_ok-bytes.ensures.ok in
     if_ok_map c.answer_with_key.result
     (λ answer. OfFile (OfVouch id key_file c.deref.result.now) (g.F.Files.holds c.read_file.new.files) key_file GREATEST_KEY (answer_view answer))
-    (λ answer. OfCommand told (Vouch c.args.file.now id key_file) (answer_view answer))
+    (λ answer. OfCommand told Unserved (Vouch c.args.file.now id key_file) (answer_view answer))
     (λ answer h. read_whole later told c.args.file.now MAX_DOCUMENT_LENGTH c.in-Some.bytes.items whole (answer_view answer)
     (subst (λ bytes. OfFile (OfVouch id key_file bytes) told key_file GREATEST_KEY (answer_view answer)) c.deref.ensures.value
     (subst (λ holds. OfFile (OfVouch id key_file c.deref.result.now) holds key_file GREATEST_KEY (answer_view answer)) c.in_ok-bytes.ensures.same h)))

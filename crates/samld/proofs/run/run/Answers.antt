@@ -1,10 +1,26 @@
-use Rattle.std.proofs.Common.{sym, ap, ◌∙◌}
+use Rattle.std.proofs.Common.{◌≡◌, Some, sym, ap, ◌∙◌}
 use Rattle.std.specs.Option.{option_map}
-use Rattle.samld.specs.Running.{OfCommand, Answers}
+use Rattle.samld.specs.Running.{command_of, OfCommand, Answers}
 use Rattle.samld.specs.Views.{command_view}
-use Rattle.samld.proofs.Answering.{weaker, answered, settled}
-use Rattle.samld.proofs.Completeness.{Laws, accepted_yes}
+use Rattle.samld.proofs.Answering.{answered}
+use Rattle.samld.proofs.Completeness.{Laws}
+use Rattle.samld.proofs.Serving.{weaker_after, done, accepted_done}
 use Rattle.samld.proofs.run.run.Goals as goal
+
+pub returns-in-Some-clause-ends : goal.returns-in-Some-clause-ends
+returns-in-Some-clause-ends g c =
+    let words = c.args.words.now in
+    let told = g.F.Files.holds c.args.files.now in
+    let old = g.K.Sink.taken c.args.out.now in
+    let new = g.K.Sink.taken c.run_command.new.out in
+    let command = command_view c.in-Some.command in
+    let is : command_of words ≡ Some command = sym c.command_of.ensures.command ∙ ap (option_map command_view) c.in-Some.is in
+    let (ran, does, ends, leaves) = c.run_command.ensures.ends in (
+      ran,
+      done words told command is _ ran _ does,
+      weaker_after ran (OfCommand told ran command) (Answers words told ran) old new c.run_command.result (answered words told ran command is) ends,
+      leaves,
+    )
 
 pub returns-in-Some-clause-complete : goal.returns-in-Some-clause-complete
 returns-in-Some-clause-complete g c = λ accepted no_read no_write.
@@ -18,7 +34,7 @@ returns-in-Some-clause-complete g c = λ accepted no_read no_write.
     let old = g.K.Sink.taken c.args.out.now in
     let new = g.K.Sink.taken c.run_command.new.out in
     let command = command_view c.in-Some.command in
-    settled (Answers words told) old new c.run_command.result (accepted_yes laws words told accepted)
+    let is : command_of words ≡ Some command = sym c.command_of.ensures.command ∙ ap (option_map command_view) c.in-Some.is in
+    let (ran, does, ends, leaves) = c.run_command.ensures.ends in
+    accepted_done laws words told command is accepted _ ran _ old new c.run_command.result does ends
     (λ e. no_read (c.run_command.ensures.read_fault e)) (λ e. no_write (c.run_command.ensures.write_fault e))
-    (weaker (OfCommand told command) (Answers words told) old new c.run_command.result
-    (answered words told command (sym c.command_of.ensures.command ∙ ap (option_map command_view) c.in-Some.is)) c.run_command.ensures.ends)

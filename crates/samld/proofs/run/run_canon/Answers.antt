@@ -4,6 +4,7 @@ use Rattle.xml_spec.specs.declared.TheConstants.{MAX_DOCUMENT_LENGTH}
 use Rattle.samld.specs.Answers.{BadFile}
 use Rattle.samld.specs.Canon.{OfCanon}
 use Rattle.samld.specs.Running.{Canon, OfCommand}
+use Rattle.samld.specs.Serving.{Unserved}
 use Rattle.samld.proofs.Answering.{weaker, with_answer, unread_bad, read_whole}
 use Rattle.samld.proofs.run.run_canon.Goals as goal
 
@@ -12,7 +13,7 @@ returns-in-Some-clause-ends g c =
     let id = option_map (λ text. text.now) c.args.id in
     let told = g.F.Files.holds c.args.files.now in
     let whole = rw c.in-Some.is at c.in-Ok.ensures.ok in
-    weaker (OfCanon id c.deref.result.now) (OfCommand told (Canon c.args.file.now id)) (g.K.Sink.taken c.args.out.now) (g.K.Sink.taken c.canon.new.out) c.canon.result
+    weaker (OfCanon id c.deref.result.now) (OfCommand told Unserved (Canon c.args.file.now id)) (g.K.Sink.taken c.args.out.now) (g.K.Sink.taken c.canon.new.out) c.canon.result
     (λ answer h. read_whole (OfCanon id) told c.args.file.now MAX_DOCUMENT_LENGTH c.in-Some.bytes.items whole answer (subst (λ bytes. OfCanon id bytes answer) c.deref.ensures.value h))
     c.canon.ensures.ends
 
@@ -21,5 +22,5 @@ returns-in-None-clause-ends g c =
     let id = option_map (λ text. text.now) c.args.id in
     let told = g.F.Files.holds c.args.files.now in
     let unread = rw c.in-None.is at c.in-Ok.ensures.ok in
-    with_answer (OfCommand told (Canon c.args.file.now id)) (g.K.Sink.taken c.args.out.now) (g.K.Sink.taken c.print_bad_file.new.out) c.print_bad_file.result
+    with_answer (OfCommand told Unserved (Canon c.args.file.now id)) (g.K.Sink.taken c.args.out.now) (g.K.Sink.taken c.print_bad_file.new.out) c.print_bad_file.result
     (BadFile c.args.file.now 0) (unread_bad (OfCanon id) told c.args.file.now MAX_DOCUMENT_LENGTH unread) c.print_bad_file.ensures.ends

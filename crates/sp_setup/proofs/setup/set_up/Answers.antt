@@ -4,10 +4,12 @@ use Rattle.saml_outside.specs.declared.reading.FileRead.TheVariants as reads
 use Rattle.provider_config.specs.Config.{config_view}
 use Rattle.provider_config.specs.declared.config.TheConstants.{MAX_CONFIG_LENGTH}
 use Rattle.request_rows.specs.declared.rows.TheConstants.{ROW_LIMIT}
+use Rattle.sp_setup.specs.declared.setup.SetUp.{SetUp}
 use Rattle.sp_setup.specs.Faults.{IsFaultOf}
 use Rattle.sp_setup.specs.Setup.{nothing, IsFirstBad, IsBadSetUp, by_line, by_named}
-use Rattle.sp_setup.specs.Views.{IsSetUpBy, IsWithinBounds}
+use Rattle.sp_setup.specs.Views.{IsSetUpBy, IsWithinBounds, HasTexts}
 use Rattle.sp_setup.proofs.Completing.{bounds}
+use Rattle.sp_setup.proofs.Texts.{texts}
 use Rattle.sp_setup.proofs.Telling.{if_ok_map, if_err_map, told, wider}
 use Rattle.sp_setup.proofs.setup.set_up.Goals as goal
 
@@ -49,3 +51,11 @@ returns-in-Err-Line-clause-err g c =
     let spelled = rw c.in-Err-Line.field-0-is at c.in-Err-Line.ensures.value in
     told (IsBadSetUp held c.args.purpose file) (g.F.Files.faults_of c.args.files.now) (g.F.Files.faults_of c.read_file.new.files) file c.from.result
     c.bad_file-in-Err-Line.result (by_line text there (spelled ∙ ap Err (sym c.from.ensures)) refl) c.bad_file-in-Err-Line.ensures
+
+pub returns-in-Ok-clause-texts : goal.returns-in-Ok-clause-texts
+returns-in-Ok-clause-texts g c =
+    let held = g.F.Files.holds c.read_file.new.files in
+    let lines = config_view c.in-Ok.lines in
+    let (entity, base, listen) = c.in-Ok.ensures.texts in
+    if_ok_map (IsSetUpBy held lines) (λ (setup : SetUp). HasTexts setup.config) c.set_up_by.result
+    (λ setup h. texts held lines setup c.a_spelled_tree_is_writable.ensures h entity base listen) c.set_up_by.ensures.ok

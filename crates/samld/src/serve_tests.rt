@@ -1,0 +1,88 @@
+//! What no clause says: that `sp` serves over objects in memory, what it prints, and that there is memory for it.
+
+use crate::run::run;
+use crate::status::Status;
+use crash_disk::MemDisk;
+use event_link::{LinkEvent, ListClock, ListLink};
+use saml_outside::{Files, MemSink, NoMemory, Sink, SteadyFiles, Text};
+use std::alloc::Global;
+use std::test::Fail;
+
+/// The config of a provider, and the files that it names.
+const FILES: [(&str, &str); 3] = [
+    (
+        "config",
+        "entity urn:example:sp\nbase http://127.0.0.1:8081\nlisten 127.0.0.1:8081\nskew 60\nidp idp.xml\nkey_in key\nkey_out key\nid_key key\n",
+    ),
+    (
+        "idp.xml",
+        "<m:EntityDescriptor xmlns:m=\"urn:oasis:names:tc:SAML:2.0:metadata\" entityID=\"urn:example:idp\"><m:IDPSSODescriptor><m:SingleSignOnService Binding=\"urn:oasis:names:tc:SAML:2.0:bindings:HTTP-POST\" Location=\"http://127.0.0.1:8080/sso\"/></m:IDPSSODescriptor></m:EntityDescriptor>",
+    ),
+    ("key", "32 bytes make a key of all kinds"),
+];
+
+/// The status of these words over these files and this output, where nothing comes and the disk is empty.
+pub(crate) fn run_alone<F: Files, K: Sink>(
+    alloc: Global,
+    words: &[Text],
+    files: &mut F,
+    out: &mut K,
+) -> Status {
+    let mut link = ListLink::new(alloc);
+    let mut disk = MemDisk::new(alloc);
+    let mut clock = ListClock::new(alloc);
+    run(alloc, words, &mut link, &mut disk, &mut clock, files, out)
+}
+
+/// The status of `sp config 9` over this link and this disk, and the sink that has taken what is printed.
+fn serve_of(
+    alloc: Global,
+    link: &mut ListLink,
+    disk: &mut MemDisk,
+) -> Result<(Status, MemSink), NoMemory> {
+    let mut files = SteadyFiles::new(alloc);
+    for (name, text) in FILES {
+        files.add(name, text.as_bytes())?;
+    }
+    let mut words = Vec::new(alloc);
+    for word in ["sp", "config", "9"] {
+        words.push(Text::of(alloc, word)?)?;
+    }
+    let mut clock = ListClock::new(alloc);
+    let mut out = MemSink::new(alloc);
+    let status = run(alloc, &words, link, disk, &mut clock, &mut files, &mut out);
+    Ok((status, out))
+}
+
+/// Adds a piece of a connection that comes.
+fn add_piece(link: &mut ListLink, conn: u32, bytes: &'static [u8]) -> Result<(), NoMemory> {
+    if !bytes.is_empty() {
+        link.add(LinkEvent::Piece(conn, bytes.len()), bytes)?;
+    }
+    Ok(())
+}
+
+#[test]
+fn a_provider_serves_until_stop(rt: HostRuntime) -> Result<(), Fail> {
+    let alloc = rt.alloc();
+    let mut link = ListLink::new(alloc);
+    let mut disk = MemDisk::new(alloc);
+    link.add(LinkEvent::Started(1), b"")?;
+    add_piece(&mut link, 1, b"GET /app HTTP/1.1\r\n\r\n")?;
+    let (status, out) = serve_of(alloc, &mut link, &mut disk)?;
+    assert_eq!(rt; status, Status::Done);
+    assert_eq!(rt; out.bytes(), b"served 2 stopped\n".as_slice());
+    assert!(rt; link.sent(1).starts_with(b"HTTP/1.1 200 OK\r\n"));
+    Ok(())
+}
+
+#[test]
+fn a_disk_without_a_ledger_is_foreign(rt: HostRuntime) -> Result<(), Fail> {
+    let alloc = rt.alloc();
+    let mut link = ListLink::new(alloc);
+    let mut disk = MemDisk::of(alloc, &[0; 72], b"")?;
+    let (status, out) = serve_of(alloc, &mut link, &mut disk)?;
+    assert_eq!(rt; status, Status::ForeignJournal);
+    assert_eq!(rt; out.bytes(), b"foreign 0 1\n".as_slice());
+    Ok(())
+}

@@ -1,0 +1,63 @@
+-- A provider that can be run serves, where no fault keeps it from that.
+use Rattle.std.proofs.Common.{◌≡◌, ◌≢◌, ◌⊎◌, ℕ, List, Option, None, Some, IfSome, IsSomeAnd, IsOk, Result, Ok, Err, inl, inr, refl, sym, subst}
+use Rattle.saml_outside.specs.Files.{File}
+use Rattle.crash_disk.specs.Disk.{DiskState, image_of}
+use Rattle.gate_journal.specs.Format.{Fault}
+use Rattle.node_serve.specs.declared.served.Served.{Served}
+use Rattle.node_serve.specs.declared.served.ServeFault.{ServeFault}
+use Rattle.node_serve.specs.declared.served.ServeFault.TheVariants as serve_faults
+use Rattle.node_serve.specs.Turns.{Turn}
+use Rattle.provider_config.specs.Config.{Config}
+use Rattle.provider_config.specs.declared.line.Purpose.{Purpose}
+use Rattle.provider_config.specs.declared.line.Purpose.TheVariants.{Serve}
+use Rattle.request_ledger.specs.Ledger.{Held, ledger_in, taken}
+use Rattle.sp_rules.specs.declared.config.SpConfig.{SpConfig}
+use Rattle.sp_server.specs.Step.{Provider}
+use Rattle.sp_setup.specs.Setup.{IsSetUp, IsBadSetUp}
+use Rattle.sp_runs.specs.declared.ended.Ended.{Ended}
+use Rattle.sp_runs.specs.declared.ended.Ended.TheVariants as ends
+use Rattle.sp_runs.specs.declared.ended.RunFault.{RunFault}
+use Rattle.sp_runs.specs.declared.ended.RunFault.TheVariants as faults
+use Rattle.sp_runs.specs.Runs.{Outside, IsNotOpened, result_of, Runs, BadSetUp, NotSetUp, NotOpened, Deaf, Serving, IsRunnable, IsServed}
+
+-- told files never set a provider up and fail to
+abbrev pub NeverBoth : Type 0
+NeverBoth =
+    (files : List File) (purpose : Purpose) (config : List ℕ) (lines : Config) (one : SpConfig) (file : List ℕ) (line : ℕ)
+    → IsSetUp (Some files) purpose config lines one → ¬ (IsBadSetUp (Some files) purpose config file line)
+
+not_foreign : (found : Result (Option Held) Fault) (fault : Fault) → IsOk found → taken found ≡ Err fault → ⊥
+not_foreign (Ok None) fault ok e = cc
+not_foreign (Ok (Some held)) fault ok e = cc
+not_foreign (Err other) fault ok e = cc
+
+held_not_foreign : (disk : Option DiskState) (fault : Fault) → IsSomeAnd disk (λ d. IsOk (ledger_in (image_of d)))
+    → IfSome disk (λ d. taken (ledger_in (image_of d)) ≡ Err fault) → ⊥
+held_not_foreign None fault holds foreign = holds
+held_not_foreign (Some d) fault holds foreign = not_foreign (ledger_in (image_of d)) fault holds foreign
+
+module _ (result : Result Ended RunFault) (unread : result ≢ Err faults.ReadFault) (undisked : result ≢ Err faults.DiskFault) (unlinked : result ≢ Err faults.LinkFault) where
+  not_opened : (before after : Outside) (known : Result Ended RunFault) → known ≡ result → IsSomeAnd before.disk (λ d. IsOk (ledger_in (image_of d)))
+      → IsNotOpened before after known → IsServed result ⊎ (result ≡ Err faults.NoMemory)
+  not_opened before after (Ok (ends.BadFile file line)) e holds why = absurd why
+  not_opened before after (Ok (ends.Foreign file place)) e holds why = absurd (held_not_foreign before.disk _ holds why)
+  not_opened before after (Ok (ends.Served served)) e holds why = absurd why
+  not_opened before after (Err faults.ReadFault) e holds why = absurd why
+  not_opened before after (Err faults.DiskFault) e holds why = absurd (undisked (sym e))
+  not_opened before after (Err faults.LinkFault) e holds why = absurd why
+  not_opened before after (Err faults.NoMemory) e holds why = inr (sym e)
+
+  serving : (served : Result Served ServeFault) → result ≡ result_of served → IsServed result ⊎ (result ≡ Err faults.NoMemory)
+  serving (Ok served) e = inl (subst IsServed (sym e) tt)
+  serving (Err serve_faults.LinkFault) e = absurd (unlinked e)
+  serving (Err serve_faults.NoMemory) e = inr e
+
+  pub complete : NeverBoth → (told : Option (List File)) (file : List ℕ) (budget : ℕ) (before after : Outside) (turns : List (Turn Provider))
+      → IsRunnable told file before.disk → Runs told file budget before turns result after → IsServed result ⊎ (result ≡ Err faults.NoMemory)
+  complete law told file budget before after turns can (BadSetUp bad line is e none same) =
+      absurd (law can.files Serve file can.lines can.config bad line can.set_up (subst (λ (o : Option (List File)). IsBadSetUp o Serve file bad line) can.tells is))
+  complete law told file budget before after turns can (NotSetUp (inl e) none same) = absurd (unread e)
+  complete law told file budget before after turns can (NotSetUp (inr e) none same) = inr e
+  complete law told file budget before after turns can (NotOpened lines config set_up why none same) = not_opened before after result refl can.holds why
+  complete law told file budget before after turns can (Deaf provider opened begins e rose none same) = absurd (unlinked e)
+  complete law told file budget before after turns can (Serving provider last opened served begins serves e) = serving served e

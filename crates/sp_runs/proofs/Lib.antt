@@ -1,0 +1,4 @@
+pub mod Completing
+pub mod Moments
+pub mod Serving
+mod Kept
