@@ -1,0 +1,2 @@
+pub mod Signable
+pub mod Texts

@@ -1,0 +1,357 @@
+-- The record that another one names, which no other names.
+use Rattle.std.proofs.Common.{◌≡◌, ℕ, zero, suc, ◌<◌, inl, inr, true, false, ◌&&◌, not, List, [], ◌∷◌, ◌++◌, slice_get, Option, None, Some, bytes_eq, refl, sym, ap, ◌∙◌, subst, arith}
+use Rattle.std.specs.List.{list_any, list_all}
+use Rattle.std.proofs.lemmas.Bool.{false≢true, and_parts, or_from, or_cases, not-true}
+use Rattle.ledger_records.specs.declared.idp_record.Pending.{Pending}
+use Rattle.ledger_records.specs.declared.idp_record.Issued.{Issued}
+use Rattle.ledger_records.specs.declared.idp_record.Left.{Left}
+use Rattle.ledger_records.specs.declared.idp_record.IdpRecord.{IdpRecord}
+use Rattle.ledger_records.specs.declared.idp_record.IdpRecord.TheVariants as kinds
+use Rattle.idp_ledger.specs.RowsOf.{if_pending, session_row, is_among, is_pending, uses, ends, confirms, pending_rows, session_rows, left_rows, rows_of}
+use Rattle.idp_ledger.specs.Record.{of_option, is_unused, is_unended, is_waiting, is_issue_free, is_record, AreRecords}
+use Rattle.idp_ledger.specs.Compacting.{has_cookie, has_session, issue_names}
+use Rattle.idp_ledger.specs.Linking.{is_none, names_up, names_down, named, has_id, HasRow}
+use Rattle.idp_ledger.proofs.LawWords.{same_text, text_itself, parts}
+use Rattle.idp_ledger.proofs.LinkRows.{other_not, among_one, among_itself, none_at, has_one, one_place}
+
+-- the row of this pending, which nothing names yet, at its place
+record IsUnusedHere (records : List IdpRecord) (pending : List ℕ) : Type 0 where
+  place : ℕ
+  row : Pending
+  there : slice_get records place ≡ Some (kinds.Pending row)
+  id_is : row.pending ≡ pending
+  free : (l : ℕ) (y : IdpRecord) → place < l → slice_get records l ≡ Some y → uses row.pending y ≡ false
+
+unused_later : (r : IdpRecord) (later : List IdpRecord) (pending : List ℕ) → IsUnusedHere later pending → IsUnusedHere (r ∷ later) pending
+unused_later r later pending rest = record {
+  place = suc rest.place;
+  row = rest.row;
+  there = rest.there;
+  id_is = rest.id_is;
+  free = free;
+}
+  where
+    free : (l : ℕ) (y : IdpRecord) → suc rest.place < l → slice_get (r ∷ later) l ≡ Some y → uses rest.row.pending y ≡ false
+    free zero y less is = absurd (omega arith)
+    free (suc l) y less is = rest.free l y (omega arith) is
+
+unused_here : (o : Pending) (later : List IdpRecord) (pending : List ℕ) → (bytes_eq o.pending pending && not (list_any (uses o.pending) later)) ≡ true → IsUnusedHere (kinds.Pending o ∷ later) pending
+unused_here o later pending here = record {
+  place = 0;
+  row = o;
+  there = refl;
+  id_is = same_text o.pending pending (and_parts (bytes_eq o.pending pending) (not (list_any (uses o.pending) later)) here).0;
+  free = free;
+}
+  where
+    none : list_any (uses o.pending) later ≡ false
+    none = not-true (list_any (uses o.pending) later) (and_parts (bytes_eq o.pending pending) (not (list_any (uses o.pending) later)) here).1
+
+    free : (l : ℕ) (y : IdpRecord) → 0 < l → slice_get (kinds.Pending o ∷ later) l ≡ Some y → uses o.pending y ≡ false
+    free zero y less is = absurd (omega arith)
+    free (suc l) y less is = none_at (uses o.pending) later none l y is
+
+unused_at : (records : List IdpRecord) (pending : List ℕ) → is_unused (pending_rows records) pending ≡ true → IsUnusedHere records pending
+unused_at [] pending is = absurd (false≢true is)
+unused_at (kinds.Pending o ∷ later) pending is =
+    elim (or_cases (bytes_eq o.pending pending && not (list_any (uses o.pending) later)) (is_unused (pending_rows later) pending) is) [
+      | inl here ↦ unused_here o later pending here
+      | inr there ↦ unused_later (kinds.Pending o) later pending (unused_at later pending there)
+    ]
+unused_at (kinds.Issued r ∷ later) pending is = unused_later (kinds.Issued r) later pending (unused_at later pending is)
+unused_at (kinds.Ended r ∷ later) pending is = unused_later (kinds.Ended r) later pending (unused_at later pending is)
+unused_at (kinds.Left r ∷ later) pending is = unused_later (kinds.Left r) later pending (unused_at later pending is)
+unused_at (kinds.Confirmed r ∷ later) pending is = unused_later (kinds.Confirmed r) later pending (unused_at later pending is)
+unused_at (kinds.Spoke r ∷ later) pending is = unused_later (kinds.Spoke r) later pending (unused_at later pending is)
+
+-- the row of this request, which nothing names yet, at its place
+record IsWaitingHere (records : List IdpRecord) (request : List ℕ) : Type 0 where
+  place : ℕ
+  row : Left
+  there : slice_get records place ≡ Some (kinds.Left row)
+  id_is : row.request ≡ request
+  free : (l : ℕ) (y : IdpRecord) → place < l → slice_get records l ≡ Some y → confirms row.request y ≡ false
+
+waiting_later : (r : IdpRecord) (later : List IdpRecord) (request : List ℕ) → IsWaitingHere later request → IsWaitingHere (r ∷ later) request
+waiting_later r later request rest = record {
+  place = suc rest.place;
+  row = rest.row;
+  there = rest.there;
+  id_is = rest.id_is;
+  free = free;
+}
+  where
+    free : (l : ℕ) (y : IdpRecord) → suc rest.place < l → slice_get (r ∷ later) l ≡ Some y → confirms rest.row.request y ≡ false
+    free zero y less is = absurd (omega arith)
+    free (suc l) y less is = rest.free l y (omega arith) is
+
+waiting_here : (o : Left) (later : List IdpRecord) (request : List ℕ) → (bytes_eq o.request request && not (list_any (confirms o.request) later)) ≡ true → IsWaitingHere (kinds.Left o ∷ later) request
+waiting_here o later request here = record {
+  place = 0;
+  row = o;
+  there = refl;
+  id_is = same_text o.request request (and_parts (bytes_eq o.request request) (not (list_any (confirms o.request) later)) here).0;
+  free = free;
+}
+  where
+    none : list_any (confirms o.request) later ≡ false
+    none = not-true (list_any (confirms o.request) later) (and_parts (bytes_eq o.request request) (not (list_any (confirms o.request) later)) here).1
+
+    free : (l : ℕ) (y : IdpRecord) → 0 < l → slice_get (kinds.Left o ∷ later) l ≡ Some y → confirms o.request y ≡ false
+    free zero y less is = absurd (omega arith)
+    free (suc l) y less is = none_at (confirms o.request) later none l y is
+
+waiting_at : (records : List IdpRecord) (request : List ℕ) → is_waiting (left_rows records) request ≡ true → IsWaitingHere records request
+waiting_at [] request is = absurd (false≢true is)
+waiting_at (kinds.Left o ∷ later) request is =
+    elim (or_cases (bytes_eq o.request request && not (list_any (confirms o.request) later)) (is_waiting (left_rows later) request) is) [
+      | inl here ↦ waiting_here o later request here
+      | inr there ↦ waiting_later (kinds.Left o) later request (waiting_at later request there)
+    ]
+waiting_at (kinds.Pending r ∷ later) request is = waiting_later (kinds.Pending r) later request (waiting_at later request is)
+waiting_at (kinds.Issued r ∷ later) request is = waiting_later (kinds.Issued r) later request (waiting_at later request is)
+waiting_at (kinds.Ended r ∷ later) request is = waiting_later (kinds.Ended r) later request (waiting_at later request is)
+waiting_at (kinds.Confirmed r ∷ later) request is = waiting_later (kinds.Confirmed r) later request (waiting_at later request is)
+waiting_at (kinds.Spoke r ∷ later) request is = waiting_later (kinds.Spoke r) later request (waiting_at later request is)
+
+-- the row of this cookie, which nothing names yet, at its place
+record IsUnendedHere (records : List IdpRecord) (cookie : List ℕ) : Type 0 where
+  place : ℕ
+  row : Issued
+  there : slice_get records place ≡ Some (kinds.Issued row)
+  begun : (p : List ℕ) × (row.pending ≡ Some p)
+  id_is : row.cookie ≡ cookie
+  free : (l : ℕ) (y : IdpRecord) → place < l → slice_get records l ≡ Some y → ends row.cookie y ≡ false
+
+unended_later : (r : IdpRecord) (later : List IdpRecord) (cookie : List ℕ) → IsUnendedHere later cookie → IsUnendedHere (r ∷ later) cookie
+unended_later r later cookie rest = record {
+  place = suc rest.place;
+  row = rest.row;
+  there = rest.there;
+  begun = rest.begun;
+  id_is = rest.id_is;
+  free = free;
+}
+  where
+    free : (l : ℕ) (y : IdpRecord) → suc rest.place < l → slice_get (r ∷ later) l ≡ Some y → ends rest.row.cookie y ≡ false
+    free zero y less is = absurd (omega arith)
+    free (suc l) y less is = rest.free l y (omega arith) is
+
+unended_here : (o : Issued) (later : List IdpRecord) (cookie : List ℕ) → (p : List ℕ) × (o.pending ≡ Some p) → (bytes_eq o.cookie cookie && not (list_any (ends o.cookie) later)) ≡ true → IsUnendedHere (kinds.Issued o ∷ later) cookie
+unended_here o later cookie begun here = record {
+  place = 0;
+  row = o;
+  there = refl;
+  begun = begun;
+  id_is = same_text o.cookie cookie (and_parts (bytes_eq o.cookie cookie) (not (list_any (ends o.cookie) later)) here).0;
+  free = free;
+}
+  where
+    none : list_any (ends o.cookie) later ≡ false
+    none = not-true (list_any (ends o.cookie) later) (and_parts (bytes_eq o.cookie cookie) (not (list_any (ends o.cookie) later)) here).1
+
+    free : (l : ℕ) (y : IdpRecord) → 0 < l → slice_get (kinds.Issued o ∷ later) l ≡ Some y → ends o.cookie y ≡ false
+    free zero y less is = absurd (omega arith)
+    free (suc l) y less is = none_at (ends o.cookie) later none l y is
+
+unended_begun : (o : Issued) (later : List IdpRecord) (cookie : List ℕ) (p : Option (List ℕ)) → o.pending ≡ p → (is_unended (session_rows later) cookie ≡ true → IsUnendedHere later cookie)
+    → is_unended (if_pending p (session_row (list_any (ends o.cookie) later) o ∷ []) ++ session_rows later) cookie ≡ true → IsUnendedHere (kinds.Issued o ∷ later) cookie
+unended_begun o later cookie None e rest is = unended_later (kinds.Issued o) later cookie (rest is)
+unended_begun o later cookie (Some pending) e rest is =
+    elim (or_cases (bytes_eq o.cookie cookie && not (list_any (ends o.cookie) later)) (is_unended (session_rows later) cookie) is) [
+      | inl here ↦ unended_here o later cookie (pending, e) here
+      | inr there ↦ unended_later (kinds.Issued o) later cookie (rest there)
+    ]
+
+unended_at : (records : List IdpRecord) (cookie : List ℕ) → is_unended (session_rows records) cookie ≡ true → IsUnendedHere records cookie
+unended_at [] cookie is = absurd (false≢true is)
+unended_at (kinds.Issued o ∷ later) cookie is = unended_begun o later cookie o.pending refl (unended_at later cookie) is
+unended_at (kinds.Pending r ∷ later) cookie is = unended_later (kinds.Pending r) later cookie (unended_at later cookie is)
+unended_at (kinds.Ended r ∷ later) cookie is = unended_later (kinds.Ended r) later cookie (unended_at later cookie is)
+unended_at (kinds.Left r ∷ later) cookie is = unended_later (kinds.Left r) later cookie (unended_at later cookie is)
+unended_at (kinds.Confirmed r ∷ later) cookie is = unended_later (kinds.Confirmed r) later cookie (unended_at later cookie is)
+unended_at (kinds.Spoke r ∷ later) cookie is = unended_later (kinds.Spoke r) later cookie (unended_at later cookie is)
+
+-- a record that is linked does not name what it does not use, end or confirm
+unused_by : (o : Pending) (p : Option (List ℕ)) (cookie : List ℕ) → is_pending o.pending p ≡ false → (not (is_none p) && issue_names p cookie (kinds.Pending o)) ≡ false
+unused_by o None cookie none = refl
+unused_by o (Some pending) cookie none = other_not pending o.pending none
+
+unused_names : (o : Pending) (y : IdpRecord) → uses o.pending y ≡ false → names_up y (kinds.Pending o) ≡ false
+unused_names o (kinds.Pending r) none = refl
+unused_names o (kinds.Issued r) none = unused_by o r.pending r.cookie none
+unused_names o (kinds.Ended r) none = refl
+unused_names o (kinds.Left r) none = refl
+unused_names o (kinds.Confirmed r) none = refl
+unused_names o (kinds.Spoke r) none = refl
+
+within_or_pending : (o : Issued) (p : Option (List ℕ)) (cookie : List ℕ) → (not (is_none p) && issue_names p cookie (kinds.Issued o)) ≡ false
+within_or_pending o None cookie = refl
+within_or_pending o (Some pending) cookie = refl
+
+not_among : (cookies : List (List ℕ)) (p : Option (List ℕ)) (cookie : List ℕ) → is_among cookie cookies ≡ false → has_cookie cookies p cookie ≡ false
+not_among cookies None cookie none = refl
+not_among cookies (Some pending) cookie none = none
+
+unended_names : (o : Issued) (y : IdpRecord) → ends o.cookie y ≡ false → names_up y (kinds.Issued o) ≡ false
+unended_names o (kinds.Pending r) none = refl
+unended_names o (kinds.Issued r) none = within_or_pending o r.pending r.cookie
+unended_names o (kinds.Ended r) none = not_among r.cookies o.pending o.cookie none
+unended_names o (kinds.Left r) none = not_among (r.cookie ∷ []) o.pending o.cookie (or_from (bytes_eq r.cookie o.cookie) false none refl)
+unended_names o (kinds.Confirmed r) none = refl
+unended_names o (kinds.Spoke r) none = refl
+
+unconfirmed_by : (o : Left) (p : Option (List ℕ)) (cookie : List ℕ) → (not (is_none p) && issue_names p cookie (kinds.Left o)) ≡ false
+unconfirmed_by o None cookie = refl
+unconfirmed_by o (Some pending) cookie = refl
+
+unconfirmed_names : (o : Left) (y : IdpRecord) → confirms o.request y ≡ false → names_up y (kinds.Left o) ≡ false
+unconfirmed_names o (kinds.Pending r) none = refl
+unconfirmed_names o (kinds.Issued r) none = unconfirmed_by o r.pending r.cookie
+unconfirmed_names o (kinds.Ended r) none = refl
+unconfirmed_names o (kinds.Left r) none = refl
+unconfirmed_names o (kinds.Confirmed r) none = other_not r.request o.request none
+unconfirmed_names o (kinds.Spoke r) none = refl
+
+-- the record of an ID that one more record names
+pub record FreeRow (before : List IdpRecord) (r : IdpRecord) (id : List ℕ) : Type 0 where
+  pub place : ℕ
+  pub row : IdpRecord
+  pub there : slice_get before place ≡ Some row
+  pub has : has_id (id ∷ []) row ≡ true
+  pub named_is : names_up r row ≡ true
+  pub free : (l : ℕ) (y : IdpRecord) → place < l → slice_get before l ≡ Some y → names_up y row ≡ false
+
+has_it : (ids : List (List ℕ)) (o : Issued) → (p : List ℕ) × (o.pending ≡ Some p) → is_among o.cookie ids ≡ true → has_session ids (kinds.Issued o) ≡ true
+has_it ids o begun among = ap (λ p. has_cookie ids p o.cookie) begun.1 ∙ among
+
+unended_free : (before : List IdpRecord) (r : IdpRecord) (id : List ℕ) (o : IsUnendedHere before id) → names_up r (kinds.Issued o.row) ≡ true → FreeRow before r id
+unended_free before r id o named = record {
+  place = o.place;
+  row = kinds.Issued o.row;
+  there = o.there;
+  has = has_it (id ∷ []) o.row o.begun (subst (λ t. is_among t (id ∷ []) ≡ true) (sym o.id_is) (among_itself id));
+  named_is = named;
+  free = λ l y less is. unended_names o.row y (o.free l y less is);
+}
+
+among_cookie : (rows : List IdpRecord) (cookies : List (List ℕ)) (id : List ℕ) → list_all (is_unended (session_rows rows)) cookies ≡ true → is_among id cookies ≡ true
+    → is_unended (session_rows rows) id ≡ true
+among_cookie rows [] id all among = absurd (false≢true among)
+among_cookie rows (t ∷ cookies) id all among =
+    let both = and_parts (is_unended (session_rows rows) t) (list_all (is_unended (session_rows rows)) cookies) all in
+    elim (or_cases (bytes_eq t id) (is_among id cookies) among) [
+      | inl here ↦ subst (λ x. is_unended (session_rows rows) x ≡ true) (same_text t id here) both.0
+      | inr there ↦ among_cookie rows cookies id both.1 there
+    ]
+
+issued_free : (before : List IdpRecord) (r : Issued) (id : List ℕ) (p : Option (List ℕ)) → r.pending ≡ p → is_issue_free (rows_of before) p r.cookie ≡ true → is_among id (of_option p) ≡ true
+    → FreeRow before (kinds.Issued r) id
+issued_free before r id None e free among = absurd (false≢true among)
+issued_free before r id (Some pending) e free among =
+    let same : id ≡ pending = among_one pending id among in
+    let o = unused_at before id (subst (λ t. is_unused (pending_rows before) t ≡ true) (sym same) free) in
+    record {
+      place = o.place;
+      row = kinds.Pending o.row;
+      there = o.there;
+      has = subst (λ t. is_among t (id ∷ []) ≡ true) (sym o.id_is) (among_itself id);
+      named_is = ap (λ q. not (is_none q) && issue_names q r.cookie (kinds.Pending o.row)) e
+          ∙ subst (λ t. bytes_eq t pending ≡ true) (sym (o.id_is ∙ same)) (text_itself pending);
+      free = λ l y less there. unused_names o.row y (o.free l y less there);
+    }
+
+pub free_row : (before : List IdpRecord) (r : IdpRecord) (id : List ℕ) → is_record before r ≡ true → is_among id (named r) ≡ true → FreeRow before r id
+free_row before (kinds.Pending r) id is among = absurd (false≢true among)
+free_row before (kinds.Issued r) id is among = issued_free before r id r.pending refl (parts before (kinds.Issued r) is).free among
+free_row before (kinds.Left r) id is among =
+    let same : id ≡ r.cookie = among_one r.cookie id among in
+    let o = unended_at before id (subst (λ t. is_unended (session_rows before) t ≡ true) (sym same) (parts before (kinds.Left r) is).free) in
+    unended_free before (kinds.Left r) id o
+    (has_it (r.cookie ∷ []) o.row o.begun (subst (λ t. is_among t (r.cookie ∷ []) ≡ true) (sym o.id_is) among))
+free_row before (kinds.Ended r) id is among =
+    let o = unended_at before id (among_cookie before r.cookies id (parts before (kinds.Ended r) is).free among) in
+    unended_free before (kinds.Ended r) id o (has_it r.cookies o.row o.begun (subst (λ t. is_among t r.cookies ≡ true) (sym o.id_is) among))
+free_row before (kinds.Confirmed r) id is among =
+    let same : id ≡ r.request = among_one r.request id among in
+    let o = waiting_at before id (subst (λ t. is_waiting (left_rows before) t ≡ true) (sym same) (parts before (kinds.Confirmed r) is).free) in
+    record {
+      place = o.place;
+      row = kinds.Left o.row;
+      there = o.there;
+      has = subst (λ t. is_among t (id ∷ []) ≡ true) (sym o.id_is) (among_itself id);
+      named_is = subst (λ t. bytes_eq t r.request ≡ true) (sym o.id_is) (subst (λ t. bytes_eq t r.request ≡ true) (sym same) (text_itself r.request));
+      free = λ l y less there. unconfirmed_names o.row y (o.free l y less there);
+    }
+free_row before (kinds.Spoke r) id is among = absurd (false≢true among)
+
+pub has_row : (before : List IdpRecord) (r : IdpRecord) → is_record before r ≡ true → (id : List ℕ) → is_among id (named r) ≡ true → HasRow before id
+has_row before r is id among =
+    let f = free_row before r id is among in
+    record { place = f.place; row = f.row; there = f.there; has = f.has }
+
+-- what a record with one of the IDs is: it is named, and no later one that is linked names it
+pub record IsNamed (before : List IdpRecord) (r : IdpRecord) (i : ℕ) (x : IdpRecord) : Type 0 where
+  pub is : names_up r x ≡ true
+  pub once : (l : ℕ) (y : IdpRecord) → i < l → slice_get before l ≡ Some y → names_up y x ≡ false
+
+pub is_named : (before : List IdpRecord) (r : IdpRecord) → AreRecords before → is_record before r ≡ true → (i : ℕ) (x : IdpRecord) → slice_get before i ≡ Some x
+    → has_id (named r) x ≡ true → IsNamed before r i x
+is_named before r are is i x there has =
+    let one = has_one (named r) x has in
+    let f = free_row before r one.0 is one.1 in
+    let same = one_place [] before are one.0 f.place i f.row x f.there there f.has one.2 in
+    let at : slice_get before i ≡ Some f.row = subst (λ p. slice_get before p ≡ Some f.row) same f.there in
+    let row : f.row ≡ x = cc in
+    record {
+      is = subst (λ y. names_up r y ≡ true) row f.named_is;
+      once = λ l y less at_l. subst (λ z. names_up y z ≡ false) row (f.free l y (omega (arith, less, same)) at_l);
+    }
+
+-- ---- the record that began a session
+
+-- an Issued in a session names the record that has the cookie, and no other
+pub record BeganAt (before : List IdpRecord) (cookie : List ℕ) : Type 0 where
+  pub place : ℕ
+  pub row : IdpRecord
+  pub there : slice_get before place ≡ Some row
+  pub has : has_session (cookie ∷ []) row ≡ true
+
+pub began_at : (before : List IdpRecord) (r : Issued) → r.pending ≡ None → is_record before (kinds.Issued r) ≡ true → BeganAt before r.cookie
+began_at before r none is =
+    let free = ap (λ p. is_issue_free (rows_of before) p r.cookie) (sym none) ∙ (parts before (kinds.Issued r) is).free in
+    let o = unended_at before r.cookie free in
+    record {
+      place = o.place;
+      row = kinds.Issued o.row;
+      there = o.there;
+      has = has_it (r.cookie ∷ []) o.row o.begun (subst (λ t. is_among t (r.cookie ∷ []) ≡ true) (sym o.id_is) (among_itself r.cookie));
+    }
+
+names_none : (p : Option (List ℕ)) (cookie : List ℕ) (x : IdpRecord) → (is_none p && issue_names p cookie x) ≡ true → (p ≡ None) × (has_session (cookie ∷ []) x ≡ true)
+names_none None cookie x is = (refl, is)
+names_none (Some pending) cookie x is = absurd (false≢true is)
+
+-- what names downwards is an Issued in a session
+pub record IsWithin (r x : IdpRecord) : Type 0 where
+  pub issue : Issued
+  pub is : r ≡ kinds.Issued issue
+  pub none : issue.pending ≡ None
+  pub has : has_session (issue.cookie ∷ []) x ≡ true
+
+pub is_within_of : (r x : IdpRecord) → names_down r x ≡ true → IsWithin r x
+is_within_of (kinds.Pending r) x is = absurd (false≢true is)
+is_within_of (kinds.Issued r) x is = let both = names_none r.pending r.cookie x is in record { issue = r; is = refl; none = both.0; has = both.1 }
+is_within_of (kinds.Ended r) x is = absurd (false≢true is)
+is_within_of (kinds.Left r) x is = absurd (false≢true is)
+is_within_of (kinds.Confirmed r) x is = absurd (false≢true is)
+is_within_of (kinds.Spoke r) x is = absurd (false≢true is)
+
+pub down_names : (r : Issued) (x : IdpRecord) → r.pending ≡ None → has_session (r.cookie ∷ []) x ≡ true → names_down (kinds.Issued r) x ≡ true
+down_names r x none has = ap (λ p. is_none p && issue_names p r.cookie x) none ∙ has
+
+-- a record in a session has no row of its own that is found
+pub within_has_none : (ids : List (List ℕ)) (r x : IdpRecord) → names_down r x ≡ true → has_id ids r ≡ false
+within_has_none ids r x is =
+    let w = is_within_of r x is in
+    ap (has_id ids) w.is ∙ ap (λ p. has_cookie ids p w.issue.cookie) w.none

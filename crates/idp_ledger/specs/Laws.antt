@@ -1,0 +1,57 @@
+-- The laws of a ledger.
+use Rattle.std.specs.Prelude.{◌≡◌, ℕ, ◌≤◌, false, List, ◌∷◌, ◌++◌, Option, None, Some, Ok, slice_get}
+use Rattle.crash_disk.specs.Disk.{Image}
+use Rattle.ledger_records.specs.declared.idp_record.Issued.{Issued}
+use Rattle.ledger_records.specs.declared.idp_record.IdpRecord.{IdpRecord}
+use Rattle.ledger_records.specs.declared.idp_record.IdpRecord.TheVariants as kinds
+use Rattle.idp_ledger.specs.declared.row.PendingRow.{PendingRow}
+use Rattle.idp_ledger.specs.declared.row.SessionRow.{SessionRow}
+use Rattle.idp_ledger.specs.Finding.{pending_found, session_found, ending, is_waiting_now}
+use Rattle.idp_ledger.specs.RowsOf.{IdpRows, rows_of}
+use Rattle.idp_ledger.specs.Record.{AreRecords}
+use Rattle.idp_ledger.specs.Ledger.{Held, ledger_in}
+use Rattle.idp_ledger.specs.Compacting.{IsCompacted, AreKept}
+
+-- At a moment the two rows with their horizons answer all that is asked of them alike: which login is pending, which session
+-- lives, which sessions an answered logout ends, and which logout waits.
+pub record AnswerAlike (now : ℕ) (one other : Held) : Type 0 where
+  pub pending : (pending : List ℕ) → pending_found (rows_of one.records).pendings pending now one.header.horizon ≡ pending_found (rows_of other.records).pendings pending now other.header.horizon
+  pub session : (cookie : List ℕ) → session_found (rows_of one.records).sessions cookie now one.header.horizon ≡ session_found (rows_of other.records).sessions cookie now other.header.horizon
+  pub ending : (peer name : List ℕ) (indexes : List (List ℕ)) → ending now one.header.horizon peer name indexes (rows_of one.records) ≡ ending now other.header.horizon peer name indexes (rows_of other.records)
+  pub waiting : (request : List ℕ) → is_waiting_now (rows_of one.records).lefts request now one.header.horizon ≡ is_waiting_now (rows_of other.records).lefts request now other.header.horizon
+
+-- what an image stands for has records of the ledger, each behind those before it
+abbrev pub ImagesHoldRecords : Type 0
+ImagesHoldRecords = (image : Image) (held : Held) → ledger_in image ≡ Ok (Some held) → AreRecords held.records
+
+-- what is kept of records of a ledger are records of a ledger
+abbrev pub KeptAreRecords : Type 0
+KeptAreRecords = (now horizon : ℕ) (records kept : List IdpRecord) → AreRecords records → AreKept now horizon records kept → AreRecords kept
+
+-- from the moment of a compaction on it changes no answer
+abbrev pub CompactionsChangeNoAnswer : Type 0
+CompactionsChangeNoAnswer = (now later : ℕ) (old new : Held) → AreRecords old.records → IsCompacted now old new → now ≤ later → AnswerAlike later new old
+
+-- What an Issued was issued for: a login that was pending and not used before, or a session that was not ended.
+pub record HasPending (rows : IdpRows) (pending : List ℕ) : Type 0 where
+  pub place : ℕ
+  pub row : PendingRow
+  pub there : slice_get rows.pendings place ≡ Some row
+  pub is : row.pending ≡ pending
+  pub unused : row.used ≡ false
+
+pub record HasSession (rows : IdpRows) (cookie : List ℕ) : Type 0 where
+  pub place : ℕ
+  pub row : SessionRow
+  pub there : slice_get rows.sessions place ≡ Some row
+  pub is : row.cookie ≡ cookie
+  pub unended : row.ended ≡ false
+
+abbrev pub HasCause : IdpRows → Option (List ℕ) → List ℕ → Type 0
+HasCause rows None cookie = HasSession rows cookie
+HasCause rows (Some pending) cookie = HasPending rows pending
+
+-- each Issued of records of a ledger has its cause in the rows of the records before it
+abbrev pub EachIssueHasItsCause : Type 0
+EachIssueHasItsCause =
+    (before later : List IdpRecord) (r : Issued) → AreRecords (before ++ kinds.Issued r ∷ later) → HasCause (rows_of before) r.pending r.cookie

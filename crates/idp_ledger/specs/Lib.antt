@@ -1,0 +1,14 @@
+pub mod RowsOf
+pub mod Finding
+pub mod Record
+pub mod Standing
+pub mod Ledger
+pub mod Keeping
+pub mod Loading
+pub mod Draft
+pub mod Ids
+pub mod Drafts
+pub mod Compacting
+pub mod Linking
+pub mod Laws
+pub mod Examples

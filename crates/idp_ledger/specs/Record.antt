@@ -1,0 +1,119 @@
+-- Which payloads are records of an identity provider's ledger.
+use Rattle.std.specs.Prelude.{◌≡◌, ℕ, ◌+◌, nat_le, Bool, true, ◌&&◌, not, List, [], ◌∷◌, ◌++◌, length, Option, None, Some, Result, Ok, Err, if◌then◌else◌}
+use Rattle.std.specs.List.{flat_map, list_all, list_any}
+use Rattle.std.specs.Str.{bytes_eq}
+use Rattle.owned_values.specs.declared.attributes.Attribute.{Attribute}
+use Rattle.ledger_records.specs.declared.idp_record.IdpRecord.{IdpRecord}
+use Rattle.ledger_records.specs.declared.idp_record.IdpRecord.TheVariants as kinds
+use Rattle.ledger_records.specs.Found.{idp_record}
+use Rattle.ledger_rules.specs.Numbers.{Drawn, above, are_fresh, is_xml_text}
+use Rattle.idp_ledger.specs.declared.row.PendingRow.{PendingRow}
+use Rattle.idp_ledger.specs.declared.row.SessionRow.{SessionRow}
+use Rattle.idp_ledger.specs.declared.row.LeftRow.{LeftRow}
+use Rattle.idp_ledger.specs.RowsOf.{IdpRows, if_pending, rows_of}
+
+-- whether there is a pending login of this ID that is not used
+abbrev pub is_unused : List PendingRow → List ℕ → Bool
+is_unused pendings pending = list_any (λ row. bytes_eq row.pending pending && not row.used) pendings
+
+-- whether there is a session of this cookie that is not ended
+abbrev pub is_unended : List SessionRow → List ℕ → Bool
+is_unended sessions cookie = list_any (λ row. bytes_eq row.cookie cookie && not row.ended) sessions
+
+-- whether there is a logout of this request that is not confirmed
+abbrev pub is_waiting : List LeftRow → List ℕ → Bool
+is_waiting lefts request = list_any (λ row. bytes_eq row.request request && not row.confirmed) lefts
+
+-- an Issued names the login that was pending, or the session that the user had
+abbrev pub is_issue_free : IdpRows → Option (List ℕ) → List ℕ → Bool
+is_issue_free rows None cookie = is_unended rows.sessions cookie
+is_issue_free rows (Some pending) cookie = is_unused rows.pendings pending
+
+-- Each row that a record names is there, and is free for it: a login that is not used, a session that is not ended, a logout
+-- that is not confirmed.
+abbrev pub is_free : IdpRows → IdpRecord → Bool
+is_free rows (kinds.Pending r) = true
+is_free rows (kinds.Issued r) = is_issue_free rows r.pending r.cookie
+is_free rows (kinds.Ended r) = list_all (is_unended rows.sessions) r.cookies
+is_free rows (kinds.Left r) = is_unended rows.sessions r.cookie
+is_free rows (kinds.Confirmed r) = is_waiting rows.lefts r.request
+is_free rows (kinds.Spoke r) = true
+
+-- the IDs that a record draws
+abbrev pub drawn : IdpRecord → List Drawn
+drawn (kinds.Pending r) = record { number = r.first; id = r.pending } ∷ []
+drawn (kinds.Issued r) =
+    record { number = r.first; id = r.assertion } ∷ record { number = r.first + 1; id = r.message }
+    ∷ if_pending r.pending (record { number = r.first + 2; id = r.cookie } ∷ record { number = r.first + 3; id = r.index } ∷ [])
+drawn (kinds.Ended r) = record { number = r.first; id = r.message } ∷ []
+drawn (kinds.Left r) = record { number = r.first; id = r.request } ∷ []
+drawn (kinds.Confirmed r) = []
+drawn (kinds.Spoke r) = record { number = r.first; id = r.message } ∷ []
+
+-- the texts of a record but a relay state
+abbrev pub of_option : Option (List ℕ) → List (List ℕ)
+of_option None = []
+of_option (Some text) = text ∷ []
+
+abbrev pub of_attribute : Attribute → List (List ℕ)
+of_attribute a = a.name ∷ a.values
+
+abbrev pub texts : IdpRecord → List (List ℕ)
+texts (kinds.Pending r) = r.pending ∷ r.request ∷ r.peer ∷ r.consumer ∷ []
+texts (kinds.Issued r) =
+    r.cookie ∷ r.index ∷ r.assertion ∷ r.message ∷ r.user ∷ r.peer ∷ r.consumer ∷ r.request
+    ∷ of_option r.pending ++ flat_map of_attribute r.attributes
+texts (kinds.Ended r) = r.message ∷ r.request ∷ r.peer ∷ r.cookies
+texts (kinds.Left r) = r.cookie ∷ r.request ∷ r.peer ∷ []
+texts (kinds.Confirmed r) = r.request ∷ []
+texts (kinds.Spoke r) = r.message ∷ r.request ∷ r.peer ∷ []
+
+-- when a record was made, and when the session of an Issued ends
+abbrev pub moments : IdpRecord → List ℕ
+moments (kinds.Pending r) = r.moment ∷ []
+moments (kinds.Issued r) = r.moment ∷ r.session_end ∷ []
+moments (kinds.Ended r) = r.moment ∷ []
+moments (kinds.Left r) = r.moment ∷ []
+moments (kinds.Confirmed r) = r.moment ∷ []
+moments (kinds.Spoke r) = r.moment ∷ []
+
+-- the last millisecond of the year 9999
+abbrev pub LAST : ℕ
+LAST = 253402300799999
+
+-- A record of the ledger where these are the rows, and this number is above all that were drawn: the rows that it names
+-- are there and free, its numbers are greater than all before and below 2^63, each ID that it draws begins with its number,
+-- a document may hold the characters of its texts, and it was made before the year 10000, as the session of an Issued ends.
+abbrev pub is_next : IdpRows → ℕ → IdpRecord → Bool
+is_next rows next r =
+    is_free rows r && are_fresh next (drawn r) && list_all is_xml_text (texts r) && list_all (λ moment. nat_le moment LAST) (moments r)
+
+-- the least number above all that these records drew
+abbrev pub next_of : List IdpRecord → ℕ
+next_of records = above (flat_map drawn records)
+
+-- a record of the ledger behind these
+unfoldable pub is_record : List IdpRecord → IdpRecord → Bool
+is_record before r = is_next (rows_of before) (next_of before) r
+
+-- The records that the payloads of a journal are, behind these, or the number of the first payload that is none. A payload
+-- is the same record in both versions of a journal.
+abbrev pub with_next : List IdpRecord → Option IdpRecord → (IdpRecord → Result (List IdpRecord) ℕ) → Result (List IdpRecord) ℕ
+with_next before None go_on = Err (length before)
+with_next before (Some r) go_on = if is_record before r then go_on r else Err (length before)
+
+unfoldable pub records_from : List IdpRecord → List (List ℕ) → Result (List IdpRecord) ℕ
+records_from before [] = Ok before
+records_from before (payload ∷ payloads) =
+    with_next before (idp_record payload) (λ r. records_from (before ++ r ∷ []) payloads)
+
+abbrev pub records_of : List (List ℕ) → Result (List IdpRecord) ℕ
+records_of payloads = records_from [] payloads
+
+-- each is a record of the ledger behind those before it
+abbrev pub AreRecordsAfter : List IdpRecord → List IdpRecord → Type 0
+AreRecordsAfter before [] = Unit {0}
+AreRecordsAfter before (r ∷ later) = (is_record before r ≡ true) × AreRecordsAfter (before ++ r ∷ []) later
+
+abbrev pub AreRecords : List IdpRecord → Type 0
+AreRecords records = AreRecordsAfter [] records

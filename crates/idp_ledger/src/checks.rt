@@ -1,0 +1,149 @@
+//! What makes a record one of the ledger, beside the rows that it names.
+ghost use Rattle.std.specs.Prelude.{◌≡◌, ◌+◌, ◌<◌, ◌^◌, ◌∷◌, [], ◌&&◌, nat_le, nat_lt};
+ghost use Rattle.std.specs.List.{list_all, flat_map};
+ghost use Rattle.ledger_rules.specs.Numbers.{NUMBER_END, has_number, is_xml_text};
+ghost use Rattle.ledger_rules.specs.Numbers.{are_fresh as are_fresh_numbers};
+ghost use Rattle.ledger_records.specs.declared.idp_record.IdpRecord.TheVariants as kinds;
+ghost use Rattle.idp_ledger.specs.RowsOf.{if_pending};
+ghost use Rattle.idp_ledger.specs.Record.{LAST, drawn, moments, of_attribute, texts};
+
+use ledger_records::IdpRecord;
+use ledger_records::idp_record::Issued;
+use ledger_rules::{has_number, is_xml_text};
+use owned_values::{Attribute, Text};
+
+/// The last millisecond of the year 9999.
+pub(crate) const LAST: u64 = 253_402_300_799_999;
+
+/// Numbers end below this one.
+pub(crate) const END_OF_NUMBERS: u64 = 1 << 63;
+
+/// Whether a number is this one or greater and below the end, and an ID begins with it.
+fn is_fresh(least: u64, number: u64, id: &Text) -> bool
+    ensures { result ≡ (nat_le least number && nat_lt number NUMBER_END && has_number number id.now) }
+{
+    least <= number && number < END_OF_NUMBERS && has_number(number, id.as_str())
+}
+
+/// Whether the cookie and the index that an Issued draws are fresh, where it draws them.
+fn is_session_fresh(least: u64, r: &Issued) -> bool
+    requires { r.now.first < 2 ^ 63 }
+    ensures { result ≡ are_fresh_numbers least (if_pending r.now.pending (record { number = r.now.first + 2; id = r.now.cookie } ∷ record { number = r.now.first + 3; id = r.now.index } ∷ [])) }
+{
+    match &r.pending {
+        Some(_) => {
+            is_fresh(least, r.first + 2, &r.cookie) && is_fresh(least, r.first + 3, &r.index)
+        }
+        None => true,
+    }
+}
+
+/// Whether the numbers that a record draws are this one or greater and below the end, and each ID begins with its number.
+pub(crate) fn are_fresh(least: u64, entry: &IdpRecord) -> bool
+    ensures { result ≡ are_fresh_numbers least (drawn entry.now) }
+{
+    match entry {
+        IdpRecord::Pending(r) => is_fresh(least, r.first, &r.pending),
+        IdpRecord::Issued(r) => {
+            is_fresh(least, r.first, &r.assertion)
+                && is_fresh(least, r.first + 1, &r.message)
+                && is_session_fresh(least, r)
+        }
+        IdpRecord::Ended(r) => is_fresh(least, r.first, &r.message),
+        IdpRecord::Left(r) => is_fresh(least, r.first, &r.request),
+        IdpRecord::Confirmed(_) => true,
+        IdpRecord::Spoke(r) => is_fresh(least, r.first, &r.message),
+    }
+}
+
+/// Whether a document may hold the characters of a text.
+fn is_allowed(text: &Text) -> bool
+    ensures { result ≡ is_xml_text text.now }
+{
+    is_xml_text(text.as_str())
+}
+
+/// Whether a document may hold the characters of these texts.
+fn are_allowed(texts: &[Text]) -> bool
+    ensures { result ≡ list_all is_xml_text texts.now }
+{
+    texts.iter().all(|text| is_allowed(text))
+}
+
+/// Whether a document may hold the characters of an attribute's name and values.
+fn is_allowed_attribute(attribute: &Attribute) -> bool
+    ensures { result ≡ list_all is_xml_text (of_attribute attribute.now) }
+{
+    is_allowed(&attribute.name) && are_allowed(attribute.values.as_slice())
+}
+
+/// Whether a document may hold the characters of the names and values of attributes.
+fn are_allowed_attributes(attributes: &[Attribute]) -> bool
+    ensures { result ≡ list_all is_xml_text (flat_map of_attribute attributes.now) }
+{
+    attributes
+        .iter()
+        .all(|attribute| is_allowed_attribute(attribute))
+}
+
+/// Whether a document may hold the characters of an Issued's texts.
+fn is_allowed_issue(r: &Issued) -> bool
+    ensures { result ≡ list_all is_xml_text (texts (kinds.Issued r.now)) }
+{
+    let is_pending_allowed = match &r.pending {
+        Some(pending) => is_allowed(pending),
+        None => true,
+    };
+    is_allowed(&r.cookie)
+        && is_allowed(&r.index)
+        && is_allowed(&r.assertion)
+        && is_allowed(&r.message)
+        && is_allowed(&r.user)
+        && is_allowed(&r.peer)
+        && is_allowed(&r.consumer)
+        && is_allowed(&r.request)
+        && is_pending_allowed
+        && are_allowed_attributes(r.attributes.as_slice())
+}
+
+/// Whether a document may hold the characters of a record's texts. A relay state may hold any.
+pub(crate) fn are_xml_texts(entry: &IdpRecord) -> bool
+    ensures { result ≡ list_all is_xml_text (texts entry.now) }
+{
+    match entry {
+        IdpRecord::Pending(r) => {
+            is_allowed(&r.pending)
+                && is_allowed(&r.request)
+                && is_allowed(&r.peer)
+                && is_allowed(&r.consumer)
+        }
+        IdpRecord::Issued(r) => is_allowed_issue(r),
+        IdpRecord::Ended(r) => {
+            is_allowed(&r.message)
+                && is_allowed(&r.request)
+                && is_allowed(&r.peer)
+                && are_allowed(r.cookies.as_slice())
+        }
+        IdpRecord::Left(r) => {
+            is_allowed(&r.cookie) && is_allowed(&r.request) && is_allowed(&r.peer)
+        }
+        IdpRecord::Confirmed(r) => is_allowed(&r.request),
+        IdpRecord::Spoke(r) => {
+            is_allowed(&r.message) && is_allowed(&r.request) && is_allowed(&r.peer)
+        }
+    }
+}
+
+/// Whether a record was made before the year 10000, as the session of an Issued ends.
+pub(crate) fn is_dated(entry: &IdpRecord) -> bool
+    ensures { result ≡ list_all (λ moment. nat_le moment LAST) (moments entry.now) }
+{
+    match entry {
+        IdpRecord::Pending(r) => r.moment <= LAST,
+        IdpRecord::Issued(r) => r.moment <= LAST && r.session_end <= LAST,
+        IdpRecord::Ended(r) => r.moment <= LAST,
+        IdpRecord::Left(r) => r.moment <= LAST,
+        IdpRecord::Confirmed(r) => r.moment <= LAST,
+        IdpRecord::Spoke(r) => r.moment <= LAST,
+    }
+}

@@ -1,0 +1,82 @@
+//! A record that can be committed.
+ghost use Rattle.std.specs.Prelude.{◌≡◌, IsSome, Some};
+ghost use Rattle.idp_ledger.specs.Draft.{first_id, second_id, issued_in, peer_in, partial_in};
+
+use crate::noted::Noted;
+use ledger_records::IdpRecord;
+use ledger_records::idp_record::Issued;
+use owned_values::Blob;
+use saml_ids::Id;
+use std::marker::Model;
+
+/// A record that was drafted, its payload and the IDs of it that go out. Contracts see it as the record.
+#[derive(Drop)]
+pub struct Draft {
+    pub(crate) noted: Noted,
+    pub(crate) payload: Blob,
+    pub(crate) ids: [Option<Id>; 2],
+}
+
+impl Model for Draft {
+    ghost use Rattle.ledger_records.specs.declared.idp_record.IdpRecord.{IdpRecord};
+    ghost use Rattle.ledger_records.specs.IdpRecord.{IsIdpPayload};
+    ghost use Rattle.idp_ledger.specs.Draft.{HoldsIds};
+
+    ghost Value = { IdpRecord };
+
+    ghost view = { λ d. d.noted };
+
+    ghost invariant = { λ d. IsIdpPayload d.payload d.noted × HoldsIds d.ids d.noted };
+}
+
+impl Draft {
+    /// The ID that goes out first: of the login of a Pending, of the answer of an Issued, an Ended or a Spoke, of the
+    /// request of a Left.
+    pub fn first(&self) -> &Id
+        requires { IsSome (first_id self.now) }
+        ensures { Some result.now ≡ first_id self.now }
+    {
+        self.ids[0].as_ref().unwrap()
+    }
+
+    /// The cookie that an Issued draws where a login was pending.
+    pub fn second(&self) -> &Id
+        requires { IsSome (second_id self.now) }
+        ensures { Some result.now ≡ second_id self.now }
+    {
+        self.ids[1].as_ref().unwrap()
+    }
+
+    /// The Issued that was drafted, of which a login is made.
+    pub fn issued(&self) -> &Issued
+        requires { IsSome (issued_in self.now) }
+        ensures { Some result.now ≡ issued_in self.now }
+    {
+        match &self.noted.entry {
+            IdpRecord::Issued(r) => r,
+            _ => unreachable!(),
+        }
+    }
+
+    /// The peer to which the request of a Left goes.
+    pub fn peer(&self) -> &str
+        requires { IsSome (peer_in self.now) }
+        ensures { Some result.now ≡ peer_in self.now }
+    {
+        match &self.noted.entry {
+            IdpRecord::Left(r) => r.peer.as_str(),
+            _ => unreachable!(),
+        }
+    }
+
+    /// Whether an Ended is partial: in one of its sessions an assertion was issued to another peer too.
+    pub fn partial(&self) -> bool
+        requires { IsSome (partial_in self.now) }
+        ensures { Some result ≡ partial_in self.now }
+    {
+        match &self.noted.entry {
+            IdpRecord::Ended(r) => r.partial,
+            _ => unreachable!(),
+        }
+    }
+}

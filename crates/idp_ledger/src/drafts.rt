@@ -1,0 +1,239 @@
+//! The drafts of each kind of record.
+ghost use Rattle.std.specs.Prelude.{◌≡◌, ◌<◌, ◌≤◌, ◌&&◌, true, not, length, slice_get, Some, IsSome, IfOk};
+ghost use Rattle.std.specs.Str.{bytes_eq};
+ghost use Rattle.ledger_rules.specs.Numbers.{is_xml_text};
+ghost use Rattle.idp_ledger.specs.declared.row.SessionRow.{SessionRow};
+ghost use Rattle.idp_ledger.specs.RowsOf.{is_among};
+ghost use Rattle.idp_ledger.specs.Finding.{is_empty, is_ending, is_listed, is_partial, is_waiting_now, ending, last_peer, session_found, visible};
+ghost use Rattle.idp_ledger.specs.Record.{LAST};
+ghost use Rattle.idp_ledger.specs.Ledger.{KeepsSpare, next_number, rows_in};
+ghost use Rattle.idp_ledger.specs.Drafts.{pending, ended, left, confirmed, spoke, IsXmlAsk, Drafts, DraftsSome, SameLedger};
+
+use crate::draft::Draft;
+use crate::ledger::IdpLedger;
+use crate::row::{Ask, SessionRow};
+use ledger_records::IdpRecord;
+use ledger_records::idp_record::{Confirmed, Ended, Left, Pending, Spoke};
+use ledger_rules::DraftFault;
+use owned_values::{NoMemory, Text, Texts};
+use saml_ids::{Kind, id_of};
+
+/// How long a login may be pending, or a logout answered, in milliseconds.
+const LIFE: u64 = 600_000;
+
+/// A copy of a text, where there is one.
+pub(crate) fn copy_of(text: &Option<Text>) -> Result<Option<Text>, NoMemory>
+    ensures { IfOk result (λ copy. copy ≡ text.now) }
+{
+    match text {
+        Some(text) => Ok(Some(text.copy()?)),
+        None => Ok(None),
+    }
+}
+
+impl IdpLedger {
+    /// Drafts a login that is pending. It may be used for 600,000 ms from the moment `now` on. `first` of the draft is its ID.
+    ///
+    /// Errors: [`DraftFault::LedgerFull`] exactly where 65,536 pending rows are kept or more; else
+    /// [`DraftFault::JournalFull`] exactly where the record does not fit; [`DraftFault::NoMemory`].
+    pub fn draft_pending(&mut self, now: u64, ask: &Ask) -> Result<Draft, DraftFault>
+        requires moment { now ≤ LAST }
+        requires texts { IsXmlAsk ask.now }
+        ensures drafts { Drafts self.old self.new (pending self.old.key (next_number self.old.held) now ask.now) result }
+        ensures same { SameLedger self.old self.new }
+        ensures spare { KeepsSpare self.old self.new }
+    {
+        let first = self.next_number();
+        let pending = id_of(&self.key, Kind::Pending, first);
+        let entry = IdpRecord::Pending(Pending {
+            first,
+            moment: now,
+            until: now + LIFE,
+            pending: Text::of(self.alloc, pending.as_str())?,
+            request: ask.request.copy()?,
+            peer: ask.peer.copy()?,
+            consumer: ask.consumer.copy()?,
+            relay: copy_of(&ask.relay)?,
+        });
+        self.draft(entry, [Some(pending), None])
+    }
+
+    /// Drafts an answer without an assertion. `first` of the draft is its ID.
+    ///
+    /// Errors are those of `draft_pending`, without `LedgerFull`.
+    pub fn draft_speak(&mut self, now: u64, ask: &Ask) -> Result<Draft, DraftFault>
+        requires moment { now ≤ LAST }
+        requires texts { IsXmlAsk ask.now }
+        ensures drafts { Drafts self.old self.new (spoke self.old.key (next_number self.old.held) now ask.now) result }
+        ensures same { SameLedger self.old self.new }
+        ensures spare { KeepsSpare self.old self.new }
+    {
+        let first = self.next_number();
+        let message = id_of(&self.key, Kind::Message, first);
+        let entry = IdpRecord::Spoke(Spoke {
+            first,
+            moment: now,
+            message: Text::of(self.alloc, message.as_str())?,
+            request: ask.request.copy()?,
+            peer: ask.peer.copy()?,
+        });
+        self.draft(entry, [Some(message), None])
+    }
+
+    /// Drafts that the logout of a request was confirmed; none exactly where no visible row of a logout that is not
+    /// confirmed has it. Errors are those of `draft_speak`.
+    pub fn draft_confirm(&mut self, now: u64, request: &str) -> Result<Option<Draft>, DraftFault>
+        requires moment { now ≤ LAST }
+        ensures drafts { DraftsSome self.old self.new (not (is_waiting_now (rows_in self.old).lefts request.now now self.old.held.header.horizon)) (confirmed now request.now) result }
+        ensures same { SameLedger self.old self.new }
+        ensures spare { KeepsSpare self.old self.new }
+    {
+        let horizon = self.header().horizon;
+        if !self.standing.is_waiting(request, now, horizon) {
+            return Ok(None);
+        }
+        let entry = IdpRecord::Confirmed(Confirmed {
+            moment: now,
+            request: Text::of(self.alloc, request)?,
+        });
+        Ok(Some(self.draft(entry, [None, None])?))
+    }
+
+    /// Drafts a logout of the live session of a cookie, whose request goes to the peer to which the session's last assertion
+    /// went. `first` of the draft is the ID of the request, `peer` that peer.
+    ///
+    /// Errors are those of `draft_pending`, for the rows of logouts.
+    pub fn draft_leave(&mut self, now: u64, cookie: &str) -> Result<Draft, DraftFault>
+        requires moment { now ≤ LAST }
+        requires live { IsSome (session_found (rows_in self.old).sessions cookie.now now self.old.held.header.horizon) }
+        ensures drafts { Drafts self.old self.new (left self.old.key (next_number self.old.held) now cookie.now (last_peer (rows_in self.old).issues cookie.now)) result }
+        ensures same { SameLedger self.old self.new }
+        ensures spare { KeepsSpare self.old self.new }
+    {
+        let Some(peer) = self.standing.last_peer(cookie) else {
+            unreachable!();
+        };
+        let peer = Text::of(self.alloc, peer)?;
+        let first = self.next_number();
+        let request = id_of(&self.key, Kind::Request, first);
+        let entry = IdpRecord::Left(Left {
+            first,
+            moment: now,
+            until: now + LIFE,
+            cookie: Text::of(self.alloc, cookie)?,
+            request: Text::of(self.alloc, request.as_str())?,
+            peer,
+        });
+        self.draft(entry, [Some(request), None])
+    }
+
+    /// Drafts the end of the live sessions of a name in which an assertion was issued to a peer, and whose index is listed,
+    /// or of all of these where none is listed; none exactly where there is no such session. `first` of the draft is the ID
+    /// of the answer to `request`, and `partial` says whether in one of these sessions an assertion was issued to another
+    /// peer too.
+    ///
+    /// Errors are those of `draft_speak`.
+    pub fn draft_end(
+        &mut self,
+        now: u64,
+        peer: &str,
+        name: &str,
+        indexes: &Texts,
+        request: &str,
+    ) -> Result<Option<Draft>, DraftFault>
+        requires moment { now ≤ LAST }
+        requires text { is_xml_text request.now ≡ true }
+        requires peer { is_xml_text peer.now ≡ true }
+        ensures drafts { DraftsSome self.old self.new (is_empty (ending now self.old.held.header.horizon peer.now name.now indexes.now (rows_in self.old))) (ended self.old.key (next_number self.old.held) now (ending now self.old.held.header.horizon peer.now name.now indexes.now (rows_in self.old)) request.now peer.now (is_partial now self.old.held.header.horizon peer.now name.now indexes.now (rows_in self.old))) result }
+        ensures same { SameLedger self.old self.new }
+        ensures spare { KeepsSpare self.old self.new }
+    {
+        let cookies = self.ending(now, peer, name, indexes)?;
+        if cookies.is_empty() {
+            return Ok(None);
+        }
+        let partial = self.is_partial(now, peer, name, indexes);
+        let first = self.next_number();
+        let message = id_of(&self.key, Kind::Message, first);
+        let entry = IdpRecord::Ended(Ended {
+            first,
+            moment: now,
+            cookies,
+            message: Text::of(self.alloc, message.as_str())?,
+            request: Text::of(self.alloc, request)?,
+            peer: Text::of(self.alloc, peer)?,
+            partial,
+        });
+        Ok(Some(self.draft(entry, [Some(message), None])?))
+    }
+}
+
+impl IdpLedger {
+    /// Whether the session at a place lives, is of a name, has a listed index where any is listed, and an assertion was
+    /// issued in it to a peer.
+    fn is_ending(&self, place: usize, now: u64, peer: &str, name: &str, indexes: &Texts) -> bool
+        requires { place < length (rows_in self.now).sessions }
+        ensures { (row : SessionRow) → slice_get (rows_in self.now).sessions place ≡ Some row → result ≡ is_ending now self.now.held.header.horizon peer.now name.now indexes.now (rows_in self.now).issues row }
+    {
+        let horizon = self.header().horizon;
+        let rows = self.sessions();
+        if !is_named(&rows[place], now, horizon, name, indexes) {
+            return false;
+        }
+        self.standing.has_issued(place, peer, false)
+    }
+
+    /// The cookies of these sessions.
+    fn ending(&self, now: u64, peer: &str, name: &str, indexes: &Texts) -> Result<Texts, NoMemory>
+        ensures { IfOk result (λ cookies. cookies ≡ ending now self.now.held.header.horizon peer.now name.now indexes.now (rows_in self.now)) }
+    {
+        let mut cookies = Texts::new(self.alloc);
+        for (place, row) in self.sessions().iter().enumerate() {
+            if self.is_ending(place, now, peer, name, indexes) {
+                cookies.push(row.cookie.copy()?)?;
+            }
+        }
+        Ok(cookies)
+    }
+
+    /// Whether in one of these sessions an assertion was issued to another peer too.
+    fn is_partial(&self, now: u64, peer: &str, name: &str, indexes: &Texts) -> bool
+        ensures { result ≡ is_partial now self.now.held.header.horizon peer.now name.now indexes.now (rows_in self.now) }
+    {
+        for place in 0..self.sessions().len() {
+            if self.is_ending(place, now, peer, name, indexes)
+                && self.standing.has_issued(place, peer, true)
+            {
+                return true;
+            }
+        }
+        false
+    }
+}
+
+/// Whether a session lives at a moment, is of this name, and its index is listed or none is.
+fn is_named(row: &SessionRow, now: u64, horizon: u64, name: &str, indexes: &Texts) -> bool
+    ensures { result ≡ (not row.now.ended && visible row.now.until now horizon && bytes_eq row.now.user name.now && is_listed indexes.now row.now.index) }
+{
+    !row.ended
+        && now.max(horizon) < row.until
+        && row.user.as_str() == name
+        && is_listed(indexes, &row.index)
+}
+
+/// Whether an index is listed, or none is.
+fn is_listed(indexes: &Texts, index: &Text) -> bool
+    ensures { result ≡ is_listed indexes.now index.now }
+{
+    indexes.is_empty() || is_among(index, indexes)
+}
+
+/// Whether a text is among these.
+fn is_among(text: &Text, texts: &Texts) -> bool
+    ensures { result ≡ is_among text.now texts.now }
+{
+    texts
+        .as_slice()
+        .iter()
+        .any(|other| other.as_str() == text.as_str())
+}

@@ -1,0 +1,22 @@
+//! Laws of a ledger, each the contract of a function that does nothing.
+ghost use Rattle.idp_ledger.specs.Laws.{ImagesHoldRecords, KeptAreRecords, CompactionsChangeNoAnswer, EachIssueHasItsCause};
+
+/// What an image stands for has records of the ledger, each behind those before it.
+pub fn images_hold_records()
+    ensures { ImagesHoldRecords }
+{}
+
+/// What is kept of records of a ledger are records of a ledger.
+pub fn kept_are_records()
+    ensures { KeptAreRecords }
+{}
+
+/// From the moment of a compaction on it changes no answer.
+pub fn compactions_change_no_answer()
+    ensures { CompactionsChangeNoAnswer }
+{}
+
+/// Each assertion was issued for a login that was pending and not used before, or in a session that was not ended.
+pub fn each_issue_has_its_cause()
+    ensures { EachIssueHasItsCause }
+{}

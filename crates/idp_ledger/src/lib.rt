@@ -1,0 +1,48 @@
+//! The ledger of an identity provider: the records of what was asked of it, what it issued and ended, in a journal that a
+//! crash at any moment leaves as it was or with the change.
+//!
+//! ```
+//! let mut ledger = IdpLedger::start(alloc, &mut disk, key)?;          // the records of the disk's journal
+//! let draft = ledger.draft_pending(now, &ask)?;                       // takes all the memory that is needed
+//! let pending = *draft.first();
+//! ledger.commit(&mut disk, draft)?;                                   // in every image that a crash may leave from now on
+//! let draft = ledger.draft_login(now, pending.as_str(), user, &attributes)?;
+//! let cookie = *draft.second();
+//! ledger.commit(&mut disk, draft)?;
+//! ledger.session(cookie.as_str(), now);                               // the live session of a cookie
+//! ledger.compact(&mut disk, now)?;                                    // leaves out what no one can ask for any more
+//! ```
+//!
+//! A contract sees a ledger as its records, the header of its journal, and whether a call failed. Which payloads are records
+//! of a ledger is said in `specs/Record.antt`, for what rows they stand in `specs/RowsOf.antt`, what is looked up in these in
+//! `specs/Finding.antt`, and what two files stand for in `specs/Ledger.antt`. A record is drafted first, which takes all the
+//! memory that it needs and is refused by name ([`DraftFault`]); to commit it takes none, and only the disk can refuse it
+//! ([`Failed`]). After that the ledger is broken, and is opened again by `reopen`.
+#![tactic(auto)]
+
+mod checks;
+mod compacting;
+mod draft;
+mod drafting;
+mod drafts;
+mod ids;
+mod issues;
+pub mod laws;
+mod ledger;
+mod lefts;
+mod logins;
+mod noted;
+mod opening;
+mod pendings;
+mod row;
+mod sessions;
+mod standing;
+#[cfg(test)]
+mod tests;
+
+pub use draft::Draft;
+pub use drafting::MOST_ROWS;
+pub use gate_journal::{Disk, Failed, FileNo, Header, OpenFault};
+pub use ledger::IdpLedger;
+pub use ledger_rules::DraftFault;
+pub use row::{Ask, IssuedRow, LeftRow, PendingRow, SessionRow};
