@@ -1,5 +1,5 @@
 //! The laws of whole runs, each the contract of a function that does nothing.
-ghost use Rattle.sp_runs.specs.Laws.{NoImageHasARequestTwice, WhatARunAcknowledgedIsKeptOnce};
+ghost use Rattle.sp_runs.specs.Laws.{EachSessionWasSigned, NoImageHasARequestTwice, WhatARunAcknowledgedIsKeptOnce};
 
 use request_ledger::laws::{images_hold_records, no_request_opens_twice};
 
@@ -19,4 +19,12 @@ pub fn what_a_run_acknowledged_is_kept_once()
 {
     images_hold_records();
     sp_server::laws::what_is_acknowledged_is_kept_once();
+}
+
+/// If only the identity provider makes HMACs that match, and no other text has the hash of one that it signed: each session
+/// that is given is that of a login which it signed.
+pub fn each_session_was_signed()
+    ensures { EachSessionWasSigned }
+{
+    login_origin::a_login_was_signed();
 }
