@@ -4,6 +4,8 @@ use Rattle.verdict_codes.specs.declared.codes.Verdict.{Verdict}
 use Rattle.verdict_codes.specs.declared.codes.Verdict.TheVariants as verdicts
 use Rattle.saml_tree.specs.declared.node.TreeFault.{TreeFault}
 use Rattle.saml_tree.specs.declared.node.TreeFault.TheVariants as documents
+use Rattle.post_binding.specs.declared.fault.FormFault.{FormFault}
+use Rattle.post_binding.specs.declared.fault.FormFault.TheVariants as forms
 use Rattle.sig_reference.specs.declared.fault.SigFault.{SigFault}
 use Rattle.sig_reference.specs.declared.fault.SigFault.TheVariants as signatures
 
@@ -22,3 +24,10 @@ of_signature signatures.BadReference = Some verdicts.BadReference
 of_signature signatures.TagDiffers = Some verdicts.TagDiffers
 of_signature signatures.DigestDiffers = Some verdicts.DigestDiffers
 of_signature signatures.NoMemory = None
+
+-- for a form that is not read
+abbrev pub of_form : FormFault → Option Verdict
+of_form forms.BadForm = Some verdicts.BadForm
+of_form forms.BadBase64 = Some verdicts.BadBase64
+of_form (forms.TooLarge bytes) = Some verdicts.TooLarge
+of_form forms.NoMemory = None
