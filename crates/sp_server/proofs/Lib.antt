@@ -12,3 +12,4 @@ pub mod Texts
 mod Histories
 mod Services
 mod Sessions
+mod Verdicts

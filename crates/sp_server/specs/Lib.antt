@@ -5,3 +5,4 @@ pub mod Serving
 pub mod Views
 pub mod Histories
 pub mod Sessions
+pub mod Verdicts

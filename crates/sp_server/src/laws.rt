@@ -1,6 +1,7 @@
 //! Laws of a service provider, each the contract of a function that does nothing.
 ghost use Rattle.sp_server.specs.Histories.{WhatIsAcknowledgedIsKeptOnce};
 ghost use Rattle.sp_server.specs.Sessions.{OnlyWhereAFormOpens, WhereverAFormOpens};
+ghost use Rattle.sp_server.specs.Verdicts.{CompactionsChangeNoVerdict};
 
 /// Over each list of events, moments, disk faults and openings: what an answer acknowledged is in the history of every
 /// ledger that a crash may leave, and no two sessions are of one request.
@@ -19,4 +20,11 @@ pub fn a_session_opens_exactly()
     ensures wherever { WhereverAFormOpens }
 {
     sp_rules::laws::a_form_has_one_verdict();
+}
+
+/// From the moment of a compaction on each form has the verdict that it had without.
+pub fn compactions_change_no_verdict()
+    ensures { CompactionsChangeNoVerdict }
+{
+    request_ledger::laws::compactions_change_no_answer();
 }
