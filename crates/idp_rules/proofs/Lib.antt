@@ -1,0 +1,6 @@
+pub mod Deciding
+pub mod Exclusive
+pub mod Faults
+pub mod Posting
+pub mod Stages
+pub mod Texts

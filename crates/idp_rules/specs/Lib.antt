@@ -1,0 +1,5 @@
+pub mod Asking
+pub mod Config
+pub mod Examples
+pub mod Verdict
+pub mod Views

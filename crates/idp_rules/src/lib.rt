@@ -1,0 +1,26 @@
+//! Whether a posted form asks an identity provider for a login (SAML Profiles, 4.1.4.1; SAML Bindings, 3.5).
+//!
+//! ```
+//! match judge_request(alloc, peers.as_slice(), "https://idp.example.org/sso", body) {
+//!     Ok(asked) => { /* answer asked.request, of the peer at asked.peer, at asked.consumer */ }
+//!     Err(Judged::Code(verdict)) => { /* show the verdict */ }
+//!     Err(Judged::NoMemory) => { /* nothing was judged */ }
+//! }
+//! ```
+//!
+//! A form asks for a login exactly where `Asks` of `Asking.antt` holds: it carries an AuthnRequest of a known peer, which was
+//! sent to this address and wants its Response where the peer's metadata has it; where the message has a Signature, this
+//! vouches for it with the peer's key. Every other form is refused with the verdict of the first condition that fails
+//! (`IsRefused` of `Verdict.antt`). No form has two verdicts ([`laws::a_request_has_one_verdict`]).
+#![tactic(auto)]
+
+mod asked;
+mod config;
+mod judging;
+pub mod laws;
+#[cfg(test)]
+mod tests;
+
+pub use asked::Asked;
+pub use config::{GREATEST_SKEW, IdpConfig, MOST_PEERS, sign_on_address};
+pub use judging::judge_request;
