@@ -1,0 +1,60 @@
+-- The texts of a peer that metadata describes hold characters that a document may hold.
+use Rattle.std.proofs.Common.{◌≡◌, ℕ, Bool, true, false, List, [], ◌∷◌, Option, None, Some, IfSome, Ok, codes, if◌then◌else◌, subst}
+use Rattle.xml_spec.specs.Characters.{IsText}
+use Rattle.xml_spec.specs.Tree.{Nodes}
+use Rattle.canon_laws.specs.Writable.{IsWritable}
+use Rattle.saml_names.specs.Names.{md}
+use Rattle.tree_read.specs.Children.{is_name}
+use Rattle.tree_read.specs.Texts.{attribute_text}
+use Rattle.tree_read.specs.Walk.{name_of_node}
+use Rattle.metadata.specs.Faults.{IsRead}
+use Rattle.metadata.specs.Metadata.{is_post, first_location, not_empty, described, with_service, address, entity, sign_on, logout}
+use Rattle.metadata.specs.declared.peer.Peer.{Peer}
+use Rattle.metadata.specs.declared.peer.Role.{Role}
+use Rattle.idp_rules.proofs.Texts.{attribute_is_text, AreWritable}
+
+-- METADATA
+
+either_option : (b : Bool) (one other : Option (List ℕ)) → IfSome one IsText → IfSome other IsText → IfSome (if b then one else other) IsText
+either_option true one other h k = h
+either_option false one other h k = k
+
+abbrev pub IsTextOf : Peer → Type 0
+IsTextOf peer = IsText peer.entity × IsText peer.service × IfSome peer.logout IsText
+
+location_text : (tree : Nodes) (endpoints : List ℕ) → IsWritable tree → IfSome (first_location tree endpoints) IsText
+location_text tree [] h = tt
+location_text tree (n ∷ others) h =
+    either_option (is_post (attribute_text tree n (codes "Binding"))) (attribute_text tree n (codes "Location")) (first_location tree others)
+    (attribute_is_text tree n (codes "Location") h) (location_text tree others h)
+
+not_empty_text : (o : Option (List ℕ)) → IfSome o IsText → IfSome (not_empty o) IsText
+not_empty_text None h = tt
+not_empty_text (Some []) h = tt
+not_empty_text (Some (b ∷ text)) h = h
+
+of_parts : (name : List ℕ) (service logout_address : Option (List ℕ)) (peer : Peer) → IsText name → IfSome service IsText → IfSome logout_address IsText →
+    with_service name service logout_address ≡ Ok peer → IsTextOf peer
+of_parts name None logout_address peer n h l e = absurd (cc)
+of_parts name (Some service) logout_address peer n h l e =
+    let is : record { entity = name; service = service; logout = logout_address } ≡ peer = cc in subst IsTextOf is (n, h, l)
+
+described_texts : (tree : Nodes) (role : Role) (name : Option (List ℕ)) (descriptors : List ℕ) (peer : Peer) → IsWritable tree → IfSome name IsText →
+    described tree role name descriptors ≡ Ok peer → IsTextOf peer
+described_texts tree role None descriptors peer h n e = absurd (cc)
+described_texts tree role (Some name) [] peer h n e = absurd (cc)
+described_texts tree role (Some name) (d ∷ []) peer h n e =
+    of_parts name (not_empty (address tree d (sign_on role))) (address tree d logout) peer n
+    (not_empty_text (address tree d (sign_on role)) (location_text tree _ h)) (location_text tree _ h) e
+described_texts tree role (Some name) (d ∷ c ∷ others) peer h n e = absurd (cc)
+
+-- the name is an attribute of the descriptor
+entity_text : (tree : Nodes) (k : ℕ) → IsWritable tree → IfSome (entity tree k) IsText
+entity_text tree k h =
+    either_option (is_name (md (codes "EntityDescriptor")) (name_of_node tree k)) (not_empty (attribute_text tree k (codes "entityID"))) None
+    (not_empty_text (attribute_text tree k (codes "entityID")) (attribute_is_text tree k (codes "entityID") h)) tt
+
+pub peer_texts : (text : List ℕ) (role : Role) (peer : Peer) → AreWritable → IsRead text role (Ok peer) → IsTextOf peer
+peer_texts text role peer law read =
+    let w = law text read.tree read.spelled.spells in
+    described_texts read.tree role (entity read.tree 0) _ peer w (entity_text read.tree 0 w) read.is

@@ -1,0 +1,99 @@
+// What the files that a config names hold.
+
+ghost use Rattle.std.specs.Prelude.{◌≡◌, ◌≤◌, IfOk, IfErr, OnOk};
+ghost use Rattle.sp_setup.specs.Faults.{IsFaultOf};
+ghost use Rattle.idp_setup.specs.Setup.{nothing, with_peer, Adds, IsBadFile, AreLoaded, IsFirstBad};
+
+use crate::reading::{read_id_key, read_peer_files, read_user_file};
+use peer_keys::{LogoutPeer, Peers};
+use provider_config::IdpFile;
+use saml_outside::{Files, NoMemory};
+use sp_setup::SetupFault;
+use std::alloc::Global;
+use user_store::Users;
+
+/// What the files of a config hold, as far as they were read.
+#[derive(Debug, Drop)]
+pub(crate) struct Loaded {
+    /// The users.
+    pub users: Option<Users>,
+    /// The key from which IDs are made.
+    pub id_key: Option<[u8; 32]>,
+    /// The peers, in the order of their lines.
+    pub peers: Peers,
+    /// The line of the first peer that has the name of one before it.
+    pub doubled: Option<u32>,
+}
+
+impl Loaded {
+    /// Nothing is read yet. It takes no memory.
+    fn nothing(alloc: Global) -> Loaded
+        ensures { result ≡ nothing }
+    {
+        Loaded {
+            users: None,
+            id_key: None,
+            peers: Peers::new(alloc),
+            doubled: None,
+        }
+    }
+
+    /// Takes the peer of this line.
+    fn take_peer(&mut self, line: u32, peer: LogoutPeer) -> Result<(), NoMemory>
+        ensures { OnOk result (self.new ≡ with_peer line peer self.old) }
+    {
+        if self.doubled.is_none() && self.peers.place_of(peer.peer.entity.as_str()).is_some() {
+            self.doubled = Some(line);
+        }
+        self.peers.push(peer)
+    }
+
+    /// Reads the files that a line names, and takes what they hold.
+    fn load<F: Files>(
+        &mut self,
+        alloc: Global,
+        files: &mut F,
+        named: &IdpFile,
+    ) -> Result<(), SetupFault>
+        ensures ok { OnOk result (Adds (F.holds files.old) named.now self.old self.new) }
+        ensures err { IfErr result (IsFaultOf (IsBadFile (F.holds files.old) named.now) (F.faults_of files.old) (F.faults_of files.new)) }
+        ensures same { F.holds files.new ≡ F.holds files.old }
+        ensures never_falls { F.faults_of files.old ≤ F.faults_of files.new }
+    {
+        match named {
+            IdpFile::Users(name) => {
+                self.users = Some(read_user_file(alloc, files, name.as_str())?);
+                Ok(())
+            }
+            IdpFile::IdKey(name) => {
+                self.id_key = Some(read_id_key(alloc, files, name.as_str())?);
+                Ok(())
+            }
+            IdpFile::Peer(names) => {
+                let peer = read_peer_files(alloc, files, names)?;
+                match self.take_peer(names.line, peer) {
+                    Ok(()) => Ok(()),
+                    Err(NoMemory) => Err(SetupFault::NoMemory),
+                }
+            }
+        }
+    }
+
+    /// Reads the files in order and takes what they hold, or tells the first that can't be used.
+    pub(crate) fn of_files<F: Files>(
+        alloc: Global,
+        files: &mut F,
+        named: &[IdpFile],
+    ) -> Result<Loaded, SetupFault>
+        ensures ok { IfOk result (AreLoaded (F.holds files.old) named.now nothing) }
+        ensures err { IfErr result (IsFaultOf (IsFirstBad (F.holds files.old) named.now nothing) (F.faults_of files.old) (F.faults_of files.new)) }
+        ensures same { F.holds files.new ≡ F.holds files.old }
+        ensures never_falls { F.faults_of files.old ≤ F.faults_of files.new }
+    {
+        let mut loaded = Loaded::nothing(alloc);
+        for file in named {
+            loaded.load(alloc, files, file)?;
+        }
+        Ok(loaded)
+    }
+}

@@ -1,0 +1,126 @@
+// The files that a config names are read.
+
+ghost use Rattle.std.specs.Prelude.{◌≡◌, ◌≤◌, IfOk, IfErr};
+ghost use Rattle.saml_outside.specs.Files.{IsUnread};
+ghost use Rattle.sp_setup.specs.Faults.{IsFaultOf};
+ghost use Rattle.idp_setup.specs.Setup.{Holds, HoldsKey, HasNoKey, HoldsIdKey, HasNoIdKey, HoldsMetadata, HasNoMetadata, HoldsUsers, HasNoUsers, IsPeer, LacksPeer};
+
+use crate::fault::bad_file;
+use metadata::{MetaFault, Peer, Role, read_peer};
+use peer_keys::LogoutPeer;
+use provider_config::PeerFiles;
+use saml_outside::{Blob, Files, NoMemory, read_file};
+use sp_setup::{GREATEST_KEY, ID_KEY, LEAST_KEY, SetupFault};
+use std::alloc::Global;
+use user_store::{MAX_USERS_LENGTH, UserFault, Users, read_users};
+use xml_spec::MAX_DOCUMENT_LENGTH;
+
+/// The bytes of a file of at most `limit` bytes.
+fn read_named<F: Files>(
+    alloc: Global,
+    files: &mut F,
+    name: &str,
+    limit: u64,
+) -> Result<Vec<u8>, SetupFault>
+    ensures ok { IfOk result (λ bytes. Holds (F.holds files.old) name.now limit bytes.items) }
+    ensures err { IfErr result (IsFaultOf (λ file line. (file ≡ name.now) × (line ≡ 0) × IsUnread (F.holds files.old) name.now limit) (F.faults_of files.old) (F.faults_of files.new)) }
+    ensures same { F.holds files.new ≡ F.holds files.old }
+    ensures never_falls { F.faults_of files.old ≤ F.faults_of files.new }
+{
+    match read_file(alloc, files, name, limit)? {
+        Some(bytes) => Ok(bytes),
+        None => Err(bad_file(alloc, name, 0)),
+    }
+}
+
+/// A key of messages.
+fn read_key<F: Files>(alloc: Global, files: &mut F, name: &str) -> Result<Blob, SetupFault>
+    ensures ok { IfOk result (HoldsKey (F.holds files.old) name.now) }
+    ensures err { IfErr result (IsFaultOf (λ file line. (file ≡ name.now) × (line ≡ 0) × HasNoKey (F.holds files.old) name.now) (F.faults_of files.old) (F.faults_of files.new)) }
+    ensures same { F.holds files.new ≡ F.holds files.old }
+    ensures never_falls { F.faults_of files.old ≤ F.faults_of files.new }
+{
+    let bytes = read_named(alloc, files, name, GREATEST_KEY)?;
+    if bytes.len() < LEAST_KEY {
+        return Err(bad_file(alloc, name, 0));
+    }
+    match Blob::of(alloc, &bytes) {
+        Ok(key) => Ok(key),
+        Err(NoMemory) => Err(SetupFault::NoMemory),
+    }
+}
+
+/// The key from which IDs are made.
+pub(crate) fn read_id_key<F: Files>(
+    alloc: Global,
+    files: &mut F,
+    name: &str,
+) -> Result<[u8; ID_KEY], SetupFault>
+    ensures ok { IfOk result (HoldsIdKey (F.holds files.old) name.now) }
+    ensures err { IfErr result (IsFaultOf (λ file line. (file ≡ name.now) × (line ≡ 0) × HasNoIdKey (F.holds files.old) name.now) (F.faults_of files.old) (F.faults_of files.new)) }
+    ensures same { F.holds files.new ≡ F.holds files.old }
+    ensures never_falls { F.faults_of files.old ≤ F.faults_of files.new }
+{
+    let bytes = read_named(alloc, files, name, GREATEST_KEY)?;
+    if bytes.len() != ID_KEY {
+        return Err(bad_file(alloc, name, 0));
+    }
+    let mut key = [0; ID_KEY];
+    key.copy_from_slice(&bytes);
+    Ok(key)
+}
+
+/// What the metadata of a service provider says.
+fn read_metadata<F: Files>(alloc: Global, files: &mut F, name: &str) -> Result<Peer, SetupFault>
+    ensures ok { IfOk result (HoldsMetadata (F.holds files.old) name.now) }
+    ensures err { IfErr result (IsFaultOf (λ file line. (file ≡ name.now) × (line ≡ 0) × HasNoMetadata (F.holds files.old) name.now) (F.faults_of files.old) (F.faults_of files.new)) }
+    ensures same { F.holds files.new ≡ F.holds files.old }
+    ensures never_falls { F.faults_of files.old ≤ F.faults_of files.new }
+{
+    let bytes = read_named(alloc, files, name, MAX_DOCUMENT_LENGTH as u64)?;
+    match read_peer(alloc, &bytes, Role::Sp) {
+        Ok(peer) => Ok(peer),
+        Err(MetaFault::NoMemory) => Err(SetupFault::NoMemory),
+        Err(_) => Err(bad_file(alloc, name, 0)),
+    }
+}
+
+/// The users.
+pub(crate) fn read_user_file<F: Files>(
+    alloc: Global,
+    files: &mut F,
+    name: &str,
+) -> Result<Users, SetupFault>
+    ensures ok { IfOk result (HoldsUsers (F.holds files.old) name.now) }
+    ensures err { IfErr result (IsFaultOf (λ file line. (file ≡ name.now) × HasNoUsers (F.holds files.old) name.now line) (F.faults_of files.old) (F.faults_of files.new)) }
+    ensures same { F.holds files.new ≡ F.holds files.old }
+    ensures never_falls { F.faults_of files.old ≤ F.faults_of files.new }
+{
+    let bytes = read_named(alloc, files, name, MAX_USERS_LENGTH as u64)?;
+    match read_users(alloc, &bytes) {
+        Ok(users) => Ok(users),
+        Err(UserFault::Line(line)) => Err(bad_file(alloc, name, u64::from(line))),
+        Err(UserFault::NoMemory) => Err(SetupFault::NoMemory),
+    }
+}
+
+/// A peer: its metadata and its keys, in the order in which the line of the config names them.
+pub(crate) fn read_peer_files<F: Files>(
+    alloc: Global,
+    files: &mut F,
+    names: &PeerFiles,
+) -> Result<LogoutPeer, SetupFault>
+    ensures ok { IfOk result (IsPeer (F.holds files.old) names.now) }
+    ensures err { IfErr result (IsFaultOf (λ file line. (line ≡ 0) × LacksPeer (F.holds files.old) names.now file) (F.faults_of files.old) (F.faults_of files.new)) }
+    ensures same { F.holds files.new ≡ F.holds files.old }
+    ensures never_falls { F.faults_of files.old ≤ F.faults_of files.new }
+{
+    let peer = read_metadata(alloc, files, names.metadata.as_str())?;
+    let key_in = read_key(alloc, files, names.key_in.as_str())?;
+    let key_out = read_key(alloc, files, names.key_out.as_str())?;
+    Ok(LogoutPeer {
+        peer,
+        key_in,
+        key_out,
+    })
+}
