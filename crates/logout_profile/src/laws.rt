@@ -1,0 +1,35 @@
+//! Laws of the definitions. Each function does nothing: what it ensures is the law.
+ghost use Rattle.std.specs.Prelude.{◌≡◌, ◌≢◌, ℕ, Bool, List, [], Option, Some, None};
+ghost use Rattle.xml_spec.specs.Tree.{Nodes};
+ghost use Rattle.xml_spec.specs.Document.{Spells};
+ghost use Rattle.xml_spec.specs.Identifiers.{IsSingle};
+ghost use Rattle.sig_reference.specs.Form.{Parts};
+ghost use Rattle.sig_reference.specs.Signature.{Vouches};
+ghost use Rattle.peer_keys.specs.declared.peers.LogoutPeer.{LogoutPeer};
+ghost use Rattle.verdict_codes.specs.declared.codes.Verdict.{Verdict};
+ghost use Rattle.logout_profile.specs.declared.logout.Logout.{Logout};
+ghost use Rattle.logout_profile.specs.Verdict.{IsRefused, IsAccepted};
+ghost use Rattle.logout_profile.specs.Making.{IsRequest, IsResponse};
+
+/// A form that is obeyed is refused for nothing, and asks or replies one thing alone; a form that is refused is refused with one
+/// verdict.
+pub fn a_logout_form_has_one_verdict()
+    ensures obeyed { (peers : List LogoutPeer) (second : Option (List ℕ)) (address : List ℕ) (skew now : ℕ) (body : List ℕ) (logout : Logout) (verdict : Verdict) →
+        IsAccepted peers second address skew now body logout → ¬ (IsRefused peers second address skew now body verdict) }
+    ensures once { (peers : List LogoutPeer) (second : Option (List ℕ)) (address : List ℕ) (skew now : ℕ) (body : List ℕ) (one other : Logout) →
+        IsAccepted peers second address skew now body one → IsAccepted peers second address skew now body other → one ≡ other }
+    ensures refused { (peers : List LogoutPeer) (second : Option (List ℕ)) (address : List ℕ) (skew now : ℕ) (body : List ℕ) (one other : Verdict) →
+        IsRefused peers second address skew now body one → IsRefused peers second address skew now body other → one ≡ other }
+{}
+
+/// What is made for a peer is vouched for with the key that is shared with it, wherever it is read.
+pub fn what_is_made_is_vouched_for()
+    ensures request { (peer : LogoutPeer) (id issuer : List ℕ) (issued : ℕ) (name : List ℕ) (indexes : List (List ℕ)) (bytes : List ℕ) (tree : Nodes) →
+        id ≢ [] → IsRequest peer id issuer issued name indexes bytes → Spells bytes tree → IsSingle tree →
+        (parts : Parts) × Vouches peer.key_out tree 0 parts }
+    ensures response { (peer : LogoutPeer) (id issuer : List ℕ) (issued : ℕ) (request : List ℕ) (partial : Bool) (bytes : List ℕ) (tree : Nodes) →
+        id ≢ [] → IsResponse peer id issuer issued request partial bytes → Spells bytes tree → IsSingle tree →
+        (parts : Parts) × Vouches peer.key_out tree 0 parts }
+{
+    sig_reference::laws::what_is_signed_is_vouched_for();
+}
