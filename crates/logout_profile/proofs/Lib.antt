@@ -5,3 +5,4 @@ pub mod Posting
 pub mod RootKeys
 pub mod Signable
 pub mod Stages
+pub mod Texts
