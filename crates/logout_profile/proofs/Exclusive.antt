@@ -1,5 +1,5 @@
 -- A form has one verdict.
-use Rattle.std.proofs.Common.{◌≡◌, ℕ, Bool, true, false, cond, List, Option, None, Some, Result, Ok, inl, inr, refl, sym, ◌∙◌, ap, subst}
+use Rattle.std.proofs.Common.{◌≡◌, ℕ, true, cond, List, Option, None, Some, Result, Ok, inl, inr, sym, ◌∙◌, ap, subst}
 use Rattle.std.specs.Prelude.{slice_get}
 use Rattle.xml_spec.specs.Tree.{Nodes}
 use Rattle.xml_spec.proofs.Documents.{one_tree}

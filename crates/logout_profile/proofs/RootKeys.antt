@@ -1,5 +1,6 @@
 -- Under which key the root is vouched for.
-use Rattle.std.proofs.Common.{◌≡◌, ◌≢◌, ℕ, List, [], ◌∷◌, inl, inr, refl, ◌∙◌, subst}
+use Rattle.std.proofs.Common.{◌≡◌, ◌≢◌, ◌⊎◌, ℕ, List, [], ◌∷◌, Option, None, Some, inl, inr, refl, sym, ◌∙◌, ap, subst}
+use Rattle.std.specs.Option.{option_to_list}
 use Rattle.xml_spec.specs.Tree.{Nodes}
 use Rattle.saml_tree.specs.Documents.{DocumentView}
 use Rattle.sig_reference.specs.Form.{Parts}
@@ -48,3 +49,16 @@ module _ (document : DocumentView) (n : ℕ) (root : n ≡ 0) where
   pub not_by_second : (key other : List ℕ) (fault : SigFault) → IsUnvouched key document.tree n TagDiffers → IsUnvouched other document.tree n fault →
       IsNotVouched (key ∷ other ∷ []) document.tree fault
   not_by_second key other fault u w = inr (unvouched key TagDiffers u, last_key other document.tree fault (unvouched other fault w))
+
+-- WHICH KEY VOUCHES
+
+of_last : (key other : List ℕ) (tree : Nodes) → IsVouched (other ∷ []) tree key → (other ≡ key) × ((parts : Parts) × Vouches key tree 0 parts)
+of_last key other tree (inl v) = v
+of_last key other tree (inr v) = absurd v.1
+
+-- it is the first or the second
+pub of_keys : (first : List ℕ) (second : Option (List ℕ)) (tree : Nodes) (key : List ℕ) → IsVouched (first ∷ option_to_list second) tree key →
+    ((key ≡ first) ⊎ (second ≡ Some key)) × ((parts : Parts) × Vouches key tree 0 parts)
+of_keys first second tree key (inl v) = (inl (sym v.0), v.1)
+of_keys first None tree key (inr v) = absurd v.1
+of_keys first (Some other) tree key (inr v) = let w = of_last key other tree v.1 in (inr (ap Some w.0), w.1)

@@ -1,11 +1,25 @@
 -- The definitions at worked examples.
 use Rattle.std.specs.Prelude.{◌≡◌, true, false, [], ◌∷◌, None, Some, codes, refl}
+use Rattle.xml_spec.specs.Tree.{Nodes}
+use Rattle.post_binding.specs.declared.posted.Field.TheVariants as fields
+use Rattle.peer_keys.specs.declared.peers.LogoutPeer.{LogoutPeer}
 use Rattle.verdict_codes.specs.declared.codes.Verdict.TheVariants.{LogoutDestination, LogoutNotInTime}
 use Rattle.protocol_messages.specs.declared.logout.LogoutRequest.{LogoutRequest}
 use Rattle.protocol_messages.specs.declared.logout.LogoutResponse.{LogoutResponse}
 use Rattle.protocol_messages.specs.declared.logout.Outcome.TheVariants.{Success}
 use Rattle.logout_profile.specs.declared.message.Message.TheVariants.{Ask, Reply}
+use Rattle.logout_profile.specs.Carrying.{IsMessage}
+use Rattle.logout_profile.specs.Keys.{keys_of}
 use Rattle.logout_profile.specs.Verdict.{is_sent_to, is_in_time, message_refusal}
+
+-- a LogoutRequest does not fit SAMLResponse, nor a LogoutResponse SAMLRequest
+right_field : (tree : Nodes) (request : LogoutRequest) (response : LogoutResponse) →
+    ¬ (IsMessage fields.Response tree 0 (Ask request)) × ¬ (IsMessage fields.Request tree 0 (Reply response))
+right_field tree request response = (λ h. h, λ h. h)
+
+-- the second key stands behind that of the peer, where there is one
+keys : (peer : LogoutPeer) → (keys_of peer None ≡ peer.key_in ∷ []) × (keys_of peer (Some (codes "k")) ≡ peer.key_in ∷ codes "k" ∷ [])
+keys peer = (refl, refl)
 
 -- a Destination has to stand, and an empty one is another place
 destinations : (is_sent_to (codes "a") None ≡ false) × (is_sent_to (codes "a") (Some []) ≡ false) × (is_sent_to (codes "a") (Some (codes "b")) ≡ false)

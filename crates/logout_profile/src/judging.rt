@@ -62,8 +62,8 @@ fn judge_document(
     Ok(message.into_logout(place, relay))
 }
 
-/// Judges a form that was posted to a provider's address for logout at a moment, where for a time a second key counts for the messages
-/// of each of these peers: it is tried exactly where the peer's own key does not make the tag of a signature.
+/// Judges a form as [`judge_logout`] does, where for a time a second key counts for the messages of each of these peers: it is tried
+/// exactly where the peer's own key does not make the tag of a signature.
 ///
 /// # Errors
 ///
@@ -90,8 +90,8 @@ pub fn judge_logout_with(
     judge_document(alloc, peers, second, address, skew, now, field, &doc, relay)
 }
 
-/// Judges a form that was posted to a provider's address for logout at a moment, in milliseconds since 1970-01-01T00:00:00Z. The
-/// clocks of the providers may differ by `skew` milliseconds.
+/// Judges a form that was posted to a provider's address for logout at the moment `now`, in milliseconds since 1970-01-01T00:00:00Z
+/// (SAML Profiles, 4.4.3 and 4.4.4; SAML Bindings, 3.5). The clocks of the providers may differ by `skew` milliseconds.
 ///
 /// # Errors
 ///

@@ -1,8 +1,10 @@
 //! Laws of the definitions. Each function does nothing: what it ensures is the law.
-ghost use Rattle.std.specs.Prelude.{◌≡◌, ◌≢◌, ℕ, Bool, List, [], Option, Some, None};
+ghost use Rattle.std.specs.Prelude.{◌≡◌, ◌≢◌, ◌⊎◌, ℕ, Bool, List, [], Option, Some, None};
 ghost use Rattle.xml_spec.specs.Tree.{Nodes};
 ghost use Rattle.xml_spec.specs.Document.{Spells};
 ghost use Rattle.xml_spec.specs.Identifiers.{IsSingle};
+ghost use Rattle.xml_spec.specs.Content.{content};
+ghost use Rattle.element_make.specs.Made.{tree_of};
 ghost use Rattle.sig_reference.specs.Form.{Parts};
 ghost use Rattle.sig_reference.specs.Signature.{Vouches};
 ghost use Rattle.peer_keys.specs.declared.peers.LogoutPeer.{LogoutPeer};
@@ -22,14 +24,22 @@ pub fn a_logout_form_has_one_verdict()
         IsRefused peers second address skew now body one → IsRefused peers second address skew now body other → one ≡ other }
 {}
 
-/// What is made for a peer is vouched for with the key that is shared with it, wherever it is read.
+/// What is obeyed is vouched for by a signature of its own, under the peer's key or the second one.
+pub fn what_is_obeyed_is_vouched_for()
+    ensures { (peers : List LogoutPeer) (second : Option (List ℕ)) (address : List ℕ) (skew now : ℕ) (body : List ℕ) (logout : Logout) →
+        (is : IsAccepted peers second address skew now body logout) →
+        ((is.key ≡ is.peer.key_in) ⊎ (second ≡ Some is.key)) × ((parts : Parts) × Vouches is.key is.carried.tree 0 parts) }
+{}
+
+/// What is made for a peer is vouched for with the key that is shared with it, wherever it is read, and without the signature it says
+/// what was made.
 pub fn what_is_made_is_vouched_for()
     ensures request { (peer : LogoutPeer) (id issuer : List ℕ) (issued : ℕ) (name : List ℕ) (indexes : List (List ℕ)) (bytes : List ℕ) (tree : Nodes) →
-        id ≢ [] → IsRequest peer id issuer issued name indexes bytes → Spells bytes tree → IsSingle tree →
-        (parts : Parts) × Vouches peer.key_out tree 0 parts }
+        id ≢ [] → (is : IsRequest peer id issuer issued name indexes bytes) → Spells bytes tree → IsSingle tree →
+        (parts : Parts) × Vouches peer.key_out tree 0 parts × (content tree 0 (Some parts.signature) ≡ content (tree_of is.unsigned) 0 None) }
     ensures response { (peer : LogoutPeer) (id issuer : List ℕ) (issued : ℕ) (request : List ℕ) (partial : Bool) (bytes : List ℕ) (tree : Nodes) →
-        id ≢ [] → IsResponse peer id issuer issued request partial bytes → Spells bytes tree → IsSingle tree →
-        (parts : Parts) × Vouches peer.key_out tree 0 parts }
+        id ≢ [] → (is : IsResponse peer id issuer issued request partial bytes) → Spells bytes tree → IsSingle tree →
+        (parts : Parts) × Vouches peer.key_out tree 0 parts × (content tree 0 (Some parts.signature) ≡ content (tree_of is.unsigned) 0 None) }
 {
     sig_reference::laws::what_is_signed_is_vouched_for();
 }

@@ -3,9 +3,8 @@ use Rattle.std.specs.Option.{option_map, option_to_list}
 use Rattle.std.specs.Borrow.{Bor}
 use Rattle.std.proofs.lemmas.Result.{err_from_is_err_and}
 use Rattle.sig_reference.specs.Signature.{IsUnvouched}
-use Rattle.sig_reference.specs.declared.fault.SigFault.TheVariants.{TagDiffers}
 use Rattle.logout_profile.specs.Keys.{IsVouched, IsNotVouched}
-use Rattle.logout_profile.proofs.RootKeys.{by_first, by_second, not_by_first, by_none, not_by_second}
+use Rattle.logout_profile.proofs.RootKeys.{by_first, by_second, not_by_first, not_by_second}
 use Rattle.logout_profile.proofs.vouching.ask_vouched.Goals as goal
 
 -- the keys behind the first
