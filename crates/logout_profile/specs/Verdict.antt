@@ -55,8 +55,7 @@ of_shape shapes.NoMemory = None
 -- 32 and 35: the message is not sent to this address, or has expired
 abbrev pub message_refusal : List ℕ → ℕ → ℕ → Message → Option Verdict
 message_refusal address skew now message =
-    if is_sent_to address (destination_of message) then
-    (if is_in_time skew now (until_of message) then None else Some LogoutNotInTime)
+    if is_sent_to address (destination_of message) then (if is_in_time skew now (until_of message) then None else Some LogoutNotInTime)
     else Some LogoutDestination
 
 -- the form is refused with this verdict, that of the first condition that fails
