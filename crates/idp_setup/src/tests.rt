@@ -18,7 +18,7 @@ const LINES: [&str; 2] = [
 /// The line of a peer.
 const PEER: &str = "peer sp.xml key_in key_out\n";
 
-/// The files that it names, and what they hold. The password is `password` (RFC 7914, 11, has such values).
+/// The files that it names, and what they hold. The password of alice is `password`.
 const FILES: [(&str, &str); 5] = [
     (
         "users",
