@@ -1,12 +1,15 @@
-//! What no clause says: that there is memory for judging a request. The form is that of an implementation that shares nothing
-//! with this one.
+//! What no clause says: that there is memory for judging a request and for the address that it is posted to. The form is that
+//! of an implementation that shares nothing with this one.
 
-use crate::{Asked, judge_request};
+use crate::{Asked, IdpConfig, judge_request, sign_on_address};
 use fault_verdicts::Judged;
 use metadata::Peer;
 use owned_values::{Blob, Text};
 use peer_keys::{LogoutPeer, Peers};
+use provider_config::SignMode;
 use std::alloc::Global;
+use std::test::Fail;
+use user_store::{UserFault, read_users};
 
 /// A form with an AuthnRequest without a Signature.
 const FORM: &[u8] =
@@ -36,4 +39,27 @@ fn there_is_memory_for_a_request(rt: HostRuntime) {
     assert!(rt;
         asked.consumer.as_str() == "http://127.0.0.1:8081/acs" && !asked.force && !asked.passive
     );
+}
+
+/// A config of one-letter texts.
+fn config(alloc: Global) -> Result<IdpConfig, UserFault> {
+    Ok(IdpConfig {
+        entity: Text::of(alloc, "i")?,
+        base: Text::of(alloc, "b")?,
+        listen: Text::of(alloc, "l")?,
+        peers: Peers::new(alloc),
+        users: read_users(alloc, b"")?,
+        id_key: [0; 32],
+        skew: 0,
+        mode: SignMode::Assertion,
+    })
+}
+
+#[test]
+fn there_is_memory_for_an_address(rt: HostRuntime) -> Result<(), Fail> {
+    let alloc = rt.alloc();
+    let config = config(alloc)?;
+    let address = sign_on_address(alloc, &config)?;
+    assert!(rt; address.as_str() == "b/sso");
+    Ok(())
 }
