@@ -1,10 +1,8 @@
 -- No row of a config takes less than a byte of its text.
-use Rattle.std.proofs.Common.{◌≡◌, ℕ, suc, ◌+◌, ◌≤◌, Bool, true, false, cond, not, List, [], ◌∷◌, ◌++◌, Option, None, Some, Result, Ok, Err, length, length-append, IfOk, arith, refl, sym, ◌∙◌, ap, subst}
+use Rattle.std.proofs.Common.{◌≡◌, ℕ, suc, ◌+◌, ◌≤◌, Bool, true, false, cond, not, List, [], ◌∷◌, ◌++◌, Option, None, Some, Result, Ok, Err, length, length-append, IfOk, arith, refl, ◌∙◌, ap, subst}
 use Rattle.std.specs.Prelude.{ok_or, option_and_then}
 use Rattle.std.specs.List.{filter_map, cons_option}
 use Rattle.text_lines.specs.Lines.{Said, Says, NoText, lines, said_from, said, is_text, is_passed_over}
-use Rattle.provider_config.specs.declared.config.AskedLine.{AskedLine}
-use Rattle.provider_config.specs.declared.config.OpenedLine.{OpenedLine}
 use Rattle.provider_config.specs.declared.line.Purpose.{Purpose}
 use Rattle.provider_config.specs.declared.line.SpLine.{SpLine}
 use Rattle.provider_config.specs.Config.{Config, Found, found, complete, asked, opened, line_behind, lines_from, sp_config, has_files}

@@ -1,16 +1,17 @@
 -- What the code finds line by line is what the definition says of all lines.
-use Rattle.std.proofs.Common.{◌≡◌, ℕ, Bool, false, cond, List, [], ◌∷◌, ◌++◌, Option, None, Some, Result, Ok, Err, codes, is_some, ok_or, refl, sym, ap, ◌∙◌}
+use Rattle.std.proofs.Common.{◌≡◌, ℕ, Bool, false, cond, List, [], ◌∷◌, ◌++◌, Option, None, Some, Result, Ok, Err, codes, is_some, ok_or, IfSome, refl, sym, ap, ◌∙◌}
+use Rattle.std.specs.List.{filter_map}
 use Rattle.std.specs.Option.{option_map_or}
 use Rattle.std.specs.Str.{bytes_eq}
 use Rattle.text_lines.specs.Lines.{Said, Says, NoText, said}
 use Rattle.provider_config.specs.declared.config.FileRole.{FileRole}
 use Rattle.provider_config.specs.declared.config.FileRole.TheVariants as roles
-use Rattle.provider_config.specs.declared.config.NamedFile.{NamedFile}
+use Rattle.provider_config.specs.declared.config.SpFile.{SpFile}
 use Rattle.provider_config.specs.declared.line.Purpose.{Purpose}
 use Rattle.provider_config.specs.declared.line.SpLine.{SpLine}
-use Rattle.provider_config.specs.declared.line.SpLine.TheVariants.{Entity, Base, Listen, Idp, KeyIn, KeyOut, IdKey, Skew, NextIn, Asked, Opened}
+use Rattle.provider_config.specs.declared.line.SpLine.TheVariants.{Entity, Base, Listen, Idp, KeyIn, KeyOut, IdKey, Skew, NextIn, Policy, Registry, Asked, Opened}
 use Rattle.provider_config.specs.Line.{line_of}
-use Rattle.provider_config.specs.Config.{Config, entity, base, listen, skew, times, file, asked, opened, found, same_role, key_of, doubles, fresh, line_behind, lines_from, complete, sp_config}
+use Rattle.provider_config.specs.Config.{Config, entity, base, listen, skew, times, file, asked, opened, found, same_role, role_of, has_file, key_of, doubles, fresh, line_behind, lines_from, complete, sp_config}
 use Rattle.provider_config.specs.Shared.{and_then}
 use Rattle.provider_config.proofs.Sharing.{the-push, filter_map-push, is_some-the, any_filtered}
 use Rattle.provider_config.specs.Drafts.{taken, stands, unless_found, next_line, config_from}
@@ -56,11 +57,12 @@ next_in_key (NextIn name moments) = refl
 next_in_key line = refl
 
 -- the file has this role
-abbrev is_for : FileRole → NamedFile → Bool
-is_for role named = same_role named.role role
+abbrev is_for : FileRole → SpFile → Bool
+is_for role named = same_role (role_of named) role
 
 idp_key : (line : SpLine) → option_map_or (is_for roles.Idp) (file line) false ≡ has_key (codes "idp") line
 idp_key (Idp name) = refl
+idp_key (Registry line) = refl
 idp_key line = refl
 
 key_in_key : (line : SpLine) → option_map_or (is_for roles.KeyIn) (file line) false ≡ has_key (codes "key_in") line
@@ -75,6 +77,10 @@ id_key_key : (line : SpLine) → option_map_or (is_for roles.IdKey) (file line) 
 id_key_key (IdKey name) = refl
 id_key_key line = refl
 
+policy_key : (line : SpLine) → option_map_or (is_for roles.Policy) (file line) false ≡ has_key (codes "policy") line
+policy_key (Policy name) = refl
+policy_key line = refl
+
 stands-found : (line : SpLine) (before : List SpLine) → stands line (found before) ≡ doubles line before
 stands-found (Entity name) before = is_some-the entity (has_key (codes "entity")) entity_key before
 stands-found (Base address) before = is_some-the base (has_key (codes "base")) base_key before
@@ -85,8 +91,25 @@ stands-found (KeyOut name) before = any_filtered file (is_for roles.KeyOut) (has
 stands-found (IdKey name) before = any_filtered file (is_for roles.IdKey) (has_key (codes "id_key")) id_key_key before
 stands-found (Skew milliseconds) before = is_some-the skew (has_key (codes "skew")) skew_key before
 stands-found (NextIn name moments) before = is_some-the times (has_key (codes "next_in")) next_in_key before
+stands-found (Policy name) before = any_filtered file (is_for roles.Policy) (has_key (codes "policy")) policy_key before
+stands-found (Registry line) before = any_filtered file (is_for roles.Idp) (has_key (codes "idp")) idp_key before
 stands-found (Asked row) before = refl
 stands-found (Opened row) before = refl
+
+next_in_file : (line : SpLine) → option_map_or (is_for roles.NextIn) (file line) false ≡ has_key (codes "next_in") line
+next_in_file (NextIn name moments) = refl
+next_in_file line = refl
+
+-- a file has a role that a file of the lines before it has, exactly where its line doubles their keys
+pub named_before : (line : SpLine) (before : List SpLine) → IfSome (file line) (λ named. has_file (role_of named) (filter_map file before) ≡ doubles line before)
+named_before (Idp name) before = any_filtered file (is_for roles.Idp) (has_key (codes "idp")) idp_key before
+named_before (KeyIn name) before = any_filtered file (is_for roles.KeyIn) (has_key (codes "key_in")) key_in_key before
+named_before (KeyOut name) before = any_filtered file (is_for roles.KeyOut) (has_key (codes "key_out")) key_out_key before
+named_before (IdKey name) before = any_filtered file (is_for roles.IdKey) (has_key (codes "id_key")) id_key_key before
+named_before (NextIn name moments) before = any_filtered file (is_for roles.NextIn) (has_key (codes "next_in")) next_in_file before
+named_before (Policy name) before = any_filtered file (is_for roles.Policy) (has_key (codes "policy")) policy_key before
+named_before (Registry line) before = any_filtered file (is_for roles.Idp) (has_key (codes "idp")) idp_key before
+named_before line before = tt
 
 -- ---- all lines
 

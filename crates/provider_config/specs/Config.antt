@@ -1,26 +1,27 @@
 -- The lines of a config: which of them make one, and what it says.
-use Rattle.std.specs.Prelude.{ℕ, ◌≤◌, ◌*◌, Bool, true, false, ◌&&◌, not, List, [], ◌∷◌, ◌++◌, codes, Option, None, Some, Result, Ok, Err, ok_or, if◌then◌else◌}
+use Rattle.std.specs.Prelude.{◌≡◌, ℕ, ◌≤◌, ◌*◌, Bool, true, false, ◌&&◌, not, List, [], ◌∷◌, ◌++◌, codes, Option, None, Some, Result, Ok, Err, ok_or, if◌then◌else◌}
 use Rattle.std.specs.List.{filter_map, list_any}
 use Rattle.std.specs.Str.{bytes_eq}
 use Rattle.xml_spec.specs.Characters.{IsText}
 use Rattle.text_lines.specs.Lines.{Said, Says, NoText, said}
 use Rattle.provider_config.specs.declared.config.FileRole.{FileRole}
 use Rattle.provider_config.specs.declared.config.FileRole.TheVariants as roles
-use Rattle.provider_config.specs.declared.config.NamedFile.{NamedFile}
 use Rattle.provider_config.specs.declared.config.Times.{Times}
 use Rattle.provider_config.specs.declared.config.AskedLine.{AskedLine}
 use Rattle.provider_config.specs.declared.config.OpenedLine.{OpenedLine}
+use Rattle.provider_config.specs.declared.config.SpFile.{SpFile}
+use Rattle.provider_config.specs.declared.config.SpFile.TheVariants as names
 use Rattle.provider_config.specs.declared.config.SpLines.{SpLines}
 use Rattle.provider_config.specs.declared.line.TheConstants.{MILLIS, MOST_SKEW}
 use Rattle.provider_config.specs.declared.line.Purpose.{Purpose}
 use Rattle.provider_config.specs.declared.line.SpLine.{SpLine}
-use Rattle.provider_config.specs.declared.line.SpLine.TheVariants.{Entity, Base, Listen, Idp, KeyIn, KeyOut, IdKey, Skew, NextIn, Asked, Opened}
+use Rattle.provider_config.specs.declared.line.SpLine.TheVariants.{Entity, Base, Listen, Idp, KeyIn, KeyOut, IdKey, Skew, NextIn, Policy, Registry, Asked, Opened}
 use Rattle.provider_config.specs.Line.{line_of}
 use Rattle.provider_config.specs.Shared.{and_then, the, ◌>>=◌}
 
 -- ---- the lines of a text
 
--- the key that a line begins with
+-- the key that a line begins with; `registry` stands in place of `idp`, so that a config has one of both
 abbrev pub key_of : SpLine → List ℕ
 key_of (Entity name) = codes "entity"
 key_of (Base address) = codes "base"
@@ -31,6 +32,8 @@ key_of (KeyOut name) = codes "key_out"
 key_of (IdKey name) = codes "id_key"
 key_of (Skew milliseconds) = codes "skew"
 key_of (NextIn name times) = codes "next_in"
+key_of (Policy name) = codes "policy"
+key_of (Registry line) = codes "idp"
 key_of (Asked line) = codes "asked"
 key_of (Opened line) = codes "opened"
 
@@ -95,12 +98,18 @@ abbrev pub times : SpLine → Option Times
 times (NextIn name moments) = Some moments
 times line = None
 
-abbrev pub file : SpLine → Option NamedFile
-file (Idp name) = Some (record { role = roles.Idp; name = name })
-file (KeyIn name) = Some (record { role = roles.KeyIn; name = name })
-file (KeyOut name) = Some (record { role = roles.KeyOut; name = name })
-file (IdKey name) = Some (record { role = roles.IdKey; name = name })
-file (NextIn name moments) = Some (record { role = roles.NextIn; name = name })
+-- one file of this role
+abbrev pub one : FileRole → List ℕ → Option SpFile
+one role name = Some (names.One (record { role = role; name = name }))
+
+abbrev pub file : SpLine → Option SpFile
+file (Idp name) = one roles.Idp name
+file (KeyIn name) = one roles.KeyIn name
+file (KeyOut name) = one roles.KeyOut name
+file (IdKey name) = one roles.IdKey name
+file (NextIn name moments) = one roles.NextIn name
+file (Policy name) = one roles.Policy name
+file (Registry line) = Some (names.Registry line)
 file line = None
 
 abbrev pub asked : SpLine → Option AskedLine
@@ -117,7 +126,7 @@ pub record Found : Type 0 where
   pub base : Option (List ℕ)
   pub listen : Option (List ℕ)
   pub skew : Option ℕ
-  pub files : List NamedFile
+  pub files : List SpFile
   pub next_in : Option Times
   pub asked : List AskedLine
   pub opened : List OpenedLine
@@ -143,7 +152,7 @@ pub record Config : Type 0 where
   pub base : List ℕ
   pub listen : List ℕ
   pub skew : ℕ
-  pub files : List NamedFile
+  pub files : List SpFile
   pub next_in : Option Times
   pub asked : List AskedLine
   pub opened : List OpenedLine
@@ -154,15 +163,26 @@ same_role roles.KeyIn roles.KeyIn = true
 same_role roles.KeyOut roles.KeyOut = true
 same_role roles.IdKey roles.IdKey = true
 same_role roles.NextIn roles.NextIn = true
+same_role roles.Policy roles.Policy = true
 same_role role other = false
 
+-- what a file tells; a registry tells what the metadata of the identity provider does
+abbrev pub role_of : SpFile → FileRole
+role_of (names.One named) = named.role
+role_of (names.Registry line) = roles.Idp
+
 -- a file of this role is named
-abbrev pub has_file : FileRole → List NamedFile → Bool
-has_file role files = list_any (λ named. same_role named.role role) files
+abbrev pub has_file : FileRole → List SpFile → Bool
+has_file role files = list_any (λ named. same_role (role_of named) role) files
 
 -- the files that each config names
-abbrev pub has_files : List NamedFile → Bool
+abbrev pub has_files : List SpFile → Bool
 has_files files = has_file roles.Idp files && has_file roles.KeyIn files && has_file roles.KeyOut files && has_file roles.IdKey files
+
+-- no two of the files have one role
+abbrev pub AreOfDifferentRoles : List SpFile → Type 0
+AreOfDifferentRoles [] = Unit {0}
+AreOfDifferentRoles (named ∷ others) = (has_file (role_of named) others ≡ false) × AreOfDifferentRoles others
 
 -- the config of what is found; none where a key is missing
 abbrev pub complete : Found → Option Config

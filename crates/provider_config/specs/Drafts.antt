@@ -4,7 +4,7 @@ use Rattle.text_lines.specs.Lines.{Said, Says, NoText}
 use Rattle.provider_config.specs.declared.config.FileRole.TheVariants as roles
 use Rattle.provider_config.specs.declared.line.Purpose.{Purpose}
 use Rattle.provider_config.specs.declared.line.SpLine.{SpLine}
-use Rattle.provider_config.specs.declared.line.SpLine.TheVariants.{Entity, Base, Listen, Idp, KeyIn, KeyOut, IdKey, Skew, NextIn, Asked, Opened}
+use Rattle.provider_config.specs.declared.line.SpLine.TheVariants.{Entity, Base, Listen, Idp, KeyIn, KeyOut, IdKey, Skew, NextIn, Policy, Registry, Asked, Opened}
 use Rattle.provider_config.specs.Line.{line_of}
 use Rattle.provider_config.specs.Config.{Found, Config, entity, base, listen, skew, times, file, asked, opened, has_file, complete}
 use Rattle.provider_config.specs.Shared.{and_then, or_else, pushed}
@@ -34,6 +34,8 @@ stands (KeyOut name) found = has_file roles.KeyOut found.files
 stands (IdKey name) found = has_file roles.IdKey found.files
 stands (Skew milliseconds) found = is_some found.skew
 stands (NextIn name moments) found = is_some found.next_in
+stands (Policy name) found = has_file roles.Policy found.files
+stands (Registry line) found = has_file roles.Idp found.files
 stands (Asked row) found = false
 stands (Opened row) found = false
 

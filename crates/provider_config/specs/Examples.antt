@@ -2,9 +2,13 @@
 use Rattle.std.specs.Prelude.{◌≡◌, ℕ, List, [], ◌∷◌, ◌++◌, None, Some, Ok, Err, codes, refl}
 use Rattle.std.specs.Str.{chars}
 use lib.Utf8.{encode}
+use Rattle.provider_config.specs.declared.config.FileRole.{FileRole}
 use Rattle.provider_config.specs.declared.config.FileRole.TheVariants as roles
+use Rattle.provider_config.specs.declared.config.SpFile.{SpFile}
+use Rattle.provider_config.specs.declared.config.SpFile.TheVariants.{One, Registry}
 use Rattle.provider_config.specs.declared.line.Purpose.TheVariants.{Check, Serve}
 use Rattle.provider_config.specs.declared.line.SpLine.TheVariants.{Entity, Skew, NextIn, Asked}
+use Rattle.provider_config.specs.declared.line.SpLine.TheVariants as lines
 use Rattle.provider_config.specs.Line.{line_of}
 use Rattle.provider_config.specs.Config.{sp_config}
 
@@ -29,9 +33,23 @@ rows : (line_of Check (codes "asked r s t 18446744073709551615") ≡ Some (Asked
     × (line_of Serve (codes "asked r s t 1") ≡ None) × (line_of Check (codes "asked r s t 18446744073709551616") ≡ None) × (line_of Check (codes "asked r s 1") ≡ None)
 rows = (refl, refl, refl, refl)
 
+-- a registry has two files and a name, which is the word as it stands; a policy has one file, also where a form is checked
+registries : (line_of Serve (codes "registry a k e") ≡ Some (lines.Registry (record { file = codes "a"; key = codes "k"; entity = codes "e" })))
+    × (line_of Serve (codes "registry a k \te\r") ≡ Some (lines.Registry (record { file = codes "a"; key = codes "k"; entity = codes "\te\r" })))
+    × (line_of Serve (codes "registry a k") ≡ None) × (line_of Serve (codes "registry a k e f") ≡ None)
+registries = (refl, refl, refl, refl)
+
+policies : (line_of Serve (codes "policy p") ≡ Some (lines.Policy (codes "p"))) × (line_of Check (codes "policy p") ≡ Some (lines.Policy (codes "p")))
+    × (line_of Serve (codes "policy") ≡ None) × (line_of Serve (codes "policy p q") ≡ None)
+policies = (refl, refl, refl, refl)
+
 -- lines that make a config, but for one
 most : List ℕ
 most = codes "id_key d\nkey_out o\nkey_in k\nidp i\nlisten l\nbase b\nentity e\n"
+
+-- one file of this role
+one : FileRole → List ℕ → SpFile
+one role name = One (record { role = role; name = name })
 
 -- the files stand in the order of their lines
 a_config : sp_config Serve (most ++ codes "next_in n 1 2\n\nskew 60")
@@ -40,13 +58,28 @@ a_config : sp_config Serve (most ++ codes "next_in n 1 2\n\nskew 60")
       base = codes "b";
       listen = codes "l";
       skew = 60000;
-      files = record { role = roles.IdKey; name = codes "d" } ∷ record { role = roles.KeyOut; name = codes "o" } ∷ record { role = roles.KeyIn; name = codes "k" } ∷ record { role = roles.Idp; name = codes "i" } ∷ record { role = roles.NextIn; name = codes "n" } ∷ [];
+      files = one roles.IdKey (codes "d") ∷ one roles.KeyOut (codes "o") ∷ one roles.KeyIn (codes "k") ∷ one roles.Idp (codes "i") ∷ one roles.NextIn (codes "n") ∷ [];
       next_in = Some (record { from = 1; until = 2 });
       asked = [];
       opened = [];
     })
-unfolding chars encode most
+unfolding chars encode most one
 a_config = refl
+
+-- a registry stands in place of the metadata
+with_registry : sp_config Serve (codes "policy p\nid_key d\nregistry a k e\nkey_out o\nkey_in i\nlisten l\nbase b\nentity e\nskew 1")
+    ≡ Ok (record {
+      entity = codes "e";
+      base = codes "b";
+      listen = codes "l";
+      skew = 1000;
+      files = one roles.Policy (codes "p") ∷ one roles.IdKey (codes "d") ∷ Registry (record { file = codes "a"; key = codes "k"; entity = codes "e" }) ∷ one roles.KeyOut (codes "o") ∷ one roles.KeyIn (codes "i") ∷ [];
+      next_in = None;
+      asked = [];
+      opened = [];
+    })
+unfolding chars encode one
+with_registry = refl
 
 -- a missing key; a bad line behind it comes first
 missing : (sp_config Serve most ≡ Err 0) × (sp_config Serve (most ++ codes "x") ≡ Err 8) × (sp_config Serve [] ≡ Err 0)
@@ -58,6 +91,13 @@ doubled : (sp_config Serve (codes "entity a\n# c\nentity b\n") ≡ Err 3) × (sp
     × (sp_config Serve (codes "idp a\nnext_in n 1 2\nnext_in m 3 4\n") ≡ Err 3)
 unfolding chars encode
 doubled = (refl, refl, refl)
+
+-- of metadata and registry the later is bad, in whichever order; neither is a missing key
+in_place : (sp_config Serve (most ++ codes "registry a k e\nskew 1\n") ≡ Err 8) × (sp_config Serve (codes "registry a k e\nidp i\n") ≡ Err 2)
+    × (sp_config Serve (codes "registry a k e\nregistry a k f\n") ≡ Err 2) × (sp_config Serve (codes "policy p\npolicy p\n") ≡ Err 2)
+    × (sp_config Serve (codes "id_key d\nkey_out o\nkey_in k\nlisten l\nbase b\nentity e\nskew 1\n") ≡ Err 0)
+unfolding chars encode most
+in_place = (refl, refl, refl, refl, refl)
 
 -- a line that is no text is bad
 no_text : sp_config Serve (codes "# " ++ 255 ∷ codes "\nx") ≡ Err 1

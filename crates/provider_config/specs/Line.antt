@@ -10,14 +10,14 @@ use Rattle.provider_config.specs.declared.line.TheConstants.{MOST_SKEW, MILLIS}
 use Rattle.provider_config.specs.declared.line.Purpose.{Purpose}
 use Rattle.provider_config.specs.declared.line.Purpose.TheVariants.{Check, Serve}
 use Rattle.provider_config.specs.declared.line.SpLine.{SpLine}
-use Rattle.provider_config.specs.declared.line.SpLine.TheVariants.{Entity, Base, Listen, Idp, KeyIn, KeyOut, IdKey, Skew, NextIn, Asked, Opened}
+use Rattle.provider_config.specs.declared.line.SpLine.TheVariants.{Entity, Base, Listen, Idp, KeyIn, KeyOut, IdKey, Skew, NextIn, Policy, Registry, Asked, Opened}
 
 -- milliseconds, which a line says in seconds, of which there are few
 abbrev pub skew_of : List ℕ → Option ℕ
 skew_of word = option_map (λ seconds. MILLIS * seconds) (number_of MOST_SKEW word)
 
 -- the lines of a key and one word: `entity NAME`, `base ADDRESS`, `listen PLACE`, `idp FILE`, `key_in FILE`,
--- `key_out FILE`, `id_key FILE`, `skew SECONDS`
+-- `key_out FILE`, `id_key FILE`, `skew SECONDS`, `policy FILE`
 abbrev pub valued : List ℕ → List ℕ → Option SpLine
 valued key value =
     if bytes_eq key (codes "entity") then Some (Entity value)
@@ -28,6 +28,7 @@ valued key value =
     else if bytes_eq key (codes "key_out") then Some (KeyOut value)
     else if bytes_eq key (codes "id_key") then Some (IdKey value)
     else if bytes_eq key (codes "skew") then option_map Skew (skew_of value)
+    else if bytes_eq key (codes "policy") then Some (Policy value)
     else None
 
 -- two moments in order
@@ -41,6 +42,17 @@ times_of from until = option_and_then (λ f. option_and_then (λ u. in_order f u
 abbrev pub next_in : List ℕ → List ℕ → List ℕ → Option SpLine
 next_in file from until = option_map (λ times. NextIn file times) (times_of from until)
 
+-- `registry FILE KEYFILE ENTITY`: the entity is the word as it stands
+abbrev pub registry : List ℕ → List ℕ → List ℕ → SpLine
+registry file key entity = Registry (record { file = file; key = key; entity = entity })
+
+-- the lines of a key and three words
+abbrev pub of_three : List ℕ → List ℕ → List ℕ → List ℕ → Option SpLine
+of_three key first second third =
+    if bytes_eq key (codes "next_in") then next_in first second third
+    else if bytes_eq key (codes "registry") then Some (registry first second third)
+    else None
+
 -- `asked REQUEST RELAY TARGET UNTIL`: any moment
 abbrev pub asked : List ℕ → List ℕ → List ℕ → List ℕ → Option SpLine
 asked request relay target until =
@@ -51,7 +63,8 @@ abbrev pub opened : List ℕ → List ℕ → List ℕ → List ℕ → Option S
 opened request issuer assertion until =
     option_map (λ moment. Opened (record { request = request; issuer = issuer; assertion = assertion; until = moment })) (number_of (2 ^ 64 - 1) until)
 
--- what was asked and opened is said only where one form is checked
+-- What was asked and opened is said only where one form is checked. All other lines are said for either purpose: also a policy,
+-- which decides nothing there.
 abbrev pub takes_rows : Purpose → Bool
 takes_rows Check = true
 takes_rows Serve = false
@@ -59,7 +72,7 @@ takes_rows Serve = false
 -- the line of these words
 abbrev pub spelled : Purpose → List (List ℕ) → Option SpLine
 spelled purpose (key ∷ value ∷ []) = valued key value
-spelled purpose (key ∷ file ∷ from ∷ until ∷ []) = if bytes_eq key (codes "next_in") then next_in file from until else None
+spelled purpose (key ∷ first ∷ second ∷ third ∷ []) = of_three key first second third
 spelled purpose (key ∷ first ∷ second ∷ third ∷ until ∷ []) =
     if takes_rows purpose && bytes_eq key (codes "asked") then asked first second third until
     else if takes_rows purpose && bytes_eq key (codes "opened") then opened first second third until

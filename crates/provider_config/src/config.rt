@@ -18,6 +18,8 @@ pub enum FileRole {
     IdKey,
     /// The key of the peer beside the first, for a time.
     NextIn,
+    /// The rules that say who may see which page.
+    Policy,
 }
 
 /// A file that a config names.
@@ -25,6 +27,26 @@ pub enum FileRole {
 pub struct NamedFile {
     pub role: FileRole,
     pub name: Text,
+}
+
+/// A registry of metadata, which stands in place of the metadata of the identity provider.
+#[derive(Debug, Drop)]
+pub struct RegistryLine {
+    /// The file of the signed aggregate.
+    pub file: Text,
+    /// The file of the key that signs it.
+    pub key: Text,
+    /// The name of the identity provider in it, as the line has it.
+    pub entity: Text,
+}
+
+/// What a line of a service provider's config names.
+#[derive(Debug, Drop)]
+pub enum SpFile {
+    /// One file.
+    One(NamedFile),
+    /// The two files of a registry.
+    Registry(RegistryLine),
 }
 
 /// From when a key counts, and until when the key before it does: moments in milliseconds since 1970.
@@ -66,7 +88,7 @@ pub struct SpLines {
     /// By how much clocks may differ, in milliseconds.
     pub skew: u64,
     /// The named files, in the order of their lines.
-    pub files: Vec<NamedFile>,
+    pub files: Vec<SpFile>,
     /// When the second key of the identity provider counts, where there is one.
     pub next_in: Option<Times>,
     /// What was asked, in the order of the lines.

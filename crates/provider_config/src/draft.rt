@@ -6,7 +6,7 @@ ghost use Rattle.xml_spec.specs.Characters.{IsText};
 ghost use Rattle.provider_config.specs.Config as spec;
 ghost use Rattle.provider_config.specs.Drafts as drafts;
 
-use crate::config::{AskedLine, FileRole, NamedFile, OpenedLine, SpLines, Times};
+use crate::config::{AskedLine, FileRole, NamedFile, OpenedLine, SpFile, SpLines, Times};
 use crate::line::{MILLIS, MOST_SKEW, SpLine};
 use owned_values::{NoMemory, Text};
 use std::alloc::Global;
@@ -24,19 +24,32 @@ impl FileRole {
                 | (FileRole::KeyOut, FileRole::KeyOut)
                 | (FileRole::IdKey, FileRole::IdKey)
                 | (FileRole::NextIn, FileRole::NextIn)
+                | (FileRole::Policy, FileRole::Policy)
         )
     }
 }
 
+impl SpFile {
+    /// What the file tells; a registry tells what metadata does.
+    fn role(&self) -> FileRole
+        ensures { result ≡ spec.role_of self.now }
+    {
+        match self {
+            SpFile::One(file) => file.role,
+            SpFile::Registry(_) => FileRole::Idp,
+        }
+    }
+}
+
 /// Whether a file of this role is named.
-fn has_file(files: &[NamedFile], role: FileRole) -> bool
+fn has_file(files: &[SpFile], role: FileRole) -> bool
     ensures { result ≡ spec.has_file role files.now }
 {
-    files.iter().any(|file| file.role.is(role))
+    files.iter().any(|file| file.role().is(role))
 }
 
 /// Whether the files are named that each config names.
-fn has_files(files: &[NamedFile]) -> bool
+fn has_files(files: &[SpFile]) -> bool
     ensures { result ≡ spec.has_files files.now }
 {
     has_file(files, FileRole::Idp)
@@ -52,7 +65,7 @@ pub(crate) struct Draft {
     base: Option<Text>,
     listen: Option<Text>,
     skew: Option<u64>,
-    files: Vec<NamedFile>,
+    files: Vec<SpFile>,
     next_in: Option<Times>,
     asked: Vec<AskedLine>,
     opened: Vec<OpenedLine>,
@@ -97,21 +110,24 @@ impl Draft {
             SpLine::Entity(_) => self.entity.is_some(),
             SpLine::Base(_) => self.base.is_some(),
             SpLine::Listen(_) => self.listen.is_some(),
-            SpLine::Idp(_) => has_file(self.files.as_slice(), FileRole::Idp),
+            SpLine::Idp(_) | SpLine::Registry(_) => {
+                has_file(self.files.as_slice(), FileRole::Idp)
+            }
             SpLine::KeyIn(_) => has_file(self.files.as_slice(), FileRole::KeyIn),
             SpLine::KeyOut(_) => has_file(self.files.as_slice(), FileRole::KeyOut),
             SpLine::IdKey(_) => has_file(self.files.as_slice(), FileRole::IdKey),
             SpLine::Skew(_) => self.skew.is_some(),
             SpLine::NextIn { .. } => self.next_in.is_some(),
+            SpLine::Policy(_) => has_file(self.files.as_slice(), FileRole::Policy),
             SpLine::Asked(_) | SpLine::Opened(_) => false,
         }
     }
 
     /// A file is named.
     fn name_file(&mut self, role: FileRole, name: Text) -> Result<(), NoMemory>
-        ensures { OnOk result (self.new ≡ record self.old { files = self.old.files ++ record { role = role; name = name } ∷ [] }) }
+        ensures { OnOk result (self.new ≡ record self.old { files = self.old.files ++ SpFile.One (record { role = role; name = name }) ∷ [] }) }
     {
-        self.files.push(NamedFile { role, name })?;
+        self.files.push(SpFile::One(NamedFile { role, name }))?;
         Ok(())
     }
 
@@ -133,6 +149,8 @@ impl Draft {
                 self.next_in = Some(times);
                 self.name_file(FileRole::NextIn, file)?;
             }
+            SpLine::Policy(name) => self.name_file(FileRole::Policy, name)?,
+            SpLine::Registry(line) => self.files.push(SpFile::Registry(line))?,
             SpLine::Asked(row) => self.asked.push(row)?,
             SpLine::Opened(row) => self.opened.push(row)?,
         }

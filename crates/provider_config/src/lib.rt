@@ -3,11 +3,16 @@
 //! ```
 //! let lines = read_sp_config(alloc, text, Purpose::Serve)?;
 //! for file in &lines.files {
-//!     /* `file.name` has what `file.role` says */
+//!     match file {
+//!         SpFile::One(named) => { /* `named.name` has what `named.role` says */ }
+//!         SpFile::Registry(line) => { /* `line.file` lists `line.entity`, signed with the key in `line.key` */ }
+//!     }
 //! }
 //! ```
 //!
-//! A config is a text of lines ([`text_lines`]). Each key stands once, in any order; words are separated by one space.
+//! A config is a text of lines ([`text_lines`]). Each key stands once, in any order; words are separated by one space. A
+//! service provider has its identity provider either from metadata (`idp`) or from a registry of metadata (`registry`),
+//! and may have a policy.
 //! [`read_sp_config`] gives what the definition `sp_config` gives, and [`read_idp_config`] what `idp_config` gives: the
 //! values of the keys and the named files in the order of their lines, or the number of the first line that is bad
 //! ([`ConfigFault`]). Both are linear in the text. What the named files hold is not looked at here.
@@ -30,7 +35,10 @@ mod read;
 mod tests;
 mod words;
 
-pub use config::{AskedLine, FileRole, MAX_CONFIG_LENGTH, NamedFile, OpenedLine, SpLines, Times};
+pub use config::{
+    AskedLine, FileRole, MAX_CONFIG_LENGTH, NamedFile, OpenedLine, RegistryLine, SpFile, SpLines,
+    Times,
+};
 pub use fault::ConfigFault;
 pub use idp_config::{IdpFile, IdpLines, MAX_PEERS, PeerFiles, SignMode};
 pub use idp_read::read_idp_config;

@@ -6,7 +6,7 @@ ghost use Rattle.provider_config.specs.Shared.{AreTexts};
 ghost use Rattle.xml_spec.specs.Characters.{IsText};
 ghost use Rattle.provider_config.specs.Line as spec;
 
-use crate::config::{AskedLine, OpenedLine, Times};
+use crate::config::{AskedLine, OpenedLine, RegistryLine, Times};
 use crate::words::words_of;
 use owned_values::{NoMemory, Text};
 use saml_time::LAST;
@@ -53,6 +53,8 @@ pub(crate) enum SpLine {
     /// In milliseconds.
     Skew(u64),
     NextIn { file: Text, times: Times },
+    Policy(Text),
+    Registry(RegistryLine),
     Asked(AskedLine),
     Opened(OpenedLine),
 }
@@ -81,6 +83,7 @@ fn valued(alloc: Global, key: &str, value: &str) -> Result<Option<SpLine>, NoMem
         "key_out" => SpLine::KeyOut(Text::of(alloc, value)?),
         "id_key" => SpLine::IdKey(Text::of(alloc, value)?),
         "skew" => return Ok(skew_of(value).map(SpLine::Skew)),
+        "policy" => SpLine::Policy(Text::of(alloc, value)?),
         _ => return Ok(None),
     };
     Ok(Some(line))
@@ -109,6 +112,34 @@ fn next_in(file: &Text, from: &str, until: &str) -> Result<Option<SpLine>, NoMem
     };
     let file = file.copy()?;
     Ok(Some(SpLine::NextIn { file, times }))
+}
+
+/// The line of a registry.
+fn registry(file: &Text, key: &Text, entity: &Text) -> Result<SpLine, NoMemory>
+    ensures { IfOk result (λ line. line ≡ spec.registry file.now key.now entity.now) }
+{
+    Ok(SpLine::Registry(RegistryLine {
+        file: file.copy()?,
+        key: key.copy()?,
+        entity: entity.copy()?,
+    }))
+}
+
+/// The line of a key and three words behind it.
+fn of_three(
+    key: &str,
+    first: &Text,
+    second: &Text,
+    third: &Text,
+) -> Result<Option<SpLine>, NoMemory>
+    ensures value { IfOk result (λ line. line ≡ spec.of_three key.now first.now second.now third.now) }
+    ensures sound { IfOk result (λ line. IfSome line IsSound) }
+{
+    match key {
+        "next_in" => next_in(first, second.as_str(), third.as_str()),
+        "registry" => Ok(Some(registry(first, second, third)?)),
+        _ => Ok(None),
+    }
 }
 
 /// The line of what was asked.
@@ -161,9 +192,7 @@ fn spelled(alloc: Global, purpose: Purpose, words: &[Text]) -> Result<Option<SpL
 {
     match words {
         [key, value] => valued(alloc, key.as_str(), value.as_str()),
-        [key, file, from, until] if key.as_str() == "next_in" => {
-            next_in(file, from.as_str(), until.as_str())
-        }
+        [key, first, second, third] => of_three(key.as_str(), first, second, third),
         [key, request, relay, target, until] if purpose.takes_rows() && key.as_str() == "asked" => {
             asked(request, relay, target, until.as_str())
         }

@@ -1,7 +1,8 @@
 //! What no clause says: configs that others read, and that there is memory for a config.
 
 use crate::{
-    ConfigFault, FileRole, IdpFile, Purpose, SignMode, Times, read_idp_config, read_sp_config,
+    ConfigFault, FileRole, IdpFile, Purpose, SignMode, SpFile, Times, read_idp_config,
+    read_sp_config,
 };
 use std::alloc::Global;
 use std::process::Abort;
@@ -48,6 +49,10 @@ fn lines_are_bad_where_others_find_them_so(rt: HostRuntime) -> Result<(), Fail> 
         b"# \xEF\xBF\xBE".as_slice(),
         b"next_in next_in 0 253402300800000".as_slice(),
         b"next_in next_in 2 1".as_slice(),
+        b"policy".as_slice(),
+        b"policy p q".as_slice(),
+        b"registry a k".as_slice(),
+        b"registry a k ".as_slice(),
     ] {
         reads_as(&rt, alloc, line, Some(ConfigFault::Line(3)))?;
     }
@@ -72,7 +77,9 @@ fn a_config_is_read(rt: HostRuntime) -> Result<(), Fail> {
         })
     );
     assert_eq!(rt; lines.opened.len(), 1);
-    let first = lines.files.first().ok_or("no file")?;
+    let Some(SpFile::One(first)) = lines.files.first() else {
+        return Err(Fail::from("no file"));
+    };
     assert_eq!(rt; first.role, FileRole::IdKey);
     assert_eq!(rt; lines.files.len(), 5);
     Ok(())
