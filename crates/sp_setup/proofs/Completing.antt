@@ -3,11 +3,12 @@ use Rattle.std.proofs.Common.{◌≡◌, ℕ, ◌*◌, ◌<◌, ◌≤◌, Bool,
 use Rattle.std.proofs.lemmas.Bool.{and_parts}
 use Rattle.saml_outside.specs.Files.{File}
 use Rattle.metadata.specs.declared.peer.Peer.{Peer}
-use Rattle.provider_config.specs.Config.{Config, AreInOrder, same_role, has_file, has_files}
+use Rattle.provider_config.specs.Config.{Config, AreInOrder, same_role, role_of, has_file, has_files}
 use Rattle.provider_config.specs.Shared.{◌>>=◌}
 use Rattle.provider_config.specs.declared.config.FileRole.{FileRole}
 use Rattle.provider_config.specs.declared.config.FileRole.TheVariants as roles
-use Rattle.provider_config.specs.declared.config.NamedFile.{NamedFile}
+use Rattle.provider_config.specs.declared.config.SpFile.{SpFile}
+use Rattle.provider_config.specs.declared.config.SpFile.TheVariants as names
 use Rattle.provider_config.specs.declared.config.AskedLine.{AskedLine}
 use Rattle.provider_config.specs.declared.config.OpenedLine.{OpenedLine}
 use Rattle.provider_config.specs.declared.config.Times.{Times}
@@ -17,7 +18,7 @@ use Rattle.sp_rules.specs.declared.config.NextKey.{NextKey}
 use Rattle.sp_rules.specs.declared.config.SpConfig.{SpConfig}
 use Rattle.sp_setup.specs.declared.loaded.Loaded.{Loaded}
 use Rattle.sp_setup.specs.declared.setup.SetUp.{SetUp}
-use Rattle.sp_setup.specs.Setup.{nothing, Loads, AreLoaded, next_of, config_of}
+use Rattle.sp_setup.specs.Setup.{nothing, Loads, Adds, AreLoaded, next_of, config_of}
 use Rattle.sp_setup.specs.Views.{IsSetUpBy, IsWithinBounds}
 
 -- ---- each file that is needed was read
@@ -29,50 +30,49 @@ is_loaded roles.KeyIn loaded = is_some loaded.key_in
 is_loaded roles.NextIn loaded = is_some loaded.next_in
 is_loaded roles.KeyOut loaded = is_some loaded.key_out
 is_loaded roles.IdKey loaded = is_some loaded.id_key
+is_loaded roles.Policy loaded = is_some loaded.policy
 
 -- a file adds what its role says, and takes nothing away
 one_more : (other role : FileRole) (bytes : List ℕ) (before after : Loaded) → Loads other bytes before after →
     is_loaded role after ≡ (same_role other role || is_loaded role before)
 one_more roles.Idp roles.Idp bytes before after h = ap (is_loaded roles.Idp) h.2
-one_more roles.Idp roles.KeyIn bytes before after h = ap (is_loaded roles.KeyIn) h.2
-one_more roles.Idp roles.NextIn bytes before after h = ap (is_loaded roles.NextIn) h.2
-one_more roles.Idp roles.KeyOut bytes before after h = ap (is_loaded roles.KeyOut) h.2
-one_more roles.Idp roles.IdKey bytes before after h = ap (is_loaded roles.IdKey) h.2
-one_more roles.KeyIn roles.Idp bytes before after h = ap (is_loaded roles.Idp) h.1
+one_more roles.Idp role bytes before after h = ap (is_loaded role) h.2
 one_more roles.KeyIn roles.KeyIn bytes before after h = ap (is_loaded roles.KeyIn) h.1
-one_more roles.KeyIn roles.NextIn bytes before after h = ap (is_loaded roles.NextIn) h.1
-one_more roles.KeyIn roles.KeyOut bytes before after h = ap (is_loaded roles.KeyOut) h.1
-one_more roles.KeyIn roles.IdKey bytes before after h = ap (is_loaded roles.IdKey) h.1
-one_more roles.NextIn roles.Idp bytes before after h = ap (is_loaded roles.Idp) h.1
-one_more roles.NextIn roles.KeyIn bytes before after h = ap (is_loaded roles.KeyIn) h.1
+one_more roles.KeyIn role bytes before after h = ap (is_loaded role) h.1
 one_more roles.NextIn roles.NextIn bytes before after h = ap (is_loaded roles.NextIn) h.1
-one_more roles.NextIn roles.KeyOut bytes before after h = ap (is_loaded roles.KeyOut) h.1
-one_more roles.NextIn roles.IdKey bytes before after h = ap (is_loaded roles.IdKey) h.1
-one_more roles.KeyOut roles.Idp bytes before after h = ap (is_loaded roles.Idp) h.1
-one_more roles.KeyOut roles.KeyIn bytes before after h = ap (is_loaded roles.KeyIn) h.1
-one_more roles.KeyOut roles.NextIn bytes before after h = ap (is_loaded roles.NextIn) h.1
+one_more roles.NextIn role bytes before after h = ap (is_loaded role) h.1
 one_more roles.KeyOut roles.KeyOut bytes before after h = ap (is_loaded roles.KeyOut) h.1
-one_more roles.KeyOut roles.IdKey bytes before after h = ap (is_loaded roles.IdKey) h.1
-one_more roles.IdKey roles.Idp bytes before after h = ap (is_loaded roles.Idp) h.1
-one_more roles.IdKey roles.KeyIn bytes before after h = ap (is_loaded roles.KeyIn) h.1
-one_more roles.IdKey roles.NextIn bytes before after h = ap (is_loaded roles.NextIn) h.1
-one_more roles.IdKey roles.KeyOut bytes before after h = ap (is_loaded roles.KeyOut) h.1
+one_more roles.KeyOut role bytes before after h = ap (is_loaded role) h.1
 one_more roles.IdKey roles.IdKey bytes before after h = ap (is_loaded roles.IdKey) h.1
+one_more roles.IdKey role bytes before after h = ap (is_loaded role) h.1
+one_more roles.Policy roles.Policy bytes before after h = ap (is_loaded roles.Policy) h.2
+one_more roles.Policy role bytes before after h = ap (is_loaded role) h.2
+
+-- a registry adds the identity provider
+registry_more : (role : FileRole) (peer : Peer) (until : ℕ) (before after : Loaded) → after ≡ record before { idp = Some peer; expiry = Some until } →
+    is_loaded role after ≡ (same_role roles.Idp role || is_loaded role before)
+registry_more roles.Idp peer until before after e = ap (is_loaded roles.Idp) e
+registry_more role peer until before after e = ap (is_loaded role) e
+
+line_more : (told : Option (List File)) (named : SpFile) (role : FileRole) (before after : Loaded) → Adds told named before after →
+    is_loaded role after ≡ (same_role (role_of named) role || is_loaded role before)
+line_more told (names.One file) role before after h = one_more file.role role h.0 before after h.2
+line_more told (names.Registry line) role before after h = registry_more role h.3.0 h.3.1 before after h.3.3
 
 swapped : (a b c : Bool) → ((a || b) || c) ≡ (b || (a || c))
 swapped true true c = refl
 swapped true false c = refl
 swapped false b c = refl
 
-all_more : (told : Option (List File)) (role : FileRole) (files : List NamedFile) (before after : Loaded) → AreLoaded told files before after →
+all_more : (told : Option (List File)) (role : FileRole) (files : List SpFile) (before after : Loaded) → AreLoaded told files before after →
     (has_file role files || is_loaded role before) ≡ is_loaded role after
 all_more told role [] before after h = ap (is_loaded role) h
 all_more told role (named ∷ others) before after (middle, adds, rest) =
-    swapped (same_role named.role role) (has_file role others) (is_loaded role before)
-    ∙ ap (λ b. has_file role others || b) (sym (one_more named.role role adds.0 before middle adds.2))
+    swapped (same_role (role_of named) role) (has_file role others) (is_loaded role before)
+    ∙ ap (λ b. has_file role others || b) (sym (line_more told named role before middle adds))
     ∙ all_more told role others middle after rest
 
-named_is_loaded : (told : Option (List File)) (role : FileRole) (files : List NamedFile) (before after : Loaded) → AreLoaded told files before after →
+named_is_loaded : (told : Option (List File)) (role : FileRole) (files : List SpFile) (before after : Loaded) → AreLoaded told files before after →
     has_file role files ≡ true → is_loaded role after ≡ true
 named_is_loaded told role files before after h named =
     sym (all_more told role files before after h) ∙ ap (λ b. b || is_loaded role before) named

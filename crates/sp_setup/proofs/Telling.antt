@@ -1,5 +1,5 @@
 -- What a fault says.
-use Rattle.std.proofs.Common.{ℕ, ◌≤◌, List, Result, Ok, Err, IfOk, IfErr, sym, subst, arith}
+use Rattle.std.proofs.Common.{◌≡◌, ℕ, ◌≤◌, List, Result, Ok, Err, IfOk, IfErr, sym, subst, arith}
 use Rattle.saml_outside.specs.Counts.{Rose}
 use Rattle.sp_setup.specs.declared.fault.SetupFault.{SetupFault}
 use Rattle.sp_setup.specs.declared.fault.SetupFault.TheVariants as faults
@@ -12,6 +12,9 @@ if_ok_map P Q (Err e) f h = h
 pub if_err_map : {T E : Type 0} (P Q : E → Type 0) (r : Result T E) → ((e : E) → P e → Q e) → IfErr r P → IfErr r Q
 if_err_map P Q (Ok x) f h = h
 if_err_map P Q (Err e) f h = f e h
+
+pub if_err_at : {T E : Type 0} (P : E → Type 0) (r : Result T E) (e : E) → r ≡ Err e → P e → IfErr r P
+if_err_at P r e is h = subst (λ r. IfErr r P) (sym is) h
 
 -- what rose from a later count rose from an earlier one
 pub rose_from : (before middle now : ℕ) → before ≤ middle → Rose middle now → Rose before now

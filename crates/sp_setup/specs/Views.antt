@@ -1,19 +1,37 @@
 -- How the definitions see what the code set up.
-use Rattle.std.specs.Prelude.{◌≡◌, ℕ, ◌<◌, ◌≤◌, List, length, Option, Some, IfSome}
+use Rattle.std.specs.Prelude.{◌≡◌, ℕ, ◌<◌, ◌≤◌, ◌⊎◌, List, length, Option, Some, IfSome}
 use Rattle.xml_spec.specs.Characters.{IsText}
-use Rattle.saml_outside.specs.Files.{File}
+use Rattle.saml_outside.specs.Files.{File, Reads, IsUnread}
+use Rattle.saml_outside.specs.declared.reading.FileRead.TheVariants as reads
 use Rattle.provider_config.specs.Config.{Config}
 use Rattle.provider_config.specs.declared.line.Purpose.{Purpose}
 use Rattle.request_rows.specs.declared.rows.TheConstants.{ROW_LIMIT}
 use Rattle.sp_rules.specs.declared.config.SpConfig.{SpConfig}
 use Rattle.sp_rules.specs.declared.config.TheConstants.{GREATEST_SKEW}
+use Rattle.sp_setup.specs.declared.limits.TheConstants.{LEAST_KEY, GREATEST_KEY}
 use Rattle.sp_setup.specs.declared.loaded.Loaded.{Loaded}
 use Rattle.sp_setup.specs.declared.setup.SetUp.{SetUp}
-use Rattle.sp_setup.specs.Setup.{nothing, AreLoaded, config_of, IsSetUp}
+use Rattle.sp_setup.specs.Setup.{Setup, nothing, AreLoaded, config_of, IsSetUp}
+
+-- this file can't be read, and is told as a whole
+abbrev pub IsUnreadFile : Option (List File) → List ℕ → ℕ → List ℕ → ℕ → Type 0
+IsUnreadFile told name limit file line = (file ≡ name) × (line ≡ 0) × IsUnread told name limit
+
+-- it holds no key of messages
+abbrev pub IsNoKey : Option (List File) → List ℕ → List ℕ → ℕ → Type 0
+IsNoKey told name file line =
+    (file ≡ name) × (line ≡ 0)
+    × (IsUnread told name GREATEST_KEY ⊎ ((key : List ℕ) × Reads told name GREATEST_KEY reads.Whole key × (length key < LEAST_KEY)))
+
+-- what is set up, without the rows
+abbrev pub setup_view : SetUp → Setup
+setup_view setup = record { config = setup.config; policy = setup.policy; expiry = setup.expiry }
 
 -- the lines and the files set a provider up so
 pub record IsConfigOf (lines : Config) (loaded : Loaded) (setup : SetUp) : Type 0 where
   pub config : config_of lines loaded ≡ Some setup.config
+  pub policy : loaded.policy ≡ setup.policy
+  pub expiry : loaded.expiry ≡ setup.expiry
   pub asked : setup.asked.items ≡ lines.asked
   pub opened : setup.opened.items ≡ lines.opened
 
@@ -26,7 +44,7 @@ pub record IsSetUpBy (told : Option (List File)) (lines : Config) (setup : SetUp
 -- the config in this file sets a provider up so
 pub record IsSetUpFrom (told : Option (List File)) (purpose : Purpose) (file : List ℕ) (setup : SetUp) : Type 0 where
   pub lines : Config
-  pub is : IsSetUp told purpose file lines setup.config
+  pub is : IsSetUp told purpose file lines (setup_view setup)
   pub asked : setup.asked.items ≡ lines.asked
   pub opened : setup.opened.items ≡ lines.opened
 

@@ -30,6 +30,17 @@ impl From<ReadStop> for SetupFault {
     }
 }
 
+impl From<NoMemory> for SetupFault {
+    ghost use Rattle.std.specs.Prelude.{◌≡◌};
+    ghost use Rattle.sp_setup.specs.declared.fault.SetupFault.TheVariants as faults;
+
+    ghost from_gives = { λ _ e. e ≡ faults.NoMemory };
+
+    fn from(_: NoMemory) -> SetupFault {
+        SetupFault::NoMemory
+    }
+}
+
 impl SetupFault {
     /// That this line of a file, or with 0 the whole file, can't be used.
     pub(crate) fn bad_file(alloc: Global, file: &str, line: u64) -> SetupFault

@@ -2,7 +2,8 @@
 //!
 //! ```
 //! match set_up(alloc, files, "sp.conf", Purpose::Check) {
-//!     Ok(setup) => { /* judge by setup.config; setup.asked and setup.opened are the rows that the config names */ }
+//!     Ok(setup) => { /* judge by setup.config; setup.asked and setup.opened are the rows that the config names,
+//!                       setup.policy and setup.expiry what it serves by beside */ }
 //!     Err(SetupFault::BadFile { file, line }) => { /* this file, or its line, can't be used */ }
 //!     Err(SetupFault::ReadFault | SetupFault::NoMemory) => { /* nothing is known */ }
 //! }
@@ -18,6 +19,7 @@ pub mod laws;
 mod limits;
 mod loaded;
 mod setup;
+mod source;
 #[cfg(test)]
 mod tests;
 

@@ -1,17 +1,22 @@
 // What the files that a config names hold.
 
 ghost use Rattle.std.specs.Bool.{MatchBool};
-ghost use Rattle.std.specs.Prelude.{◌≡◌, ◌<◌, ◌≤◌, length, Some, Err, IfOk, IfErr};
+ghost use Rattle.std.specs.Prelude.{◌≡◌, ◌≢◌, ◌<◌, ◌≤◌, ℕ, length, None, Some, IfOk, IfErr, OnOk, MatchOption};
 ghost use Rattle.xml_spec.specs.declared.TheConstants.{MAX_DOCUMENT_LENGTH};
-ghost use Rattle.saml_outside.specs.Counts.{Rose};
+ghost use Rattle.saml_outside.specs.Files.{Reads, IsUnread};
+ghost use Rattle.saml_outside.specs.declared.reading.FileRead.TheVariants as reads;
+ghost use Rattle.provider_config.specs.declared.config.SpFile.TheVariants as names;
 ghost use Rattle.sp_setup.specs.Faults.{IsFaultOf};
-ghost use Rattle.sp_setup.specs.Setup.{limit_of, nothing, Loads, IsUnusable, Adds, IsBadFile, AreLoaded, IsFirstBad};
+ghost use Rattle.sp_setup.specs.Setup.{limit_of, nothing, Loads, IsUnusable, IsUnlisted, TakesProvider, AddsFile, AddsRegistry, Adds, IsBadAt, AreLoaded, IsFirstBad};
+ghost use Rattle.sp_setup.specs.Views.{IsUnreadFile, IsNoKey};
 
 use crate::fault::SetupFault;
 use crate::limits::{GREATEST_KEY, ID_KEY, LEAST_KEY};
+use crate::source::source_of;
+use access_policy::{MAX_POLICY_LENGTH, Policy, PolicyFault, read_policy};
 use metadata::{MetaFault, Peer, Role, read_peer};
-use provider_config::{FileRole, NamedFile};
-use saml_outside::{Blob, Files, NoMemory, ReadStop, read_file};
+use provider_config::{FileRole, NamedFile, RegistryLine, SpFile};
+use saml_outside::{Blob, Files, NoMemory, read_file};
 use std::alloc::Global;
 use xml_spec::MAX_DOCUMENT_LENGTH;
 
@@ -28,6 +33,10 @@ pub(crate) struct Loaded {
     pub key_out: Option<Blob>,
     /// The key from which its IDs are made.
     pub id_key: Option<[u8; 32]>,
+    /// The rules that say who may see which page.
+    pub policy: Option<Policy>,
+    /// The moment at which the registry ends that lists the identity provider, in milliseconds since 1970.
+    pub expiry: Option<u64>,
 }
 
 /// The most bytes that a file of this role may have.
@@ -36,19 +45,52 @@ fn limit_of(role: FileRole) -> u64
 {
     match role {
         FileRole::Idp => MAX_DOCUMENT_LENGTH as u64,
+        FileRole::Policy => MAX_POLICY_LENGTH as u64,
         FileRole::KeyIn | FileRole::NextIn | FileRole::KeyOut | FileRole::IdKey => GREATEST_KEY,
     }
 }
 
-/// Takes a key of messages; whether it can be used.
-fn take_key(alloc: Global, bytes: &[u8], key: &mut Option<Blob>) -> Result<bool, NoMemory>
-    ensures { IfOk result (λ good. MatchBool good ((LEAST_KEY ≤ length bytes.now) × (key.new ≡ Some bytes.now)) (length bytes.now < LEAST_KEY)) }
+/// Takes a key of messages; what of it can't be used.
+fn take_key(alloc: Global, bytes: &[u8], key: &mut Option<Blob>) -> Result<Option<u64>, NoMemory>
+    ensures { IfOk result (λ bad. MatchOption bad ((LEAST_KEY ≤ length bytes.now) × (key.new ≡ Some bytes.now)) (λ line. (line ≡ 0) × (length bytes.now < LEAST_KEY))) }
 {
     if bytes.len() < LEAST_KEY {
-        return Ok(false);
+        return Ok(Some(0));
     }
     *key = Some(Blob::of(alloc, bytes)?);
-    Ok(true)
+    Ok(None)
+}
+
+/// The bytes of a file, which has to be there and may have this many.
+fn read_whole<F: Files>(
+    alloc: Global,
+    files: &mut F,
+    name: &str,
+    limit: u64,
+) -> Result<Vec<u8>, SetupFault>
+    ensures ok { IfOk result (λ bytes. Reads (F.holds files.old) name.now limit reads.Whole bytes.items) }
+    ensures err { IfErr result (IsFaultOf (IsUnreadFile (F.holds files.old) name.now limit) (F.faults_of files.old) (F.faults_of files.new)) }
+    ensures same { F.holds files.new ≡ F.holds files.old }
+    ensures never_falls { F.faults_of files.old ≤ F.faults_of files.new }
+{
+    match read_file(alloc, files, name, limit)? {
+        Some(bytes) => Ok(bytes),
+        None => Err(SetupFault::bad_file(alloc, name, 0)),
+    }
+}
+
+/// The key in a file, which has to be there and has to have 16 bytes at least.
+fn read_key<F: Files>(alloc: Global, files: &mut F, name: &str) -> Result<Vec<u8>, SetupFault>
+    ensures ok { IfOk result (λ key. Reads (F.holds files.old) name.now GREATEST_KEY reads.Whole key.items × (LEAST_KEY ≤ length key.items)) }
+    ensures err { IfErr result (IsFaultOf (IsNoKey (F.holds files.old) name.now) (F.faults_of files.old) (F.faults_of files.new)) }
+    ensures same { F.holds files.new ≡ F.holds files.old }
+    ensures never_falls { F.faults_of files.old ≤ F.faults_of files.new }
+{
+    let key = read_whole(alloc, files, name, GREATEST_KEY)?;
+    if key.len() < LEAST_KEY {
+        return Err(SetupFault::bad_file(alloc, name, 0));
+    }
+    Ok(key)
 }
 
 impl Loaded {
@@ -62,41 +104,58 @@ impl Loaded {
             next_in: None,
             key_out: None,
             id_key: None,
+            policy: None,
+            expiry: None,
         }
     }
 
-    /// Takes the metadata of the identity provider; whether it can be used.
-    fn take_metadata(&mut self, alloc: Global, bytes: &[u8]) -> Result<bool, NoMemory>
+    /// Takes the metadata of the identity provider; what of it can't be used.
+    fn take_metadata(&mut self, alloc: Global, bytes: &[u8]) -> Result<Option<u64>, NoMemory>
         requires { length bytes.now ≤ MAX_DOCUMENT_LENGTH }
-        ensures { IfOk result (λ good. MatchBool good (Loads FileRole.Idp bytes.now self.old self.new) (IsUnusable FileRole.Idp bytes.now)) }
+        ensures { IfOk result (λ bad. MatchOption bad (Loads FileRole.Idp bytes.now self.old self.new) (IsUnusable FileRole.Idp bytes.now)) }
     {
         match read_peer(alloc, bytes, Role::Idp) {
             Ok(peer) => {
                 self.idp = Some(peer);
-                Ok(true)
+                Ok(None)
             }
             Err(MetaFault::NoMemory) => Err(NoMemory),
-            Err(_) => Ok(false),
+            Err(_) => Ok(Some(0)),
         }
     }
 
-    /// Takes the key from which IDs are made; whether it can be used.
-    fn take_id_key(&mut self, bytes: &[u8]) -> bool
-        ensures { MatchBool result (Loads FileRole.IdKey bytes.now self.old self.new) (IsUnusable FileRole.IdKey bytes.now) }
+    /// Takes the key from which IDs are made; what of it can't be used.
+    fn take_id_key(&mut self, bytes: &[u8]) -> Option<u64>
+        ensures { MatchOption result (Loads FileRole.IdKey bytes.now self.old self.new) (IsUnusable FileRole.IdKey bytes.now) }
     {
         if bytes.len() != ID_KEY {
-            return false;
+            return Some(0);
         }
         let mut key = [0; ID_KEY];
         key.copy_from_slice(bytes);
         self.id_key = Some(key);
-        true
+        None
     }
 
-    /// Takes what the file of a role holds; whether it can be used.
-    fn take(&mut self, alloc: Global, role: FileRole, bytes: &[u8]) -> Result<bool, NoMemory>
+    /// Takes a policy; the first line of it that can't be used.
+    fn take_policy(&mut self, alloc: Global, bytes: &[u8]) -> Result<Option<u64>, NoMemory>
+        requires { length bytes.now ≤ MAX_POLICY_LENGTH }
+        ensures { IfOk result (λ bad. MatchOption bad (Loads FileRole.Policy bytes.now self.old self.new) (IsUnusable FileRole.Policy bytes.now)) }
+    {
+        match read_policy(alloc, bytes) {
+            Ok(policy) => {
+                self.policy = Some(policy);
+                Ok(None)
+            }
+            Err(PolicyFault::Line(line)) => Ok(Some(u64::from(line))),
+            Err(PolicyFault::NoMemory) => Err(NoMemory),
+        }
+    }
+
+    /// Takes what the file of a role holds; the line of it that can't be used, 0 for the whole file.
+    fn take(&mut self, alloc: Global, role: FileRole, bytes: &[u8]) -> Result<Option<u64>, NoMemory>
         requires { length bytes.now ≤ limit_of role }
-        ensures { IfOk result (λ good. MatchBool good (Loads role bytes.now self.old self.new) (IsUnusable role bytes.now)) }
+        ensures { IfOk result (λ bad. MatchOption bad (Loads role bytes.now self.old self.new) (IsUnusable role bytes.now)) }
     {
         match role {
             FileRole::Idp => self.take_metadata(alloc, bytes),
@@ -104,25 +163,88 @@ impl Loaded {
             FileRole::NextIn => take_key(alloc, bytes, &mut self.next_in),
             FileRole::KeyOut => take_key(alloc, bytes, &mut self.key_out),
             FileRole::IdKey => Ok(self.take_id_key(bytes)),
+            FileRole::Policy => self.take_policy(alloc, bytes),
         }
     }
 
-    /// Reads a named file and takes what it holds; whether it can be used.
-    fn load<F: Files>(
+    /// Reads one file and takes what it holds.
+    fn load_file<F: Files>(
         &mut self,
         alloc: Global,
         files: &mut F,
         named: &NamedFile,
-    ) -> Result<bool, ReadStop>
-        ensures ok { IfOk result (λ good. MatchBool good (Adds (F.holds files.old) named.now self.old self.new) (IsBadFile (F.holds files.old) named.now)) }
-        ensures err { result ≡ Err ReadStop.ReadFault → Rose (F.faults_of files.old) (F.faults_of files.new) }
+    ) -> Result<(), SetupFault>
+        ensures ok { OnOk result (AddsFile (F.holds files.old) named.now self.old self.new) }
+        ensures err { IfErr result (IsFaultOf (IsBadAt (F.holds files.old) (names.One named.now)) (F.faults_of files.old) (F.faults_of files.new)) }
         ensures same { F.holds files.new ≡ F.holds files.old }
         ensures never_falls { F.faults_of files.old ≤ F.faults_of files.new }
     {
-        let limit = limit_of(named.role);
-        match read_file(alloc, files, named.name.as_str(), limit)? {
-            Some(bytes) => Ok(self.take(alloc, named.role, &bytes)?),
+        let name = named.name.as_str();
+        let bytes = read_whole(alloc, files, name, limit_of(named.role))?;
+        match self.take(alloc, named.role, &bytes)? {
+            None => Ok(()),
+            Some(line) => Err(SetupFault::bad_file(alloc, name, line)),
+        }
+    }
+
+    /// Takes the identity provider that a registry lists; whether it lists it.
+    fn take_provider(
+        &mut self,
+        alloc: Global,
+        bytes: &[u8],
+        key: &[u8],
+        entity: &str,
+    ) -> Result<bool, NoMemory>
+        requires { length bytes.now ≤ MAX_DOCUMENT_LENGTH }
+        ensures { IfOk result (λ good. MatchBool good (TakesProvider bytes.now key.now entity.now self.old self.new) (IsUnlisted bytes.now key.now entity.now)) }
+    {
+        match source_of(alloc, bytes, key, entity)? {
+            Some(source) => {
+                self.idp = Some(source.peer);
+                self.expiry = Some(source.valid_until);
+                Ok(true)
+            }
             None => Ok(false),
+        }
+    }
+
+    /// Reads the two files of a registry, and takes the identity provider that it lists.
+    fn load_registry<F: Files>(
+        &mut self,
+        alloc: Global,
+        files: &mut F,
+        line: &RegistryLine,
+    ) -> Result<(), SetupFault>
+        ensures ok { OnOk result (AddsRegistry (F.holds files.old) line.now self.old self.new) }
+        ensures err { IfErr result (IsFaultOf (IsBadAt (F.holds files.old) (names.Registry line.now)) (F.faults_of files.old) (F.faults_of files.new)) }
+        ensures same { F.holds files.new ≡ F.holds files.old }
+        ensures never_falls { F.faults_of files.old ≤ F.faults_of files.new }
+    {
+        let limit = MAX_DOCUMENT_LENGTH as u64;
+        let bytes = read_whole(alloc, files, line.file.as_str(), limit)?;
+        let key = read_key(alloc, files, line.key.as_str())?;
+        if self.take_provider(alloc, &bytes, &key, line.entity.as_str())? {
+            Ok(())
+        } else {
+            Err(SetupFault::bad_file(alloc, line.file.as_str(), 0))
+        }
+    }
+
+    /// Reads what a line names and takes what it holds.
+    fn load<F: Files>(
+        &mut self,
+        alloc: Global,
+        files: &mut F,
+        named: &SpFile,
+    ) -> Result<(), SetupFault>
+        ensures ok { OnOk result (Adds (F.holds files.old) named.now self.old self.new) }
+        ensures err { IfErr result (IsFaultOf (IsBadAt (F.holds files.old) named.now) (F.faults_of files.old) (F.faults_of files.new)) }
+        ensures same { F.holds files.new ≡ F.holds files.old }
+        ensures never_falls { F.faults_of files.old ≤ F.faults_of files.new }
+    {
+        match named {
+            SpFile::One(file) => self.load_file(alloc, files, file),
+            SpFile::Registry(line) => self.load_registry(alloc, files, line),
         }
     }
 
@@ -130,7 +252,7 @@ impl Loaded {
     pub(crate) fn of_files<F: Files>(
         alloc: Global,
         files: &mut F,
-        named: &[NamedFile],
+        named: &[SpFile],
     ) -> Result<Loaded, SetupFault>
         ensures ok { IfOk result (AreLoaded (F.holds files.old) named.now nothing) }
         ensures err { IfErr result (IsFaultOf (IsFirstBad (F.holds files.old) named.now nothing) (F.faults_of files.old) (F.faults_of files.new)) }
@@ -139,9 +261,7 @@ impl Loaded {
     {
         let mut loaded = Loaded::nothing();
         for file in named {
-            if !loaded.load(alloc, files, file)? {
-                return Err(SetupFault::bad_file(alloc, file.name.as_str(), 0));
-            }
+            loaded.load(alloc, files, file)?;
         }
         Ok(loaded)
     }

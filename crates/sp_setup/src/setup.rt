@@ -8,6 +8,7 @@ ghost use Rattle.sp_setup.specs.Views.{IsConfigOf, IsSetUpBy, IsSetUpFrom, IsWit
 
 use crate::fault::SetupFault;
 use crate::loaded::Loaded;
+use access_policy::Policy;
 use provider_config::{
     AskedLine, ConfigFault, MAX_CONFIG_LENGTH, OpenedLine, Purpose, SpLines, Times, read_sp_config,
 };
@@ -20,6 +21,11 @@ use std::alloc::Global;
 pub struct SetUp {
     /// What it is set up with.
     pub config: SpConfig,
+    /// Who may see which page; without one each user may see each page.
+    pub policy: Option<Policy>,
+    /// The moment at which the registry ends that lists the identity provider, in milliseconds since 1970; none without a
+    /// registry.
+    pub expiry: Option<u64>,
     /// What it asked before, in the order of the config's lines.
     pub asked: Vec<AskedLine>,
     /// What was answered before.
@@ -61,6 +67,8 @@ fn config_of(lines: SpLines, loaded: Loaded) -> Option<SetUp>
     };
     Some(SetUp {
         config,
+        policy: loaded.policy,
+        expiry: loaded.expiry,
         asked: lines.asked,
         opened: lines.opened,
     })
@@ -83,8 +91,9 @@ fn set_up_by<F: Files>(alloc: Global, files: &mut F, lines: SpLines) -> Result<S
 
 /// Sets a provider up by the config in a file and the files that it names.
 ///
-/// `BadFile` tells the first of these files that can't be used: the number of the line where a line of the config is bad,
-/// else 0. `ReadFault` comes only where the files' count of faults rose; want of memory may come in place of any other
+/// `BadFile` tells the first of these files that can't be used: the number of the line where a line of the config or of its
+/// policy is bad, else 0. A registry that is not signed with its key, or does not list its provider, can't be used; its key is
+/// told by its own name. `ReadFault` comes only where the files' count of faults rose; want of memory may come in place of any other
 /// answer. What is set up is within the bounds that judging asks for, and its name and addresses are texts that a document
 /// may hold.
 pub fn set_up<F: Files>(
@@ -102,6 +111,7 @@ pub fn set_up<F: Files>(
 {
     provider_config::laws::rows_are_fewer_than_bytes();
     canon_laws::a_spelled_tree_is_writable();
+    meta_registry::laws::a_peer_is_read_from_a_listed_descriptor();
     let Some(bytes) = read_file(alloc, files, file, MAX_CONFIG_LENGTH as u64)? else {
         return Err(SetupFault::bad_file(alloc, file, 0));
     };

@@ -2,7 +2,7 @@
 //! to. The values are those of an implementation that shares nothing with this one.
 
 use crate::{Purpose, SetUp, SetupFault, set_up};
-use saml_outside::{MemFiles, NoMemory};
+use saml_outside::{MemFiles, NoMemory, SteadyFiles};
 use sp_rules::{NextKey, SpConfig};
 use std::alloc::Global;
 use std::test::Fail;
@@ -40,6 +40,10 @@ const FILES: [(&str, &str); 5] = [
 /// Metadata without an address for HTTP POST.
 const NO_POST: &str =
     "<md:EntityDescriptor xmlns:md=\"urn:oasis:names:tc:SAML:2.0:metadata\" entityID=\"urn:example:idp\"><md:IDPSSODescriptor protocolSupportEnumeration=\"urn:oasis:names:tc:SAML:2.0:protocol\"><md:SingleLogoutService Binding=\"urn:oasis:names:tc:SAML:2.0:bindings:HTTP-POST\" Location=\"http://127.0.0.1:8080/slo\"></md:SingleLogoutService><md:SingleSignOnService Binding=\"urn:oasis:names:tc:SAML:2.0:bindings:HTTP-Redirect\" Location=\"http://127.0.0.1:8080/sso\"></md:SingleSignOnService></md:IDPSSODescriptor></md:EntityDescriptor>";
+
+/// A registry of one provider, which another program signed with 32 bytes 0xCC.
+const REGISTRY: &[u8] =
+    b"<md:EntitiesDescriptor xmlns:md=\"urn:oasis:names:tc:SAML:2.0:metadata\" ID=\"_agg\" validUntil=\"2024-01-02T00:00:00Z\"><ds:Signature xmlns:ds=\"http://www.w3.org/2000/09/xmldsig#\"><ds:SignedInfo><ds:CanonicalizationMethod Algorithm=\"http://www.w3.org/2001/10/xml-exc-c14n#\"></ds:CanonicalizationMethod><ds:SignatureMethod Algorithm=\"http://www.w3.org/2001/04/xmldsig-more#hmac-sha256\"></ds:SignatureMethod><ds:Reference URI=\"#_agg\"><ds:Transforms><ds:Transform Algorithm=\"http://www.w3.org/2000/09/xmldsig#enveloped-signature\"></ds:Transform><ds:Transform Algorithm=\"http://www.w3.org/2001/10/xml-exc-c14n#\"></ds:Transform></ds:Transforms><ds:DigestMethod Algorithm=\"http://www.w3.org/2001/04/xmlenc#sha256\"></ds:DigestMethod><ds:DigestValue>DcrX16LUQfw6u2Ks+1TTbjpx1ne/3oj4G5Qikg8zDzI=</ds:DigestValue></ds:Reference></ds:SignedInfo><ds:SignatureValue>08WTYvBsSBq7bkv9jsu9Cy9xzzwAEtXi79gh5ozZFp0=</ds:SignatureValue></ds:Signature><md:EntityDescriptor entityID=\"urn:example:idp\"><md:IDPSSODescriptor protocolSupportEnumeration=\"urn:oasis:names:tc:SAML:2.0:protocol\"><md:SingleSignOnService Binding=\"urn:oasis:names:tc:SAML:2.0:bindings:HTTP-POST\" Location=\"http://127.0.0.1:8080/sso\"></md:SingleSignOnService></md:IDPSSODescriptor></md:EntityDescriptor></md:EntitiesDescriptor>";
 
 /// The third line of the config, the name of a file that holds something else, what it holds where it is there, and the
 /// file and the line that can't be used.
@@ -149,5 +153,41 @@ fn a_provider_is_set_up_or_the_first_bad_file_is_told(rt: HostRuntime) -> Result
     }
     let failed = fault(alloc, "", "", None, 3)?;
     assert!(rt; matches!(failed, Some(SetupFault::ReadFault)));
+    Ok(())
+}
+
+/// What setting up gives where the identity provider of this name is in the registry, and there is a policy.
+fn registered(alloc: Global, entity: &str) -> Result<Result<SetUp, SetupFault>, NoMemory> {
+    let mut config = String::new(alloc);
+    for part in [
+        LINES[0],
+        "listen l\nskew 60\npolicy rules\nkey_in key\nkey_out key\nid_key key\nregistry registry key ",
+        entity,
+    ] {
+        config.push_str(part)?;
+    }
+    let mut files = SteadyFiles::new(alloc);
+    files.add("config", config.as_bytes())?;
+    files.add("rules", b"a deny /app\n")?;
+    files.add("key", &[0xCC; 32])?;
+    files.add("registry", REGISTRY)?;
+    Ok(set_up(alloc, &mut files, "config", Purpose::Serve))
+}
+
+#[test]
+fn a_registry_and_a_policy_are_taken(rt: HostRuntime) -> Result<(), Fail> {
+    let alloc = rt.alloc();
+    match registered(alloc, "urn:example:idp")? {
+        Ok(setup) => {
+            assert!(rt; setup.expiry == Some(1_704_153_600_000));
+            assert!(rt; setup.policy.is_some());
+            assert!(rt; setup.config.idp.service.as_str() == "http://127.0.0.1:8080/sso");
+        }
+        Err(_) => assert!(rt; false),
+    }
+    match registered(alloc, "urn:example:idp2")? {
+        Ok(_) => assert!(rt; false),
+        Err(fault) => assert!(rt; is_told(&fault, "registry", 0)),
+    }
     Ok(())
 }

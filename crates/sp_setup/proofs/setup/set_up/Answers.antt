@@ -58,4 +58,4 @@ returns-in-Ok-clause-texts g c =
     let lines = config_view c.in-Ok.lines in
     let (entity, base, listen) = c.in-Ok.ensures.texts in
     if_ok_map (IsSetUpBy held lines) (λ (setup : SetUp). HasTexts setup.config) c.set_up_by.result
-    (λ setup h. texts held lines setup c.a_spelled_tree_is_writable.ensures h entity base listen) c.set_up_by.ensures.ok
+    (λ setup h. texts held lines setup c.a_spelled_tree_is_writable.ensures c.a_peer_is_read_from_a_listed_descriptor.ensures h entity base listen) c.set_up_by.ensures.ok
