@@ -15,7 +15,7 @@ use Rattle.sp_rules.specs.Shown.{IsOpening}
 use Rattle.sp_rules.specs.Verdict.{login_refusal, IsRefused, by_form, by_document, by_root, by_head, by_signature, by_assertion, by_login}
 use Rattle.sp_setup.specs.declared.setup.SetUp.{SetUp}
 use Rattle.sp_setup.specs.Setup.{IsBadSetUp}
-use Rattle.sp_setup.specs.Views.{IsSetUpFrom}
+use Rattle.sp_setup.specs.Views.{IsSetUpFrom, setup_view}
 use Rattle.samld.specs.declared.limits.TheConstants.{GREATEST_BODY}
 use Rattle.samld.specs.Answers.{Answer, BadFile}
 use Rattle.samld.specs.Check.{rows_of, OfJudged, OfCheck}
@@ -76,7 +76,7 @@ by_set_up told file body setup now answer s h =
     in
     inr (
       s.lines,
-      setup.config,
+      setup_view setup,
       s.is,
       subst (λ (l : List OpenedLine). OfFile (OfJudged (rows_of s.lines.asked l) setup.config now) told body GREATEST_BODY answer) s.opened asked,
     )

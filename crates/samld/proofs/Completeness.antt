@@ -17,7 +17,7 @@ use Rattle.fault_verdicts.specs.Verdicts.{of_signature}
 use Rattle.sp_rules.specs.declared.config.SpConfig.{SpConfig}
 use Rattle.sp_rules.specs.Opening.{Brought, Opens}
 use Rattle.sp_rules.specs.Verdict.{IsRefused}
-use Rattle.sp_setup.specs.Setup.{IsSetUp, IsBadSetUp}
+use Rattle.sp_setup.specs.Setup.{Setup, IsSetUp, IsBadSetUp}
 use Rattle.samld.specs.declared.limits.TheConstants.{GREATEST_BODY}
 use Rattle.samld.specs.Answers.{Answer, Usage, IsYes}
 use Rattle.samld.specs.Canon.{OfForm, OfCanonDocument, OfCanon}
@@ -61,9 +61,9 @@ vouch_alone id key_file bytes key a b agrees (inr p) (inr q) =
 pub record Laws : Type 0 where
   pub opened : (config : SpConfig) (rows : RowsView) (horizon now : ℕ) (body : List ℕ) (b : Brought) (asked : AskedRow) (verdict : Verdict) →
       Opens config rows horizon now body b asked → ¬ (IsRefused config rows horizon now body verdict)
-  pub set_up : (files : List File) (purpose : Purpose) (config : List ℕ) (lines others : Config) (one other : SpConfig) →
+  pub set_up : (files : List File) (purpose : Purpose) (config : List ℕ) (lines others : Config) (one other : Setup) →
       IsSetUp (Some files) purpose config lines one → IsSetUp (Some files) purpose config others other → (lines ≡ others) × (one ≡ other)
-  pub never_both : (files : List File) (purpose : Purpose) (config : List ℕ) (lines : Config) (one : SpConfig) (file : List ℕ) (line : ℕ) →
+  pub never_both : (files : List File) (purpose : Purpose) (config : List ℕ) (lines : Config) (one : Setup) (file : List ℕ) (line : ℕ) →
       IsSetUp (Some files) purpose config lines one → ¬ (IsBadSetUp (Some files) purpose config file line)
 
 judged_alone : Laws → (rows : RowsView) (config : SpConfig) (now : ℕ) (body : List ℕ) → SaysYesAlone (OfJudged rows config now body)
@@ -77,11 +77,11 @@ check_alone laws files file body now a b agrees (inl p) q = absurd (not_bad_too 
 check_alone laws files file body now a b agrees (inr p) (inl q) = absurd (laws.never_both files purposes.Check file p.0 p.1 q.0 q.1 p.2 q.2)
 check_alone laws files file body now a b agrees (inr p) (inr q) =
     let one = laws.set_up files purposes.Check file p.0 q.0 p.1 q.1 p.2 q.2 in
-    let same : OfFile (OfJudged (rows_of q.0.asked q.0.opened) q.1 now) (Some files) body GREATEST_BODY a =
-    subst (λ (l : Config). OfFile (OfJudged (rows_of l.asked l.opened) q.1 now) (Some files) body GREATEST_BODY a) one.0
-    (subst (λ (k : SpConfig). OfFile (OfJudged (rows_of p.0.asked p.0.opened) k now) (Some files) body GREATEST_BODY a) one.1 p.3)
+    let same : OfFile (OfJudged (rows_of q.0.asked q.0.opened) q.1.config now) (Some files) body GREATEST_BODY a =
+    subst (λ (l : Config). OfFile (OfJudged (rows_of l.asked l.opened) q.1.config now) (Some files) body GREATEST_BODY a) one.0
+    (subst (λ (s : Setup). OfFile (OfJudged (rows_of p.0.asked p.0.opened) s.config now) (Some files) body GREATEST_BODY a) one.1 p.3)
     in
-    file_alone (OfJudged (rows_of q.0.asked q.0.opened) q.1 now) files body GREATEST_BODY (judged_alone laws (rows_of q.0.asked q.0.opened) q.1 now)
+    file_alone (OfJudged (rows_of q.0.asked q.0.opened) q.1.config now) files body GREATEST_BODY (judged_alone laws (rows_of q.0.asked q.0.opened) q.1.config now)
     a b agrees same q.3
 
 command_alone : Laws → (files : List File) (command : Command) → SaysYesAlone (OfCommand (Some files) Unserved command)

@@ -2,13 +2,13 @@
 use Rattle.std.proofs.Common.{◌≡◌, ◌≢◌, ℕ, ◌⊎◌, List, [], Option, Some, None, MatchOption, Ok, Err, append-nil, refl, sym, ap, subst}
 use Rattle.saml_outside.specs.Files.{File}
 use Rattle.crash_disk.specs.Disk.{DiskState}
-use Rattle.sp_runs.specs.declared.ended.Ended.{Ended}
-use Rattle.sp_runs.specs.declared.ended.Ended.TheVariants as ends
-use Rattle.sp_runs.specs.Runs.{Outside, IsServed}
+use Rattle.node_runs.specs.declared.ended.Ended.{Ended}
+use Rattle.node_runs.specs.declared.ended.Ended.TheVariants as ends
+use Rattle.node_runs.specs.Runs.{Outside, IsServed}
 use Rattle.samld.specs.declared.status.Status.{Status}
 use Rattle.samld.specs.declared.status.Status.TheVariants as statuses
 use Rattle.samld.specs.Answers.{Answer, Printed, Refused, BadFile, Foreign, Usage, status_of, IsYes}
-use Rattle.samld.specs.Running.{Command, Canon, Vouch, Check, Sp, command_of, Does, DoesCommand, OfCommand, Answers, Prints, EndsWith, EndsAfter, DoesServe, Accepts, AcceptsServing, IsRunnableBy}
+use Rattle.samld.specs.Running.{Command, Canon, Vouch, Check, Sp, command_of, Does, DoesCommand, Carries, CommandCarries, OfCommand, Answers, Prints, EndsWith, EndsAfter, DoesServe, Accepts, AcceptsServing, IsRunnableBy}
 use Rattle.samld.specs.Serving.{Ran, Unserved, RanSp, answer_of}
 use Rattle.samld.proofs.Answering.{weaker, answered, settled}
 use Rattle.samld.proofs.Completeness.{Laws, accepted_yes}
@@ -52,6 +52,17 @@ pub done : (words : List (List ℕ)) (told : Option (List File)) (command : Comm
     (before : Outside) (ran : Ran) (after : Outside) → DoesCommand told command before ran after → Does words told before ran after
 done words told command e before ran after h =
     subst (λ (o : Option Command). MatchOption o ((ran ≡ Unserved) × (after ≡ before)) (λ c. DoesCommand told c before ran after)) (sym e) h
+
+-- and what it carries is carried by the words
+pub carried : (words : List (List ℕ)) (told : Option (List File)) (command : Command) → command_of words ≡ Some command →
+    (before : Outside) (ran : Ran) (after : Outside) → CommandCarries told command before ran after → Carries words told before ran after
+carried words told command e before ran after h =
+    subst (λ (o : Option Command). MatchOption o (Unit {0}) (λ c. CommandCarries told c before ran after)) (sym e) h
+
+-- without a command nothing is carried
+pub nothing_carried : (words : List (List ℕ)) (told : Option (List File)) → command_of words ≡ None → (before : Outside) → Carries words told before Unserved before
+nothing_carried words told e before =
+    subst (λ (o : Option Command). MatchOption o (Unit {0}) (λ c. CommandCarries told c before Unserved before)) (sym e) tt
 
 -- without a command nothing is done but to say so
 pub nothing_done : (words : List (List ℕ)) (told : Option (List File)) → command_of words ≡ None → (before : Outside) → Does words told before Unserved before

@@ -17,7 +17,7 @@ use Rattle.sp_rules.specs.declared.config.SpConfig.{SpConfig}
 use Rattle.sp_rules.specs.declared.config.TheConstants.{FIRST}
 use Rattle.sp_rules.specs.Shown.{IsOpening}
 use Rattle.sp_rules.specs.Verdict.{IsRefused}
-use Rattle.sp_setup.specs.Setup.{IsSetUp, IsBadSetUp}
+use Rattle.sp_setup.specs.Setup.{Setup, IsSetUp, IsBadSetUp}
 use Rattle.samld.specs.Answers.{Answer, Printed, Refused, BadFile}
 use Rattle.samld.specs.declared.limits.TheConstants.{GREATEST_BODY}
 use Rattle.samld.specs.Reading.{OfFile}
@@ -95,9 +95,9 @@ OfJudged rows config now body answer =
     ((accepted : Accepted) × IsOpening config rows 0 now body accepted × (answer ≡ Printed (session_lines accepted.session)))
     ⊎ ((verdict : Verdict) × IsRefused config rows 0 now body verdict × (answer ≡ Refused verdict))
 
--- The config and the files that it names come first, and then the form.
+-- The config and the files that it names come first, and then the form. Its policy and the end of its registry decide nothing.
 abbrev pub OfCheck : Option (List File) → List ℕ → List ℕ → ℕ → Answer → Type 0
 OfCheck told file body now answer =
     ((bad : List ℕ) × (line : ℕ) × IsBadSetUp told Check file bad line × (answer ≡ BadFile bad line))
-    ⊎ ((lines : Config) × (config : SpConfig) × IsSetUp told Check file lines config
-    × OfFile (OfJudged (rows_of lines.asked lines.opened) config now) told body GREATEST_BODY answer)
+    ⊎ ((lines : Config) × (setup : Setup) × IsSetUp told Check file lines setup
+    × OfFile (OfJudged (rows_of lines.asked lines.opened) setup.config now) told body GREATEST_BODY answer)

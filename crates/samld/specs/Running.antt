@@ -9,7 +9,9 @@ use Rattle.crash_disk.specs.Disk.{DiskState}
 use Rattle.saml_time.specs.declared.TheConstants.{LAST}
 use Rattle.text_lines.specs.Numbers.{number_of}
 use Rattle.sp_setup.specs.declared.limits.TheConstants.{GREATEST_KEY}
-use Rattle.sp_runs.specs.Runs.{Outside, Runs, IsRunnable}
+use Rattle.node_runs.specs.Runs.{Outside}
+use Rattle.sp_runs.specs.Headline.{Headline}
+use Rattle.sp_runs.specs.Runs.{Runs, IsRunnable}
 use Rattle.samld.specs.declared.limits.TheConstants.{MOST_EVENTS}
 use Rattle.samld.specs.declared.status.Status.{Status}
 use Rattle.samld.specs.declared.status.Status.TheVariants as statuses
@@ -67,6 +69,15 @@ DoesCommand told other before ran after = (ran ≡ Unserved) × (after ≡ befor
 abbrev pub Does : List (List ℕ) → Option (List File) → Outside → Ran → Outside → Type 0
 Does words told before ran after =
     MatchOption (command_of words) ((ran ≡ Unserved) × (after ≡ before)) (λ command. DoesCommand told command before ran after)
+
+-- What the program carries over what it did: where it ran a service provider, sessions were opened exactly where a posted form opens
+-- one, each of a login that was signed, and no two of one request.
+abbrev pub CommandCarries : Option (List File) → Command → Outside → Ran → Outside → Type 0
+CommandCarries told (Sp config events) before (RanSp turns result) after = Headline told config before turns after
+CommandCarries told command before ran after = Unit {0}
+
+abbrev pub Carries : List (List ℕ) → Option (List File) → Outside → Ran → Outside → Type 0
+Carries words told before ran after = MatchOption (command_of words) (Unit {0}) (λ command. CommandCarries told command before ran after)
 
 -- what a command is answered with: the files are read in the order in which they are named
 abbrev pub OfCommand : Option (List File) → Ran → Command → Answer → Type 0

@@ -1,13 +1,16 @@
 -- What `sp CONFIG EVENTS` does, and what it is answered with.
-use Rattle.std.specs.Prelude.{◌≡◌, ℕ, Bool, true, false, List, [], ◌++◌, Result, Ok, Err, codes}
+use Rattle.std.specs.Prelude.{◌≡◌, ℕ, Bool, true, false, List, ◌++◌, Option, Result, Ok, Err, codes}
 use Rattle.std.specs.Fmt.{decimal}
 use Rattle.node_serve.specs.declared.served.Served.{Served}
 use Rattle.node_serve.specs.Turns.{Turn}
+use Rattle.crash_disk.specs.Disk.{Image, DiskState}
+use Rattle.crash_disk.specs.Moments.{Leaves}
+use Rattle.sp_runs.specs.Runs.{RunLeaves}
 use Rattle.sp_server.specs.Step.{Provider}
-use Rattle.sp_runs.specs.declared.ended.Ended.{Ended}
-use Rattle.sp_runs.specs.declared.ended.Ended.TheVariants as ends
-use Rattle.sp_runs.specs.declared.ended.RunFault.{RunFault}
-use Rattle.sp_runs.specs.declared.ended.RunFault.TheVariants as faults
+use Rattle.node_runs.specs.declared.ended.Ended.{Ended}
+use Rattle.node_runs.specs.declared.ended.Ended.TheVariants as ends
+use Rattle.node_runs.specs.declared.ended.RunFault.{RunFault}
+use Rattle.node_runs.specs.declared.ended.RunFault.TheVariants as faults
 use Rattle.samld.specs.declared.status.Status.{Status}
 use Rattle.samld.specs.declared.status.Status.TheVariants as statuses
 use Rattle.samld.specs.Answers.{Answer, Printed, BadFile, Foreign}
@@ -17,10 +20,10 @@ pub data Ran : Type 0 where
   Unserved : Ran
   RanSp : (turns : List (Turn Provider)) (result : Result Ended RunFault) → Ran
 
--- the turns of the provider
-abbrev pub turns_of : Ran → List (Turn Provider)
-turns_of Unserved = []
-turns_of (RanSp turns result) = turns
+-- What a crash at a moment of that may leave of the disk: what it might leave before, or what one inside the run of the provider may.
+abbrev pub RanLeaves : Option DiskState → Ran → Image → Type 0
+RanLeaves disk Unserved image = Leaves disk image
+RanLeaves disk (RanSp turns result) image = RunLeaves disk turns image
 
 -- why serving ended: the link gave Stop, or the budget was used up
 abbrev pub why_ended : Bool → List ℕ

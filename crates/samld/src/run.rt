@@ -5,15 +5,15 @@ ghost use Rattle.std.specs.Option.{option_map};
 ghost use Rattle.xml_spec.specs.declared.TheConstants.{MAX_DOCUMENT_LENGTH};
 ghost use Rattle.crash_disk.specs.Moments.{LeavesOnly};
 ghost use Rattle.saml_outside.specs.Counts.{Rose};
-ghost use Rattle.sp_runs.specs.Runs.{RunLeaves, outside};
+ghost use Rattle.node_runs.specs.Runs.{outside};
 ghost use Rattle.samld.specs.Canon.{OfCanon};
 ghost use Rattle.samld.specs.Check.{rows_of, OfJudged};
 ghost use Rattle.samld.specs.Vouch.{OfVouch};
 ghost use Rattle.sp_setup.specs.declared.limits.TheConstants.{GREATEST_KEY};
 ghost use Rattle.sp_setup.specs.Views.{IsWithinBounds};
 ghost use Rattle.samld.specs.Reading.{OfFile};
-ghost use Rattle.samld.specs.Running.{Canon, Vouch, Check, command_of, Does, DoesCommand, OfCommand, Answers, EndsWith, EndsAfter, Accepts, AcceptsServing, DoesServe, IsRunnableBy};
-ghost use Rattle.samld.specs.Serving.{Ran, Unserved, turns_of};
+ghost use Rattle.samld.specs.Running.{Canon, Vouch, Check, command_of, Does, DoesCommand, Carries, CommandCarries, OfCommand, Answers, EndsWith, EndsAfter, Accepts, AcceptsServing, DoesServe, IsRunnableBy};
+ghost use Rattle.samld.specs.Serving.{Ran, RanLeaves, Unserved};
 ghost use Rattle.samld.specs.Answers.{BadFile};
 ghost use Rattle.samld.specs.Views.{answer_view, command_view, HasMoment};
 
@@ -222,8 +222,9 @@ fn run_command<L: Link, D: Disk, C: Clock, F: Files, K: Sink>(
     requires { HasMoment command }
     ensures ends { (ran : Ran)
         × DoesCommand (F.holds files.old) (command_view command.entry) (outside (D.told disk.old) (D.faults_of disk.old) (L.told link.old) (L.faults_of link.old) (L.send_faults_of link.old) (C.to_come clock.old)) ran (outside (D.told disk.new) (D.faults_of disk.new) (L.told link.new) (L.faults_of link.new) (L.send_faults_of link.new) (C.to_come clock.new))
+        × CommandCarries (F.holds files.old) (command_view command.entry) (outside (D.told disk.old) (D.faults_of disk.old) (L.told link.old) (L.faults_of link.old) (L.send_faults_of link.old) (C.to_come clock.old)) ran (outside (D.told disk.new) (D.faults_of disk.new) (L.told link.new) (L.faults_of link.new) (L.send_faults_of link.new) (C.to_come clock.new))
         × EndsAfter ran (OfCommand (F.holds files.old) ran (command_view command.entry)) (K.taken out.old) (K.taken out.new) result
-        × LeavesOnly D.moment D.left_since disk.old disk.new (RunLeaves (D.told disk.old) (turns_of ran)) }
+        × LeavesOnly D.moment D.left_since disk.old disk.new (RanLeaves (D.told disk.old) ran) }
     ensures read_fault { result ≡ Status.ReadFault → Rose (F.faults_of files.old) (F.faults_of files.new) }
     ensures write_fault { result ≡ Status.WriteFault → Rose (K.faults_of out.old) (K.faults_of out.new) }
     ensures disk_fault { result ≡ Status.DiskFault → DoesServe (Some (command_view command.entry)) × Rose (D.faults_of disk.old) (D.faults_of disk.new) }
@@ -261,12 +262,14 @@ pub fn run<L: Link, D: Disk, C: Clock, F: Files, K: Sink>(
     files: &mut F,
     out: &mut K,
 ) -> Status
-    // What was done is what the words ask for, what was answered is what that asks for, and a crash at any moment leaves of the
-    // disk what one inside the opening of a ledger or inside an answer may leave.
+    // What was done is what the words ask for: a service provider opened sessions exactly where a posted form opens one, each of a
+    // login that was signed, and no two of one request. What was answered is what that asks for, and a crash at any moment leaves
+    // of the disk what one inside the opening of a ledger or inside an answer may leave.
     ensures ends { (ran : Ran)
         × Does words.now (F.holds files.old) (outside (D.told disk.old) (D.faults_of disk.old) (L.told link.old) (L.faults_of link.old) (L.send_faults_of link.old) (C.to_come clock.old)) ran (outside (D.told disk.new) (D.faults_of disk.new) (L.told link.new) (L.faults_of link.new) (L.send_faults_of link.new) (C.to_come clock.new))
+        × Carries words.now (F.holds files.old) (outside (D.told disk.old) (D.faults_of disk.old) (L.told link.old) (L.faults_of link.old) (L.send_faults_of link.old) (C.to_come clock.old)) ran (outside (D.told disk.new) (D.faults_of disk.new) (L.told link.new) (L.faults_of link.new) (L.send_faults_of link.new) (C.to_come clock.new))
         × EndsAfter ran (Answers words.now (F.holds files.old) ran) (K.taken out.old) (K.taken out.new) result
-        × LeavesOnly D.moment D.left_since disk.old disk.new (RunLeaves (D.told disk.old) (turns_of ran)) }
+        × LeavesOnly D.moment D.left_since disk.old disk.new (RanLeaves (D.told disk.old) ran) }
 
     // Each fault has a cause.
     ensures read_fault { result ≡ Status.ReadFault →

@@ -3,18 +3,20 @@
 ghost use Rattle.std.specs.Prelude.{◌≡◌, ◌≢◌, ◌≤◌, ◌⊎◌, ℕ, List, Option, Result, IfOk};
 ghost use Rattle.crash_disk.specs.Moments.{LeavesOnly};
 ghost use Rattle.saml_outside.specs.Counts.{Rose};
-ghost use Rattle.sp_runs.specs.Runs.{IsRunnable, RunLeaves, outside};
-ghost use Rattle.samld.specs.Running.{Sp, DoesCommand, OfCommand, EndsWith, EndsAfter};
-ghost use Rattle.samld.specs.Serving.{Ran, turns_of, why_ended, served_line, answer_of, status_of_fault};
+ghost use Rattle.node_runs.specs.Runs.{outside};
+ghost use Rattle.sp_runs.specs.Runs.{IsRunnable};
+ghost use Rattle.samld.specs.Running.{Sp, DoesCommand, CommandCarries, OfCommand, EndsWith, EndsAfter};
+ghost use Rattle.samld.specs.Serving.{Ran, RanLeaves, why_ended, served_line, answer_of, status_of_fault};
 ghost use Rattle.samld.specs.Views.{answer_view};
 
 use crate::answer::Answer;
 use crate::status::Status;
 use crash_disk::Disk;
 use event_link::{Clock, Link};
+use node_runs::{Ended, RunFault};
 use node_serve::Served;
 use saml_outside::{Blob, Files, NoMemory, Sink};
-use sp_runs::{Ended, RunFault, run_sp};
+use sp_runs::run_sp;
 use std::alloc::Global;
 
 /// Why serving ended.
@@ -83,8 +85,9 @@ pub(crate) fn run_provider<L: Link, D: Disk, C: Clock, F: Files, K: Sink>(
 ) -> Status
     ensures ends { (ran : Ran)
         × DoesCommand (F.holds files.old) (Sp config.now events) (outside (D.told disk.old) (D.faults_of disk.old) (L.told link.old) (L.faults_of link.old) (L.send_faults_of link.old) (C.to_come clock.old)) ran (outside (D.told disk.new) (D.faults_of disk.new) (L.told link.new) (L.faults_of link.new) (L.send_faults_of link.new) (C.to_come clock.new))
+        × CommandCarries (F.holds files.old) (Sp config.now events) (outside (D.told disk.old) (D.faults_of disk.old) (L.told link.old) (L.faults_of link.old) (L.send_faults_of link.old) (C.to_come clock.old)) ran (outside (D.told disk.new) (D.faults_of disk.new) (L.told link.new) (L.faults_of link.new) (L.send_faults_of link.new) (C.to_come clock.new))
         × EndsAfter ran (OfCommand (F.holds files.old) ran (Sp config.now events)) (K.taken out.old) (K.taken out.new) result
-        × LeavesOnly D.moment D.left_since disk.old disk.new (RunLeaves (D.told disk.old) (turns_of ran)) }
+        × LeavesOnly D.moment D.left_since disk.old disk.new (RanLeaves (D.told disk.old) ran) }
     ensures read_fault { result ≡ Status.ReadFault → Rose (F.faults_of files.old) (F.faults_of files.new) }
     ensures write_fault { result ≡ Status.WriteFault → Rose (K.faults_of out.old) (K.faults_of out.new) }
     ensures disk_fault { result ≡ Status.DiskFault → Rose (D.faults_of disk.old) (D.faults_of disk.new) }

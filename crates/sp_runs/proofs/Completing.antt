@@ -1,29 +1,28 @@
 -- A provider that can be run serves, where no fault keeps it from that.
-use Rattle.std.proofs.Common.{◌≡◌, ◌≢◌, ◌⊎◌, ℕ, List, Option, None, Some, IfSome, IsSomeAnd, IsOk, Result, Ok, Err, inl, inr, refl, sym, subst}
+use Rattle.std.proofs.Common.{◌≡◌, ◌≢◌, ◌⊎◌, ℕ, List, Option, None, Some, IfSome, IsSomeAnd, IsOk, Result, Ok, Err, inr, refl, sym, subst}
 use Rattle.saml_outside.specs.Files.{File}
 use Rattle.crash_disk.specs.Disk.{DiskState, image_of}
 use Rattle.gate_journal.specs.Format.{Fault}
-use Rattle.node_serve.specs.declared.served.Served.{Served}
-use Rattle.node_serve.specs.declared.served.ServeFault.{ServeFault}
-use Rattle.node_serve.specs.declared.served.ServeFault.TheVariants as serve_faults
 use Rattle.node_serve.specs.Turns.{Turn}
+use Rattle.node_runs.specs.declared.ended.Ended.{Ended}
+use Rattle.node_runs.specs.declared.ended.Ended.TheVariants as ends
+use Rattle.node_runs.specs.declared.ended.RunFault.{RunFault}
+use Rattle.node_runs.specs.declared.ended.RunFault.TheVariants as faults
+use Rattle.node_runs.specs.Runs.{Outside, IsServed}
+use Rattle.node_runs.proofs.Completing.{complete_by}
 use Rattle.provider_config.specs.Config.{Config}
 use Rattle.provider_config.specs.declared.line.Purpose.{Purpose}
 use Rattle.provider_config.specs.declared.line.Purpose.TheVariants.{Serve}
 use Rattle.request_ledger.specs.Ledger.{Held, ledger_in, taken}
-use Rattle.sp_rules.specs.declared.config.SpConfig.{SpConfig}
+use Rattle.sp_server.specs.Histories.{IsProviders}
 use Rattle.sp_server.specs.Step.{Provider}
-use Rattle.sp_setup.specs.Setup.{IsSetUp, IsBadSetUp}
-use Rattle.sp_runs.specs.declared.ended.Ended.{Ended}
-use Rattle.sp_runs.specs.declared.ended.Ended.TheVariants as ends
-use Rattle.sp_runs.specs.declared.ended.RunFault.{RunFault}
-use Rattle.sp_runs.specs.declared.ended.RunFault.TheVariants as faults
-use Rattle.sp_runs.specs.Runs.{Outside, IsNotOpened, result_of, Runs, BadSetUp, NotSetUp, NotOpened, Deaf, Serving, IsRunnable, IsServed}
+use Rattle.sp_setup.specs.Setup.{Setup, IsSetUp, IsBadSetUp}
+use Rattle.sp_runs.specs.Runs.{Begins, IsNotOpened, IsRunnable, OpeningFails, Runs}
 
 -- told files never set a provider up and fail to
 abbrev pub NeverBoth : Type 0
 NeverBoth =
-    (files : List File) (purpose : Purpose) (config : List ℕ) (lines : Config) (one : SpConfig) (file : List ℕ) (line : ℕ)
+    (files : List File) (purpose : Purpose) (config : List ℕ) (lines : Config) (one : Setup) (file : List ℕ) (line : ℕ)
     → IsSetUp (Some files) purpose config lines one → ¬ (IsBadSetUp (Some files) purpose config file line)
 
 not_foreign : (found : Result (Option Held) Fault) (fault : Fault) → IsOk found → taken found ≡ Err fault → ⊥
@@ -38,7 +37,7 @@ held_not_foreign (Some d) fault holds foreign = not_foreign (ledger_in (image_of
 
 module _ (result : Result Ended RunFault) (unread : result ≢ Err faults.ReadFault) (undisked : result ≢ Err faults.DiskFault) (unlinked : result ≢ Err faults.LinkFault) where
   not_opened : (before after : Outside) (known : Result Ended RunFault) → known ≡ result → IsSomeAnd before.disk (λ d. IsOk (ledger_in (image_of d)))
-      → IsNotOpened before after known → IsServed result ⊎ (result ≡ Err faults.NoMemory)
+      → OpeningFails before after known → IsServed result ⊎ (result ≡ Err faults.NoMemory)
   not_opened before after (Ok (ends.BadFile file line)) e holds why = absurd why
   not_opened before after (Ok (ends.Foreign file place)) e holds why = absurd (held_not_foreign before.disk _ holds why)
   not_opened before after (Ok (ends.Served served)) e holds why = absurd why
@@ -47,17 +46,9 @@ module _ (result : Result Ended RunFault) (unread : result ≢ Err faults.ReadFa
   not_opened before after (Err faults.LinkFault) e holds why = absurd why
   not_opened before after (Err faults.NoMemory) e holds why = inr (sym e)
 
-  serving : (served : Result Served ServeFault) → result ≡ result_of served → IsServed result ⊎ (result ≡ Err faults.NoMemory)
-  serving (Ok served) e = inl (subst IsServed (sym e) tt)
-  serving (Err serve_faults.LinkFault) e = absurd (unlinked e)
-  serving (Err serve_faults.NoMemory) e = inr e
-
   pub complete : NeverBoth → (told : Option (List File)) (file : List ℕ) (budget : ℕ) (before after : Outside) (turns : List (Turn Provider))
       → IsRunnable told file before.disk → Runs told file budget before turns result after → IsServed result ⊎ (result ≡ Err faults.NoMemory)
-  complete law told file budget before after turns can (BadSetUp bad line is e none same) =
-      absurd (law can.files Serve file can.lines can.config bad line can.set_up (subst (λ (o : Option (List File)). IsBadSetUp o Serve file bad line) can.tells is))
-  complete law told file budget before after turns can (NotSetUp (inl e) none same) = absurd (unread e)
-  complete law told file budget before after turns can (NotSetUp (inr e) none same) = inr e
-  complete law told file budget before after turns can (NotOpened lines config set_up why none same) = not_opened before after result refl can.holds why
-  complete law told file budget before after turns can (Deaf provider opened begins e rose none same) = absurd (unlinked e)
-  complete law told file budget before after turns can (Serving provider last opened served begins serves e) = serving served e
+  complete law told file budget before after turns can runs =
+      complete_by IsProviders (IsBadSetUp told Serve file) (IsNotOpened told file before) (Begins told file before) budget before after turns result unread unlinked
+      (λ bad line is. law can.files Serve file can.lines can.setup bad line can.set_up (subst (λ (o : Option (List File)). IsBadSetUp o Serve file bad line) can.tells is))
+      (λ not. not_opened before after result refl can.holds not.fails) runs

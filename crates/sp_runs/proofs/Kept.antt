@@ -15,7 +15,7 @@ use Rattle.request_ledger.specs.Ledger.{Held, empty_ledger, ledger_in, migrated,
 use Rattle.request_ledger.specs.Laws.{ImagesHoldRecords}
 use Rattle.sp_server.specs.Step.{Provider}
 use Rattle.sp_server.specs.Histories.{WhatIsAcknowledgedIsKeptOnce}
-use Rattle.sp_runs.specs.Runs.{world_of}
+use Rattle.node_runs.specs.Runs.{world_of}
 use Rattle.sp_runs.specs.Laws.{WhatARunAcknowledgedIsKeptOnce}
 
 -- what is opened holds records of a ledger

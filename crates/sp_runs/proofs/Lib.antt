@@ -1,4 +1,7 @@
 pub mod Completing
+pub mod Headlines
 pub mod Moments
-pub mod Serving
+pub mod Starting
 mod Kept
+mod Setups
+mod Shown

@@ -1,24 +1,33 @@
 -- The laws of whole runs.
-use Rattle.std.specs.Prelude.{◌≡◌, ℕ, List, Option, IsSome, Some, Ok, Result}
+use Rattle.std.specs.Prelude.{◌≡◌, ◌≤◌, ◌⊎◌, ℕ, Bool, true, false, List, Contains, Option, IsSome, Some, Ok, Result}
 use Rattle.std.specs.List.{AllByRecursion}
 use Rattle.saml_outside.specs.Files.{File}
-use Rattle.crash_disk.specs.Disk.{Image}
+use Rattle.crash_disk.specs.Counts.{Rose}
+use Rattle.crash_disk.specs.Disk.{Image, DiskState}
 use Rattle.http_wire.specs.declared.answer.Answer.{Answer}
+use Rattle.http_wire.specs.declared.answer.Answer.TheVariants.{Fixed, Full}
 use Rattle.http_wire.specs.Requests.{Request}
 use Rattle.ledger_records.specs.declared.sp_record.SpRecord.{SpRecord}
+use Rattle.ledger_records.specs.declared.sp_record.SpRecord.TheVariants as kinds
 use Rattle.login_origin.specs.Signed.{Signed, IsSigned}
 use Rattle.login_origin.specs.Premises.{Unforged, NoCollision}
 use Rattle.login_origin.specs.Origin.{IsLoginOf}
 use Rattle.node_serve.specs.declared.served.Served.{Served}
 use Rattle.node_serve.specs.declared.served.ServeFault.{ServeFault}
 use Rattle.node_serve.specs.Serving.{Serves}
-use Rattle.node_serve.specs.Turns.{Turn}
+use Rattle.node_serve.specs.Turns.{Asked, Turn, asked_in}
+use Rattle.provider_config.specs.declared.config.RegistryLine.{RegistryLine}
+use Rattle.provider_config.specs.declared.config.SpFile.TheVariants.{Registry}
 use Rattle.request_ledger.specs.Ledger.{Held, ledger_in}
 use Rattle.request_ledger.specs.Runs.{AreDifferent, requests_opened}
-use Rattle.sp_server.specs.Step.{Provider, Setup}
+use Rattle.request_rows.specs.declared.row.OpenedRow.{OpenedRow}
+use Rattle.sp_server.specs.Routes.{App, To, route}
+use Rattle.sp_server.specs.Step.{Provider, Setup, Steps, session_for, shown_to, NO_MEMORY}
 use Rattle.sp_server.specs.Sessions.{GivesSession}
-use Rattle.sp_server.specs.Histories.{IsProviders, AreTold, AreKeptOnce}
-use Rattle.sp_runs.specs.Runs.{Outside, Begins, world_of}
+use Rattle.sp_server.specs.Histories.{IsProviders, Stands, AreTold, AreKeptOnce}
+use Rattle.sp_setup.specs.Laws.{IsFromRegistry}
+use Rattle.node_runs.specs.Runs.{Outside, world_of}
+use Rattle.sp_runs.specs.Runs.{Begins, served_by}
 
 -- Whatever image a crash leaves, where it stands for a ledger no two of its sessions answer one request.
 abbrev pub NoImageHasARequestTwice : Type 0
@@ -40,3 +49,54 @@ EachSessionWasSigned =
     (issued : List Signed) (setup : Setup) (held : Held) (request : Request) (now : ℕ) (r : SpRecord) (answer : Answer) → AllByRecursion IsSigned issued
     → Unforged issued setup.config now request.body → NoCollision issued request.body → (gives : GivesSession setup held request now r answer)
     → IsLoginOf issued gives.brought.login
+
+-- REGISTRIES
+
+-- Where the config of a run has a registry, its provider has its identity provider from there and from nowhere else.
+abbrev pub ARunUsesWhatItsRegistryLists : Type 0
+ARunUsesWhatItsRegistryLists =
+    (told : Option (List File)) (file : List ℕ) (before opened : Outside) (provider : Provider) (line : RegistryLine)
+    → (begins : Begins told file before provider opened) → Contains begins.lines.files (Registry line)
+    → IsFromRegistry told line begins.setup × (provider.setup ≡ served_by begins.setup)
+
+-- And so at each request of the run: the provider serves by what it was started with.
+abbrev pub EachRequestIsServedByTheSameSetup : Type 0
+EachRequestIsServedByTheSameSetup =
+    (told : Option (List File)) (file : List ℕ) (budget : ℕ) (before opened after : Outside) (provider last : Provider) (turns : List (Turn Provider)) (served : Result Served ServeFault)
+    (asked : Asked Provider) → (begins : Begins told file before provider opened)
+    → Serves IsProviders budget turns (world_of provider opened) served (world_of last after)
+    → Contains (asked_in turns) asked → asked.node.setup ≡ served_by begins.setup
+
+-- the record is of a request that was asked, or of a session that was opened
+abbrev pub is_of_login : SpRecord → Bool
+is_of_login (kinds.Asked r) = true
+is_of_login (kinds.Opened r) = true
+is_of_login other = false
+
+-- From the moment on at which its registry ends no answer of a run stands for a request that was asked or a session that was opened.
+abbrev pub AnEndedRegistryOpensNothing : Type 0
+AnEndedRegistryOpensNothing =
+    (told : Option (List File)) (file : List ℕ) (budget : ℕ) (before opened after : Outside) (provider last : Provider) (turns : List (Turn Provider)) (served : Result Served ServeFault)
+    (asked : Asked Provider) (until : ℕ) (r : SpRecord) → (begins : Begins told file before provider opened)
+    → Serves IsProviders budget turns (world_of provider opened) served (world_of last after)
+    → begins.setup.expiry ≡ Some until → Contains (asked_in turns) asked → until ≤ asked.now → Stands asked (Some r) → is_of_login r ≡ false
+
+-- POLICIES
+
+-- Over a whole ledger a live session is answered by the page of its user, or by that of the rule that denies it, or there was no
+-- memory.
+abbrev pub ASessionIsShownByItsRow : Type 0
+ASessionIsShownByItsRow =
+    (old new : Provider) (disk : Option DiskState) (request : Request) (now faults later : ℕ) (answer : Answer) (row : OpenedRow)
+    → old.ledger.broken ≡ false → route request ≡ To App → session_for old.ledger.held now request ≡ Some row
+    → Steps old disk request now (Rose faults later) answer new
+    → (answer ≡ Full (shown_to old.setup.policy request.path row)) ⊎ (answer ≡ Fixed NO_MEMORY)
+
+-- Two providers of one policy in whose whole ledgers the session has the same row answer alike, whatever their other rows are.
+abbrev pub EqualRowsAreShownAlike : Type 0
+EqualRowsAreShownAlike =
+    (old new other newer : Provider) (disk another : Option DiskState) (request : Request) (now faults later before after : ℕ) (one second : Answer) (row : OpenedRow)
+    → other.setup.policy ≡ old.setup.policy → old.ledger.broken ≡ false → other.ledger.broken ≡ false → route request ≡ To App
+    → session_for old.ledger.held now request ≡ Some row → session_for other.ledger.held now request ≡ Some row
+    → Steps old disk request now (Rose faults later) one new → Steps other another request now (Rose before after) second newer
+    → (one ≡ second) ⊎ ((one ≡ Fixed NO_MEMORY) ⊎ (second ≡ Fixed NO_MEMORY))

@@ -1,5 +1,6 @@
 //! The laws of whole runs, each the contract of a function that does nothing.
-ghost use Rattle.sp_runs.specs.Laws.{EachSessionWasSigned, NoImageHasARequestTwice, WhatARunAcknowledgedIsKeptOnce};
+ghost use Rattle.sp_runs.specs.Headline.{ARunCarriesTheHeadline};
+ghost use Rattle.sp_runs.specs.Laws.{AnEndedRegistryOpensNothing, ARunUsesWhatItsRegistryLists, ASessionIsShownByItsRow, EachRequestIsServedByTheSameSetup, EachSessionWasSigned, EqualRowsAreShownAlike, NoImageHasARequestTwice, WhatARunAcknowledgedIsKeptOnce};
 
 use request_ledger::laws::{images_hold_records, no_request_opens_twice};
 
@@ -27,4 +28,31 @@ pub fn each_session_was_signed()
     ensures { EachSessionWasSigned }
 {
     login_origin::a_login_was_signed();
+}
+
+/// A run whose config has a registry has its identity provider from the one descriptor of that name that the registry lists,
+/// inside the element that the signature covers, at each of its requests; and from the moment on at which the registry ends it
+/// asks for no login and opens no session.
+pub fn a_registry_tells_and_ends()
+    ensures tells { ARunUsesWhatItsRegistryLists }
+    ensures same { EachRequestIsServedByTheSameSetup }
+    ensures ends { AnEndedRegistryOpensNothing }
+{
+    sp_setup::laws::a_registry_tells_the_provider();
+}
+
+/// What a live session is shown depends on the policy, the path and the session's own row alone, want of memory aside.
+pub fn a_session_is_shown_by_its_row()
+    ensures shown { ASessionIsShownByItsRow }
+    ensures alike { EqualRowsAreShownAlike }
+{}
+
+/// A run opens sessions exactly where a posted form opens one, each of a login that was signed where only the identity provider
+/// makes HMACs that match, and no two sessions are of one request, wherever a crash stops.
+pub fn a_run_carries_the_headline()
+    ensures { ARunCarriesTheHeadline }
+{
+    sp_server::laws::a_session_opens_exactly();
+    each_session_was_signed();
+    what_a_run_acknowledged_is_kept_once();
 }

@@ -16,11 +16,10 @@
 //! two sessions of one request ([`laws`]).
 #![tactic(auto)]
 
-mod ended;
 pub mod laws;
 mod run;
 #[cfg(test)]
 mod tests;
 
-pub use ended::{Ended, RunFault};
+pub use node_runs::{Ended, RunFault};
 pub use run::run_sp;

@@ -4,7 +4,7 @@ use Rattle.samld.specs.Running.{command_of, OfCommand, Answers}
 use Rattle.samld.specs.Views.{command_view}
 use Rattle.samld.proofs.Answering.{answered}
 use Rattle.samld.proofs.Completeness.{Laws}
-use Rattle.samld.proofs.Serving.{weaker_after, done, accepted_done}
+use Rattle.samld.proofs.Serving.{weaker_after, done, carried, accepted_done}
 use Rattle.samld.proofs.run.run.Goals as goal
 
 pub returns-in-Some-clause-ends : goal.returns-in-Some-clause-ends
@@ -15,9 +15,10 @@ returns-in-Some-clause-ends g c =
     let new = g.K.Sink.taken c.run_command.new.out in
     let command = command_view c.in-Some.command in
     let is : command_of words ≡ Some command = sym c.command_of.ensures.command ∙ ap (option_map command_view) c.in-Some.is in
-    let (ran, does, ends, leaves) = c.run_command.ensures.ends in (
+    let (ran, does, carries, ends, leaves) = c.run_command.ensures.ends in (
       ran,
       done words told command is _ ran _ does,
+      carried words told command is _ ran _ carries,
       weaker_after ran (OfCommand told ran command) (Answers words told ran) old new c.run_command.result (answered words told ran command is) ends,
       leaves,
     )
@@ -35,6 +36,6 @@ returns-in-Some-clause-complete g c = λ accepted no_read no_write.
     let new = g.K.Sink.taken c.run_command.new.out in
     let command = command_view c.in-Some.command in
     let is : command_of words ≡ Some command = sym c.command_of.ensures.command ∙ ap (option_map command_view) c.in-Some.is in
-    let (ran, does, ends, leaves) = c.run_command.ensures.ends in
+    let (ran, does, carries, ends, leaves) = c.run_command.ensures.ends in
     accepted_done laws words told command is accepted _ ran _ old new c.run_command.result does ends
     (λ e. no_read (c.run_command.ensures.read_fault e)) (λ e. no_write (c.run_command.ensures.write_fault e))

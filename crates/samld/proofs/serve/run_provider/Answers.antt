@@ -5,10 +5,10 @@ use Rattle.samld.proofs.serve.run_provider.Goals as goal
 
 pub returns-in-Ok-clause-ends : goal.returns-in-Ok-clause-ends
 returns-in-Ok-clause-ends g c =
-    let (turns, runs, leaves) = c.in-Ok.ensures.runs in
-    (RanSp turns (Ok c.in-Ok.ended), runs, (c.print_ended.ensures.no_read_fault, c.print_ended.ensures.ends), leaves)
+    let (turns, runs, headline, leaves) = c.in-Ok.ensures.runs in
+    (RanSp turns (Ok c.in-Ok.ended), runs, headline, (c.print_ended.ensures.no_read_fault, c.print_ended.ensures.ends), leaves)
 
 pub returns-in-Err-clause-ends : goal.returns-in-Err-clause-ends
 returns-in-Err-clause-ends g c =
-    let (turns, runs, leaves) = c.in-Err.ensures.runs in
-    (RanSp turns (Err c.in-Err.fault), runs, (c.status_of_fault.ensures, nothing_printed (g.K.Sink.taken c.args.out.now)), leaves)
+    let (turns, runs, headline, leaves) = c.in-Err.ensures.runs in
+    (RanSp turns (Err c.in-Err.fault), runs, headline, (c.status_of_fault.ensures, nothing_printed (g.K.Sink.taken c.args.out.now)), leaves)

@@ -1,11 +1,14 @@
-use Rattle.std.proofs.Common.{rules, ◌≡◌, [], Ok, Err, refl, sym, ap, inl}
+use Rattle.std.proofs.Common.{rules, ◌≡◌, [], Err, refl, inl}
 use Rattle.crash_disk.specs.Steps.{started}
-use Rattle.node_serve.specs.declared.served.ServeFault.{ServeFault}
 use Rattle.node_serve.specs.Serving.{MightLeave}
+use Rattle.node_runs.specs.declared.ended.RunFault.TheVariants as faults
+use Rattle.node_runs.specs.Runs.{Deaf, outside}
+use Rattle.node_runs.proofs.Serving.{only_listened, served_so}
 use Rattle.sp_server.specs.Step.{StepLeaves}
-use Rattle.sp_runs.specs.declared.ended.RunFault.TheVariants as faults
-use Rattle.sp_runs.specs.Runs.{Deaf, outside, result_of}
-use Rattle.sp_runs.proofs.Serving.{only_listened, served_so}
+use Rattle.sp_setup.specs.Setup.{IsBadSetUp}
+use Rattle.provider_config.specs.declared.line.Purpose.TheVariants.{Serve}
+use Rattle.sp_server.specs.Histories.{IsProviders}
+use Rattle.sp_runs.specs.Runs.{Begins, IsNotOpened}
 use Rattle.sp_runs.proofs.run.listen_and_serve.Goals as goal
 
 pub returns-in_err-listen-clause-runs : goal.returns-in_err-listen-clause-runs
@@ -24,8 +27,8 @@ returns-in_err-listen-clause-runs g c =
       started g.D.Disk.moment g.D.Disk.left_since c.args.disk.now (MightLeave StepLeaves told []) (λ image left. inl (g.met.D.Disk.only_now c.args.disk.now image left)),
     )
 
-pub returns-in-Ok-clause-runs : goal.returns-in-Ok-clause-runs
-returns-in-Ok-clause-runs g c =
+pub returns-clause-runs : goal.returns-clause-runs
+returns-clause-runs g c =
     let link = c.args.link.now in
     let heard = c.listen.new.self in
     let told = g.D.Disk.told c.args.disk.now in
@@ -38,50 +41,9 @@ returns-in-Ok-clause-runs g c =
     (g.L.Link.send_faults_of now.link) (g.C.Clock.to_come now.clock) in
     let only = only_listened told count (g.L.Link.told link) (g.L.Link.told heard) (g.L.Link.faults_of link) (g.L.Link.faults_of heard)
     (g.L.Link.send_faults_of link) (g.L.Link.send_faults_of heard) clock c.in_ok-listen.ensures.same c.in_ok-listen.ensures.send_faults in
-    let (turns, serves, leaves) = c.in-Ok.ensures.serves in (
+    let (turns, serves, leaves) = c.serve.ensures.serves in (
       turns,
-      served_so c.args.budget turns (Ok c.in-Ok.served) (result_of (Ok c.in-Ok.served)) c.args.node.now now.node opened listening after only serves refl,
-      leaves,
-    )
-
-pub returns-in-Err-LinkFault-clause-runs : goal.returns-in-Err-LinkFault-clause-runs
-returns-in-Err-LinkFault-clause-runs g c =
-    let link = c.args.link.now in
-    let heard = c.listen.new.self in
-    let told = g.D.Disk.told c.args.disk.now in
-    let count = g.D.Disk.faults_of c.args.disk.now in
-    let clock = g.C.Clock.to_come c.args.clock.now in
-    let opened = outside told count (g.L.Link.told link) (g.L.Link.faults_of link) (g.L.Link.send_faults_of link) clock in
-    let listening = outside told count (g.L.Link.told heard) (g.L.Link.faults_of heard) (g.L.Link.send_faults_of heard) clock in
-    let now = c.serve.new in
-    let after = outside (g.D.Disk.told now.disk) (g.D.Disk.faults_of now.disk) (g.L.Link.told now.link) (g.L.Link.faults_of now.link)
-    (g.L.Link.send_faults_of now.link) (g.C.Clock.to_come now.clock) in
-    let only = only_listened told count (g.L.Link.told link) (g.L.Link.told heard) (g.L.Link.faults_of link) (g.L.Link.faults_of heard)
-    (g.L.Link.send_faults_of link) (g.L.Link.send_faults_of heard) clock c.in_ok-listen.ensures.same c.in_ok-listen.ensures.send_faults in
-    let (turns, serves, leaves) = c.in-Err-LinkFault.ensures.serves in (
-      turns,
-      served_so c.args.budget turns (Err c.in-Err-LinkFault.field-0) (Err faults.LinkFault) c.args.node.now now.node opened listening after only serves
-          (ap (λ (f : ServeFault). result_of (Err f)) (sym c.in-Err-LinkFault.field-0-is)),
-      leaves,
-    )
-
-pub returns-in-Err-NoMemory-clause-runs : goal.returns-in-Err-NoMemory-clause-runs
-returns-in-Err-NoMemory-clause-runs g c =
-    let link = c.args.link.now in
-    let heard = c.listen.new.self in
-    let told = g.D.Disk.told c.args.disk.now in
-    let count = g.D.Disk.faults_of c.args.disk.now in
-    let clock = g.C.Clock.to_come c.args.clock.now in
-    let opened = outside told count (g.L.Link.told link) (g.L.Link.faults_of link) (g.L.Link.send_faults_of link) clock in
-    let listening = outside told count (g.L.Link.told heard) (g.L.Link.faults_of heard) (g.L.Link.send_faults_of heard) clock in
-    let now = c.serve.new in
-    let after = outside (g.D.Disk.told now.disk) (g.D.Disk.faults_of now.disk) (g.L.Link.told now.link) (g.L.Link.faults_of now.link)
-    (g.L.Link.send_faults_of now.link) (g.C.Clock.to_come now.clock) in
-    let only = only_listened told count (g.L.Link.told link) (g.L.Link.told heard) (g.L.Link.faults_of link) (g.L.Link.faults_of heard)
-    (g.L.Link.send_faults_of link) (g.L.Link.send_faults_of heard) clock c.in_ok-listen.ensures.same c.in_ok-listen.ensures.send_faults in
-    let (turns, serves, leaves) = c.in-Err-NoMemory.ensures.serves in (
-      turns,
-      served_so c.args.budget turns (Err c.in-Err-NoMemory.field-0) (Err faults.NoMemory) c.args.node.now now.node opened listening after only serves
-          (ap (λ (f : ServeFault). result_of (Err f)) (sym c.in-Err-NoMemory.field-0-is)),
+      λ files file before begins. served_so IsProviders (IsBadSetUp files Serve file) (IsNotOpened files file before) (Begins files file before) c.args.budget turns c.serve.result c.ended_of.result
+          c.args.node.now now.node before opened listening after only serves c.ended_of.ensures begins,
       leaves,
     )

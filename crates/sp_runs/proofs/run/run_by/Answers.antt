@@ -1,6 +1,9 @@
 use Rattle.std.proofs.Common.{[], Err, refl, ap}
-use Rattle.sp_runs.specs.Runs.{NotOpened, outside}
-use Rattle.sp_runs.proofs.Moments.{opened, served}
+use Rattle.sp_setup.specs.Views.{setup_view}
+use Rattle.node_runs.specs.Runs.{NotOpened, outside}
+use Rattle.node_runs.proofs.Moments.{opened, served}
+use Rattle.request_ledger.specs.Ledger.{LeftByOpening}
+use Rattle.sp_server.specs.Step.{StepLeaves}
 use Rattle.sp_runs.proofs.run.run_by.Goals as goal
 
 pub returns-in-Ok-clause-runs : goal.returns-in-Ok-clause-runs
@@ -14,13 +17,13 @@ returns-in-Ok-clause-runs g c =
       turns,
       λ told file lines set_up. goes told file before (record {
         lines = lines;
-        config = c.args.config;
+        setup = setup_view c.args.setup;
         set_up = set_up;
-        started = record { setup = starts.setup; key = starts.key; whole = starts.whole; holds = starts.gives };
+        started = record { serves_by = starts.serves_by; key = starts.key; whole = starts.whole; holds = starts.gives };
         own = starts.own;
         same = refl;
       }),
-      served g.D.Disk.moment g.D.Disk.left_since g.D.Disk.told g.met.D.Disk.counts_now disk c.start.new.disk c.listen_and_serve.new.disk turns starts.moments leaves,
+      served g.D.Disk.moment g.D.Disk.left_since g.D.Disk.told LeftByOpening StepLeaves g.met.D.Disk.counts_now disk c.start.new.disk c.listen_and_serve.new.disk turns starts.moments leaves,
     )
 
 pub returns-in-Err-Foreign-clause-runs : goal.returns-in-Err-Foreign-clause-runs
@@ -28,21 +31,21 @@ returns-in-Err-Foreign-clause-runs g c =
     let why = rw c.in-Err-Foreign.field-0-is at c.in-Err-Foreign.ensures.gives in
     rw c.in-Err-Foreign.field-0-is (
       [],
-      λ told file lines set_up. NotOpened lines c.args.config set_up why refl refl,
-      opened g.D.Disk.moment g.D.Disk.left_since g.D.Disk.told c.args.disk.now c.start.new.disk [] c.in-Err-Foreign.ensures.moments,
+      λ told file lines set_up. NotOpened (record { lines = lines; setup = setup_view c.args.setup; set_up = set_up; fails = why }) refl refl,
+      opened g.D.Disk.moment g.D.Disk.left_since g.D.Disk.told LeftByOpening StepLeaves c.args.disk.now c.start.new.disk [] c.in-Err-Foreign.ensures.moments,
     )
 
 pub returns-in-Err-DiskFault-clause-runs : goal.returns-in-Err-DiskFault-clause-runs
 returns-in-Err-DiskFault-clause-runs g c =
     let failed = c.in-Err-DiskFault.ensures.faults.failed (ap Err c.in-Err-DiskFault.field-0-is) in (
       [],
-      λ told file lines set_up. NotOpened lines c.args.config set_up failed refl refl,
-      opened g.D.Disk.moment g.D.Disk.left_since g.D.Disk.told c.args.disk.now c.start.new.disk [] c.in-Err-DiskFault.ensures.moments,
+      λ told file lines set_up. NotOpened (record { lines = lines; setup = setup_view c.args.setup; set_up = set_up; fails = failed }) refl refl,
+      opened g.D.Disk.moment g.D.Disk.left_since g.D.Disk.told LeftByOpening StepLeaves c.args.disk.now c.start.new.disk [] c.in-Err-DiskFault.ensures.moments,
     )
 
 pub returns-in-Err-NoMemory-clause-runs : goal.returns-in-Err-NoMemory-clause-runs
 returns-in-Err-NoMemory-clause-runs g c = (
   [],
-  λ told file lines set_up. NotOpened lines c.args.config set_up tt refl refl,
-  opened g.D.Disk.moment g.D.Disk.left_since g.D.Disk.told c.args.disk.now c.start.new.disk [] c.in-Err-NoMemory.ensures.moments,
+  λ told file lines set_up. NotOpened (record { lines = lines; setup = setup_view c.args.setup; set_up = set_up; fails = tt }) refl refl,
+  opened g.D.Disk.moment g.D.Disk.left_since g.D.Disk.told LeftByOpening StepLeaves c.args.disk.now c.start.new.disk [] c.in-Err-NoMemory.ensures.moments,
 )

@@ -1,0 +1,126 @@
+-- A provider serves by what it was started with, at each request of a run.
+use Rattle.std.specs.Prelude.{Contains, Option, None, Some, Result}
+use Rattle.std.proofs.Common.{◌≡◌, ◌≤◌, ◌⊎◌, inl, inr, ℕ, zero, suc, nat_le, true, false, Bool, List, [], ◌∷◌, ◌++◌, sym, subst, refl, ap, ◌∙◌, arith}
+use Rattle.std.proofs.lemmas.List.Elements.{Contains-append_cases}
+use Rattle.saml_outside.specs.Files.{File}
+use Rattle.crash_disk.specs.Counts.{Rose}
+use Rattle.crash_disk.specs.Disk.{DiskState}
+use Rattle.conn_table.specs.Table.{Table}
+use Rattle.http_wire.specs.declared.answer.Answer.{Answer}
+use Rattle.http_wire.specs.Requests.{Request}
+use Rattle.ledger_records.specs.declared.sp_record.SpRecord.{SpRecord}
+use Rattle.node_serve.specs.declared.served.Served.{Served}
+use Rattle.node_serve.specs.declared.served.ServeFault.{ServeFault}
+use Rattle.node_serve.specs.Serving.{Serves}
+use Rattle.node_serve.specs.Turns.{Asked, Turn, Taken, Full, StarvedStart, Over, Unknown, Waiting, Answered, Refused, StarvedPiece, asked_in, asked_by, Does, Run}
+use Rattle.node_serve.specs.Worlds.{World, OnlySends}
+use Rattle.request_ledger.specs.Ledger.{Held}
+use Rattle.sp_server.specs.Step as steps
+use Rattle.sp_server.specs.Step.{Setup, Provider, Answers, Steps, is_expired}
+use Rattle.sp_server.specs.Histories.{IsProviders, Stands, ForRecord, ForNone, ForCode}
+use Rattle.sp_setup.specs.Laws.{ARegistryTellsTheProvider}
+use Rattle.sp_runs.specs.Laws.{ARunUsesWhatItsRegistryLists, EachRequestIsServedByTheSameSetup, AnEndedRegistryOpensNothing, is_of_login}
+use Rattle.node_runs.specs.Runs.{Outside, world_of}
+use Rattle.sp_runs.specs.Runs.{Begins}
+
+-- ---- one request
+
+serves_same : (found : Held) (request : Request) (now : ℕ) (Risen : Type 0) (answer : Answer) (old new : Provider) → steps.Serves found request now Risen answer old new → new.setup ≡ old.setup
+serves_same found request now Risen answer old new (steps.Plain answers whole) = whole.setup
+serves_same found request now Risen answer old new (steps.Recorded r answers place whole) = whole.setup
+serves_same found request now Risen answer old new (steps.RecordedAfterCompaction held wanted r other wants none made answers place whole) = whole.setup
+serves_same found request now Risen answer old new (steps.NoPlace held wanted r other another wants none made answers still is whole) = whole.setup
+serves_same found request now Risen answer old new (steps.Failed wanted other wants risen is broken) = broken.setup
+serves_same found request now Risen answer old new (steps.Starved held which is whole) = whole.setup
+
+step_same : (old : Provider) (disk : Option DiskState) (request : Request) (now : ℕ) (Risen : Type 0) (answer : Answer) (new : Provider) → Steps old disk request now Risen answer new → new.setup ≡ old.setup
+step_same old disk request now Risen answer new (steps.WithLedger whole serves) = serves_same _ request now Risen answer old new serves
+step_same old disk request now Risen answer new (steps.WithOpened found broken is serves) = serves_same found request now Risen answer old new serves
+step_same old disk request now Risen answer new (steps.NotOpened was risen is broken) = broken.setup
+step_same old disk request now Risen answer new (steps.Strange was none is broken) = broken.setup
+step_same old disk request now Risen answer new (steps.StarvedAtOpening was is broken) = broken.setup
+
+-- ---- one turn
+
+-- what a world is served by
+abbrev setup_in : World Provider → Setup
+setup_in w = w.node.setup
+
+same_world : (w later : World Provider) → later ≡ w → setup_in later ≡ setup_in w
+same_world w later same = ap setup_in same
+
+sent : (conn : ℕ) (bytes : List ℕ) (w later : World Provider) → OnlySends conn bytes w later → setup_in later ≡ setup_in w
+sent conn bytes w later sends = ap setup_in sends.same
+
+turn_same : (turn : Turn Provider) (old new : Table) (w later : World Provider) → Does IsProviders old w turn new later → setup_in later ≡ setup_in w
+turn_same (Taken conn) old new w later does = same_world w later does.1
+turn_same (Full conn) old new w later does = sent conn _ w later does.1
+turn_same (StarvedStart conn) old new w later does = sent conn _ w later does.1
+turn_same (Over conn) old new w later does = same_world w later does.1
+turn_same (Unknown conn piece) old new w later does = same_world w later does.1
+turn_same (Waiting conn piece) old new w later does = same_world w later does.1
+turn_same (Answered piece one) old new w later (between, takes, answers) =
+    sent one.conn _ answers.told later answers.sends
+    ∙ step_same w.node w.disk one.request one.now (Rose w.disk_faults answers.told.disk_faults) one.answer answers.told.node answers.asks.answers.does
+turn_same (Refused conn piece status) old new w later (between, takes, lets) = sent conn _ w later lets.sends
+turn_same (StarvedPiece conn piece) old new w later (between, takes, lets) = sent conn _ w later lets.sends
+
+-- the one that is asked is asked by
+asked_here : (turn : Turn Provider) (old new : Table) (w later : World Provider) (asked : Asked Provider) → Does IsProviders old w turn new later → Contains (asked_by turn) asked → asked.node.setup ≡ setup_in w
+asked_here (Answered piece one) old new w later asked (between, takes, answers) (zero, within, is) =
+    ap (λ (a : Asked Provider). a.node.setup) (sym is) ∙ ap (λ (p : Provider). p.setup) answers.asks.node
+asked_here (Answered piece one) old new w later asked does (suc k, within, is) = absurd (omega arith)
+asked_here turn old new w later asked does (k, within, is) = absurd (omega arith)
+
+-- ---- all turns
+
+run_same : (first last : World Provider) (turns : List (Turn Provider)) (kept : Table) → Run IsProviders first turns kept last → setup_in last ≡ setup_in first
+run_same first last [] kept run = same_world first last run.1
+run_same first last (turn ∷ past) kept (old, before, given, run, next, does) =
+    turn_same turn old kept given last does ∙ ap setup_in next.same ∙ run_same first before past old run
+
+asked_same : (first last : World Provider) (turns : List (Turn Provider)) (kept : Table) (asked : Asked Provider) → Run IsProviders first turns kept last → Contains (asked_in turns) asked →
+    asked.node.setup ≡ setup_in first
+asked_same first last [] kept asked run (k, within, is) = absurd (omega arith)
+asked_same first last (turn ∷ past) kept asked (old, before, given, run, next, does) there =
+    which (λ earlier. asked_same first before past old asked run earlier) (Contains-append_cases (asked_in past) (asked_by turn) asked there)
+  where
+    which : (Contains (asked_in past) asked → asked.node.setup ≡ setup_in first) → Contains (asked_in past) asked ⊎ Contains (asked_by turn) asked → asked.node.setup ≡ setup_in first
+    which rest (inl earlier) = rest earlier
+    which rest (inr now) = asked_here turn old kept given last asked does now ∙ ap setup_in next.same ∙ run_same first before past old run
+
+pub served_by_one : EachRequestIsServedByTheSameSetup
+served_by_one told file budget before opened after provider last turns served asked begins serves there =
+    asked_same (world_of provider opened) serves.last turns serves.kept asked serves.run there ∙ begins.started.serves_by
+
+-- ---- registries
+
+pub told_in_a_run : ARegistryTellsTheProvider → ARunUsesWhatItsRegistryLists
+told_in_a_run tells told file before opened provider line begins named =
+    (tells told _ file begins.lines begins.setup line begins.set_up named, begins.started.serves_by)
+
+-- where a registry has ended nothing is recorded
+ended_adds : (setup : Setup) (held : Held) (request : Request) (now : ℕ) (answer : Answer) (adds : Option SpRecord) (r : SpRecord) → is_expired setup.expiry now ≡ true →
+    adds ≡ Some r → Answers setup held request now answer adds → ⊥
+ended_adds setup held request now answer adds r ended some (steps.ByStatus status to is none) = cc
+ended_adds setup held request now answer adds r ended some (steps.ByMetadata to is none) = cc
+ended_adds setup held request now answer adds r ended some (steps.BySession row to found is none) = cc
+ended_adds setup held request now answer adds r ended some (steps.ByAsking bytes to none unexpired id relay page is ids shown) = let e = sym ended ∙ unexpired in cc
+ended_adds setup held request now answer adds r ended some (steps.ByOpening b row to unexpired opens token is has shown) = let e = sym ended ∙ unexpired in cc
+ended_adds setup held request now answer adds r ended some (steps.ByVerdict verdict to unexpired refused is none) = cc
+ended_adds setup held request now answer adds r ended some (steps.ByExpiry at expired is none) = cc
+
+stands_for_none : (asked : Asked Provider) (stood : Option SpRecord) (r : SpRecord) → is_expired asked.node.setup.expiry asked.now ≡ true → stood ≡ Some r → Stands asked stood → is_of_login r ≡ false
+stands_for_none asked stood r ended some (ForRecord held other answers) = absurd (ended_adds asked.node.setup held asked.request asked.now asked.answer (Some other) other ended refl answers)
+stands_for_none asked stood r ended some (ForNone held answers) = absurd (cc)
+stands_for_none asked stood r ended some (ForCode code is) = absurd (cc)
+
+at_or_after : (until now : ℕ) → until ≤ now → nat_le until now ≡ true
+at_or_after until now late = grind (arith, Rattle.std.proofs.lemmas.Bool.Decides.nat_tests)
+
+pub ended : AnEndedRegistryOpensNothing
+ended told file budget before opened after provider last turns served asked until r begins serves ends there late stands =
+    let by = served_by_one told file budget before opened after provider last turns served asked begins serves there in
+    let over : is_expired asked.node.setup.expiry asked.now ≡ true =
+    ap (λ (s : Setup). is_expired s.expiry asked.now) by ∙ ap (λ (e : Option ℕ). is_expired e asked.now) ends ∙ at_or_after until asked.now late in
+    stands_for_none asked (Some r) r over refl stands
