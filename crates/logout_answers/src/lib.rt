@@ -1,0 +1,17 @@
+//! The answers of a single logout, which both providers give: whole answers of HTTP/1.1 as bytes.
+//!
+//! ```
+//! let answer = leaving_answer(alloc, &peer, "_m1", issuer, now, name, &indexes)?;      // a form with a LogoutRequest
+//! let answer = ending_answer(alloc, &peer, "_m2", issuer, now, "_l1", false, None)?;   // a form with a LogoutResponse
+//! let answer = end_answer(alloc, false)?;                                              // the page at the end
+//! ```
+//!
+//! Contracts see an answer as its bytes, which `specs/Answers.antt` defines. Where the peer has no address for logout, the page at
+//! the end is shown in place of a form. Each call takes memory and refuses for want of it alone.
+#![tactic(auto)]
+
+mod answers;
+#[cfg(test)]
+mod tests;
+
+pub use answers::{end_answer, ending_answer, leaving_answer};
