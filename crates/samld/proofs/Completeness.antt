@@ -24,7 +24,7 @@ use Rattle.samld.specs.Canon.{OfForm, OfCanonDocument, OfCanon}
 use Rattle.samld.specs.Check.{rows_of, OfJudged, OfCheck}
 use Rattle.samld.specs.Vouch.{OfVouching, OfVouchedDocument, OfVouch}
 use Rattle.samld.specs.Reading.{OfFile}
-use Rattle.samld.specs.Running.{Command, Canon, Vouch, Check, Sp, command_of, OfCommand, Answers, Accepts}
+use Rattle.samld.specs.Running.{Command, Canon, Vouch, Check, Sp, Idp, command_of, OfCommand, Answers, Accepts}
 use Rattle.samld.specs.Serving.{Unserved}
 use Rattle.samld.proofs.Alone.{SaysYesAlone, not_refused_too, not_bad_too, document_alone, element_alone, file_alone}
 
@@ -91,6 +91,7 @@ command_alone laws files (Vouch file id key_file) =
     (λ bytes. file_alone (OfVouch id key_file bytes) files key_file _ (vouch_alone id key_file bytes))
 command_alone laws files (Check config body now) = check_alone laws files config body now
 command_alone laws files (Sp config events) = λ a b agrees p q. absurd p
+command_alone laws files (Idp config events) = λ a b agrees p q. absurd p
 
 words_alone : Laws → (files : List File) (words : List (List ℕ)) → SaysYesAlone (Answers words (Some files) Unserved)
 words_alone laws files words a b agrees = which (command_of words)

@@ -8,8 +8,8 @@ use Rattle.node_runs.specs.Runs.{Outside, IsServed}
 use Rattle.samld.specs.declared.status.Status.{Status}
 use Rattle.samld.specs.declared.status.Status.TheVariants as statuses
 use Rattle.samld.specs.Answers.{Answer, Printed, Refused, BadFile, Foreign, Usage, status_of, IsYes}
-use Rattle.samld.specs.Running.{Command, Canon, Vouch, Check, Sp, command_of, Does, DoesCommand, Carries, CommandCarries, OfCommand, Answers, Prints, EndsWith, EndsAfter, DoesServe, Accepts, AcceptsServing, IsRunnableBy}
-use Rattle.samld.specs.Serving.{Ran, Unserved, RanSp, answer_of}
+use Rattle.samld.specs.Running.{Command, Canon, Vouch, Check, Sp, Idp, command_of, Does, DoesCommand, Carries, CommandCarries, OfCommand, Answers, Prints, EndsWith, EndsAfter, DoesServe, Accepts, AcceptsServing, IsRunnableBy}
+use Rattle.samld.specs.Serving.{Ran, Unserved, RanSp, RanIdp, answer_of}
 use Rattle.samld.proofs.Answering.{weaker, answered, settled}
 use Rattle.samld.proofs.Completeness.{Laws, accepted_yes}
 
@@ -46,6 +46,8 @@ pub weaker_after : (ran : Ran) (P Q : Answer → Type 0) (old new : Option (List
 weaker_after Unserved P Q old new status f h = weaker P Q old new status f h
 weaker_after (RanSp turns (Ok ended)) P Q old new status f h = (h.0, weaker P Q old new status f h.1)
 weaker_after (RanSp turns (Err fault)) P Q old new status f h = h
+weaker_after (RanIdp turns (Ok ended)) P Q old new status f h = (h.0, weaker P Q old new status f h.1)
+weaker_after (RanIdp turns (Err fault)) P Q old new status f h = h
 
 -- a command of the words is what the program does
 pub done : (words : List (List ℕ)) (told : Option (List File)) (command : Command) → command_of words ≡ Some command →
@@ -82,6 +84,7 @@ unserved told (Canon file id) before ran after idle h = h.0
 unserved told (Vouch file id key_file) before ran after idle h = h.0
 unserved told (Check config body now) before ran after idle h = h.0
 unserved told (Sp config events) before ran after idle h = absurd (idle tt)
+unserved told (Idp config events) before ran after idle h = absurd (idle tt)
 
 accepted_idle : (words : List (List ℕ)) (told : Option (List File)) (command : Command) → command_of words ≡ Some command → Accepts words told →
     DoesServe (Some command) → ⊥
@@ -89,6 +92,8 @@ accepted_idle words told (Canon file id) e h serves = serves
 accepted_idle words told (Vouch file id key_file) e h serves = serves
 accepted_idle words told (Check config body now) e h serves = serves
 accepted_idle words told (Sp config events) e h serves =
+    subst (λ (o : Option Command). MatchOption o (h.answer ≡ Usage) (λ c. OfCommand (Some h.files) Unserved c h.answer)) e h.answered
+accepted_idle words told (Idp config events) e h serves =
     subst (λ (o : Option Command). MatchOption o (h.answer ≡ Usage) (λ c. OfCommand (Some h.files) Unserved c h.answer)) e h.answered
 
 -- words that are accepted are done, or there was no memory

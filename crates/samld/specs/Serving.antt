@@ -1,12 +1,14 @@
--- What `sp CONFIG EVENTS` does, and what it is answered with.
+-- What `sp CONFIG EVENTS` and `idp CONFIG EVENTS` do, and what they are answered with.
 use Rattle.std.specs.Prelude.{◌≡◌, ℕ, Bool, true, false, List, ◌++◌, Option, Result, Ok, Err, codes}
 use Rattle.std.specs.Fmt.{decimal}
 use Rattle.node_serve.specs.declared.served.Served.{Served}
 use Rattle.node_serve.specs.Turns.{Turn}
 use Rattle.crash_disk.specs.Disk.{Image, DiskState}
 use Rattle.crash_disk.specs.Moments.{Leaves}
-use Rattle.sp_runs.specs.Runs.{RunLeaves}
-use Rattle.sp_server.specs.Step.{Provider}
+use Rattle.idp_runs.specs.Runs as idp
+use Rattle.idp_server.specs.Step as idp_steps
+use Rattle.sp_runs.specs.Runs as sp
+use Rattle.sp_server.specs.Step as sp_steps
 use Rattle.node_runs.specs.declared.ended.Ended.{Ended}
 use Rattle.node_runs.specs.declared.ended.Ended.TheVariants as ends
 use Rattle.node_runs.specs.declared.ended.RunFault.{RunFault}
@@ -15,15 +17,18 @@ use Rattle.samld.specs.declared.status.Status.{Status}
 use Rattle.samld.specs.declared.status.Status.TheVariants as statuses
 use Rattle.samld.specs.Answers.{Answer, Printed, BadFile, Foreign}
 
--- What the program did beside its answer: nothing was served, or a service provider was run, with these turns, and came to this.
+-- What the program did beside its answer: nothing was served, or a service provider or an identity provider was run, with these
+-- turns, and came to this.
 pub data Ran : Type 0 where
   Unserved : Ran
-  RanSp : (turns : List (Turn Provider)) (result : Result Ended RunFault) → Ran
+  RanSp : (turns : List (Turn sp_steps.Provider)) (result : Result Ended RunFault) → Ran
+  RanIdp : (turns : List (Turn idp_steps.Provider)) (result : Result Ended RunFault) → Ran
 
 -- What a crash at a moment of that may leave of the disk: what it might leave before, or what one inside the run of the provider may.
 abbrev pub RanLeaves : Option DiskState → Ran → Image → Type 0
 RanLeaves disk Unserved image = Leaves disk image
-RanLeaves disk (RanSp turns result) image = RunLeaves disk turns image
+RanLeaves disk (RanSp turns result) image = sp.RunLeaves disk turns image
+RanLeaves disk (RanIdp turns result) image = idp.RunLeaves disk turns image
 
 -- why serving ended: the link gave Stop, or the budget was used up
 abbrev pub why_ended : Bool → List ℕ
@@ -45,6 +50,8 @@ abbrev pub OfRun : Ran → Answer → Type 0
 OfRun Unserved answer = ⊥
 OfRun (RanSp turns (Ok ended)) answer = answer ≡ answer_of ended
 OfRun (RanSp turns (Err fault)) answer = ⊥
+OfRun (RanIdp turns (Ok ended)) answer = answer ≡ answer_of ended
+OfRun (RanIdp turns (Err fault)) answer = ⊥
 
 -- the status of such a run
 abbrev pub status_of_fault : RunFault → Status

@@ -3,7 +3,7 @@
 ghost use Rattle.std.specs.Prelude.{◌≡◌, IfSome};
 ghost use Rattle.std.specs.Option.{option_map};
 ghost use Rattle.text_lines.specs.Numbers.{number_of};
-ghost use Rattle.samld.specs.Running.{check_at, sp_of, of_two, of_three, command_of};
+ghost use Rattle.samld.specs.Running.{check_at, events_of, sp_of, idp_of, of_two, of_three, command_of};
 ghost use Rattle.samld.specs.Views.{command_view, HasMoment};
 
 use crate::limits::MOST_EVENTS;
@@ -37,6 +37,11 @@ pub(crate) enum Command<'w> {
         config: &'w str,
         events: u64,
     },
+    /// That an identity provider with this config serves, until so many events were taken.
+    Idp {
+        config: &'w str,
+        events: u64,
+    },
 }
 
 /// What `check CONFIG BODYFILE NOW` asks for, where NOW is a moment.
@@ -48,16 +53,33 @@ fn check_at<'w>(config: &'w str, body: &'w str, now: &str) -> Option<Command<'w>
     Some(Command::Check { config, body, now })
 }
 
-/// What `sp CONFIG EVENTS` asks for, where EVENTS is a number from 1 on.
+/// The number of events that a word says, from 1 on.
+fn events_of(word: &str) -> Option<u64>
+    ensures { result ≡ events_of (number_of MOST_EVENTS word.now) }
+{
+    let events = number_of(word, MOST_EVENTS)?;
+    if events == 0 {
+        return None;
+    }
+    Some(events)
+}
+
+/// What `sp CONFIG EVENTS` asks for.
 fn sp_of<'w>(config: &'w str, events: &str) -> Option<Command<'w>>
     ensures command { option_map command_view result ≡ sp_of config.entry.now (number_of MOST_EVENTS events.now) }
     ensures moment { IfSome result HasMoment }
 {
-    let events = number_of(events, MOST_EVENTS)?;
-    if events == 0 {
-        return None;
-    }
+    let events = events_of(events)?;
     Some(Command::Sp { config, events })
+}
+
+/// What `idp CONFIG EVENTS` asks for.
+fn idp_of<'w>(config: &'w str, events: &str) -> Option<Command<'w>>
+    ensures command { option_map command_view result ≡ idp_of config.entry.now (number_of MOST_EVENTS events.now) }
+    ensures moment { IfSome result HasMoment }
+{
+    let events = events_of(events)?;
+    Some(Command::Idp { config, events })
 }
 
 /// The command of this name with two words behind it.
@@ -71,6 +93,7 @@ fn of_two<'w>(word: &str, first: &'w str, second: &'w str) -> Option<Command<'w>
             id: Some(second),
         }),
         "sp" => sp_of(first, second),
+        "idp" => idp_of(first, second),
         _ => None,
     }
 }
@@ -91,8 +114,8 @@ fn of_three<'w>(word: &str, first: &'w str, second: &'w str, third: &'w str) -> 
     }
 }
 
-/// The command of the words `canon FILE`, `canon FILE ID`, `vouch FILE ID KEYFILE`, `check CONFIG BODYFILE NOW` and
-/// `sp CONFIG EVENTS`.
+/// The command of the words `canon FILE`, `canon FILE ID`, `vouch FILE ID KEYFILE`, `check CONFIG BODYFILE NOW`,
+/// `sp CONFIG EVENTS` and `idp CONFIG EVENTS`.
 pub(crate) fn command_of(words: &[Text]) -> Option<Command<'_>>
     ensures command { option_map command_view result ≡ command_of words.now }
     ensures moment { IfSome result HasMoment }

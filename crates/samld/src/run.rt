@@ -22,7 +22,7 @@ use crate::canon::canon;
 use crate::check::check;
 use crate::command::{Command, command_of};
 use crate::limits::GREATEST_BODY;
-use crate::serve::run_provider;
+use crate::serve::{run_identity_provider, run_service_provider};
 use crate::status::Status;
 use crate::vouch::vouch;
 use crash_disk::Disk;
@@ -243,7 +243,10 @@ fn run_command<L: Link, D: Disk, C: Clock, F: Files, K: Sink>(
         Command::Canon { file, id } => run_canon(alloc, files, out, file, id),
         Command::Vouch { file, id, key_file } => run_vouch(alloc, files, out, file, id, key_file),
         Command::Check { config, body, now } => run_check(alloc, files, out, config, body, now),
-        Command::Sp { config, events } => run_provider(
+        Command::Sp { config, events } => run_service_provider(
+            alloc, config, events, link, disk, clock, files, out,
+        ),
+        Command::Idp { config, events } => run_identity_provider(
             alloc, config, events, link, disk, clock, files, out,
         ),
     }
@@ -251,8 +254,8 @@ fn run_command<L: Link, D: Disk, C: Clock, F: Files, K: Sink>(
 
 /// Runs the program for these words, over this link, disk and clock, these files and this output, and says how it ended.
 ///
-/// The command `sp` runs a service provider; it may end early where the disk fails while its ledger is opened, or the link
-/// fails. All other commands leave link, disk and clock as they are.
+/// The commands `sp` and `idp` run a service provider and an identity provider; they may end early where the disk fails while
+/// the ledger is opened, or the link fails. All other commands leave link, disk and clock as they are.
 pub fn run<L: Link, D: Disk, C: Clock, F: Files, K: Sink>(
     alloc: Global,
     words: &[Text],
@@ -263,8 +266,9 @@ pub fn run<L: Link, D: Disk, C: Clock, F: Files, K: Sink>(
     out: &mut K,
 ) -> Status
     // What was done is what the words ask for: a service provider opened sessions exactly where a posted form opens one, each of a
-    // login that was signed, and no two of one request. What was answered is what that asks for, and a crash at any moment leaves
-    // of the disk what one inside the opening of a ledger or inside an answer may leave.
+    // login that was signed, and no two of one request; an identity provider issued each Assertion to a user with a password or a
+    // session, and signed nothing but what its durable records stand for. What was answered is what that asks for, and a crash at
+    // any moment leaves of the disk what one inside the opening of a ledger or inside an answer may leave.
     ensures ends { (ran : Ran)
         × Does words.now (F.holds files.old) (outside (D.told disk.old) (D.faults_of disk.old) (L.told link.old) (L.faults_of link.old) (L.send_faults_of link.old) (C.to_come clock.old)) ran (outside (D.told disk.new) (D.faults_of disk.new) (L.told link.new) (L.faults_of link.new) (L.send_faults_of link.new) (C.to_come clock.new))
         × Carries words.now (F.holds files.old) (outside (D.told disk.old) (D.faults_of disk.old) (L.told link.old) (L.faults_of link.old) (L.send_faults_of link.old) (C.to_come clock.old)) ran (outside (D.told disk.new) (D.faults_of disk.new) (L.told link.new) (L.faults_of link.new) (L.send_faults_of link.new) (C.to_come clock.new))

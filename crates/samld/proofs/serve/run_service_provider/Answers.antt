@@ -1,7 +1,7 @@
 use Rattle.std.proofs.Common.{Ok, Err}
 use Rattle.samld.specs.Serving.{RanSp}
 use Rattle.samld.proofs.Serving.{nothing_printed}
-use Rattle.samld.proofs.serve.run_provider.Goals as goal
+use Rattle.samld.proofs.serve.run_service_provider.Goals as goal
 
 pub returns-in-Ok-clause-ends : goal.returns-in-Ok-clause-ends
 returns-in-Ok-clause-ends g c =

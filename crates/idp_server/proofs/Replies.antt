@@ -1,0 +1,294 @@
+-- What follows where a request asks for a reply.
+use Rattle.std.specs.Prelude.{IsSome, slice_get}
+use Rattle.std.proofs.Common.{◌≡◌, ◌≢◌, ℕ, zero, suc, ◌+◌, ◌≤◌, ◌<◌, true, List, [], ◌∷◌, ◌++◌, length, Option, None, Some, refl, sym, subst, ap, ◌∙◌, arith}
+use Rattle.std.specs.List.{AllByRecursion, flat_map, list_all}
+use Rattle.std.specs.Option.{option_map}
+use Rattle.owned_values.specs.declared.attributes.Attribute.{Attribute}
+use Rattle.xml_spec.specs.Characters.{IsText}
+use Rattle.xml_spec.proofs.Tests.{and_true}
+use Rattle.assertion_model.specs.Assertion.{IsStatable}
+use Rattle.http_wire.specs.declared.answer.Answer.{Answer}
+use Rattle.http_wire.specs.Requests.{Request}
+use Rattle.ledger_records.specs.declared.idp_record.Issued.{Issued}
+use Rattle.ledger_records.specs.declared.idp_record.IdpRecord.{IdpRecord}
+use Rattle.ledger_records.specs.declared.idp_record.IdpRecord.TheVariants as kinds
+use Rattle.ledger_rules.specs.Numbers.{is_xml_text}
+use Rattle.saml_ids.specs.IdText.{id_text}
+use Rattle.saml_ids.specs.Names.{IsIdForm}
+use Rattle.saml_ids.specs.declared.Kind.{Kind}
+use Rattle.saml_ids.proofs.IdForm.{every_id_is_a_name}
+use Rattle.peer_keys.specs.declared.peers.LogoutPeer.{LogoutPeer}
+use Rattle.idp_ledger.specs.declared.row.Ask.{Ask}
+use Rattle.idp_ledger.specs.declared.row.PendingRow.{PendingRow}
+use Rattle.idp_ledger.specs.declared.row.SessionRow.{SessionRow}
+use Rattle.idp_ledger.specs.RowsOf.{rows_of}
+use Rattle.idp_ledger.specs.Finding.{pending_found}
+use Rattle.idp_ledger.specs.Record.{LAST, of_attribute}
+use Rattle.idp_ledger.specs.Ledger.{Held, next_number}
+use Rattle.idp_ledger.specs.Drafts.{IsXmlAsk, issue, login, pending, spoke}
+use Rattle.idp_ledger.specs.Draft.{drawn_cookie, first_id, second_id}
+use Rattle.idp_ledger.specs.Laws.{AnswerAlike}
+use Rattle.idp_ledger.proofs.Draftable.{text_is_allowed}
+use Rattle.idp_rules.specs.declared.config.IdpConfig.{IdpConfig}
+use Rattle.idp_answers.specs.Answers.{IsNoPassiveAnswer}
+use Rattle.idp_server.specs.declared.reply.Reply.{Reply}
+use Rattle.idp_server.specs.declared.reply.Reply.TheVariants as replies
+use Rattle.idp_server.specs.Replies.{AsksAnew, AsksInSession, CanBeShown, HasAssertion, HasRefusal, IsIssuable, IsPage, IsTextAsk, IsTold, IsXmlReply, LogsIn, Wants, record_for}
+use Rattle.idp_server.specs.Step.{Answers, ByIssuing, ByPassive, ByAsking, ByLogin, IsAnswerFor, session_used}
+use Rattle.idp_server.proofs.Alike.{session_alike}
+
+-- ---- the record
+
+-- what an option holds
+the_one : {X : Type 0} (one other : X) (o : Option X) → o ≡ Some one → o ≡ Some other → one ≡ other
+the_one one other o a b = let c : Some one ≡ Some other = sym a ∙ b in cc
+
+-- one stands for each reply that is asked for
+pub record_of : (setup : IdpConfig) (held : Held) (request : Request) (now : ℕ) (key : List ℕ) (reply : Reply) → Wants setup held request now reply
+    → (r : IdpRecord) × (record_for key held now reply ≡ Some r)
+record_of setup held request now key (replies.InSession cookie ask peer) w =
+    (issue key (next_number held) now w.row ask, ap (option_map (λ (row : SessionRow). issue key (next_number held) now row ask)) w.found)
+record_of setup held request now key (replies.Passive ask) w = (spoke key (next_number held) now ask, refl)
+record_of setup held request now key (replies.Question ask) w = (pending key (next_number held) now ask, refl)
+record_of setup held request now key (replies.Login id user attributes peer) w =
+    (login key (next_number held) now w.row user attributes, ap (option_map (λ (row : PendingRow). login key (next_number held) now row user attributes)) w.found)
+
+session_record : (setup : IdpConfig) (held : Held) (request : Request) (now : ℕ) (key cookie : List ℕ) (ask : Ask) (peer : ℕ) (r : IdpRecord)
+    → (w : AsksInSession setup held request now cookie ask peer) → record_for key held now (replies.InSession cookie ask peer) ≡ Some r
+    → issue key (next_number held) now w.row ask ≡ r
+session_record setup held request now key cookie ask peer r w is =
+    the_one (issue key (next_number held) now w.row ask) r _ (ap (option_map (λ (row : SessionRow). issue key (next_number held) now row ask)) w.found) is
+
+login_record : (setup : IdpConfig) (held : Held) (request : Request) (now : ℕ) (key id user : List ℕ) (attributes : List Attribute) (peer : ℕ) (r : IdpRecord)
+    → (w : LogsIn setup held request now id user attributes peer) → record_for key held now (replies.Login id user attributes peer) ≡ Some r
+    → login key (next_number held) now w.row user attributes ≡ r
+login_record setup held request now key id user attributes peer r w is =
+    the_one (login key (next_number held) now w.row user attributes) r _ (ap (option_map (λ (row : PendingRow). login key (next_number held) now row user attributes)) w.found) is
+
+-- ---- its texts
+
+are_allowed : (texts : List (List ℕ)) → AllByRecursion IsText texts → list_all is_xml_text texts ≡ true
+are_allowed [] all = refl
+are_allowed (text ∷ texts) all = and_true (is_xml_text text) (list_all is_xml_text texts) (text_is_allowed text all.0) (are_allowed texts all.1)
+
+all_both : (one other : List (List ℕ)) → AllByRecursion IsText one → AllByRecursion IsText other → AllByRecursion IsText (one ++ other)
+all_both [] other a b = b
+all_both (text ∷ one) other a b = (a.0, all_both one other a.1 b)
+
+of_attributes : (attributes : List Attribute) → AllByRecursion IsStatable attributes → AllByRecursion IsText (flat_map of_attribute attributes)
+of_attributes [] all = tt
+of_attributes (a ∷ attributes) all = all_both (of_attribute a) (flat_map of_attribute attributes) (all.0.name, all.0.values) (of_attributes attributes all.1)
+
+ask_allowed : (ask : Ask) → IsTextAsk ask → IsXmlAsk ask
+ask_allowed ask texts = are_allowed (ask.request ∷ ask.peer ∷ ask.consumer ∷ []) (texts.request, (texts.peer, (texts.consumer, tt)))
+
+pub reply_allowed : (setup : IdpConfig) (held : Held) (request : Request) (now : ℕ) (reply : Reply) → Wants setup held request now reply → IsXmlReply reply
+reply_allowed setup held request now (replies.InSession cookie ask peer) w = ask_allowed ask w.asks.texts
+reply_allowed setup held request now (replies.Passive ask) w = ask_allowed ask w.asks.texts
+reply_allowed setup held request now (replies.Question ask) w = ask_allowed ask w.asks.texts
+reply_allowed setup held request now (replies.Login id user attributes peer) w =
+    (text_is_allowed user w.user_text, are_allowed (flat_map of_attribute attributes) (of_attributes attributes w.stated))
+
+-- ---- it can be shown
+
+id_named : (id : List ℕ) → IsIdForm id → id ≢ []
+id_named id form none = subst IsIdForm none form
+
+drawn_named : (key : List ℕ) (kind : Kind) (n : ℕ) → id_text key kind n ≢ []
+drawn_named key kind n = id_named (id_text key kind n) (every_id_is_a_name key kind n).form
+
+drawn_text : (key : List ℕ) (kind : Kind) (n : ℕ) → IsText (id_text key kind n)
+drawn_text key kind n = (every_id_is_a_name key kind n).text
+
+there_inside : {X : Type 0} (xs : List X) (i : ℕ) (x : X) → slice_get xs i ≡ Some x → i < length xs
+there_inside [] i x is = absurd (cc)
+there_inside (y ∷ xs) zero x is = omega arith
+there_inside (y ∷ xs) (suc i) x is = omega (arith, there_inside xs i x is)
+
+-- an issued record that can be shown, with the written forms of its moments
+pub record CanBeIssued (r : IdpRecord) : Type 0 where
+  pub issued : Issued
+  pub is : r ≡ kinds.Issued issued
+  pub issuable : IsIssuable issued
+  pub made : IsTold issued.moment
+  pub until : IsTold issued.until
+  pub ends : IsTold issued.session_end
+
+pub issued_in_session : (setup : IdpConfig) (held : Held) (request : Request) (now : ℕ) (key cookie : List ℕ) (ask : Ask) (peer : ℕ) (r : IdpRecord) → now ≤ LAST
+    → AsksInSession setup held request now cookie ask peer → record_for key held now (replies.InSession cookie ask peer) ≡ Some r → CanBeIssued r
+issued_in_session setup held request now key cookie ask peer r moment w is =
+    let n = next_number held in
+    subst CanBeIssued (session_record setup held request now key cookie ask peer r w is) (record {
+      issued = _;
+      is = refl;
+      issuable = record {
+        assertion = drawn_text key _ n;
+        named = drawn_named key _ n;
+        message = drawn_text key _ (n + 1);
+        message_named = drawn_named key _ (n + 1);
+        index = w.texts.index;
+        user = w.texts.user;
+        peer = w.asks.texts.peer;
+        consumer = w.asks.texts.consumer;
+        request = w.asks.texts.request;
+        attributes = w.texts.attributes;
+        moment = moment;
+        until = omega arith;
+        session_end = w.texts.until;
+      };
+      made = w.told.issued;
+      until = w.told.until;
+      ends = w.told.ends;
+    })
+
+pub issued_at_login : (setup : IdpConfig) (held : Held) (request : Request) (now : ℕ) (key id user : List ℕ) (attributes : List Attribute) (peer : ℕ) (r : IdpRecord) → now ≤ LAST
+    → LogsIn setup held request now id user attributes peer → record_for key held now (replies.Login id user attributes peer) ≡ Some r → CanBeIssued r × IsSome (second_id r)
+issued_at_login setup held request now key id user attributes peer r moment w is =
+    let n = next_number held in
+    subst (λ (x : IdpRecord). CanBeIssued x × IsSome (second_id x)) (login_record setup held request now key id user attributes peer r w is) (
+      record {
+        issued = _;
+        is = refl;
+        issuable = record {
+          assertion = drawn_text key _ n;
+          named = drawn_named key _ n;
+          message = drawn_text key _ (n + 1);
+          message_named = drawn_named key _ (n + 1);
+          index = drawn_text key _ (n + 3);
+          user = w.user_text;
+          peer = w.texts.peer;
+          consumer = w.texts.consumer;
+          request = w.texts.request;
+          attributes = w.stated;
+          moment = moment;
+          until = omega arith;
+          session_end = omega arith;
+        };
+        made = w.told.issued;
+        until = w.told.until;
+        ends = w.told.ends;
+      },
+      refl,
+    )
+
+shown_with : (setup : IdpConfig) (place : ℕ) (peer : LogoutPeer) (r : IdpRecord) → slice_get setup.peers place ≡ Some peer → CanBeIssued r → HasAssertion setup place r
+shown_with setup place peer r there can = record { issued = can.issued; is = can.is; issuable = can.issuable; known = there_inside setup.peers place peer there }
+
+-- the peer of a reply
+pub placed_peer : (setup : IdpConfig) (held : Held) (request : Request) (now : ℕ) (cookie : List ℕ) (ask : Ask) (peer : ℕ) → (w : AsksInSession setup held request now cookie ask peer)
+    → slice_get setup.peers peer ≡ Some w.peer
+placed_peer setup held request now cookie ask peer w = subst (λ (place : ℕ). slice_get setup.peers place ≡ Some w.peer) (sym w.placed) w.asks.known
+
+pub refusal_of : (setup : IdpConfig) (held : Held) (request : Request) (now : ℕ) (key : List ℕ) (ask : Ask) (r : IdpRecord) → AsksAnew true setup held request now ask
+    → record_for key held now (replies.Passive ask) ≡ Some r → HasRefusal ask r
+refusal_of setup held request now key ask r w is =
+    subst (HasRefusal ask) (the_one (spoke key (next_number held) now ask) r (record_for key held now (replies.Passive ask)) refl is) (record {
+      message = _;
+      named = refl;
+      text = drawn_text key _ (next_number held);
+      request = w.asks.texts.request;
+      consumer = w.asks.texts.consumer;
+    })
+
+pub shown_of : (setup : IdpConfig) (held : Held) (request : Request) (now : ℕ) (key : List ℕ) (reply : Reply) (r : IdpRecord) → now ≤ LAST → Wants setup held request now reply
+    → record_for key held now reply ≡ Some r → CanBeShown setup reply r
+shown_of setup held request now key (replies.InSession cookie ask peer) r moment w is =
+    shown_with setup peer w.peer r (placed_peer setup held request now cookie ask peer w) (issued_in_session setup held request now key cookie ask peer r moment w is)
+shown_of setup held request now key (replies.Passive ask) r moment w is = refusal_of setup held request now key ask r w is
+shown_of setup held request now key (replies.Question ask) r moment w is =
+    subst (λ (x : IdpRecord). IsSome (first_id x)) (the_one (pending key (next_number held) now ask) r (record_for key held now (replies.Question ask)) refl is) refl
+shown_of setup held request now key (replies.Login id user attributes peer) r moment w is =
+    let can = issued_at_login setup held request now key id user attributes peer r moment w is in
+    (shown_with setup peer w.peer r w.there can.0, can.1)
+
+-- ---- the page stands for it
+
+-- two peers at one place are one
+same_peer : (peers : List LogoutPeer) (place : ℕ) (one other : LogoutPeer) → slice_get peers place ≡ Some one → slice_get peers place ≡ Some other → one ≡ other
+same_peer peers place one other a b = the_one one other (slice_get peers place) a b
+
+-- the cookie that a record draws is its cookie
+cookie_drawn : (pending : Option (List ℕ)) (cookie one : List ℕ) → drawn_cookie pending cookie ≡ Some one → Some one ≡ Some cookie
+cookie_drawn None cookie one is = absurd (cc)
+cookie_drawn (Some pending) cookie one is = sym is
+
+pub page_answers : (setup : IdpConfig) (held : Held) (request : Request) (now : ℕ) (reply : Reply) (r : IdpRecord) (answer : Answer) → Wants setup held request now reply
+    → record_for setup.id_key held now reply ≡ Some r → IsPage setup reply r now answer → Answers setup held request now answer (Some r)
+page_answers setup held request now (replies.InSession cookie ask peer) r answer w is page =
+    let same = session_record setup held request now setup.id_key cookie ask peer r w is in
+    let who = same_peer setup.peers peer page.peer w.peer page.there (placed_peer setup held request now cookie ask peer w) in
+    ByIssuing w.asked w.peer w.row page.issued page.bytes w.asks.to w.asks.is w.asks.known w.used
+    (ap (λ (a : Ask). issue setup.id_key (next_number held) now w.row a) (sym w.asks.says) ∙ same ∙ page.is) (ap Some page.is)
+    (subst (λ (p : LogoutPeer). IsAnswerFor setup p page.issued None now page.bytes) who page.answers) page.full
+page_answers setup held request now (replies.Passive ask) r answer w is page =
+    let same = the_one (spoke setup.id_key (next_number held) now ask) r (record_for setup.id_key held now (replies.Passive ask)) refl is in
+    let spoken = ap (λ (a : Ask). spoke setup.id_key (next_number held) now a) w.asks.says in
+    ByPassive w.asked w.peer page.message page.bytes w.asks.to w.asks.is w.asks.known w.none w.passive_is (ap Some (sym same ∙ spoken))
+    (ap first_id (sym spoken ∙ same) ∙ page.named)
+    (subst (λ (a : Ask). IsNoPassiveAnswer setup.entity page.message a.request a.consumer a.relay now page.bytes) w.asks.says page.answers) page.full
+page_answers setup held request now (replies.Question ask) r answer w is page =
+    let same = the_one (pending setup.id_key (next_number held) now ask) r (record_for setup.id_key held now (replies.Question ask)) refl is in
+    let asked = ap (λ (a : Ask). pending setup.id_key (next_number held) now a) w.asks.says in
+    ByAsking w.asked w.peer page.id w.asks.to w.asks.is w.asks.known w.none w.passive_is (ap Some (sym same ∙ asked)) (ap first_id (sym asked ∙ same) ∙ page.named) page.full
+page_answers setup held request now (replies.Login id user attributes peer) r answer w is page =
+    let same = login_record setup held request now setup.id_key id user attributes peer r w is in
+    let who = same_peer setup.peers peer page.page.peer w.peer page.page.there w.there in
+    let named = ap (λ (u : List ℕ). login setup.id_key (next_number held) now w.row u attributes) (sym w.user_is) in
+    let stated = ap (λ (given : List Attribute). login setup.id_key (next_number held) now w.row w.who.name given) (sym w.attributes_are) in
+    let drawn = cookie_drawn page.page.issued.pending page.page.issued.cookie page.cookie (sym (ap second_id page.page.is) ∙ page.draws) in
+    ByLogin w.fields w.row w.peer w.who page.page.issued page.page.bytes w.to w.posted
+    (subst (λ (i : List ℕ). pending_found (rows_of held.records).pendings i now held.header.horizon ≡ Some w.row) w.same w.found, (peer, w.known, w.there))
+    w.checks (stated ∙ named ∙ same ∙ page.page.is) (ap Some page.page.is)
+    (subst (λ (c : Option (List ℕ)). IsAnswerFor setup w.peer page.page.issued c now page.page.bytes) drawn
+    (subst (λ (p : LogoutPeer). IsAnswerFor setup p page.page.issued (Some page.cookie) now page.page.bytes) who page.page.answers)) page.page.full
+
+-- ---- behind a compaction it is asked for as before
+
+pub wants_still : (setup : IdpConfig) (anew old : Held) (request : Request) (now : ℕ) (reply : Reply) → AnswerAlike now anew old → Wants setup old request now reply
+    → Wants setup anew request now reply
+wants_still setup anew old request now (replies.InSession cookie ask peer) like w = record {
+  asked = w.asked;
+  peer = w.peer;
+  asks = w.asks;
+  placed = w.placed;
+  row = w.row;
+  used = ap (session_used w.asked) (session_alike now anew old request like) ∙ w.used;
+  found = like.session cookie ∙ w.found;
+  texts = w.texts;
+  told = w.told;
+}
+wants_still setup anew old request now (replies.Passive ask) like w = record {
+  asked = w.asked;
+  peer = w.peer;
+  asks = w.asks;
+  none = ap (session_used w.asked) (session_alike now anew old request like) ∙ w.none;
+  passive_is = w.passive_is;
+  told = w.told;
+}
+wants_still setup anew old request now (replies.Question ask) like w = record {
+  asked = w.asked;
+  peer = w.peer;
+  asks = w.asks;
+  none = ap (session_used w.asked) (session_alike now anew old request like) ∙ w.none;
+  passive_is = w.passive_is;
+  told = w.told;
+}
+wants_still setup anew old request now (replies.Login id user attributes peer) like w = record {
+  to = w.to;
+  fields = w.fields;
+  posted = w.posted;
+  same = w.same;
+  row = w.row;
+  found = like.pending id ∙ w.found;
+  peer = w.peer;
+  known = w.known;
+  there = w.there;
+  who = w.who;
+  checks = w.checks;
+  user_is = w.user_is;
+  attributes_are = w.attributes_are;
+  texts = w.texts;
+  user_text = w.user_text;
+  stated = w.stated;
+  told = w.told;
+}

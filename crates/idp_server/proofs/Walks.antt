@@ -1,0 +1,39 @@
+-- Going over a list whose elements all pass.
+use Rattle.std.proofs.Common.{◌≡◌, ℕ, ◌+◌, Bool, true, ◌&&◌, List, [], ◌∷◌, drop, length, slice_get, Some, refl, arith, sym, subst, ap, ◌∙◌}
+use Rattle.std.specs.List.{AllByRecursion, list_all, flat_map}
+use Rattle.std.proofs.lemmas.Bool.{and_parts}
+use Rattle.std.proofs.lemmas.List.{drop_more, drop_all}
+use Rattle.std.proofs.lemmas.List.Folds.{list_all-append}
+use Rattle.std.proofs.lemmas.Option.{get_or_from_slice_get, slice_get_within}
+
+drop_at : {X : Type 0} (xs : List X) (i : ℕ) (x : X) → slice_get xs i ≡ Some x → drop i xs ≡ x ∷ drop (i + 1) xs
+drop_at xs i x is = drop_more xs i x (slice_get_within xs i x is) ∙ ap (λ y. y ∷ drop (i + 1) xs) (get_or_from_slice_get xs i x x is)
+
+-- so far each holds, and what is left passes
+pub record IsWalked {X : Type 0} (P : X → Type 0) (test : X → Bool) (xs : List X) (i : ℕ) : Type 0 where
+  pub back : AllByRecursion P (drop i xs) → AllByRecursion P xs
+  pub left : list_all test (drop i xs) ≡ true
+
+pub walk_starts : {X : Type 0} (P : X → Type 0) (test : X → Bool) (xs : List X) → list_all test xs ≡ true → IsWalked P test xs 0
+walk_starts P test xs all = record { back = λ rest. rest; left = all }
+
+pub walk_tells : {X : Type 0} (P : X → Type 0) (test : X → Bool) (xs : List X) (i : ℕ) (x : X) → slice_get xs i ≡ Some x → IsWalked P test xs i → test x ≡ true
+walk_tells {X} P test xs i x is walked =
+    (and_parts (test x) (list_all test (drop (i + 1) xs)) (subst (λ (ys : List X). list_all test ys ≡ true) (drop_at xs i x is) walked.left)).0
+
+pub walk_goes : {X : Type 0} (P : X → Type 0) (test : X → Bool) (xs : List X) (i : ℕ) (x : X) → slice_get xs i ≡ Some x → P x → IsWalked P test xs i → IsWalked P test xs (i + 1)
+walk_goes {X} P test xs i x is holds walked = record {
+  back = λ rest. walked.back (subst (AllByRecursion P) (sym (drop_at xs i x is)) (holds, rest));
+  left = (and_parts (test x) (list_all test (drop (i + 1) xs)) (subst (λ (ys : List X). list_all test ys ≡ true) (drop_at xs i x is) walked.left)).1;
+}
+
+pub walk_ends : {X : Type 0} (P : X → Type 0) (test : X → Bool) (xs : List X) (i : ℕ) → length xs ≡ i → IsWalked P test xs i → AllByRecursion P xs
+walk_ends P test xs i is walked = walked.back (subst (AllByRecursion P) (sym (drop_all i xs (omega arith))) tt)
+
+-- what passes of lists that are joined passes of each
+pub all_of_each : {X : Type 0} (parts : X → List (List ℕ)) (test : List ℕ → Bool) (xs : List X) → list_all test (flat_map parts xs) ≡ true
+    → list_all (λ x. list_all test (parts x)) xs ≡ true
+all_of_each parts test [] all = refl
+all_of_each parts test (x ∷ xs) all =
+    let both = and_parts (list_all test (parts x)) (list_all test (flat_map parts xs)) (sym (list_all-append test (parts x) (flat_map parts xs)) ∙ all) in
+    λ i. both.0 i && all_of_each parts test xs both.1 i

@@ -1,0 +1,10 @@
+pub mod Routes
+pub mod Logins
+pub mod Step
+pub mod Node
+pub mod Serving
+pub mod Replies
+pub mod Issues
+pub mod Signed
+pub mod Views
+pub mod Examples

@@ -1,0 +1,220 @@
+-- How a request is replied to with a record: what it asks for, the record that stands for it, and the page.
+use Rattle.std.specs.Prelude.{◌≡◌, ◌≢◌, ℕ, ◌+◌, ◌≤◌, ◌<◌, min, Bool, true, false, List, [], length, Option, None, Some, IsSome, slice_get}
+use Rattle.std.specs.List.{AllByRecursion}
+use Rattle.std.specs.Option.{option_map}
+use Rattle.xml_spec.specs.Characters.{IsText}
+use Rattle.saml_time.specs.Instant.{TellsInFull}
+use Rattle.owned_values.specs.declared.attributes.Attribute.{Attribute}
+use Rattle.assertion_model.specs.Assertion.{IsStatable}
+use Rattle.http_wire.specs.declared.answer.Answer.{Answer}
+use Rattle.http_wire.specs.declared.answer.Answer.TheVariants.{Full}
+use Rattle.http_wire.specs.Requests.{Request}
+use Rattle.ledger_records.specs.declared.idp_record.Issued.{Issued}
+use Rattle.ledger_records.specs.declared.idp_record.IdpRecord.{IdpRecord}
+use Rattle.ledger_records.specs.declared.idp_record.IdpRecord.TheVariants as kinds
+use Rattle.ledger_rules.specs.Numbers.{is_xml_text}
+use Rattle.peer_keys.specs.Peers.{place_of}
+use Rattle.peer_keys.specs.declared.peers.LogoutPeer.{LogoutPeer}
+use Rattle.user_store.specs.Store.{checked}
+use Rattle.user_store.specs.declared.user.User.{User}
+use Rattle.idp_ledger.specs.declared.row.Ask.{Ask}
+use Rattle.idp_ledger.specs.declared.row.PendingRow.{PendingRow}
+use Rattle.idp_ledger.specs.declared.row.SessionRow.{SessionRow}
+use Rattle.idp_ledger.specs.RowsOf.{rows_of}
+use Rattle.idp_ledger.specs.Finding.{pending_found, session_found}
+use Rattle.idp_ledger.specs.Record.{LAST}
+use Rattle.idp_ledger.specs.Ledger.{Held, next_number}
+use Rattle.idp_ledger.specs.Draft.{first_id, second_id}
+use Rattle.idp_ledger.specs.Drafts.{ASSERTION_LIFE, SESSION_LIFE, AreXmlAttributes, IsXmlAsk, issue, login, pending, spoke}
+use Rattle.idp_rules.specs.Asking.{IsAsked}
+use Rattle.idp_rules.specs.Config.{sign_on}
+use Rattle.idp_rules.specs.declared.asked.Asked.{Asked}
+use Rattle.idp_rules.specs.declared.config.IdpConfig.{IdpConfig}
+use Rattle.idp_answers.specs.Answers.{IsNoPassiveAnswer, login_answer}
+use Rattle.idp_server.specs.declared.reply.Reply.{Reply}
+use Rattle.idp_server.specs.declared.reply.Reply.TheVariants as replies
+use Rattle.idp_server.specs.Routes as routes
+use Rattle.idp_server.specs.Routes.{To, route}
+use Rattle.idp_server.specs.Step.{IsAnswerFor, Typed, ask_of, session_for, session_used, typed}
+
+-- THE RECORD
+
+-- the record that stands for a reply over a ledger; none where the session does not live or the login is not pending
+abbrev pub record_for : (key : List ℕ) → Held → ℕ → Reply → Option IdpRecord
+record_for key held now (replies.InSession cookie ask peer) =
+    option_map (λ row. issue key (next_number held) now row ask) (session_found (rows_of held.records).sessions cookie now held.header.horizon)
+record_for key held now (replies.Passive ask) = Some (spoke key (next_number held) now ask)
+record_for key held now (replies.Question ask) = Some (pending key (next_number held) now ask)
+record_for key held now (replies.Login id user attributes peer) =
+    option_map (λ row. login key (next_number held) now row user attributes) (pending_found (rows_of held.records).pendings id now held.header.horizon)
+
+-- THE PAGE
+
+-- an answer with the Assertion of an issued record, for the peer at this place
+pub record IsAssertionPage (setup : IdpConfig) (place : ℕ) (cookie : Option (List ℕ)) (r : IdpRecord) (now : ℕ) (answer : Answer) : Type 0 where
+  pub issued : Issued
+  pub is : r ≡ kinds.Issued issued
+  pub peer : LogoutPeer
+  pub there : slice_get setup.peers place ≡ Some peer
+  pub bytes : List ℕ
+  pub answers : IsAnswerFor setup peer issued cookie now bytes
+  pub full : answer ≡ Full bytes
+
+-- the same with the cookie that the record draws
+pub record IsLoginPage (setup : IdpConfig) (place : ℕ) (r : IdpRecord) (now : ℕ) (answer : Answer) : Type 0 where
+  pub cookie : List ℕ
+  pub draws : second_id r ≡ Some cookie
+  pub page : IsAssertionPage setup place (Some cookie) r now answer
+
+-- an answer without an Assertion
+pub record IsPassivePage (setup : IdpConfig) (ask : Ask) (r : IdpRecord) (now : ℕ) (answer : Answer) : Type 0 where
+  pub message : List ℕ
+  pub named : first_id r ≡ Some message
+  pub bytes : List ℕ
+  pub answers : IsNoPassiveAnswer setup.entity message ask.request ask.consumer ask.relay now bytes
+  pub full : answer ≡ Full bytes
+
+-- the page where the user logs in
+pub record IsQuestionPage (r : IdpRecord) (answer : Answer) : Type 0 where
+  pub id : List ℕ
+  pub named : first_id r ≡ Some id
+  pub full : answer ≡ Full (login_answer id)
+
+-- the answer that stands for the record of a reply
+abbrev pub IsPage : IdpConfig → Reply → IdpRecord → ℕ → Answer → Type 0
+IsPage setup (replies.InSession cookie ask peer) r now answer = IsAssertionPage setup peer None r now answer
+IsPage setup (replies.Passive ask) r now answer = IsPassivePage setup ask r now answer
+IsPage setup (replies.Question ask) r now answer = IsQuestionPage r answer
+IsPage setup (replies.Login id user attributes peer) r now answer = IsLoginPage setup peer r now answer
+
+-- WHAT A PAGE NEEDS
+
+-- an issued record whose IDs and texts may stand in a document, and whose moments have a written form
+pub record IsIssuable (r : Issued) : Type 0 where
+  pub assertion : IsText r.assertion
+  pub named : r.assertion ≢ []
+  pub message : IsText r.message
+  pub message_named : r.message ≢ []
+  pub index : IsText r.index
+  pub user : IsText r.user
+  pub peer : IsText r.peer
+  pub consumer : IsText r.consumer
+  pub request : IsText r.request
+  pub attributes : AllByRecursion IsStatable r.attributes
+  pub moment : r.moment ≤ LAST
+  pub until : r.until ≤ LAST
+  pub session_end : r.session_end ≤ LAST
+
+pub record HasAssertion (setup : IdpConfig) (place : ℕ) (r : IdpRecord) : Type 0 where
+  pub issued : Issued
+  pub is : r ≡ kinds.Issued issued
+  pub issuable : IsIssuable issued
+  pub known : place < length setup.peers
+
+pub record HasRefusal (ask : Ask) (r : IdpRecord) : Type 0 where
+  pub message : List ℕ
+  pub named : first_id r ≡ Some message
+  pub text : IsText message
+  pub request : IsText ask.request
+  pub consumer : IsText ask.consumer
+
+-- the record of a reply can be shown
+abbrev pub CanBeShown : IdpConfig → Reply → IdpRecord → Type 0
+CanBeShown setup (replies.InSession cookie ask peer) r = HasAssertion setup peer r
+CanBeShown setup (replies.Passive ask) r = HasRefusal ask r
+CanBeShown setup (replies.Question ask) r = IsSome (first_id r)
+CanBeShown setup (replies.Login id user attributes peer) r = HasAssertion setup peer r × IsSome (second_id r)
+
+-- a document may hold the texts of what is recorded
+abbrev pub IsXmlReply : Reply → Type 0
+IsXmlReply (replies.InSession cookie ask peer) = IsXmlAsk ask
+IsXmlReply (replies.Passive ask) = IsXmlAsk ask
+IsXmlReply (replies.Question ask) = IsXmlAsk ask
+IsXmlReply (replies.Login id user attributes peer) = (is_xml_text user ≡ true) × AreXmlAttributes attributes
+
+-- WHEN A REQUEST ASKS FOR A REPLY
+
+-- a moment has a written form, which may stand in a document
+pub record IsTold (moment : ℕ) : Type 0 where
+  pub text : List ℕ
+  pub tells : TellsInFull text moment
+  pub may_stand : IsText text
+
+-- the moments of an Assertion have written forms
+pub record AreTold (now session_end : ℕ) : Type 0 where
+  pub issued : IsTold now
+  pub until : IsTold (min LAST (now + ASSERTION_LIFE))
+  pub ends : IsTold session_end
+
+-- the texts of an ask, of a session and of a pending login may stand in a document
+pub record IsTextAsk (ask : Ask) : Type 0 where
+  pub request : IsText ask.request
+  pub peer : IsText ask.peer
+  pub consumer : IsText ask.consumer
+
+pub record IsTextSession (row : SessionRow) : Type 0 where
+  pub index : IsText row.index
+  pub user : IsText row.user
+  pub attributes : AllByRecursion IsStatable row.attributes
+  pub until : row.until ≤ LAST
+
+pub record IsTextPending (row : PendingRow) : Type 0 where
+  pub request : IsText row.request
+  pub peer : IsText row.peer
+  pub consumer : IsText row.consumer
+
+-- a peer asks for a login
+pub record AsksFor (setup : IdpConfig) (request : Request) (ask : Ask) (asked : Asked) (peer : LogoutPeer) : Type 0 where
+  pub to : route request ≡ To routes.SignOn
+  pub is : IsAsked setup.peers (sign_on setup) request.body asked
+  pub known : slice_get setup.peers asked.peer ≡ Some peer
+  pub says : ask ≡ ask_of asked peer
+  pub texts : IsTextAsk ask
+
+-- and the user has a session, of this cookie
+pub record AsksInSession (setup : IdpConfig) (held : Held) (request : Request) (now : ℕ) (cookie : List ℕ) (ask : Ask) (place : ℕ) : Type 0 where
+  pub asked : Asked
+  pub peer : LogoutPeer
+  pub asks : AsksFor setup request ask asked peer
+  pub placed : place ≡ asked.peer
+  pub row : SessionRow
+  pub used : session_used asked (session_for held now request) ≡ Some row
+  pub found : session_found (rows_of held.records).sessions cookie now held.header.horizon ≡ Some row
+  pub texts : IsTextSession row
+  pub told : AreTold now row.until
+
+-- and has none, and may be asked or not
+pub record AsksAnew (passive : Bool) (setup : IdpConfig) (held : Held) (request : Request) (now : ℕ) (ask : Ask) : Type 0 where
+  pub asked : Asked
+  pub peer : LogoutPeer
+  pub asks : AsksFor setup request ask asked peer
+  pub none : session_used asked (session_for held now request) ≡ None
+  pub passive_is : asked.passive ≡ passive
+  pub told : IsTold now
+
+-- the page of a pending login was posted, with the name and the password of a user
+pub record LogsIn (setup : IdpConfig) (held : Held) (request : Request) (now : ℕ) (id user : List ℕ) (attributes : List Attribute) (place : ℕ) : Type 0 where
+  pub to : route request ≡ To routes.Login
+  pub fields : Typed
+  pub posted : typed request.body ≡ Some fields
+  pub same : id ≡ fields.pending
+  pub row : PendingRow
+  pub found : pending_found (rows_of held.records).pendings id now held.header.horizon ≡ Some row
+  pub peer : LogoutPeer
+  pub known : place_of row.peer setup.peers ≡ Some place
+  pub there : slice_get setup.peers place ≡ Some peer
+  pub who : User
+  pub checks : checked setup.users fields.user fields.password ≡ Some who
+  pub user_is : user ≡ who.name
+  pub attributes_are : attributes ≡ who.attributes
+  pub texts : IsTextPending row
+  pub user_text : IsText user
+  pub stated : AllByRecursion IsStatable attributes
+  pub told : AreTold now (min LAST (now + SESSION_LIFE))
+
+-- a request asks for a reply over a ledger at a moment
+abbrev pub Wants : IdpConfig → Held → Request → ℕ → Reply → Type 0
+Wants setup held request now (replies.InSession cookie ask peer) = AsksInSession setup held request now cookie ask peer
+Wants setup held request now (replies.Passive ask) = AsksAnew true setup held request now ask
+Wants setup held request now (replies.Question ask) = AsksAnew false setup held request now ask
+Wants setup held request now (replies.Login id user attributes peer) = LogsIn setup held request now id user attributes peer

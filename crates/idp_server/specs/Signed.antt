@@ -1,0 +1,63 @@
+-- Which elements an identity provider's records stand for as signed ones.
+use Rattle.std.specs.Prelude.{◌≡◌, ℕ, true, List, [], ◌∷◌, ◌++◌, None, Option, Some, if◌then◌else◌}
+use Rattle.std.specs.List.{AllByRecursion}
+use Rattle.element_make.specs.Made.{Made, MadeNodes, NothingMade, MadeElement, MadeText, alone}
+use Rattle.sig_reference.specs.Signing.{has_no_signature, signed}
+use Rattle.assertion_model.specs.Assertion.{IsAssertionOf}
+use Rattle.protocol_messages.specs.Making.{response, IsMadeAt}
+use Rattle.http_wire.specs.declared.answer.Answer.TheVariants.{Full}
+use Rattle.http_wire.specs.Answers.{answer}
+use Rattle.http_wire.specs.Requests.{Request}
+use Rattle.ledger_records.specs.declared.idp_record.IdpRecord.{IdpRecord}
+use Rattle.ledger_records.specs.declared.idp_record.IdpRecord.TheVariants as kinds
+use Rattle.ledger_records.specs.declared.idp_record.Issued.{Issued}
+use Rattle.peer_keys.specs.declared.peers.LogoutPeer.{LogoutPeer}
+use Rattle.idp_ledger.specs.Ledger.{Held}
+use Rattle.idp_rules.specs.declared.config.IdpConfig.{IdpConfig}
+use Rattle.idp_answers.specs.Answers.{login_answer, response_form, signed_assertion, signs_assertion, signs_response}
+use Rattle.idp_server.specs.Logins.{login_of}
+use Rattle.idp_server.specs.Step.{Answers, IsPeer}
+
+-- the elements among made nodes and inside them that have a Signature among their children, in document order
+abbrev pub signed_elements : MadeNodes → List Made
+signed_elements NothingMade = []
+signed_elements (MadeElement ns local attributes kids rest) =
+    (if has_no_signature kids then [] else record { ns = ns; local = local; attributes = attributes; kids = kids } ∷ [])
+    ++ signed_elements kids ++ signed_elements rest
+signed_elements (MadeText text rest) = signed_elements rest
+
+-- An element that is signed for a record, before it is signed, and the key: the Assertion of an Issued where the mode signs it; the
+-- Response that carries this, where the mode signs that; both with the key of what is sent to the record's peer. No other record
+-- stands for a signed element: the Response of a Spoke is not signed.
+pub data IsSignedFor (setup : IdpConfig) : IdpRecord → (key : List ℕ) → Made → Type 0 where
+  AnAssertion : (r : Issued) (peer : LogoutPeer) (made : Made) → IsPeer setup r.peer peer → signs_assertion setup.mode ≡ true
+      → IsAssertionOf (login_of setup.entity r) made → IsSignedFor setup (kinds.Issued r) peer.key_out made
+  AResponse : (r : Issued) (peer : LogoutPeer) (assertion made : Made) → IsPeer setup r.peer peer → signs_response setup.mode ≡ true
+      → IsAssertionOf (login_of setup.entity r) assertion
+      → IsMadeAt r.moment (response r.message setup.entity r.consumer r.request (Some (signed_assertion setup.mode peer.key_out assertion))) made
+      → IsSignedFor setup (kinds.Issued r) peer.key_out made
+
+-- the element is one of these with its Signature
+pub record IsSignedOf (setup : IdpConfig) (r : IdpRecord) (element : Made) : Type 0 where
+  pub key : List ℕ
+  pub made : Made
+  pub stands : IsSignedFor setup r key made
+  pub is : element ≡ signed key made
+
+-- the answer is a form that sends this Response on
+pub record Sends (bytes : List ℕ) (sent : Made) : Type 0 where
+  pub consumer : List ℕ
+  pub relay : Option (List ℕ)
+  pub cookie : Option (List ℕ)
+  pub is : bytes ≡ answer 200 None cookie (response_form sent consumer relay)
+
+-- what an answer that stands for a record carries: the page where the user logs in, or a Response whose signed elements are
+-- all of the record
+pub data Carries (setup : IdpConfig) (r : IdpRecord) (bytes : List ℕ) : Type 0 where
+  AQuestion : (id : List ℕ) → bytes ≡ login_answer id → Carries setup r bytes
+  AForm : (sent : Made) → Sends bytes sent → AllByRecursion (IsSignedOf setup r) (signed_elements (alone sent)) → Carries setup r bytes
+
+abbrev pub EachSignedElementIsOfARecord : Type 0
+EachSignedElementIsOfARecord =
+    (setup : IdpConfig) (held : Held) (request : Request) (now : ℕ) (bytes : List ℕ) (r : IdpRecord)
+    → Answers setup held request now (Full bytes) (Some r) → Carries setup r bytes

@@ -1,0 +1,221 @@
+-- What an identity provider does at one request.
+use Rattle.std.specs.Prelude.{◌≡◌, ◌⊎◌, ℕ, true, false, List, [], ◌∷◌, codes, Option, None, Some, IfSome, Ok, Err, if◌then◌else◌, slice_get}
+use Rattle.std.specs.Option.{option_and_then}
+use Rattle.crash_disk.specs.Disk.{Image, DiskState, image_of}
+use Rattle.http_wire.specs.declared.answer.Answer.{Answer}
+use Rattle.http_wire.specs.declared.answer.Answer.TheVariants.{Fixed, Full}
+use Rattle.http_wire.specs.Requests.{Request}
+use Rattle.http_wire.specs.Cookies.{cookie_value}
+use Rattle.post_binding.specs.Form.{fields}
+use Rattle.verdict_codes.specs.Codes.{number_of}
+use Rattle.verdict_codes.specs.declared.codes.Verdict.{Verdict}
+use Rattle.verdict_codes.specs.declared.codes.Verdict.TheVariants as verdicts
+use Rattle.ledger_records.specs.declared.idp_record.Issued.{Issued}
+use Rattle.ledger_records.specs.declared.idp_record.IdpRecord.{IdpRecord}
+use Rattle.ledger_records.specs.declared.idp_record.IdpRecord.TheVariants as kinds
+use Rattle.gate_journal.specs.Format.{Fault}
+use Rattle.peer_keys.specs.Peers.{place_of}
+use Rattle.peer_keys.specs.declared.peers.LogoutPeer.{LogoutPeer}
+use Rattle.user_store.specs.Store.{checked}
+use Rattle.user_store.specs.declared.user.User.{User}
+use Rattle.idp_ledger.specs.declared.row.Ask.{Ask}
+use Rattle.idp_ledger.specs.declared.row.PendingRow.{PendingRow}
+use Rattle.idp_ledger.specs.declared.row.SessionRow.{SessionRow}
+use Rattle.idp_ledger.specs.RowsOf.{rows_of}
+use Rattle.idp_ledger.specs.Finding.{pending_found, session_found}
+use Rattle.idp_ledger.specs.Ledger.{Held, Opened, IsFitting, IsOwn, LeftByOpening, ledger_in, taken, next_number, held_with}
+use Rattle.idp_ledger.specs.Draft.{first_id}
+use Rattle.idp_ledger.specs.Drafts.{issue, login, pending, spoke, is_full}
+use Rattle.idp_ledger.specs.Compacting.{Compacts}
+use Rattle.idp_rules.specs.Asking.{IsAsked}
+use Rattle.idp_rules.specs.Config.{sign_on}
+use Rattle.idp_rules.specs.Verdict.{IsRefused}
+use Rattle.idp_rules.specs.declared.asked.Asked.{Asked}
+use Rattle.idp_rules.specs.declared.config.IdpConfig.{IdpConfig}
+use Rattle.idp_answers.specs.Answers.{IsIssuedAnswer, IsNoPassiveAnswer, login_answer, metadata_answer}
+use Rattle.idp_server.specs.Logins.{login_of}
+use Rattle.idp_server.specs.Routes.{SignOn, Login, Metadata, To, Refused, route}
+
+-- a provider: what it is set up with, and its ledger
+pub record Provider : Type 0 where
+  pub setup : IdpConfig
+  pub ledger : Opened
+
+-- ---- what a request brings
+
+-- the live session of the request's cookie
+abbrev pub session_for : Held → ℕ → Request → Option SessionRow
+session_for held now request =
+    option_and_then (λ cookie. session_found (rows_of held.records).sessions cookie now held.header.horizon)
+    (option_and_then (λ header. cookie_value header (codes "idp_sid")) request.cookie)
+
+-- the session in which an Assertion is issued at once: there is none where the user has to be authenticated anew (SAML Core, 3.4.1,
+-- ForceAuthn)
+abbrev pub session_used : Asked → Option SessionRow → Option SessionRow
+session_used asked session = if asked.force then None else session
+
+-- the peer of this name
+abbrev pub IsPeer : IdpConfig → List ℕ → LogoutPeer → Type 0
+IsPeer setup entity peer = (place : ℕ) × (place_of entity setup.peers ≡ Some place) × (slice_get setup.peers place ≡ Some peer)
+
+-- what is asked of the ledger for a request of this peer
+abbrev pub ask_of : Asked → LogoutPeer → Ask
+ask_of asked peer = record { request = asked.request; peer = peer.peer.entity; consumer = asked.consumer; relay = asked.relay }
+
+-- the fields of the page of a pending login
+pub record Typed : Type 0 where
+  pub pending : List ℕ
+  pub user : List ℕ
+  pub password : List ℕ
+
+abbrev pub typed_in : Option (List (List ℕ)) → Option Typed
+typed_in (Some (pending ∷ user ∷ password ∷ [])) = Some (record { pending = pending; user = user; password = password })
+typed_in _ = None
+
+abbrev pub typed : List ℕ → Option Typed
+typed body = typed_in (fields body (codes "pending" ∷ codes "user" ∷ codes "password" ∷ []))
+
+-- the login that is pending, of a peer that is still known
+abbrev pub IsPending : IdpConfig → Held → ℕ → List ℕ → PendingRow → LogoutPeer → Type 0
+IsPending setup held now id row peer =
+    (pending_found (rows_of held.records).pendings id now held.header.horizon ≡ Some row) × IsPeer setup row.peer peer
+
+-- ---- the answers that stand for records
+
+-- the answer to a request for which this was issued, to this peer, with a cookie where a session began: SAML Profiles, 4.1.4.2
+abbrev pub IsAnswerFor : IdpConfig → LogoutPeer → Issued → (cookie : Option (List ℕ)) → ℕ → List ℕ → Type 0
+IsAnswerFor setup peer r cookie now bytes =
+    IsIssuedAnswer setup.mode peer.key_out (login_of setup.entity r) r.message r.consumer r.relay cookie now bytes
+
+-- What is answered to a request by this ledger at this moment where nothing fails, and the record that is added with it.
+pub data Answers (setup : IdpConfig) (held : Held) (request : Request) (now : ℕ) (answer : Answer) (adds : Option IdpRecord) : Type 0 where
+  -- there is no such service
+  ByStatus : (status : ℕ) → route request ≡ Refused status → answer ≡ Fixed status → adds ≡ None → Answers setup held request now answer adds
+  -- the metadata
+  ByMetadata : route request ≡ To Metadata → answer ≡ Full (metadata_answer setup.entity setup.base) → adds ≡ None
+      → Answers setup held request now answer adds
+  -- a posted form that asks for no login
+  ByVerdict : (verdict : Verdict) → route request ≡ To SignOn → IsRefused setup.peers (sign_on setup) request.body verdict
+      → answer ≡ Fixed (number_of verdict) → adds ≡ None → Answers setup held request now answer adds
+  -- a login is asked for, and the user has a live session: an Assertion is issued in it
+  ByIssuing : (asked : Asked) (peer : LogoutPeer) (row : SessionRow) (r : Issued) (bytes : List ℕ) → route request ≡ To SignOn
+      → IsAsked setup.peers (sign_on setup) request.body asked → slice_get setup.peers asked.peer ≡ Some peer
+      → session_used asked (session_for held now request) ≡ Some row
+      → issue setup.id_key (next_number held) now row (ask_of asked peer) ≡ kinds.Issued r → adds ≡ Some (kinds.Issued r)
+      → IsAnswerFor setup peer r None now bytes → answer ≡ Full bytes → Answers setup held request now answer adds
+  -- there is none, and the user may not be asked: SAML Core, 3.4.1, IsPassive
+  ByPassive : (asked : Asked) (peer : LogoutPeer) (message bytes : List ℕ) → route request ≡ To SignOn
+      → IsAsked setup.peers (sign_on setup) request.body asked → slice_get setup.peers asked.peer ≡ Some peer
+      → session_used asked (session_for held now request) ≡ None → asked.passive ≡ true
+      → adds ≡ Some (spoke setup.id_key (next_number held) now (ask_of asked peer))
+      → first_id (spoke setup.id_key (next_number held) now (ask_of asked peer)) ≡ Some message
+      → IsNoPassiveAnswer setup.entity message asked.request asked.consumer asked.relay now bytes → answer ≡ Full bytes
+      → Answers setup held request now answer adds
+  -- there is none, and the user is asked for a password
+  ByAsking : (asked : Asked) (peer : LogoutPeer) (id : List ℕ) → route request ≡ To SignOn
+      → IsAsked setup.peers (sign_on setup) request.body asked → slice_get setup.peers asked.peer ≡ Some peer
+      → session_used asked (session_for held now request) ≡ None → asked.passive ≡ false
+      → adds ≡ Some (pending setup.id_key (next_number held) now (ask_of asked peer))
+      → first_id (pending setup.id_key (next_number held) now (ask_of asked peer)) ≡ Some id
+      → answer ≡ Full (login_answer id) → Answers setup held request now answer adds
+  -- what is posted is not the page of a login
+  ByFields : route request ≡ To Login → typed request.body ≡ None → answer ≡ Fixed (number_of verdicts.BadForm) → adds ≡ None
+      → Answers setup held request now answer adds
+  -- no such login is pending, or its peer is not known any more
+  ByNoPending : (t : Typed) → route request ≡ To Login → typed request.body ≡ Some t
+      → ((row : PendingRow) (peer : LogoutPeer) → ¬ (IsPending setup held now t.pending row peer))
+      → answer ≡ Fixed (number_of verdicts.NoSuchPending) → adds ≡ None → Answers setup held request now answer adds
+  -- no user has this name and this password
+  ByPassword : (t : Typed) (row : PendingRow) (peer : LogoutPeer) → route request ≡ To Login → typed request.body ≡ Some t
+      → IsPending setup held now t.pending row peer → checked setup.users t.user t.password ≡ None
+      → answer ≡ Fixed (number_of verdicts.LoginRefused) → adds ≡ None → Answers setup held request now answer adds
+  -- a user logs in: a session begins, and an Assertion is issued in it
+  ByLogin : (t : Typed) (row : PendingRow) (peer : LogoutPeer) (user : User) (r : Issued) (bytes : List ℕ) → route request ≡ To Login
+      → typed request.body ≡ Some t → IsPending setup held now t.pending row peer → checked setup.users t.user t.password ≡ Some user
+      → login setup.id_key (next_number held) now row user.name user.attributes ≡ kinds.Issued r → adds ≡ Some (kinds.Issued r)
+      → IsAnswerFor setup peer r (Some r.cookie) now bytes → answer ≡ Full bytes → Answers setup held request now answer adds
+
+-- there is room for a record: fewer rows of its kind are kept than may be, and it fits
+pub record HasPlace (held : Held) (r : IdpRecord) : Type 0 where
+  pub few : is_full (rows_of held.records) r ≡ false
+  pub fits : IsFitting held r
+
+-- after a request the ledger is whole and holds this
+pub record IsWhole (old new : Provider) (held : Held) : Type 0 where
+  pub setup : new.setup ≡ old.setup
+  pub key : new.ledger.key ≡ old.ledger.key
+  pub unbroken : new.ledger.broken ≡ false
+  pub is : new.ledger.held ≡ held
+
+-- after a request the ledger is broken
+pub record IsBroken (old new : Provider) : Type 0 where
+  pub setup : new.setup ≡ old.setup
+  pub key : new.ledger.key ≡ old.ledger.key
+  pub is_broken : new.ledger.broken ≡ true
+
+-- the codes that a provider answers where it can't go on
+abbrev pub DISK_FAULT : ℕ
+DISK_FAULT = 50
+
+abbrev pub FULL : ℕ
+FULL = 51
+
+abbrev pub NO_MEMORY : ℕ
+NO_MEMORY = 52
+
+abbrev pub FOREIGN : ℕ
+FOREIGN = 53
+
+-- What is done at a request over the ledger that it finds: the request and the moment; whether the disk's count of faults rose;
+-- the answer; the provider before and after.
+pub data Serves (found : Held) (request : Request) (now : ℕ) (Risen : Type 0) (answer : Answer) (old new : Provider) : Type 0 where
+  -- nothing is recorded
+  Plain : Answers old.setup found request now answer None → IsWhole old new found → Serves found request now Risen answer old new
+  -- a record is added
+  Recorded : (r : IdpRecord) → Answers old.setup found request now answer (Some r) → HasPlace found r → IsWhole old new (held_with r found)
+      → Serves found request now Risen answer old new
+  -- there was no place for it, and after one compaction there is
+  RecordedAfterCompaction : (held : Held) (wanted r : IdpRecord) (other : Answer) → Answers old.setup found request now other (Some wanted)
+      → ¬ (HasPlace found wanted) → Compacts now found held → Answers old.setup held request now answer (Some r) → HasPlace held r
+      → IsWhole old new (held_with r held) → Serves found request now Risen answer old new
+  -- there is none after it either
+  NoPlace : (held : Held) (wanted r : IdpRecord) (other another : Answer) → Answers old.setup found request now other (Some wanted)
+      → ¬ (HasPlace found wanted) → Compacts now found held → Answers old.setup held request now another (Some r) → ¬ (HasPlace held r)
+      → answer ≡ Fixed FULL → IsWhole old new held → Serves found request now Risen answer old new
+  -- a record was to be added, and the disk failed in the compaction or while the record was written
+  Failed : (wanted : IdpRecord) (other : Answer) → Answers old.setup found request now other (Some wanted) → Risen → answer ≡ Fixed DISK_FAULT
+      → IsBroken old new → Serves found request now Risen answer old new
+  -- there was no memory: nothing is recorded, and one compaction may have been made
+  Starved : (held : Held) → (held ≡ found) ⊎ Compacts now found held → answer ≡ Fixed NO_MEMORY → IsWhole old new held
+      → Serves found request now Risen answer old new
+
+-- The step of a provider at one request. A ledger that is broken is opened again first.
+pub data Steps (old : Provider) (disk : Option DiskState) (request : Request) (now : ℕ) (Risen : Type 0) (answer : Answer) (new : Provider) : Type 0 where
+  WithLedger : old.ledger.broken ≡ false → Serves old.ledger.held request now Risen answer old new → Steps old disk request now Risen answer new
+  WithOpened : (found : Held) → old.ledger.broken ≡ true → IfSome disk (λ d. taken (ledger_in (image_of d)) ≡ Ok found)
+      → Serves found request now Risen answer old new → Steps old disk request now Risen answer new
+  -- the disk failed, it stands for no ledger, or there was no memory: the ledger stays broken
+  NotOpened : old.ledger.broken ≡ true → Risen → answer ≡ Fixed DISK_FAULT → IsBroken old new → Steps old disk request now Risen answer new
+  Strange : old.ledger.broken ≡ true → IfSome disk (λ d. (fault : Fault) × (taken (ledger_in (image_of d)) ≡ Err fault)) → answer ≡ Fixed FOREIGN
+      → IsBroken old new → Steps old disk request now Risen answer new
+  StarvedAtOpening : old.ledger.broken ≡ true → answer ≡ Fixed NO_MEMORY → IsBroken old new → Steps old disk request now Risen answer new
+
+-- What a crash while a request is served over a ledger may leave: this ledger, or it after one compaction, and either with the record
+-- that the request adds.
+pub data ServingLeaves (setup : IdpConfig) (found : Held) (request : Request) (now : ℕ) (image : Image) : Type 0 where
+  Same : ledger_in image ≡ Ok (Some found) → ServingLeaves setup found request now image
+  Compacted : (held : Held) → Compacts now found held → ledger_in image ≡ Ok (Some held) → ServingLeaves setup found request now image
+  With : (held : Held) (r : IdpRecord) (answer : Answer) → (held ≡ found) ⊎ Compacts now found held → Answers setup held request now answer (Some r)
+      → HasPlace held r → ledger_in image ≡ Ok (Some (held_with r held)) → ServingLeaves setup found request now image
+
+-- What a crash at a moment of a request may leave: that, and while a broken ledger is opened again what the disk stood for, or what is
+-- opened from it.
+pub data StepLeaves (old : Provider) (disk : Option DiskState) (request : Request) (now : ℕ) (image : Image) : Type 0 where
+  InLedger : old.ledger.broken ≡ false → ServingLeaves old.setup old.ledger.held request now image → StepLeaves old disk request now image
+  InOpened : (found : Held) → old.ledger.broken ≡ true → IfSome disk (λ d. taken (ledger_in (image_of d)) ≡ Ok found)
+      → ServingLeaves old.setup found request now image → StepLeaves old disk request now image
+  InOpening : old.ledger.broken ≡ true → LeftByOpening disk image → StepLeaves old disk request now image
+
+-- the disk is the provider's own
+abbrev pub OwnsDisk : Provider → Option DiskState → Type 0
+OwnsDisk provider disk = IsOwn disk provider.ledger

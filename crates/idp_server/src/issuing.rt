@@ -1,0 +1,128 @@
+//! The pages that stand for records.
+ghost use Rattle.std.specs.Prelude.{◌≡◌, ◌≤◌, [], ◌∷◌, IfOk, IsTrue};
+ghost use Rattle.std.specs.Option.{option_map, ForSome};
+ghost use Rattle.xml_spec.specs.Characters.{IsText};
+ghost use Rattle.assertion_model.specs.Assertion.{CanBeMade};
+ghost use Rattle.http_wire.specs.Answers.{is_one_line};
+ghost use Rattle.http_wire.specs.declared.answer.Answer.TheVariants.{Full};
+ghost use Rattle.saml_time.specs.declared.TheConstants.{LAST};
+ghost use Rattle.idp_server.specs.Logins as spec;
+ghost use Rattle.idp_server.specs.Replies.{CanBeShown, HasAssertion, HasRefusal, IsAssertionPage, IsIssuable, IsPage, IsPassivePage};
+
+use crate::node::IdpNode;
+use crate::reply::Reply;
+use assertion_model::{Audiences, Login};
+use idp_answers::{issued_answer, login_answer, no_passive_answer};
+use idp_ledger::{Ask, Draft};
+use ledger_records::idp_record::Issued;
+use owned_values::{Blob, NoMemory, Text, Texts};
+use std::alloc::Global;
+
+/// The one audience of an Assertion: the peer that asked (SAML Core, 2.5.1.4).
+fn audiences_of(alloc: Global, peer: &Text) -> Result<Audiences, NoMemory>
+    ensures { IfOk result (λ audiences. audiences ≡ (peer.now ∷ []) ∷ []) }
+{
+    let mut restriction = Texts::new(alloc);
+    restriction.push(peer.copy()?)?;
+    let mut audiences = Audiences::new(alloc);
+    audiences.push(restriction)?;
+    Ok(audiences)
+}
+
+/// The login that an issued record stands for, with this issuer (SAML Profiles, 4.1.4.2).
+fn login_of(alloc: Global, issued: &Issued, issuer: &str) -> Result<Login, NoMemory>
+    requires issuable { IsIssuable issued.now }
+    requires issuer { IsText issuer.now }
+    ensures is { IfOk result (λ login. login ≡ spec.login_of issuer.now issued.now) }
+    ensures can { IfOk result CanBeMade }
+{
+    Ok(Login {
+        id: issued.assertion.copy()?,
+        issuer: Text::of(alloc, issuer)?,
+        issued: issued.moment,
+        audiences: audiences_of(alloc, &issued.peer)?,
+        recipient: issued.consumer.copy()?,
+        request: issued.request.copy()?,
+        confirm_until: issued.until,
+        not_before: Some(issued.moment),
+        not_on_or_after: Some(issued.until),
+        name: issued.user.copy()?,
+        index: Some(issued.index.copy()?),
+        session_until: Some(issued.session_end),
+        attributes: issued.attributes.copy()?,
+    })
+}
+
+/// A relay state, where there is one.
+fn text_of(relay: &Option<Text>) -> Option<&str>
+    ensures { option_map (λ text. text.now) result ≡ relay.now }
+{
+    match relay {
+        Some(text) => Some(text.as_str()),
+        None => None,
+    }
+}
+
+impl IdpNode {
+    /// The answer with the Assertion of a draft, for the peer at this place, which sets this cookie where there is one.
+    fn assertion_page(
+        &self,
+        draft: &Draft,
+        peer: usize,
+        cookie: Option<&str>,
+        now: u64,
+    ) -> Result<Blob, NoMemory>
+        requires moment { now ≤ LAST }
+        requires shown { HasAssertion self.now.setup peer draft.now }
+        requires cookie { ForSome cookie (λ token. IsTrue (is_one_line token.now)) }
+        ensures { IfOk result (λ bytes. IsAssertionPage self.now.setup peer (option_map (λ text. text.now) cookie.entry) draft.now now (Full bytes)) }
+    {
+        let issued = draft.issued();
+        let login = login_of(self.alloc, issued, self.config.entity.as_str())?;
+        issued_answer(
+            self.alloc,
+            self.config.mode,
+            self.config.peers.at(peer).key_out.as_slice(),
+            &login,
+            issued.message.as_str(),
+            issued.consumer.as_str(),
+            text_of(&issued.relay),
+            cookie,
+            now,
+        )
+    }
+
+    /// The answer without an Assertion of a draft.
+    fn passive_page(&self, draft: &Draft, ask: &Ask, now: u64) -> Result<Blob, NoMemory>
+        requires moment { now ≤ LAST }
+        requires shown { HasRefusal ask.now draft.now }
+        ensures { IfOk result (λ bytes. IsPassivePage self.now.setup ask.now draft.now now (Full bytes)) }
+    {
+        no_passive_answer(
+            self.alloc,
+            self.config.entity.as_str(),
+            draft.first().as_str(),
+            ask.request.as_str(),
+            ask.consumer.as_str(),
+            text_of(&ask.relay),
+            now,
+        )
+    }
+
+    /// The answer that stands for the draft of a reply.
+    pub(crate) fn page(&self, reply: &Reply, draft: &Draft, now: u64) -> Result<Blob, NoMemory>
+        requires moment { now ≤ LAST }
+        requires shown { CanBeShown self.now.setup reply.now draft.now }
+        ensures { IfOk result (λ bytes. IsPage self.now.setup reply.now draft.now now (Full bytes)) }
+    {
+        match reply {
+            Reply::InSession { peer, .. } => self.assertion_page(draft, *peer, None, now),
+            Reply::Passive { ask } => self.passive_page(draft, ask, now),
+            Reply::Question { .. } => login_answer(self.alloc, draft.first().as_str()),
+            Reply::Login { peer, .. } => {
+                let cookie = draft.second().as_str();
+                self.assertion_page(draft, *peer, Some(cookie), now)
+            }
+        }
+    }
+}

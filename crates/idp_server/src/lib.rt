@@ -1,0 +1,38 @@
+//! The identity provider: what it answers to each request, and what it records.
+//!
+//! ```
+//! let mut node = IdpNode::start(alloc, config, &mut disk)?;    // opens the ledger of the disk
+//! let answer = node.answer(&request, now, &mut disk);          // one step: an answer, and at most one record
+//! ```
+//!
+//! | Request | Answer |
+//! |---|---|
+//! | POST `/sso` | the verdict on the posted form; where it asks for a login: a form with an Assertion in the user's live session, a form with a Response without one where the user may not be asked, else the page where the user logs in |
+//! | POST `/login` | a form with an Assertion and the cookie of a new session, where the login is pending and the password is the user's |
+//! | GET `/metadata` | the metadata of the provider |
+//!
+//! What one request does is one definition, `Steps` of `specs/Step.antt`, by named cases: nothing is recorded; a record is
+//! added; it is added after one compaction that made room; there is no room (code 51); the disk failed (50); it holds no
+//! ledger (53); there was no memory (52). An answer that stands for a record is sent only where the record is in every image
+//! that a crash may leave. All pages are made before the record is written, so from then on only the disk can refuse.
+//!
+//! Of each step the [`laws`] hold: an Assertion is issued only for a password that was posted and accepted, or in a live session of
+//! the request's cookie; whatever page or form is answered, its record is in every image that a crash may leave; and the elements
+//! that are signed in an answer are those that its record stands for.
+#![tactic(auto)]
+
+mod answering;
+mod issuing;
+pub mod laws;
+mod login;
+mod node;
+mod recording;
+mod reply;
+mod replying;
+mod route;
+mod sign_on;
+#[cfg(test)]
+mod tests;
+mod texts;
+
+pub use node::IdpNode;

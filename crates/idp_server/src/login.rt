@@ -1,0 +1,110 @@
+//! POST of the page where a user logs in.
+ghost use Rattle.std.specs.Prelude.{◌≡◌, ◌≤◌, ◌+◌, ◌∷◌, [], min, codes, true, IfErr, IfOk, None, Some};
+ghost use Rattle.fault_verdicts.specs.Judging.{IsJudged};
+ghost use Rattle.http_wire.specs.Views.{request_view};
+ghost use Rattle.http_wire.specs.declared.answer.Answer.TheVariants.{Fixed};
+ghost use Rattle.post_binding.specs.Form.{fields};
+ghost use Rattle.saml_time.specs.declared.TheConstants.{LAST};
+ghost use Rattle.verdict_codes.specs.Codes.{number_of};
+ghost use Rattle.ledger_rules.specs.Numbers.{is_xml_text};
+ghost use Rattle.idp_ledger.specs.Drafts.{SESSION_LIFE};
+ghost use Rattle.idp_server.specs.Routes.{Login, To, route};
+ghost use Rattle.idp_server.specs.Step.{Answers};
+ghost use Rattle.idp_server.specs.Replies.{AreTold, IsTextPending, Wants};
+
+use crate::node::IdpNode;
+use crate::reply::Reply;
+use crate::texts::{are_told, is_text};
+use fault_verdicts::Judged;
+use http_wire::HttpRequest;
+use idp_ledger::PendingRow;
+use owned_values::{NoMemory, Text, Texts};
+use post_binding::read_fields;
+use saml_time::LAST;
+use std::alloc::Global;
+use verdict_codes::Verdict;
+
+/// How long a session lives, in milliseconds.
+const SESSION_LIFE: u64 = 28_800_000;
+
+/// The names of the fields of the page.
+fn field_names(alloc: Global) -> Result<Texts, NoMemory>
+    ensures { IfOk result (λ names. names ≡ codes "pending" ∷ codes "user" ∷ codes "password" ∷ []) }
+{
+    let mut names = Texts::new(alloc);
+    names.push(Text::of(alloc, "pending")?)?;
+    names.push(Text::of(alloc, "user")?)?;
+    names.push(Text::of(alloc, "password")?)?;
+    Ok(names)
+}
+
+/// That the texts of a pending login are texts that a document may hold, and that the moments of its Assertion have a written
+/// form. It is there for the proof.
+fn can_be_answered(row: &PendingRow, now: u64)
+    requires request { is_xml_text row.now.request ≡ true }
+    requires peer { is_xml_text row.now.peer ≡ true }
+    requires consumer { is_xml_text row.now.consumer ≡ true }
+    requires moment { now ≤ LAST }
+    ensures texts { IsTextPending row.now }
+    ensures told { AreTold now (min LAST (now + SESSION_LIFE)) }
+{
+    is_text(row.request.as_str());
+    is_text(row.peer.as_str());
+    is_text(row.consumer.as_str());
+    are_told(now, LAST.min(now + SESSION_LIFE));
+}
+
+impl IdpNode {
+    /// The reply to the page of a login with these fields, or why there is none.
+    fn reply_to_fields(
+        &self,
+        request: &HttpRequest<'_>,
+        given: &Texts,
+        now: u64,
+    ) -> Result<Reply, Judged>
+        requires moment { now ≤ LAST }
+        requires route { route (request_view request.now) ≡ To Login }
+        requires given { fields request.now.body.now (codes "pending" ∷ codes "user" ∷ codes "password" ∷ []) ≡ Some given.now }
+        ensures reply { IfOk result (Wants self.now.setup self.now.ledger.held (request_view request.now) now) }
+        ensures refused { IfErr result (IsJudged (λ verdict. Answers self.now.setup self.now.ledger.held (request_view request.now) now (Fixed (number_of verdict)) None)) }
+    {
+        let (pending, user, password) = (given.at(0), given.at(1), given.at(2));
+        self.ledger.holds_records();
+        let Some(row) = self.ledger.pending(pending.as_str(), now) else {
+            return Err(Judged::Code(Verdict::NoSuchPending));
+        };
+        let Some(peer) = self.config.peers.place_of(row.peer.as_str()) else {
+            return Err(Judged::Code(Verdict::NoSuchPending));
+        };
+        let password = password.as_str().as_bytes();
+        let Some(user) = self.config.users.check(user.as_str(), password) else {
+            return Err(Judged::Code(Verdict::LoginRefused));
+        };
+        can_be_answered(row, now);
+        Ok(Reply::Login {
+            pending: pending.copy()?,
+            user: user.name.copy()?,
+            attributes: user.attributes.copy()?,
+            peer,
+        })
+    }
+
+    /// The reply to the page of a login, or why there is none.
+    ///
+    /// # Errors
+    ///
+    /// `BadForm` where it is no such page, `NoSuchPending` where the login is not pending or its peer is not known any more,
+    /// `LoginRefused` where no user has this name and this password. `NoMemory` may come in place of any other answer.
+    pub(crate) fn log_in(&self, request: &HttpRequest<'_>, now: u64) -> Result<Reply, Judged>
+        requires moment { now ≤ LAST }
+        requires route { route (request_view request.now) ≡ To Login }
+        ensures reply { IfOk result (Wants self.now.setup self.now.ledger.held (request_view request.now) now) }
+        ensures refused { IfErr result (IsJudged (λ verdict. Answers self.now.setup self.now.ledger.held (request_view request.now) now (Fixed (number_of verdict)) None)) }
+    {
+        let names = field_names(self.alloc)?;
+        match read_fields(self.alloc, request.body, &names)? {
+            Some(given) => self.reply_to_fields(request, &given, now),
+            None => Err(Judged::Code(Verdict::BadForm)),
+        }
+    }
+}

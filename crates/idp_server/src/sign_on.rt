@@ -1,0 +1,138 @@
+//! POST of a form at the address for sign-on.
+ghost use Rattle.std.specs.Prelude.{◌≡◌, ◌≤◌, ◌<◌, length, slice_get, true, IfErr, IfOk, None, Some, option_copied, if◌then◌else◌};
+ghost use Rattle.fault_verdicts.specs.Judging.{IsJudged};
+ghost use Rattle.http_wire.specs.Views.{request_view};
+ghost use Rattle.http_wire.specs.declared.answer.Answer.TheVariants.{Fixed};
+ghost use Rattle.saml_time.specs.declared.TheConstants.{LAST};
+ghost use Rattle.verdict_codes.specs.Codes.{number_of};
+ghost use Rattle.ledger_rules.specs.Numbers.{is_xml_text};
+ghost use Rattle.idp_ledger.specs.Drafts.{AreXmlAttributes};
+ghost use Rattle.peer_keys.specs.declared.peers.LogoutPeer.{LogoutPeer};
+ghost use Rattle.idp_rules.specs.Asking.{IsAsked};
+ghost use Rattle.idp_rules.specs.Config.{sign_on};
+ghost use Rattle.idp_rules.specs.Verdict.{IsRefused};
+ghost use Rattle.idp_server.specs.Routes.{SignOn, To, route};
+ghost use Rattle.idp_server.specs.Step.{Answers, ask_of, session_for};
+ghost use Rattle.idp_server.specs.Replies.{AreTold, IsTextAsk, IsTextSession, Wants};
+
+use crate::node::IdpNode;
+use crate::reply::Reply;
+use crate::texts::{are_statable, are_told, is_text, is_told};
+use fault_verdicts::Judged;
+use http_wire::{HttpRequest, cookie_of};
+use idp_ledger::{Ask, SessionRow};
+use idp_rules::laws::the_texts_of_a_request_are_texts;
+use idp_rules::{Asked, judge_request, sign_on_address};
+use owned_values::NoMemory;
+
+/// The name of the cookie of a session.
+const SESSION_COOKIE: &str = "idp_sid";
+
+/// That the texts of a session are texts that a document may hold, and that the moments of an Assertion in it have a written
+/// form. It is there for the proof.
+fn can_be_stated(row: &SessionRow, now: u64)
+    requires index { is_xml_text row.now.index ≡ true }
+    requires user { is_xml_text row.now.user ≡ true }
+    requires attributes { AreXmlAttributes row.now.attributes }
+    requires until { row.now.until ≤ LAST }
+    requires moment { now ≤ LAST }
+    ensures texts { IsTextSession row.now }
+    ensures told { AreTold now row.now.until }
+{
+    is_text(row.index.as_str());
+    is_text(row.user.as_str());
+    are_statable(row.attributes.as_slice());
+    are_told(now, row.until);
+}
+
+impl IdpNode {
+    /// The live session of a request's cookie.
+    fn session_for(&self, request: &HttpRequest<'_>, now: u64) -> Option<&SessionRow>
+        ensures { option_copied result ≡ session_for self.now.ledger.held now (request_view request.now) }
+    {
+        let cookie = cookie_of(request.cookie?, SESSION_COOKIE)?;
+        self.ledger.session(cookie, now)
+    }
+
+    /// The same where the user need not be authenticated anew.
+    fn session_used(&self, force: bool, request: &HttpRequest<'_>, now: u64) -> Option<&SessionRow>
+        ensures { option_copied result ≡ (if force then None else session_for self.now.ledger.held now (request_view request.now)) }
+    {
+        if force {
+            return None;
+        }
+        self.session_for(request, now)
+    }
+
+    /// What is asked of the ledger.
+    fn ask_of(&self, asked: Asked) -> Result<Ask, NoMemory>
+        requires { asked.peer < length self.now.setup.peers }
+        ensures { IfOk result (λ ask. (peer : LogoutPeer) → slice_get self.now.setup.peers asked.peer ≡ Some peer → ask ≡ ask_of asked peer) }
+    {
+        let peer = self.config.peers.at(asked.peer).peer.entity.copy()?;
+        Ok(Ask {
+            request: asked.request,
+            peer,
+            consumer: asked.consumer,
+            relay: asked.relay,
+        })
+    }
+
+    /// The reply to a request for a login.
+    fn reply_to(&self, request: &HttpRequest<'_>, asked: Asked, now: u64) -> Result<Reply, NoMemory>
+        requires moment { now ≤ LAST }
+        requires route { route (request_view request.now) ≡ To SignOn }
+        requires asked { IsAsked self.now.setup.peers (sign_on self.now.setup) request.now.body.now asked }
+        requires known { asked.peer < length self.now.setup.peers }
+        ensures { IfOk result (Wants self.now.setup self.now.ledger.held (request_view request.now) now) }
+    {
+        the_texts_of_a_request_are_texts();
+        self.ledger.holds_records();
+        is_told(now);
+        let (peer, passive) = (asked.peer, asked.passive);
+        let session = self.session_used(asked.force, request, now);
+        let ask = self.ask_of(asked)?;
+        if let Some(row) = session {
+            can_be_stated(row, now);
+            let cookie = row.cookie.copy()?;
+            return Ok(Reply::InSession { cookie, ask, peer });
+        }
+        if passive {
+            Ok(Reply::Passive { ask })
+        } else {
+            Ok(Reply::Question { ask })
+        }
+    }
+
+    /// What a form that was posted for sign-on asks for.
+    ///
+    /// # Errors
+    ///
+    /// The verdict on the form. `NoMemory` may come in place of any other answer.
+    fn asked_by(&self, request: &HttpRequest<'_>) -> Result<Asked, Judged>
+        ensures accepted { IfOk result (IsAsked self.now.setup.peers (sign_on self.now.setup) request.now.body.now) }
+        ensures known { IfOk result (λ asked. asked.peer < length self.now.setup.peers) }
+        ensures refused { IfErr result (IsJudged (IsRefused self.now.setup.peers (sign_on self.now.setup) request.now.body.now)) }
+    {
+        let address = sign_on_address(self.alloc, &self.config)?;
+        let peers = self.config.peers.as_slice();
+        judge_request(self.alloc, peers, address.as_str(), request.body)
+    }
+
+    /// The reply to a form that was posted for sign-on, or why there is none.
+    ///
+    /// # Errors
+    ///
+    /// The verdict on the form. `NoMemory` may come in place of any other answer.
+    pub(crate) fn sign_on(&self, request: &HttpRequest<'_>, now: u64) -> Result<Reply, Judged>
+        requires moment { now ≤ LAST }
+        requires route { route (request_view request.now) ≡ To SignOn }
+        ensures reply { IfOk result (Wants self.now.setup self.now.ledger.held (request_view request.now) now) }
+        ensures refused { IfErr result (IsJudged (λ verdict. Answers self.now.setup self.now.ledger.held (request_view request.now) now (Fixed (number_of verdict)) None)) }
+    {
+        match self.asked_by(request) {
+            Ok(asked) => Ok(self.reply_to(request, asked, now)?),
+            Err(judged) => Err(judged),
+        }
+    }
+}
