@@ -1,12 +1,14 @@
 -- The definitions on small cases.
 use Rattle.std.proofs.Common.{◌≡◌, true, false, [], ◌∷◌, ◌++◌, codes, Some, refl}
 use Rattle.xml_spec.specs.Tree.{Nodes, NoNodes, Element, Text, Comment, Instruction}
+use Rattle.xml_spec.specs.Numbering.{from_node}
 use Rattle.tree_read.specs.Texts.{attribute_text}
-use Rattle.saml_names.specs.Names.{ds_namespace, ds}
+use Rattle.saml_names.specs.Names.{saml_namespace, ds_namespace, ds}
 use Rattle.tree_read.specs.Children.{child, element_children}
 use Rattle.sig_reference.specs.Form.{words}
+use Rattle.sig_reference.specs.Placing.{Around, Beside, Inside, filled, place_in}
 use Rattle.sig_reference.specs.Signing.{signed_info, signature, signed, id_of, begins_with_issuer, has_no_signature}
-use Rattle.element_make.specs.Made.{Made, MadeNodes, NothingMade, MadeElement, MadeText, written}
+use Rattle.element_make.specs.Made.{Made, MadeNodes, NothingMade, MadeElement, MadeText, tree_of, written}
 use Rattle.element_make.specs.declared.names.Ns.TheVariants.{Saml, Samlp, Ds}
 use Rattle.sha2.specs.Sha256.{sha256}
 use Rattle.base64.specs.Rfc4648.{encode_symbols}
@@ -75,6 +77,29 @@ pub signed-second : (signed (codes "k") assertion).kids
     ≡ MadeElement Saml (codes "Issuer") [] NothingMade
     (MadeElement Ds (codes "Signature") [] (signature (codes "k") (signed_info (codes "_a") (sha256 (written assertion)))).kids (MadeText (codes "t") NothingMade))
 signed-second = refl
+
+-- behind an Issuer that holds a text, in a Response
+abbrev behind_issuer : Around
+behind_issuer = Beside (MadeElement Saml (codes "Issuer") [] (MadeText (codes "i") NothingMade) NothingMade) (MadeText (codes "t") NothingMade)
+
+abbrev response : Made
+response = record { ns = Samlp; local = codes "Response"; attributes = []; kids = filled behind_issuer assertion }
+
+-- the Response is node 0, the Issuer node 1, its text node 2
+pub place-behind_issuer : place_in response behind_issuer ≡ 3
+place-behind_issuer = refl
+
+pub stands-behind_issuer : from_node (tree_of response) 3
+    ≡ Element (codes "saml:Assertion") (record { name = codes "xmlns:saml"; value = saml_namespace } ∷ record { name = codes "ID"; value = codes "_a" } ∷ [])
+    (Element (codes "saml:Issuer") [] NoNodes (Text (codes "t") NoNodes)) (Text (codes "t") NoNodes)
+stands-behind_issuer = refl
+
+-- one element deeper; texts that meet are one node
+abbrev deeper : Around
+deeper = Inside (MadeText (codes "a") (MadeText (codes "b") NothingMade)) Samlp (codes "Extensions") [] behind_issuer NothingMade
+
+pub place-deeper : place_in response deeper ≡ 5
+place-deeper = refl
 
 -- the digest of one byte here, as it would be written
 pub info-written : written (signed_info (codes "_a") (102 ∷ []))

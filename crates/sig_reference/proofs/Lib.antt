@@ -1,16 +1,17 @@
+mod AnyScope
 mod Digests
 mod Examples
 mod Judging
 mod MadeNames
 mod MadeScopes
 pub mod OneSignature
-mod OwnForm
 mod Parting
 mod Places
+mod PutInside
 mod Shapes
 mod SignatureMade
 mod SignedNodes
-mod SignedRoot
+mod SignedPlace
 mod SignedVouched
 mod Standing
 mod Writable

@@ -55,6 +55,13 @@ bound_inside declared scope Md Samlp h = h
 bound_inside declared scope Md Ds h = h
 bound_inside declared scope Md Md h = refl
 
+-- where a namespace is declared that was not declared
+pub has_more : (declared : List Ns) (scope : Scope) → Has declared scope → (ns : Ns) (there : Bool) → list_any (same ns) declared ≡ there →
+    Has (ns ∷ declared) (added there ns ++ scope)
+has_more declared scope has ns true e =
+    record { bound = λ other. has.bound other ∙ ap (λ t. cond t (namespace other) []) (still_declared declared ns other e) }
+has_more declared scope has ns false e = record { bound = λ other. bound_inside declared scope ns other (has.bound other) }
+
 module _ (declared : List Ns) (scope : Scope) (has : Has declared scope) (ns : Ns) (attributes : List Attribute) (made : AllByRecursion IsMadeAttribute attributes) where
   inner_is : inner_scope (declaration_in declared ns ++ by_name attributes) scope ≡ added (list_any (same ns) declared) ns ++ scope
   inner_is =
@@ -63,13 +70,9 @@ module _ (declared : List Ns) (scope : Scope) (has : Has declared scope) (ns : N
       ∙ ap (λ bs. added there ns ++ bs) (no_declarations (by_name attributes) (each_by_name IsMadeAttribute attributes made)))
       ∙ append_assoc (added there ns) [] scope
 
-  has_more : (there : Bool) → list_any (same ns) declared ≡ there → Has (ns ∷ declared) (added there ns ++ scope)
-  has_more true e = record { bound = λ other. has.bound other ∙ ap (λ t. cond t (namespace other) []) (still_declared declared ns other e) }
-  has_more false e = record { bound = λ other. bound_inside declared scope ns other (has.bound other) }
-
   -- inside an element
   pub has_inside : Has (ns ∷ declared) (inner_scope (declaration_in declared ns ++ by_name attributes) scope)
-  has_inside = subst (Has (ns ∷ declared)) (sym inner_is) (has_more (list_any (same ns) declared) refl)
+  has_inside = subst (Has (ns ∷ declared)) (sym inner_is) (has_more declared scope has ns (list_any (same ns) declared) refl)
 
   own_declared : (n : Ns) → list_any (same n) (n ∷ declared) ≡ true
   own_declared Saml = refl
@@ -85,4 +88,10 @@ module _ (declared : List Ns) (scope : Scope) (has : Has declared scope) (ns : N
 pub has_none : Has [] outermost
 has_none = record {
   bound = λ ns. elim ns as (λ n. namespace_of outermost (prefix n) ≡ []) [ Saml ↦ refl | Samlp ↦ refl | Ds ↦ refl | Md ↦ refl ];
+}
+
+-- above the element that a form is taken of
+pub none_rendered : Has [] []
+none_rendered = record {
+  bound = λ ns. elim ns as (λ n. namespace_of [] (prefix n) ≡ []) [ Saml ↦ refl | Samlp ↦ refl | Ds ↦ refl | Md ↦ refl ];
 }

@@ -11,7 +11,7 @@ use Rattle.xml_spec.proofs.Valid.{name_shown, other_bytes}
 use Rattle.element_make.specs.declared.names.Ns.{Ns}
 use Rattle.element_make.specs.declared.names.Ns.TheVariants.{Saml, Samlp, Ds, Md}
 use Rattle.element_make.specs.Prefixes.{same}
-use Rattle.element_make.specs.Made.{Made, MadeNodes, NothingMade, MadeElement, MadeText, alone, joined, written, IsMadeAttribute, AreMade, IsMade}
+use Rattle.element_make.specs.Made.{Made, MadeNodes, NothingMade, MadeElement, MadeText, alone, joined, with_second, written, IsMadeAttribute, AreMade, IsMade}
 use Rattle.element_make.proofs.Content.{made_with_second}
 use Rattle.sig_reference.specs.Algorithms.{exclusive, enveloped, hmac_sha256, sha256_digest}
 use Rattle.sig_reference.specs.Signature.{number_sign}
@@ -33,7 +33,7 @@ method_made local algorithm rest name text made = (
 text_made : (local text : List ℕ) → IsNoColonName local → IsText text → AreMade (MadeElement Ds local [] (MadeText text NothingMade) NothingMade)
 text_made local text name is = (name, tt, tt, (is, tt), tt)
 
-info_made : (id digest : List ℕ) → IsText id → AreMade (alone (signed_info id (sha256 digest)))
+pub info_made : (id digest : List ℕ) → IsText id → AreMade (alone (signed_info id (sha256 digest)))
 unfolding chars encode_utf8
 info_made id digest is =
     let value = text_made (codes "DigestValue") _ (name_shown _ refl, refl) (base64_text (sha256 digest) (digest_is_bytes digest)) in
@@ -64,6 +64,21 @@ signed_made key made is = (
       (signature_made key (id_of made) (written made) (value_text (codes "ID") made.attributes is.1)),
   tt,
 )
+
+-- and so can the element without it
+pub unsigned_made : (key : List ℕ) (made : Made) → IsMade (signed key made) → IsMade made
+unsigned_made key made is =
+    (is.0, is.1, is.2, without_second made.kids (signature key (signed_info (id_of made) (sha256 (written made)))) is.3, tt)
+  where
+    behind : (nodes more : MadeNodes) → AreMade (joined nodes more) → AreMade more
+    behind NothingMade more made = made
+    behind (MadeElement ns local attributes kids rest) more made = behind rest more made.4
+    behind (MadeText text rest) more made = behind rest more made.1
+
+    without_second : (nodes : MadeNodes) (second : Made) → AreMade (with_second nodes (alone second)) → AreMade nodes
+    without_second NothingMade second made = tt
+    without_second (MadeElement ns local attributes kids rest) second made = (made.0, made.1, made.2, made.3, behind (alone second) rest made.4)
+    without_second (MadeText text rest) second made = (made.0, behind (alone second) rest made.1)
 
 -- nodes with an Issuer in front
 pub record IsIssued (nodes : MadeNodes) : Type 0 where

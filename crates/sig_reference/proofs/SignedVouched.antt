@@ -1,31 +1,36 @@
--- What is signed is vouched for.
-use Rattle.std.proofs.Common.{◌≡◌, ℕ, List, [], codes, Some, None, refl, sym, ap, ◌∙◌, subst}
+-- What is signed is vouched for, wherever it stands.
+use Rattle.std.proofs.Common.{◌≡◌, ℕ, List, [], codes, Some, refl, sym, ap, ◌∙◌, subst}
 use Rattle.sha2.specs.Sha256.{sha256}
 use Rattle.sha2.proofs.Facts256.{length-sha256}
 use Rattle.hmac_sha256.specs.Hmac.{hmac}
 use Rattle.base64.specs.Engines.{standard}
 use Rattle.base64.specs.GeneralPurpose.{encode_of}
 use Rattle.xml_spec.specs.Tree.{Attribute, Nodes}
-use Rattle.xml_spec.specs.Names.{outermost}
+use Rattle.xml_spec.specs.Names.{Scope}
 use Rattle.xml_spec.specs.Identifiers.{IsSingle}
-use Rattle.xml_spec.specs.Canonical.{canonical_nodes}
-use Rattle.xml_spec.specs.Content.{content, content_nodes}
+use Rattle.xml_spec.specs.Canonical.{canonical, canonical_nodes}
 use Rattle.element_make.specs.declared.names.Ns.{Ns}
 use Rattle.element_make.specs.declared.names.Ns.TheVariants.{Saml}
-use Rattle.element_make.specs.Made.{Made, MadeNodes, MadeElement, IsMade, tree_of, written, value_of}
+use Rattle.element_make.specs.Made.{Made, MadeNodes, MadeElement, IsMade, alone, joined, nodes_of, written, value_of}
 use Rattle.sig_reference.specs.Form.{Parts}
 use Rattle.sig_reference.specs.Signature.{Vouches}
 use Rattle.sig_reference.specs.Signing.{CanBeSigned, signed_info, signed, id_of}
 use Rattle.sig_reference.proofs.Digests.{digest_is_bytes, tag_is_bytes, tag_length, is_base64}
+use Rattle.sig_reference.proofs.AnyScope.{same_form}
 use Rattle.sig_reference.proofs.MadeNames.{value_there}
-use Rattle.sig_reference.proofs.SignatureMade.{issued}
+use Rattle.sig_reference.proofs.MadeScopes.{Has}
+use Rattle.sig_reference.proofs.Places.{Stands}
+use Rattle.sig_reference.proofs.PutInside.{IsPut}
+use Rattle.sig_reference.proofs.SignatureMade.{issued, unsigned_made}
 use Rattle.sig_reference.proofs.SignedNodes.{made_parts}
-use Rattle.sig_reference.proofs.SignedRoot.{place, without_signature, form, id_read, info_canonical}
+use Rattle.sig_reference.proofs.SignedPlace.{place, without_signature, form, id_read, info_canonical}
+use Rattle.sig_reference.proofs.Writable.{value_text}
 
--- the signature of a made element vouches for it, and without it the tree is that of the element
-abbrev pub IsVouchedAsMade : List ℕ → Made → Nodes → Type 0
-IsVouchedAsMade key made tree =
-    (parts : Parts) × Vouches key tree 0 parts × (content tree 0 (Some parts.signature) ≡ content (tree_of made) 0 None)
+-- the signature of a made element vouches for node e, whose form without it is what is written of the element
+pub record IsVouchedAsMade (key : List ℕ) (made : Made) (tree : Nodes) (e : ℕ) : Type 0 where
+  pub parts : Parts
+  pub vouches : Vouches key tree e parts
+  pub same : canonical tree e (Some parts.signature) [] ≡ written made
 
 module _ (key : List ℕ) (ns : Ns) (local : List ℕ) (attributes given : List Attribute) (kids rest : MadeNodes) where
   abbrev made : Made
@@ -46,36 +51,44 @@ module _ (key : List ℕ) (ns : Ns) (local : List ℕ) (attributes given : List 
   abbrev tag_text : List ℕ
   tag_text = encode_of standard tag
 
-  abbrev number : ℕ
-  number = place ns local attributes given kids rest id digest_text tag_text
-
-  vouched_issued : IsMade made → CanBeSigned made → IsSingle (tree_of (signed key made)) → IsVouchedAsMade key made (tree_of (signed key made))
-  vouched_issued is can single =
-      let left = without_signature ns local attributes given kids rest id digest_text tag_text in
-      let read = id_read ns local attributes given kids rest id digest_text tag_text is.1 is.2 in
-      let info = info_canonical ns local attributes given kids rest id digest_text tag_text is.1 in (
-        made_parts number id digest tag,
-        record {
+  vouched_issued : (declared : List Ns) (tree : Nodes) (e : ℕ) (scope : Scope) (after : MadeNodes) →
+      Stands tree e scope (nodes_of declared (joined (alone (signed key made)) after)) → Has declared scope →
+      IsMade made → CanBeSigned made → IsSingle tree → IsVouchedAsMade key made tree e
+  vouched_issued declared tree e scope after here has is can single =
+      let behind = nodes_of declared after in
+      let number = place declared ns local attributes given kids rest id digest_text tag_text e in
+      let left = without_signature declared ns local attributes given kids rest id digest_text tag_text tree e scope behind here has in
+      let read = id_read declared ns local attributes given kids rest id digest_text tag_text tree e scope behind here has is.1 is.2 in
+      let info =
+      info_canonical declared ns local attributes given kids rest id digest_text tag_text tree e scope behind here has is.1 (written made) refl
+      (value_text (codes "ID") attributes is.1) in
+      let same : canonical tree e (Some number) [] ≡ written made =
+      (λ i. canonical_nodes [] (here.inside i) [] (left i)) ∙ same_form made declared scope has is in
+      record {
+        parts = made_parts number id digest tag;
+        vouches = record {
           single = single;
           form =
-              form ns local attributes given kids rest id digest_text tag_text is.1 digest tag is.3.1 is.3.4 can.unsigned
+              form declared ns local attributes given kids rest id digest_text tag_text tree e scope behind here has is.1 digest tag is.3.1 is.3.4 can.unsigned
               (is_base64 digest (digest_is_bytes (written made)) (length-sha256 (written made)))
               (is_base64 tag (tag_is_bytes key (written (signed_info id digest))) (tag_length key (written (signed_info id digest))));
           reference = record { id = id; given = read ∙ value_there (value_of (codes "ID") attributes) can.id; some = can.id; uri = refl };
           tag = ap (hmac key) (sym info);
-          digest = ap (λ nodes. sha256 (canonical_nodes [] outermost [] nodes)) (sym left);
-        },
-        ap (content_nodes outermost) left,
-      )
+          digest = ap sha256 (sym same);
+        };
+        same = same;
+      }
 
-abbrev CanBeVouchedFor : List ℕ → Made → Type 0
-CanBeVouchedFor key made =
-    IsMade made → CanBeSigned made → IsSingle (tree_of (signed key made)) → IsVouchedAsMade key made (tree_of (signed key made))
+abbrev CanBeVouchedFor : List ℕ → Nodes → ℕ → Made → Type 0
+CanBeVouchedFor key tree e made =
+    IsPut tree e (signed key made) → IsMade made → CanBeSigned made → IsSingle tree → IsVouchedAsMade key made tree e
 
--- what is signed is vouched for
-pub vouched_as_made : (key : List ℕ) (made : Made) → IsMade made → CanBeSigned made → IsSingle (tree_of (signed key made)) →
-    IsVouchedAsMade key made (tree_of (signed key made))
-vouched_as_made key made is can single =
+-- what is signed is vouched for where it was put
+pub vouched_as_made : (key : List ℕ) (made : Made) (tree : Nodes) (e : ℕ) → IsPut tree e (signed key made) → CanBeSigned made → IsSingle tree →
+    IsVouchedAsMade key made tree e
+vouched_as_made key made tree e put can single =
     let front = issued made.kids can.issuer in
-    subst (λ (nodes : MadeNodes). CanBeVouchedFor key (record made { kids = nodes })) (sym front.is)
-    (vouched_issued key made.ns made.local made.attributes front.given front.kids front.rest) is can single
+    let vouched : CanBeVouchedFor key tree e made =
+    subst (λ (nodes : MadeNodes). CanBeVouchedFor key tree e (record made { kids = nodes })) (sym front.is)
+    (λ p is can single. vouched_issued key made.ns made.local made.attributes front.given front.kids front.rest p.declared tree e p.scope p.after p.here p.has is can single) in
+    vouched put (unsigned_made key made put.is) can single

@@ -1,6 +1,7 @@
 pub mod Algorithms
 pub mod Faults
 pub mod Form
+pub mod Placing
 pub mod Signature
 pub mod Signing
 pub mod Views

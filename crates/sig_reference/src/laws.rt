@@ -1,13 +1,16 @@
 //! Laws of the definitions that the contracts cite. Each function does nothing: what it ensures is the law.
-ghost use Rattle.std.specs.Prelude.{◌≡◌, ℕ, List, Some, None};
+ghost use Rattle.std.specs.Prelude.{◌≡◌, ℕ, List, [], codes, Some, None, IsTrue};
 ghost use Rattle.xml_spec.specs.Tree.{Nodes};
 ghost use Rattle.xml_spec.specs.Document.{Spells};
 ghost use Rattle.xml_spec.specs.Identifiers.{IsSingle};
 ghost use Rattle.xml_spec.specs.Content.{content};
+ghost use Rattle.saml_names.specs.Names.{ds};
+ghost use Rattle.tree_read.specs.Children.{children};
 ghost use Rattle.element_make.specs.Made.{Made, IsMade, tree_of, written};
 ghost use Rattle.sig_reference.specs.Form.{Parts, HasForm};
+ghost use Rattle.sig_reference.specs.Placing.{Around, filled, place_in};
 ghost use Rattle.sig_reference.specs.Signature.{Vouches};
-ghost use Rattle.sig_reference.specs.Signing.{CanBeSigned, signed};
+ghost use Rattle.sig_reference.specs.Signing.{CanBeSigned, signed, has_no_signature};
 
 /// An element has one signature at most: no two readings of its form differ in any part.
 pub fn a_signature_is_one()
@@ -21,4 +24,31 @@ pub fn what_is_signed_is_vouched_for()
         (parts : Parts) × Vouches key tree 0 parts × (content tree 0 (Some parts.signature) ≡ content (tree_of made) 0 None) }
 {
     element_make::a_made_element_spells_its_tree();
+    canon_laws::equal_forms_have_equal_contents();
+}
+
+/// What is signed and then put into another element, as deep as it may be, is vouched for there with the same key, wherever the
+/// written form of that element is read, and without its Signature it says what was signed: the canonical form of an element is
+/// the same wherever it stands, since it has those declarations alone that its own names use (Exclusive XML Canonicalization 1.0,
+/// 1.1 and 3).
+pub fn what_is_signed_inside_is_vouched_for()
+    ensures { (key : List ℕ) (around : Around) (outer made : Made) (tree : Nodes) → outer.kids ≡ filled around (signed key made) → IsMade outer →
+        CanBeSigned made → Spells (written outer) tree → IsSingle tree →
+        (parts : Parts) × Vouches key tree (place_in outer around) parts
+        × (content tree (place_in outer around) (Some parts.signature) ≡ content (tree_of made) 0 None) }
+{
+    element_make::a_made_element_spells_its_tree();
+    canon_laws::equal_forms_have_equal_contents();
+}
+
+/// What is put into another element says the same there, wherever the written form of that element is read; and it has no
+/// Signature there where it was put in without one.
+pub fn what_is_put_inside_says_the_same()
+    ensures content { (around : Around) (outer made : Made) (tree : Nodes) → outer.kids ≡ filled around made → IsMade outer → Spells (written outer) tree →
+        content tree (place_in outer around) None ≡ content (tree_of made) 0 None }
+    ensures unsigned { (around : Around) (outer made : Made) (tree : Nodes) → outer.kids ≡ filled around made → IsMade outer → Spells (written outer) tree →
+        IsTrue (has_no_signature made.kids) → children tree (place_in outer around) (ds (codes "Signature")) ≡ [] }
+{
+    element_make::a_made_element_spells_its_tree();
+    canon_laws::equal_forms_have_equal_contents();
 }

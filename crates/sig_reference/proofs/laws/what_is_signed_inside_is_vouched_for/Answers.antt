@@ -1,0 +1,27 @@
+use Rattle.std.proofs.Common.{◌≡◌, [], Some, None, refl, sym, subst}
+use Rattle.xml_spec.specs.Tree.{Nodes}
+use Rattle.xml_spec.specs.Names.{HasNames}
+use Rattle.xml_spec.proofs.Documents.{one_tree}
+use Rattle.element_make.specs.Made.{tree_of, written}
+use Rattle.sig_reference.specs.Placing.{place_in}
+use Rattle.sig_reference.specs.Signing.{signed}
+use Rattle.sig_reference.proofs.PutInside.{IsPut, put_in, put_is_element}
+use Rattle.sig_reference.proofs.SignatureMade.{unsigned_made}
+use Rattle.sig_reference.proofs.SignedVouched.{vouched_as_made}
+use Rattle.sig_reference.proofs.Standing.{signature_below}
+use Rattle.sig_reference.proofs.laws.what_is_signed_inside_is_vouched_for.Goals as goal
+
+pub returns : goal.returns
+returns c key around outer made tree holds is can spells single =
+    let spelled = c.a_made_element_spells_its_tree.ensures in
+    let one : tree ≡ tree_of outer = one_tree (written outer) tree (tree_of outer) spells (spelled.spells outer is) in
+    let e = place_in outer around in
+    let put : IsPut tree e (signed key made) = subst (λ (t : Nodes). IsPut t e (signed key made)) (sym one) (put_in around outer (signed key made) holds is) in
+    let inner = unsigned_made key made put.is in
+    let vouched = vouched_as_made key made tree e put can single in (
+      vouched.parts,
+      vouched.vouches,
+      c.equal_forms_have_equal_contents.ensures (written outer) (written made) tree (tree_of made) e 0 (Some vouched.parts.signature) None [] []
+          spells (subst HasNames (sym one) (spelled.names outer is)) (spelled.spells made inner) (spelled.names made inner)
+          (put_is_element put) refl (signature_below tree e vouched.parts vouched.vouches.form) tt vouched.same,
+    )
