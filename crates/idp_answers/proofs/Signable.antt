@@ -14,6 +14,9 @@ none_signed : (attributes : List Attribute) → IsTrue (has_no_signature (statem
 none_signed [] = refl
 none_signed (attribute ∷ others) = refl
 
+pub assertion_unsigned : (login : Login) (made : Made) → IsAssertionOf login made → IsTrue (has_no_signature made.kids)
+assertion_unsigned login made is = subst (λ (made : Made). IsTrue (has_no_signature made.kids)) (sym is.is) (none_signed login.attributes)
+
 -- the Assertion of a login with an ID
 pub assertion_signable : (login : Login) (made : Made) → login.id ≢ [] → IsAssertionOf login made → CanBeSigned made
 assertion_signable login made named is =

@@ -1,15 +1,19 @@
 //! Laws of the definitions that the contracts cite. Each function does nothing: what it ensures is the law.
-ghost use Rattle.std.specs.Prelude.{◌≡◌, ◌≢◌, ℕ, List, [], IsTrue, Some, None};
+ghost use Rattle.std.specs.Prelude.{◌≡◌, ◌≢◌, ℕ, List, [], ◌∷◌, codes, IsTrue, IsFalse, Some, None};
 ghost use Rattle.xml_spec.specs.Tree.{Nodes};
 ghost use Rattle.xml_spec.specs.Document.{Spells};
 ghost use Rattle.xml_spec.specs.Identifiers.{IsSingle};
 ghost use Rattle.xml_spec.specs.Content.{content};
+ghost use Rattle.saml_names.specs.Names.{saml, ds};
+ghost use Rattle.tree_read.specs.Children.{children};
 ghost use Rattle.element_make.specs.Made.{Made, IsMade, tree_of, written};
 ghost use Rattle.sig_reference.specs.Form.{Parts};
 ghost use Rattle.sig_reference.specs.Signature.{Vouches};
 ghost use Rattle.assertion_model.specs.declared.login.Login.{Login};
+ghost use Rattle.assertion_model.specs.Assertion.{CanBeRead};
+ghost use Rattle.assertion_model.specs.Parts.{login_at};
 ghost use Rattle.provider_config.specs.declared.idp_config.SignMode.{SignMode};
-ghost use Rattle.idp_answers.specs.Answers.{IsIssued, signs_response};
+ghost use Rattle.idp_answers.specs.Answers.{IsIssued, signs_assertion, signs_response};
 
 /// Where the mode signs the Response, the Response that is sent is vouched for with the same key, wherever its written form is
 /// read, by a Signature of its own; and without that Signature it says what was answered, with the Assertion of the login.
@@ -20,4 +24,48 @@ pub fn a_signed_response_is_vouched_for()
         (parts : Parts) × Vouches key tree 0 parts × (content tree 0 (Some parts.signature) ≡ content (tree_of issued.unsigned) 0 None) }
 {
     sig_reference::laws::what_is_signed_is_vouched_for();
+}
+
+/// Where the mode signs the Assertion, it is the one Assertion of the Response that is sent, wherever the written form of that is
+/// read, and is vouched for there with the same key; and without its Signature it says what the Assertion of the login says.
+pub fn a_signed_assertion_is_vouched_for()
+    ensures { (mode : SignMode) (key : List ℕ) (login : Login) (message consumer : List ℕ) (now : ℕ) (sent : Made) (tree : Nodes) →
+        IsTrue (signs_assertion mode) → login.id ≢ [] → (issued : IsIssued mode key login message consumer now sent) → IsMade sent →
+        Spells (written sent) tree → IsSingle tree →
+        (p : ℕ) × (children tree 0 (saml (codes "Assertion")) ≡ p ∷ [])
+        × (parts : Parts) × Vouches key tree p parts × (content tree p (Some parts.signature) ≡ content (tree_of issued.assertion) 0 None) }
+{
+    xml_spec::no_bytes_spell_two_trees();
+    element_make::a_made_element_spells_its_tree();
+    sig_reference::laws::what_is_signed_inside_is_vouched_for();
+}
+
+/// In each mode, what is read of the one Assertion of the Response that is sent, wherever the written form of that is read, is the
+/// login that was issued (SAML Profiles, 4.1.4.2 and 4.1.4.3).
+pub fn an_issued_login_is_read()
+    ensures { (mode : SignMode) (key : List ℕ) (login : Login) (message consumer : List ℕ) (now : ℕ) (sent : Made) (tree : Nodes) →
+        CanBeRead login → IsIssued mode key login message consumer now sent → IsMade sent → Spells (written sent) tree → IsSingle tree →
+        (p : ℕ) × (children tree 0 (saml (codes "Assertion")) ≡ p ∷ []) × (login_at tree p ≡ Some login) }
+{
+    xml_spec::no_bytes_spell_two_trees();
+    element_make::a_made_element_spells_its_tree();
+    sig_reference::laws::what_is_signed_inside_is_vouched_for();
+    sig_reference::laws::what_is_put_inside_says_the_same();
+    assertion_model::laws::the_signature_left_out_vouches();
+    assertion_model::laws::a_made_assertion_is_read();
+}
+
+/// What the mode does not sign has no Signature, wherever the written form of the Response that is sent is read: so each
+/// Signature that the Response or its Assertion has there is one that vouches.
+pub fn what_is_not_signed_has_no_signature()
+    ensures response { (mode : SignMode) (key : List ℕ) (login : Login) (message consumer : List ℕ) (now : ℕ) (sent : Made) (tree : Nodes) →
+        IsFalse (signs_response mode) → IsIssued mode key login message consumer now sent → IsMade sent → Spells (written sent) tree →
+        children tree 0 (ds (codes "Signature")) ≡ [] }
+    ensures assertion { (mode : SignMode) (key : List ℕ) (login : Login) (message consumer : List ℕ) (now : ℕ) (sent : Made) (tree : Nodes) (p : ℕ) →
+        IsFalse (signs_assertion mode) → IsIssued mode key login message consumer now sent → IsMade sent → Spells (written sent) tree →
+        children tree 0 (saml (codes "Assertion")) ≡ p ∷ [] → children tree p (ds (codes "Signature")) ≡ [] }
+{
+    xml_spec::no_bytes_spell_two_trees();
+    element_make::a_made_element_spells_its_tree();
+    sig_reference::laws::what_is_put_inside_says_the_same();
 }
