@@ -1,27 +1,25 @@
 -- A provider serves by what it was started with, at each request of a run.
-use Rattle.std.specs.Prelude.{Contains, Option, None, Some, Result}
-use Rattle.std.proofs.Common.{◌≡◌, ◌≤◌, ◌⊎◌, inl, inr, ℕ, zero, suc, nat_le, true, false, Bool, List, [], ◌∷◌, ◌++◌, sym, subst, refl, ap, ◌∙◌, arith}
+use Rattle.std.specs.Prelude.{Contains, Option, None, Some}
+use Rattle.std.proofs.Common.{◌≡◌, ◌≤◌, ◌⊎◌, inl, inr, ℕ, zero, suc, nat_le, true, false, List, [], ◌∷◌, sym, subst, refl, ap, ◌∙◌, arith}
 use Rattle.std.proofs.lemmas.List.Elements.{Contains-append_cases}
-use Rattle.saml_outside.specs.Files.{File}
 use Rattle.crash_disk.specs.Counts.{Rose}
 use Rattle.crash_disk.specs.Disk.{DiskState}
 use Rattle.conn_table.specs.Table.{Table}
 use Rattle.http_wire.specs.declared.answer.Answer.{Answer}
 use Rattle.http_wire.specs.Requests.{Request}
 use Rattle.ledger_records.specs.declared.sp_record.SpRecord.{SpRecord}
-use Rattle.node_serve.specs.declared.served.Served.{Served}
-use Rattle.node_serve.specs.declared.served.ServeFault.{ServeFault}
-use Rattle.node_serve.specs.Serving.{Serves}
 use Rattle.node_serve.specs.Turns.{Asked, Turn, Taken, Full, StarvedStart, Over, Unknown, Waiting, Answered, Refused, StarvedPiece, asked_in, asked_by, Does, Run}
 use Rattle.node_serve.specs.Worlds.{World, OnlySends}
 use Rattle.request_ledger.specs.Ledger.{Held}
 use Rattle.sp_server.specs.Step as steps
 use Rattle.sp_server.specs.Step.{Setup, Provider, Answers, Steps, is_expired}
 use Rattle.sp_server.specs.Histories.{IsProviders, Stands, ForRecord, ForNone, ForCode}
-use Rattle.sp_setup.specs.Laws.{ARegistryTellsTheProvider}
-use Rattle.sp_runs.specs.Laws.{ARunUsesWhatItsRegistryLists, EachRequestIsServedByTheSameSetup, AnEndedRegistryOpensNothing, is_of_login}
-use Rattle.node_runs.specs.Runs.{Outside, world_of}
-use Rattle.sp_runs.specs.Runs.{Begins}
+use Rattle.sp_setup.specs.Laws.{ARegistryTellsTheProvider, WithoutARegistryNothingEnds}
+use Rattle.sp_runs.specs.Laws.{ARunUsesWhatItsRegistryLists, EachRequestIsServedByTheSameSetup, AnEndedRegistryOpensNothing, AnEndedRegistryAsksNothing, AsksAndOpensNothing, WithoutARegistryNothingIsExpired, is_of_login}
+use Rattle.sp_setup.specs.Setup as setups
+use Rattle.node_runs.specs.Runs.{world_of}
+use Rattle.sp_runs.specs.Runs.{served_by}
+use Rattle.sp_runs.proofs.Expired.{step_unexpired}
 
 -- ---- one request
 
@@ -118,9 +116,89 @@ stands_for_none asked stood r ended some (ForCode code is) = absurd (cc)
 at_or_after : (until now : ℕ) → until ≤ now → nat_le until now ≡ true
 at_or_after until now late = grind (arith, Rattle.std.proofs.lemmas.Bool.Decides.nat_tests)
 
+-- the registry has ended at the moment of a request
+is_over : (asked : Asked Provider) (until : ℕ) (setup : setups.Setup) → asked.node.setup ≡ served_by setup → setup.expiry ≡ Some until → until ≤ asked.now →
+    is_expired asked.node.setup.expiry asked.now ≡ true
+is_over asked until setup by ends late =
+    ap (λ (s : Setup). is_expired s.expiry asked.now) by ∙ ap (λ (e : Option ℕ). is_expired e asked.now) ends ∙ at_or_after until asked.now late
+
 pub ended : AnEndedRegistryOpensNothing
 ended told file budget before opened after provider last turns served asked until r begins serves ends there late stands =
     let by = served_by_one told file budget before opened after provider last turns served asked begins serves there in
-    let over : is_expired asked.node.setup.expiry asked.now ≡ true =
-    ap (λ (s : Setup). is_expired s.expiry asked.now) by ∙ ap (λ (e : Option ℕ). is_expired e asked.now) ends ∙ at_or_after until asked.now late in
-    stands_for_none asked (Some r) r over refl stands
+    stands_for_none asked (Some r) r (is_over asked until begins.setup by ends late) refl stands
+
+-- what is answered then
+without : (setup : Setup) (held : Held) (request : Request) (now : ℕ) (answer : Answer) (adds : Option SpRecord) → is_expired setup.expiry now ≡ true →
+    Answers setup held request now answer adds → AsksAndOpensNothing setup request answer
+without setup held request now answer adds over (steps.ByStatus status to is none) = inl (status, is)
+without setup held request now answer adds over (steps.ByMetadata to is none) = inr (inl is)
+without setup held request now answer adds over (steps.BySession row to found is none) = inr (inr (row, is))
+without setup held request now answer adds over (steps.ByAsking bytes to unexpired_none unexpired id relay page is ids shown) = absurd (let e = sym over ∙ unexpired in cc)
+without setup held request now answer adds over (steps.ByOpening b row to unexpired opens token is has shown) = absurd (let e = sym over ∙ unexpired in cc)
+without setup held request now answer adds over (steps.ByVerdict verdict to unexpired refused is none) = inl (_, is)
+without setup held request now answer adds over (steps.ByExpiry at expired is none) = inl (steps.REGISTRY_EXPIRED, is)
+
+serves_without : (found : Held) (request : Request) (now : ℕ) (Risen : Type 0) (answer : Answer) (old new : Provider) → is_expired old.setup.expiry now ≡ true →
+    steps.Serves found request now Risen answer old new → AsksAndOpensNothing old.setup request answer
+serves_without found request now Risen answer old new over (steps.Plain answers whole) = without old.setup found request now answer None over answers
+serves_without found request now Risen answer old new over (steps.Recorded r answers place whole) =
+    absurd (ended_adds old.setup found request now answer (Some r) r over refl answers)
+serves_without found request now Risen answer old new over (steps.RecordedAfterCompaction held wanted r other wants none made answers place whole) =
+    absurd (ended_adds old.setup found request now other (Some wanted) wanted over refl wants)
+serves_without found request now Risen answer old new over (steps.NoPlace held wanted r other another wants none made answers still is whole) = inl (steps.FULL, is)
+serves_without found request now Risen answer old new over (steps.Failed wanted other wants risen is broken) = inl (steps.DISK_FAULT, is)
+serves_without found request now Risen answer old new over (steps.Starved held which is whole) = inl (steps.NO_MEMORY, is)
+
+step_without : (old : Provider) (disk : Option DiskState) (request : Request) (now : ℕ) (Risen : Type 0) (answer : Answer) (new : Provider) → is_expired old.setup.expiry now ≡ true →
+    Steps old disk request now Risen answer new → AsksAndOpensNothing old.setup request answer
+step_without old disk request now Risen answer new over (steps.WithLedger whole serves) = serves_without old.ledger.held request now Risen answer old new over serves
+step_without old disk request now Risen answer new over (steps.WithOpened found broken is serves) = serves_without found request now Risen answer old new over serves
+step_without old disk request now Risen answer new over (steps.NotOpened was risen is broken) = inl (steps.DISK_FAULT, is)
+step_without old disk request now Risen answer new over (steps.Strange was fault is broken) = inl (steps.FOREIGN, is)
+step_without old disk request now Risen answer new over (steps.StarvedAtOpening was is broken) = inl (steps.NO_MEMORY, is)
+
+-- ---- without a registry
+
+-- what is done at each request that was asked
+record Did (asked : Asked Provider) : Type 0 where
+  disk : Option DiskState
+  faults : ℕ
+  later : ℕ
+  new : Provider
+  step : Steps asked.node disk asked.request asked.now (Rose faults later) asked.answer new
+
+did_here : (turn : Turn Provider) (old new : Table) (w later : World Provider) (asked : Asked Provider) → Does IsProviders old w turn new later → Contains (asked_by turn) asked → Did asked
+did_here (Answered piece one) old new w later asked (between, takes, answers) (zero, within, is) =
+    subst Did is (record {
+      disk = w.disk;
+      faults = w.disk_faults;
+      later = answers.told.disk_faults;
+      new = answers.told.node;
+      step = subst (λ (p : Provider). Steps p w.disk one.request one.now (Rose w.disk_faults answers.told.disk_faults) one.answer answers.told.node) (sym answers.asks.node) answers.asks.answers.does;
+    })
+did_here (Answered piece one) old new w later asked does (suc k, within, is) = absurd (omega arith)
+did_here turn old new w later asked does (k, within, is) = absurd (omega arith)
+
+did : (first last : World Provider) (turns : List (Turn Provider)) (kept : Table) (asked : Asked Provider) → Run IsProviders first turns kept last → Contains (asked_in turns) asked → Did asked
+did first last [] kept asked run (k, within, is) = absurd (omega arith)
+did first last (turn ∷ past) kept asked (old, before, given, run, next, does) there =
+    which (λ earlier. did first before past old asked run earlier) (Contains-append_cases (asked_in past) (asked_by turn) asked there)
+  where
+    which : (Contains (asked_in past) asked → Did asked) → Contains (asked_in past) asked ⊎ Contains (asked_by turn) asked → Did asked
+    which rest (inl earlier) = rest earlier
+    which rest (inr now) = did_here turn old kept given last asked does now
+
+pub asks_nothing : AnEndedRegistryAsksNothing
+asks_nothing told file budget before opened after provider last turns served asked until begins serves ends there late =
+    let by = served_by_one told file budget before opened after provider last turns served asked begins serves there in
+    let here = did (world_of provider opened) serves.last turns serves.kept asked serves.run there in
+    subst (λ (s : Setup). AsksAndOpensNothing s asked.request asked.answer) by
+    (step_without asked.node here.disk asked.request asked.now (Rose here.faults here.later) asked.answer here.new (is_over asked until begins.setup by ends late) here.step)
+
+pub never_expired : WithoutARegistryNothingEnds → WithoutARegistryNothingIsExpired
+never_expired endless told file budget before opened after provider last turns served asked begins serves none there =
+    let by = served_by_one told file budget before opened after provider last turns served asked begins serves there in
+    let no_end : asked.node.setup.expiry ≡ None =
+    ap (λ (s : Setup). s.expiry) by ∙ endless told _ file begins.lines begins.setup begins.set_up none in
+    let here = did (world_of provider opened) serves.last turns serves.kept asked serves.run there in
+    step_unexpired asked.node here.disk asked.request asked.now (Rose here.faults here.later) asked.answer here.new no_end here.step

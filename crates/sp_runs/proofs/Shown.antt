@@ -1,8 +1,7 @@
 -- What a live session is shown.
 use Rattle.std.specs.Prelude.{Option, None, Some}
-use Rattle.std.proofs.Common.{◌≡◌, ◌⊎◌, inl, inr, ℕ, List, sym, subst, refl, ap, ◌∙◌}
+use Rattle.std.proofs.Common.{◌≡◌, ◌⊎◌, inl, inr, ℕ, List, sym, subst, ap, ◌∙◌}
 use Rattle.crash_disk.specs.Counts.{Rose}
-use Rattle.crash_disk.specs.Disk.{DiskState}
 use Rattle.access_policy.specs.declared.rule.Rule.{Rule}
 use Rattle.http_wire.specs.declared.answer.Answer.{Answer}
 use Rattle.http_wire.specs.declared.answer.Answer.TheVariants.{Fixed, Full}

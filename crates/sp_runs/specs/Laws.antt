@@ -1,5 +1,5 @@
 -- The laws of whole runs.
-use Rattle.std.specs.Prelude.{◌≡◌, ◌≤◌, ◌⊎◌, ℕ, Bool, true, false, List, Contains, Option, IsSome, Some, Ok, Result}
+use Rattle.std.specs.Prelude.{◌≡◌, ◌≢◌, ◌≤◌, ◌⊎◌, ℕ, Bool, true, false, List, Contains, Option, IsSome, Some, Ok, Result}
 use Rattle.std.specs.List.{AllByRecursion}
 use Rattle.saml_outside.specs.Files.{File}
 use Rattle.crash_disk.specs.Counts.{Rose}
@@ -21,8 +21,9 @@ use Rattle.provider_config.specs.declared.config.SpFile.TheVariants.{Registry}
 use Rattle.request_ledger.specs.Ledger.{Held, ledger_in}
 use Rattle.request_ledger.specs.Runs.{AreDifferent, requests_opened}
 use Rattle.request_rows.specs.declared.row.OpenedRow.{OpenedRow}
+use Rattle.sp_answers.specs.Answers.{metadata_answer}
 use Rattle.sp_server.specs.Routes.{App, To, route}
-use Rattle.sp_server.specs.Step.{Provider, Setup, Steps, session_for, shown_to, NO_MEMORY}
+use Rattle.sp_server.specs.Step.{Provider, Setup, Steps, session_for, shown_to, NO_MEMORY, REGISTRY_EXPIRED}
 use Rattle.sp_server.specs.Sessions.{GivesSession}
 use Rattle.sp_server.specs.Histories.{IsProviders, Stands, AreTold, AreKeptOnce}
 use Rattle.sp_setup.specs.Laws.{IsFromRegistry}
@@ -80,6 +81,29 @@ AnEndedRegistryOpensNothing =
     (asked : Asked Provider) (until : ℕ) (r : SpRecord) → (begins : Begins told file before provider opened)
     → Serves IsProviders budget turns (world_of provider opened) served (world_of last after)
     → begins.setup.expiry ≡ Some until → Contains (asked_in turns) asked → until ≤ asked.now → Stands asked (Some r) → is_of_login r ≡ false
+
+-- an answer that is no form which asks for a login, and gives no session: a code, the metadata, or the page of a session that lives
+abbrev pub AsksAndOpensNothing : Setup → Request → Answer → Type 0
+AsksAndOpensNothing setup request answer =
+    ((code : ℕ) × (answer ≡ Fixed code))
+    ⊎ ((answer ≡ Full (metadata_answer setup.config)) ⊎ ((row : OpenedRow) × (answer ≡ Full (shown_to setup.policy request.path row))))
+
+-- And each is such an answer.
+abbrev pub AnEndedRegistryAsksNothing : Type 0
+AnEndedRegistryAsksNothing =
+    (told : Option (List File)) (file : List ℕ) (budget : ℕ) (before opened after : Outside) (provider last : Provider) (turns : List (Turn Provider)) (served : Result Served ServeFault)
+    (asked : Asked Provider) (until : ℕ) → (begins : Begins told file before provider opened)
+    → Serves IsProviders budget turns (world_of provider opened) served (world_of last after)
+    → begins.setup.expiry ≡ Some until → Contains (asked_in turns) asked → until ≤ asked.now
+    → AsksAndOpensNothing (served_by begins.setup) asked.request asked.answer
+
+-- The code for an ended registry is answered in no run whose config has none.
+abbrev pub WithoutARegistryNothingIsExpired : Type 0
+WithoutARegistryNothingIsExpired =
+    (told : Option (List File)) (file : List ℕ) (budget : ℕ) (before opened after : Outside) (provider last : Provider) (turns : List (Turn Provider)) (served : Result Served ServeFault)
+    (asked : Asked Provider) → (begins : Begins told file before provider opened)
+    → Serves IsProviders budget turns (world_of provider opened) served (world_of last after)
+    → ((line : RegistryLine) → ¬ (Contains begins.lines.files (Registry line))) → Contains (asked_in turns) asked → asked.answer ≢ Fixed REGISTRY_EXPIRED
 
 -- POLICIES
 

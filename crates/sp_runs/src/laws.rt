@@ -1,6 +1,6 @@
 //! The laws of whole runs, each the contract of a function that does nothing.
 ghost use Rattle.sp_runs.specs.Headline.{ARunCarriesTheHeadline};
-ghost use Rattle.sp_runs.specs.Laws.{AnEndedRegistryOpensNothing, ARunUsesWhatItsRegistryLists, ASessionIsShownByItsRow, EachRequestIsServedByTheSameSetup, EachSessionWasSigned, EqualRowsAreShownAlike, NoImageHasARequestTwice, WhatARunAcknowledgedIsKeptOnce};
+ghost use Rattle.sp_runs.specs.Laws.{AnEndedRegistryAsksNothing, AnEndedRegistryOpensNothing, ARunUsesWhatItsRegistryLists, ASessionIsShownByItsRow, EachRequestIsServedByTheSameSetup, EachSessionWasSigned, EqualRowsAreShownAlike, NoImageHasARequestTwice, WhatARunAcknowledgedIsKeptOnce, WithoutARegistryNothingIsExpired};
 
 use request_ledger::laws::{images_hold_records, no_request_opens_twice};
 
@@ -32,11 +32,13 @@ pub fn each_session_was_signed()
 
 /// A run whose config has a registry has its identity provider from the one descriptor of that name that the registry lists,
 /// inside the element that the signature covers, at each of its requests; and from the moment on at which the registry ends it
-/// asks for no login and opens no session.
+/// asks for no login and opens no session. A run whose config has none never answers that one has ended.
 pub fn a_registry_tells_and_ends()
     ensures tells { ARunUsesWhatItsRegistryLists }
     ensures same { EachRequestIsServedByTheSameSetup }
     ensures ends { AnEndedRegistryOpensNothing }
+    ensures asks { AnEndedRegistryAsksNothing }
+    ensures without { WithoutARegistryNothingIsExpired }
 {
     sp_setup::laws::a_registry_tells_the_provider();
 }

@@ -1,0 +1,171 @@
+-- The code for an ended registry is that of no other refusal.
+use Rattle.std.specs.Prelude.{Option, None, Some, Result, Ok, Err, if◌then◌else◌}
+use Rattle.std.specs.List.{AllByRecursion}
+use Rattle.std.proofs.Common.{◌≡◌, ◌≢◌, ◌≤◌, ℕ, Bool, true, false, List, [], ◌∷◌, sym, subst, refl, ap, ◌∙◌, arith}
+use Rattle.crash_disk.specs.Disk.{DiskState}
+use Rattle.http_wire.specs.declared.answer.Answer.{Answer}
+use Rattle.http_wire.specs.declared.answer.Answer.TheVariants.{Fixed, Full}
+use Rattle.http_wire.specs.declared.method.Method.{Method}
+use Rattle.http_wire.specs.Requests.{Request}
+use Rattle.ledger_records.specs.declared.sp_record.SpRecord.{SpRecord}
+use Rattle.post_binding.specs.declared.fault.FormFault.{FormFault}
+use Rattle.post_binding.specs.declared.fault.FormFault.TheVariants as forms
+use Rattle.post_binding.specs.declared.posted.Field.{Field}
+use Rattle.post_binding.specs.declared.posted.Field.TheVariants.{Request as RequestField, Response as ResponseField}
+use Rattle.post_binding.specs.declared.posted.Posted.{Posted}
+use Rattle.post_binding.specs.Form.{form}
+use Rattle.saml_tree.specs.declared.node.TreeFault.{TreeFault}
+use Rattle.saml_tree.specs.declared.node.TreeFault.TheVariants as documents
+use Rattle.sig_reference.specs.declared.fault.SigFault.{SigFault}
+use Rattle.sig_reference.specs.declared.fault.SigFault.TheVariants as signatures
+use Rattle.fault_verdicts.specs.Verdicts.{of_document, of_signature}
+use Rattle.verdict_codes.specs.Codes.{number_of}
+use Rattle.verdict_codes.specs.declared.codes.Verdict.{Verdict}
+use Rattle.verdict_codes.specs.declared.codes.Verdict.TheVariants as verdicts
+use Rattle.request_rows.specs.Rows.{RowsView}
+use Rattle.request_ledger.specs.Ledger.{Held}
+use Rattle.sp_rules.specs.declared.config.SpConfig.{SpConfig}
+use Rattle.sp_rules.specs.Meant.{consumer, is_from, is_for, is_sent_to, is_in_time}
+use Rattle.sp_rules.specs.Outstanding.{asked_for, is_outstanding, is_unspent, is_unseen, is_relayed}
+use Rattle.sp_rules.specs.Verdict.{form_refusal, number_refusal, first_failing, IsRefused, by_form, by_document, by_root, by_head, by_signature, by_assertion, by_login}
+use Rattle.sp_server.specs.Routes.{Route, Service, App, Consumer, Metadata, To, Refused, is_target, is_method, is_typed, at_target, checked, service_at}
+use Rattle.sp_server.specs.Step as steps
+use Rattle.sp_server.specs.Step.{Setup, Provider, Answers, Steps, REGISTRY_EXPIRED, is_expired}
+
+-- ---- the verdict on a form has another number
+
+-- the codes of forms end at 23
+abbrev IsOfForms : Verdict → Type 0
+IsOfForms verdict = number_of verdict ≤ 23
+
+small : (given verdict : Verdict) → IsOfForms given → Some given ≡ Some verdict → IsOfForms verdict
+small given verdict h e = let same : given ≡ verdict = cc in subst IsOfForms same h
+
+form_small : (r : Result Posted FormFault) (verdict : Verdict) → form_refusal r ≡ Some verdict → IsOfForms verdict
+form_small (Err forms.BadForm) verdict e = small verdicts.BadForm verdict (omega arith) e
+form_small (Err forms.BadBase64) verdict e = small verdicts.BadBase64 verdict (omega arith) e
+form_small (Err (forms.TooLarge bytes)) verdict e = small verdicts.TooLarge verdict (omega arith) e
+form_small (Err forms.NoMemory) verdict e = absurd (cc)
+form_small (Ok posted) verdict e = in_field posted.field refl
+  where
+    with_field : (f : Field) → posted.field ≡ f → form_refusal (Ok (record posted { field = f })) ≡ Some verdict
+    with_field f is = subst (λ (g : Field). form_refusal (Ok (record posted { field = g })) ≡ Some verdict) is e
+
+    in_field : (f : Field) → posted.field ≡ f → IsOfForms verdict
+    in_field RequestField is = small verdicts.BadForm verdict (omega arith) (with_field RequestField is)
+    in_field ResponseField is = absurd (let clash : None ≡ Some verdict = with_field ResponseField is in cc)
+
+document_small : (fault : TreeFault) (verdict : Verdict) → of_document fault ≡ Some verdict → IsOfForms verdict
+document_small documents.BadXml verdict e = small verdicts.BadXml verdict (omega arith) e
+document_small documents.XmlLimit verdict e = small verdicts.XmlLimit verdict (omega arith) e
+document_small documents.BadNames verdict e = small verdicts.BadNames verdict (omega arith) e
+document_small documents.DuplicateId verdict e = small verdicts.DuplicateId verdict (omega arith) e
+document_small documents.NoMemory verdict e = absurd (cc)
+
+signature_small : (fault : SigFault) (verdict : Verdict) → of_signature fault ≡ Some verdict → IsOfForms verdict
+signature_small signatures.BadSignatureForm verdict e = small verdicts.BadSignatureForm verdict (omega arith) e
+signature_small signatures.BadReference verdict e = small verdicts.BadReference verdict (omega arith) e
+signature_small signatures.TagDiffers verdict e = small verdicts.TagDiffers verdict (omega arith) e
+signature_small signatures.DigestDiffers verdict e = small verdicts.DigestDiffers verdict (omega arith) e
+signature_small signatures.NoMemory verdict e = absurd (cc)
+
+number_small : (assertions : List ℕ) (verdict : Verdict) → number_refusal assertions ≡ Some verdict → IsOfForms verdict
+number_small [] verdict e = small verdicts.NotOneAssertion verdict (omega arith) e
+number_small (p ∷ []) verdict e = absurd (cc)
+number_small (p ∷ q ∷ others) verdict e = small verdicts.NotOneAssertion verdict (omega arith) e
+
+head_small : (success : Bool) (assertions : List ℕ) (verdict : Verdict) → (if success then number_refusal assertions else Some verdicts.NotSuccess) ≡ Some verdict → IsOfForms verdict
+head_small true assertions verdict e = number_small assertions verdict e
+head_small false assertions verdict e = small verdicts.NotSuccess verdict (omega arith) e
+
+first_small : (checks : List (Bool × Verdict)) (verdict : Verdict) → AllByRecursion (λ (c : Bool × Verdict). IsOfForms c.1) checks → first_failing checks ≡ Some verdict → IsOfForms verdict
+first_small [] verdict all e = absurd (cc)
+first_small ((true, given) ∷ others) verdict all e = first_small others verdict all.1 e
+first_small ((false, given) ∷ others) verdict all e = small given verdict all.0 e
+
+login_small : (from for sent timely waits unspent unseen relayed : Bool) (verdict : Verdict) →
+    first_failing ((from, verdicts.WrongIssuer) ∷ (for, verdicts.WrongAudience) ∷ (sent, verdicts.WrongRecipient) ∷ (timely, verdicts.NotInTime) ∷ (waits, verdicts.NotOutstanding) ∷ (unspent, verdicts.RequestSpent) ∷ (unseen, verdicts.AssertionSeen) ∷ (relayed, verdicts.RelayDiffers) ∷ [])
+    ≡ Some verdict → IsOfForms verdict
+login_small from for sent timely waits unspent unseen relayed verdict e =
+    first_small ((from, verdicts.WrongIssuer) ∷ (for, verdicts.WrongAudience) ∷ (sent, verdicts.WrongRecipient) ∷ (timely, verdicts.NotInTime) ∷ (waits, verdicts.NotOutstanding) ∷ (unspent, verdicts.RequestSpent) ∷ (unseen, verdicts.AssertionSeen) ∷ (relayed, verdicts.RelayDiffers) ∷ [])
+    verdict (omega arith, (omega arith, (omega arith, (omega arith, (omega arith, (omega arith, (omega arith, (omega arith, tt)))))))) e
+
+refused_small : (config : SpConfig) (rows : RowsView) (horizon now : ℕ) (body : List ℕ) (verdict : Verdict) → IsRefused config rows horizon now body verdict → IsOfForms verdict
+refused_small config rows horizon now body verdict (by_form e) = form_small (form body) verdict e
+refused_small config rows horizon now body verdict (by_document message relay fault p r e) = document_small fault verdict e
+refused_small config rows horizon now body verdict (by_root message relay tree p s n e) = subst IsOfForms (sym e) (omega arith)
+refused_small config rows horizon now body verdict (by_head c k e) = head_small c.head.success c.head.assertions verdict e
+refused_small config rows horizon now body verdict (by_signature c p fault k s u e) = signature_small fault verdict e
+refused_small config rows horizon now body verdict (by_assertion c p e key k s covered none is) = subst IsOfForms (sym is) (omega arith)
+refused_small config rows horizon now body verdict (by_login b k e) =
+    let c = b.carried in
+    let asked = asked_for rows horizon now b.login in
+    login_small (is_from config c.head b.login) (is_for config b.login) (is_sent_to (consumer config) c.head b.login) (is_in_time config now b.login)
+    (is_outstanding asked c.head b.login) (is_unspent rows b.login) (is_unseen rows horizon now b.login) (is_relayed asked c.relay) verdict e
+
+-- ---- so has the status of a request that is not served
+
+-- none of the code's number
+abbrev IsOther : Route → Type 0
+IsOther (To service) = Unit {0}
+IsOther (Refused status) = status ≢ 70
+
+chosen : (b : Bool) (one other : Route) → IsOther one → IsOther other → IsOther (if b then one else other)
+chosen true one other h k = h
+chosen false one other h k = k
+
+target_other : (path : List ℕ) (service : Service) → IsOther (at_target path service)
+target_other path App = chosen (is_target path) (To App) (Refused 404) tt (λ e. omega (arith, e))
+target_other path Consumer = tt
+target_other path Metadata = tt
+
+checked_other : (request : Request) (o : Option (Method × Service)) → IsOther (checked request o)
+checked_other request None = λ e. omega (arith, e)
+checked_other request (Some (method, service)) =
+    chosen (is_method method request.method) (if is_typed method request.content_type then at_target request.path service else Refused 415) (Refused 405)
+    (chosen (is_typed method request.content_type) (at_target request.path service) (Refused 415) (target_other request.path service) (λ e. omega (arith, e)))
+    (λ e. omega (arith, e))
+
+-- ---- an answer
+
+number_in : (m n : ℕ) → Fixed m ≡ Fixed n → m ≡ n
+number_in m n e = cc
+
+not_full : (bytes : List ℕ) (n : ℕ) → Full bytes ≡ Fixed n → ⊥
+not_full bytes n e = cc
+
+unexpired : (setup : Setup) (held : Held) (request : Request) (now : ℕ) (answer : Answer) (adds : Option SpRecord) → setup.expiry ≡ None → Answers setup held request now answer adds →
+    answer ≡ Fixed REGISTRY_EXPIRED → ⊥
+unexpired setup held request now answer adds none (steps.ByStatus status to is nothing) e =
+    subst IsOther to (checked_other request (service_at request.path)) (number_in status REGISTRY_EXPIRED (sym is ∙ e))
+unexpired setup held request now answer adds none (steps.ByMetadata to is nothing) e = not_full _ REGISTRY_EXPIRED (sym is ∙ e)
+unexpired setup held request now answer adds none (steps.BySession row to found is nothing) e = not_full _ REGISTRY_EXPIRED (sym is ∙ e)
+unexpired setup held request now answer adds none (steps.ByAsking bytes to out before id relay page is ids shown) e = not_full bytes REGISTRY_EXPIRED (sym shown ∙ e)
+unexpired setup held request now answer adds none (steps.ByOpening b row to before opens token is has shown) e = not_full _ REGISTRY_EXPIRED (sym shown ∙ e)
+unexpired setup held request now answer adds none (steps.ByVerdict verdict to before refused is nothing) e =
+    let few = refused_small setup.config _ held.header.horizon now request.body verdict refused in
+    let same : number_of verdict ≡ 70 = number_in (number_of verdict) REGISTRY_EXPIRED (sym is ∙ e) in omega (arith, few, same)
+unexpired setup held request now answer adds none (steps.ByExpiry at expired is nothing) e =
+    let never : false ≡ true = sym (ap (λ (o : Option ℕ). is_expired o now) none) ∙ expired in cc
+
+other_code : (answer : Answer) (n : ℕ) → n ≢ 70 → answer ≡ Fixed n → answer ≡ Fixed REGISTRY_EXPIRED → ⊥
+other_code answer n differs is e = differs (number_in n REGISTRY_EXPIRED (sym is ∙ e))
+
+serves_unexpired : (found : Held) (request : Request) (now : ℕ) (Risen : Type 0) (answer : Answer) (old new : Provider) → old.setup.expiry ≡ None →
+    steps.Serves found request now Risen answer old new → answer ≡ Fixed REGISTRY_EXPIRED → ⊥
+serves_unexpired found request now Risen answer old new none (steps.Plain answers whole) e = unexpired old.setup found request now answer None none answers e
+serves_unexpired found request now Risen answer old new none (steps.Recorded r answers place whole) e = unexpired old.setup found request now answer (Some r) none answers e
+serves_unexpired found request now Risen answer old new none (steps.RecordedAfterCompaction held wanted r other wants full made answers place whole) e =
+    unexpired old.setup held request now answer (Some r) none answers e
+serves_unexpired found request now Risen answer old new none (steps.NoPlace held wanted r other another wants full made answers still is whole) e =
+    other_code answer steps.FULL (λ n. omega (arith, n)) is e
+serves_unexpired found request now Risen answer old new none (steps.Failed wanted other wants risen is broken) e = other_code answer steps.DISK_FAULT (λ n. omega (arith, n)) is e
+serves_unexpired found request now Risen answer old new none (steps.Starved held which is whole) e = other_code answer steps.NO_MEMORY (λ n. omega (arith, n)) is e
+
+pub step_unexpired : (old : Provider) (disk : Option DiskState) (request : Request) (now : ℕ) (Risen : Type 0) (answer : Answer) (new : Provider) → old.setup.expiry ≡ None →
+    Steps old disk request now Risen answer new → answer ≡ Fixed REGISTRY_EXPIRED → ⊥
+step_unexpired old disk request now Risen answer new none (steps.WithLedger whole serves) e = serves_unexpired old.ledger.held request now Risen answer old new none serves e
+step_unexpired old disk request now Risen answer new none (steps.WithOpened found broken is serves) e = serves_unexpired found request now Risen answer old new none serves e
+step_unexpired old disk request now Risen answer new none (steps.NotOpened was risen is broken) e = other_code answer steps.DISK_FAULT (λ n. omega (arith, n)) is e
+step_unexpired old disk request now Risen answer new none (steps.Strange was fault is broken) e = other_code answer steps.FOREIGN (λ n. omega (arith, n)) is e
+step_unexpired old disk request now Risen answer new none (steps.StarvedAtOpening was is broken) e = other_code answer steps.NO_MEMORY (λ n. omega (arith, n)) is e
