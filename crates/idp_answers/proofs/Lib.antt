@@ -1,3 +1,4 @@
 pub mod Held
+pub mod ReadBack
 pub mod Signable
 pub mod Texts

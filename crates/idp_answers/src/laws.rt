@@ -1,17 +1,19 @@
 //! Laws of the definitions that the contracts cite. Each function does nothing: what it ensures is the law.
-ghost use Rattle.std.specs.Prelude.{◌≡◌, ◌≢◌, ℕ, List, [], ◌∷◌, codes, IsTrue, IsFalse, Some, None};
+ghost use Rattle.std.specs.Prelude.{◌≡◌, ◌≢◌, ℕ, ◌≤◌, true, List, [], ◌∷◌, length, codes, IsTrue, IsFalse, Some, None};
 ghost use Rattle.xml_spec.specs.Tree.{Nodes};
 ghost use Rattle.xml_spec.specs.Document.{Spells};
 ghost use Rattle.xml_spec.specs.Identifiers.{IsSingle};
 ghost use Rattle.xml_spec.specs.Content.{content};
 ghost use Rattle.saml_names.specs.Names.{saml, ds};
 ghost use Rattle.tree_read.specs.Children.{children};
+ghost use Rattle.tree_read.specs.Texts.{trimmed};
 ghost use Rattle.element_make.specs.Made.{Made, IsMade, tree_of, written};
 ghost use Rattle.sig_reference.specs.Form.{Parts};
 ghost use Rattle.sig_reference.specs.Signature.{Vouches};
 ghost use Rattle.assertion_model.specs.declared.login.Login.{Login};
 ghost use Rattle.assertion_model.specs.Assertion.{CanBeRead};
 ghost use Rattle.assertion_model.specs.Parts.{login_at};
+ghost use Rattle.protocol_messages.specs.Messages.{IsResponse};
 ghost use Rattle.provider_config.specs.declared.idp_config.SignMode.{SignMode};
 ghost use Rattle.idp_answers.specs.Answers.{IsIssued, signs_assertion, signs_response};
 
@@ -38,6 +40,26 @@ pub fn a_signed_assertion_is_vouched_for()
     xml_spec::no_bytes_spell_two_trees();
     element_make::a_made_element_spells_its_tree();
     sig_reference::laws::what_is_signed_inside_is_vouched_for();
+}
+
+/// In each mode the Response that is sent, wherever its written form is read, is read as it was made: a success with just one
+/// Assertion, which names the issuer of the login, without white space around it, and answers its request at the consumer
+/// (SAML Core, 3.2.2; SAML Profiles, 4.1.4.2).
+pub fn a_sent_response_is_read()
+    ensures { (mode : SignMode) (key : List ℕ) (login : Login) (message consumer : List ℕ) (now : ℕ) (sent : Made) (tree : Nodes) →
+        1 ≤ length message → length message ≤ 256 → IsIssued mode key login message consumer now sent → IsMade sent → Spells (written sent) tree →
+        (p : ℕ) × IsResponse tree 0 (record {
+          id = message;
+          issuer = Some (trimmed login.issuer);
+          destination = Some consumer;
+          request = Some login.request;
+          success = true;
+          has_signature = signs_response mode;
+          assertions = p ∷ [];
+        }) }
+{
+    xml_spec::no_bytes_spell_two_trees();
+    element_make::a_made_element_spells_its_tree();
 }
 
 /// In each mode, what is read of the one Assertion of the Response that is sent, wherever the written form of that is read, is the
