@@ -1,7 +1,6 @@
 -- What a provider does behind a draft, a compaction or an opening, seen from before it.
 use Rattle.std.specs.Prelude.{IsErrOf, Option, None, Some, Result, Ok, Err}
 use Rattle.std.proofs.Common.{◌≡◌, inl, inr, ℕ, sym, subst, refl, ap, ◌∙◌}
-use Rattle.crash_disk.specs.Disk.{Image}
 use Rattle.http_wire.specs.declared.answer.Answer.{Answer}
 use Rattle.http_wire.specs.declared.answer.Answer.TheVariants.{Fixed}
 use Rattle.http_wire.specs.Requests.{Request}
@@ -13,7 +12,7 @@ use Rattle.idp_ledger.specs.Compacting.{Compacts}
 use Rattle.idp_ledger.specs.Laws.{AnswerAlike, CompactionsChangeNoAnswer}
 use Rattle.idp_ledger.specs.Record.{AreRecords}
 use Rattle.idp_rules.specs.declared.config.IdpConfig.{IdpConfig}
-use Rattle.idp_server.specs.Step.{Provider, Answers, HasPlace, IsWhole, IsBroken, Serves, Plain, Recorded, RecordedAfterCompaction, NoPlace, Failed, Starved, ServingLeaves}
+use Rattle.idp_server.specs.Step.{Provider, Answers, HasPlace, IsWhole, IsBroken, Serves, Plain, Recorded, RecordedAfterCompaction, NoPlace, Failed, Starved}
 use Rattle.idp_server.specs.Node.{CompactsFound, MadeAnew, Stays, Fails}
 use Rattle.idp_server.specs.Serving.{code_of}
 use Rattle.idp_server.proofs.Alike.{alike}
@@ -65,11 +64,6 @@ pub serves_behind : (old mid new : Provider) (request : Request) (now : ℕ) (Ri
 serves_behind old mid new request now Risen answer first serves =
     serves_from old.ledger.held old mid new request now Risen Risen answer (kind_of old mid old.ledger.held first) (λ risen. risen)
     (subst (λ (h : Held). Serves h request now Risen answer mid new) first.is serves)
-
-pub leaves_behind : (old mid : Provider) (request : Request) (now : ℕ) (image : Image) → IsWhole old mid old.ledger.held
-    → ServingLeaves mid.setup mid.ledger.held request now image → ServingLeaves old.setup old.ledger.held request now image
-leaves_behind old mid request now image first left =
-    subst (λ (s : IdpConfig). ServingLeaves s old.ledger.held request now image) first.setup (subst (λ (h : Held). ServingLeaves mid.setup h request now image) first.is left)
 
 -- there was no memory for a draft
 pub starved_behind : (old mid : Provider) (request : Request) (now : ℕ) (Risen : Type 0) → IsWhole old mid old.ledger.held

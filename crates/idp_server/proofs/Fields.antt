@@ -54,9 +54,6 @@ are_fields body found is =
     one.3 ∙ ap (λ (xs : List (List ℕ)). one.0 ∷ xs) (two.3 ∙ ap (λ (xs : List (List ℕ)). two.0 ∷ xs) (three.3 ∙ ap (λ (xs : List (List ℕ)). three.0 ∷ xs) none)) in
     record { t = record { pending = one.0; user = two.0; password = three.0 }; posted = ap typed_in (is ∙ ap Some are); are = are }
 
-pub three_long : (body : List ℕ) (found : List (List ℕ)) → AreFields body found → length found ≡ 3
-three_long body found are = ap (λ (xs : List (List ℕ)). length xs) are.are
-
 -- one of them
 pub field_at : (found more : List (List ℕ)) (place : ℕ) (one other : List ℕ) → found ≡ more → slice_get more place ≡ Some other → slice_get found place ≡ Some one → one ≡ other
 field_at found more place one other same is there =

@@ -1,8 +1,8 @@
 -- Going over a list whose elements all pass.
-use Rattle.std.proofs.Common.{◌≡◌, ℕ, ◌+◌, Bool, true, ◌&&◌, List, [], ◌∷◌, drop, length, slice_get, Some, refl, arith, sym, subst, ap, ◌∙◌}
+use Rattle.std.proofs.Common.{◌≡◌, ℕ, ◌+◌, Bool, true, ◌&&◌, List, [], ◌∷◌, drop, slice_get, Some, refl, sym, ap, ◌∙◌}
 use Rattle.std.specs.List.{AllByRecursion, list_all, flat_map}
 use Rattle.std.proofs.lemmas.Bool.{and_parts}
-use Rattle.std.proofs.lemmas.List.{drop_more, drop_all}
+use Rattle.std.proofs.lemmas.List.{drop_more}
 use Rattle.std.proofs.lemmas.List.Folds.{list_all-append}
 use Rattle.std.proofs.lemmas.Option.{get_or_from_slice_get, slice_get_within}
 
@@ -16,19 +16,6 @@ pub record IsWalked {X : Type 0} (P : X → Type 0) (test : X → Bool) (xs : Li
 
 pub walk_starts : {X : Type 0} (P : X → Type 0) (test : X → Bool) (xs : List X) → list_all test xs ≡ true → IsWalked P test xs 0
 walk_starts P test xs all = record { back = λ rest. rest; left = all }
-
-pub walk_tells : {X : Type 0} (P : X → Type 0) (test : X → Bool) (xs : List X) (i : ℕ) (x : X) → slice_get xs i ≡ Some x → IsWalked P test xs i → test x ≡ true
-walk_tells {X} P test xs i x is walked =
-    (and_parts (test x) (list_all test (drop (i + 1) xs)) (subst (λ (ys : List X). list_all test ys ≡ true) (drop_at xs i x is) walked.left)).0
-
-pub walk_goes : {X : Type 0} (P : X → Type 0) (test : X → Bool) (xs : List X) (i : ℕ) (x : X) → slice_get xs i ≡ Some x → P x → IsWalked P test xs i → IsWalked P test xs (i + 1)
-walk_goes {X} P test xs i x is holds walked = record {
-  back = λ rest. walked.back (subst (AllByRecursion P) (sym (drop_at xs i x is)) (holds, rest));
-  left = (and_parts (test x) (list_all test (drop (i + 1) xs)) (subst (λ (ys : List X). list_all test ys ≡ true) (drop_at xs i x is) walked.left)).1;
-}
-
-pub walk_ends : {X : Type 0} (P : X → Type 0) (test : X → Bool) (xs : List X) (i : ℕ) → length xs ≡ i → IsWalked P test xs i → AllByRecursion P xs
-walk_ends P test xs i is walked = walked.back (subst (AllByRecursion P) (sym (drop_all i xs (omega arith))) tt)
 
 -- what passes of lists that are joined passes of each
 pub all_of_each : {X : Type 0} (parts : X → List (List ℕ)) (test : List ℕ → Bool) (xs : List X) → list_all test (flat_map parts xs) ≡ true
