@@ -23,3 +23,4 @@ pub mod CauseLaws
 pub mod RunImages
 pub mod CompactLaws
 pub mod CompactSteps
+pub mod FoundDrafts
