@@ -5,6 +5,8 @@
 #![tactic(auto)]
 
 mod answer;
+#[cfg(test)]
+mod both_tests;
 mod canon;
 mod check;
 #[cfg(test)]

@@ -9,7 +9,7 @@ use std::alloc::Global;
 use std::test::Fail;
 
 /// The config of a service provider, and the files that it names.
-const FILES: [(&str, &str); 3] = [
+pub(crate) const FILES: [(&str, &str); 3] = [
     (
         "config",
         "entity urn:example:sp\nbase http://127.0.0.1:8081\nlisten 127.0.0.1:8081\nskew 60\nidp idp.xml\nkey_in key\nkey_out key\nid_key key\n",
@@ -22,7 +22,7 @@ const FILES: [(&str, &str); 3] = [
 ];
 
 /// The config of an identity provider, and the files that it names.
-const IDP_FILES: [(&str, &str); 4] = [
+pub(crate) const IDP_FILES: [(&str, &str); 4] = [
     (
         "config",
         "entity urn:example:idp\nbase http://127.0.0.1:8080\nlisten 127.0.0.1:8080\nskew 60\nusers users\nid_key key\npeer sp.xml key key\n",
@@ -31,7 +31,11 @@ const IDP_FILES: [(&str, &str); 4] = [
         "sp.xml",
         "<m:EntityDescriptor xmlns:m=\"urn:oasis:names:tc:SAML:2.0:metadata\" entityID=\"urn:example:sp\"><m:SPSSODescriptor><m:AssertionConsumerService Binding=\"urn:oasis:names:tc:SAML:2.0:bindings:HTTP-POST\" Location=\"http://127.0.0.1:8081/acs\"/></m:SPSSODescriptor></m:EntityDescriptor>",
     ),
-    ("users", ""),
+    // the password of alice is `password`
+    (
+        "users",
+        "user alice 1 73616c74 120fb6cffcf8b32c43e7225256c4f837a86548c92ccc35480805987cb70be17b\nattr a b\n",
+    ),
     ("key", "32 bytes make a key of all kinds"),
 ];
 
@@ -49,7 +53,7 @@ pub(crate) fn run_alone<F: Files, K: Sink>(
 }
 
 /// The status of `ROLE config 9` over these files, this link and this disk, and the sink that has taken what is printed.
-fn serve_as(
+pub(crate) fn serve_as(
     alloc: Global,
     role: &str,
     named: &[(&str, &str)],
@@ -80,7 +84,7 @@ fn serve_of(
 }
 
 /// Adds a piece of a connection that comes.
-fn add_piece(link: &mut ListLink, conn: u32, bytes: &'static [u8]) -> Result<(), NoMemory> {
+pub(crate) fn add_piece(link: &mut ListLink, conn: u32, bytes: &[u8]) -> Result<(), NoMemory> {
     if !bytes.is_empty() {
         link.add(LinkEvent::Piece(conn, bytes.len()), bytes)?;
     }
