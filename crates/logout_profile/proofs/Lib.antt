@@ -6,3 +6,4 @@ pub mod RootKeys
 pub mod Signable
 pub mod Stages
 pub mod Texts
+pub mod Obeyed

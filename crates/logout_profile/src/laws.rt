@@ -1,5 +1,6 @@
 //! Laws of the definitions. Each function does nothing: what it ensures is the law.
-ghost use Rattle.std.specs.Prelude.{◌≡◌, ◌≢◌, ◌⊎◌, ℕ, Bool, List, [], Option, Some, None};
+ghost use Rattle.std.specs.Prelude.{◌≡◌, ◌≢◌, ◌⊎◌, ℕ, Bool, List, [], ◌∷◌, Option, Some, None};
+ghost use Rattle.xml_spec.specs.Characters.{IsText};
 ghost use Rattle.xml_spec.specs.Tree.{Nodes};
 ghost use Rattle.xml_spec.specs.Document.{Spells};
 ghost use Rattle.xml_spec.specs.Identifiers.{IsSingle};
@@ -9,7 +10,10 @@ ghost use Rattle.sig_reference.specs.Form.{Parts};
 ghost use Rattle.sig_reference.specs.Signature.{Vouches};
 ghost use Rattle.peer_keys.specs.declared.peers.LogoutPeer.{LogoutPeer};
 ghost use Rattle.verdict_codes.specs.declared.codes.Verdict.{Verdict};
+ghost use Rattle.protocol_messages.specs.declared.logout.LogoutRequest.{LogoutRequest};
+ghost use Rattle.protocol_messages.specs.declared.logout.LogoutResponse.{LogoutResponse};
 ghost use Rattle.logout_profile.specs.declared.logout.Logout.{Logout};
+ghost use Rattle.logout_profile.specs.declared.logout.Logout.TheVariants.{Ask, Reply};
 ghost use Rattle.logout_profile.specs.Verdict.{IsRefused, IsAccepted};
 ghost use Rattle.logout_profile.specs.Making.{IsRequest, IsResponse};
 
@@ -42,4 +46,17 @@ pub fn what_is_made_is_vouched_for()
         (parts : Parts) × Vouches peer.key_out tree 0 parts × (content tree 0 (Some parts.signature) ≡ content (tree_of is.unsigned) 0 None) }
 {
     sig_reference::laws::what_is_signed_is_vouched_for();
+}
+
+/// Of a form that is obeyed: the ID of a request holds characters that a document may hold, and where there is one peer its place
+/// is 0.
+pub fn what_an_obeyed_form_says()
+    ensures id { (peers : List LogoutPeer) (second : Option (List ℕ)) (address : List ℕ) (skew now : ℕ) (body : List ℕ) (request : LogoutRequest) (place : ℕ) (relay : Option (List ℕ)) →
+        IsAccepted peers second address skew now body (Ask request place relay) → IsText request.id }
+    ensures asks { (peer : LogoutPeer) (second : Option (List ℕ)) (address : List ℕ) (skew now : ℕ) (body : List ℕ) (request : LogoutRequest) (place : ℕ) (relay : Option (List ℕ)) →
+        IsAccepted (peer ∷ []) second address skew now body (Ask request place relay) → place ≡ 0 }
+    ensures replies { (peer : LogoutPeer) (second : Option (List ℕ)) (address : List ℕ) (skew now : ℕ) (body : List ℕ) (response : LogoutResponse) (place : ℕ) →
+        IsAccepted (peer ∷ []) second address skew now body (Reply response place) → place ≡ 0 }
+{
+    canon_laws::a_spelled_tree_is_writable();
 }
