@@ -13,8 +13,8 @@ pub record IsRequestAnswer (peer : LogoutPeer) (id issuer : List ℕ) (now : ℕ
   pub request : IsRequest peer id issuer now name indexes message
   pub is : bytes ≡ answer 200 None None (auto_form request.address fields.Request message None)
 
--- Profiles, 4.4.3.4: the provider that was asked "MUST respond .. with a <LogoutResponse>", which goes to the peer's address for logout
--- with the relay of the request, where there was one (Bindings, 3.5.3).
+-- Core, 3.7.2: the provider that was asked "MUST respond with a <LogoutResponse> message", which goes to the peer's address for logout
+-- (Profiles, 4.4.3.4) with the relay of the request, where there was one (Bindings, 3.5.3).
 pub record IsResponseAnswer (peer : LogoutPeer) (id issuer : List ℕ) (now : ℕ) (request : List ℕ) (partial : Bool) (relay : Option (List ℕ)) (bytes : List ℕ) : Type 0 where
   pub message : List ℕ
   pub response : IsResponse peer id issuer now request partial message

@@ -7,10 +7,12 @@
 //! ```
 //!
 //! Contracts see an answer as its bytes, which `specs/Answers.antt` defines. Where the peer has no address for logout, the page at
-//! the end is shown in place of a form. Each call takes memory and refuses for want of it alone.
+//! the end is shown in place of a form. Each call takes memory and refuses for want of it alone: there is an answer to each logout
+//! ([`laws::each_logout_has_an_answer`]).
 #![tactic(auto)]
 
 mod answers;
+pub mod laws;
 #[cfg(test)]
 mod tests;
 
