@@ -1,5 +1,5 @@
 -- What is kept of the records of a journal, and what it stands for.
-use Rattle.std.proofs.Common.{◌≡◌, ℕ, zero, suc, ◌+◌, ◌<◌, ◌≤◌, ◌⊎◌, inl, inr, ◌==◌, Bool, true, false, cond, List, [], ◌∷◌, ◌++◌, map, take, length, max, get_or, slice_index_or, slice_get, Option, None, Some, Result, Ok, Err, refl, sym, ap, ◌∙◌, subst, arith, append_assoc, append-nil}
+use Rattle.std.proofs.Common.{◌≡◌, ℕ, zero, suc, ◌+◌, ◌<◌, ◌≤◌, ◌⊎◌, inl, inr, ◌==◌, Bool, true, false, cond, List, [], ◌∷◌, ◌++◌, map, take, length, max, get_or, slice_index_or, slice_get, Option, None, Some, Ok, refl, sym, ap, ◌∙◌, subst, arith, append_assoc, append-nil}
 use Rattle.std.specs.List.{All}
 use Rattle.std.proofs.lemmas.Bool.{false≢true, eqb-true}
 use Rattle.std.proofs.lemmas.Bool.Decides.{Decides-eqb}
@@ -12,17 +12,17 @@ use Rattle.ledger_records.specs.declared.sp_record.SpRecord.{SpRecord}
 use Rattle.ledger_records.specs.declared.sp_record.SpRecord.TheVariants as kinds
 use Rattle.ledger_records.specs.Found.{sp_record}
 use Rattle.ledger_rules.specs.Numbers.{above}
-use Rattle.ledger_rules.specs.Kept.{IsKeptIn, IsKept, selected, link_at, is_link, AreWithin, AreShort, AreFlagsOf}
+use Rattle.ledger_rules.specs.Kept.{IsKeptIn, selected, link_at, is_link, AreWithin, AreShort, AreFlagsOf}
 use Rattle.request_ledger.specs.declared.compacting.Links.{Links}
 use Rattle.request_ledger.specs.RowsOf.{rows_of, rows_after}
-use Rattle.request_ledger.specs.Record.{drawn, next_of, is_next, is_record, records_of, AreRecordsAfter, AreRecords}
-use Rattle.request_ledger.specs.Compacting.{passes, has_visible, names, names_asked, names_opened, names_left, names_at, seen_at, AreKept}
+use Rattle.request_ledger.specs.Record.{drawn, next_of, is_next, is_record, records_of, AreRecordsAfter}
+use Rattle.request_ledger.specs.Compacting.{passes, has_visible, names, names_asked, names_opened, names_left, names_at, seen_at}
 use Rattle.request_ledger.specs.Standing.{StandingView, AreFew, IsAfter}
 use Rattle.request_ledger.specs.Linking.{AreLinks, IsLinked, CanTake, AreFlags, AreStanding}
 use Rattle.request_ledger.proofs.RowLaws.{records_of-are, records_of-read, records_of-length, record_at, is_record-is, rows_of-push, next_of-push}
 use Rattle.request_ledger.proofs.Committing.{asked_few, opened_few, left_few, sizes_least}
 use Rattle.request_ledger.proofs.KeptRecords.{kept_are_records}
-use Rattle.request_ledger.proofs.LinkSteps.{NamesParts, names_parts}
+use Rattle.request_ledger.proofs.LinkSteps.{names_parts}
 
 -- the items whose flags are set
 pub selected_map : {X Y : Type 0} (f : X → Y) (flags : List Bool) (xs : List X) → selected flags (map f xs) ≡ map f (selected flags xs)
@@ -300,8 +300,9 @@ stands_few payloads records i standing ready read few within stands rows =
     })
 
 pub stands_all : (payloads : List (List ℕ)) (records : List SpRecord) (i : ℕ) (standing : StandingView) → records_of 2 payloads ≡ Ok records → length payloads ≤ i
-    → StandsSo (take i records) standing → AreStanding payloads standing
-stands_all payloads records i standing read past stands =
+    → StandsSo (take i records) standing → (indexed : StandingView) → indexed.rows ≡ standing.rows → indexed.next ≡ standing.next → indexed.is_indexed ≡ true
+    → AreStanding payloads indexed
+stands_all payloads records i standing read past stands indexed rows next is =
     let size = records_of-length 2 records payloads read in
     let all = take_all i records (omega (arith, size, past)) in
-    record { records = records; are = read; rows = stands.0 ∙ ap rows_of all; next = stands.1 ∙ ap next_of all }
+    record { records = records; are = read; rows = rows ∙ stands.0 ∙ ap rows_of all; indexed = is; next = next ∙ stands.1 ∙ ap next_of all }

@@ -25,3 +25,4 @@ pub mod RowTexts
 pub mod DraftedRecords
 pub mod LoadLaws
 pub mod OpenLaws
+pub mod SpentMarks

@@ -159,6 +159,13 @@ fresh_of_next rows next r is =
     let spelled = and_parts (is_free rows r && are_fresh next (drawn r)) (list_all is_xml_text (texts r)) dated.0 in
     (and_parts (is_free rows r) (are_fresh next (drawn r)) spelled.0).1
 
+-- and each row that it names is there, and free for it
+pub free_of_next : (rows : SpRows) (next : ℕ) (r : SpRecord) → is_next rows next r ≡ true → is_free rows r ≡ true
+free_of_next rows next r is =
+    let dated = and_parts (is_free rows r && are_fresh next (drawn r) && list_all is_xml_text (texts r)) (nat_le (moment_of r) LAST) is in
+    let spelled = and_parts (is_free rows r && are_fresh next (drawn r)) (list_all is_xml_text (texts r)) dated.0 in
+    (and_parts (is_free rows r) (are_fresh next (drawn r)) spelled.0).0
+
 -- a number that is drawn
 pub record IsFresh (least number : ℕ) (id : List ℕ) : Type 0 where
   pub least_is : least ≤ number

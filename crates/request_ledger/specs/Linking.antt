@@ -1,5 +1,5 @@
 -- How a compaction finds which record names which.
-use Rattle.std.specs.Prelude.{◌≡◌, ℕ, ◌+◌, ◌<◌, ◌↔◌, Bool, true, false, List, [], ◌∷◌, ◌++◌, length, map, slice_index, slice_index_or, slice_get, Option, None, Some, Result, Ok, if◌then◌else◌}
+use Rattle.std.specs.Prelude.{◌≡◌, ℕ, ◌+◌, ◌<◌, ◌↔◌, Bool, true, false, List, [], ◌∷◌, ◌++◌, length, map, slice_index, slice_index_or, slice_get, Option, None, Some, Ok, if◌then◌else◌}
 use Rattle.std.specs.List.{flat_map}
 use Rattle.ledger_records.specs.declared.sp_record.SpRecord.{SpRecord}
 use Rattle.ledger_records.specs.declared.sp_record.SpRecord.TheVariants as kinds
@@ -103,11 +103,12 @@ pub record AreRead (payloads : List (List ℕ)) : Type 0 where
   pub records : List SpRecord
   pub are : records_of 2 payloads ≡ Ok records
 
--- what payloads stand for
+-- what payloads stand for, with indexes of the rows
 pub record AreStanding (payloads : List (List ℕ)) (standing : StandingView) : Type 0 where
   pub records : List SpRecord
   pub are : records_of 2 payloads ≡ Ok records
   pub rows : standing.rows ≡ rows_of records
+  pub indexed : standing.is_indexed ≡ true
   pub next : standing.next ≡ next_of records
 
 -- the payloads of the records that are kept at a moment, which fit a file, and what they stand for

@@ -1,5 +1,5 @@
 -- How the code keeps the rows of records.
-use Rattle.std.specs.Prelude.{◌≡◌, ℕ, ◌+◌, ◌<◌, ◌≤◌, ◌^◌, max, true, false, List, [], length, slice_index, slice_index_or, slice_get, Some}
+use Rattle.std.specs.Prelude.{◌≡◌, ℕ, ◌<◌, ◌≤◌, max, Bool, true, false, List, [], map, length, slice_index, slice_index_or, slice_get, Some}
 use Rattle.request_rows.specs.declared.row.AskedRow.{AskedRow}
 use Rattle.request_rows.specs.declared.row.OpenedRow.{OpenedRow}
 use Rattle.request_rows.specs.declared.row.LeftRow.{LeftRow}
@@ -7,7 +7,7 @@ use Rattle.request_rows.specs.Rows.{RowsView}
 use Rattle.ledger_records.specs.declared.sp_record.SpRecord.{SpRecord}
 use Rattle.ledger_records.specs.declared.sp_record.SpRecord.TheVariants as kinds
 use Rattle.ledger_rules.specs.Numbers.{AreBelow, above, has_number}
-use Rattle.request_ledger.specs.RowsOf.{SpRows, rows_after}
+use Rattle.request_ledger.specs.RowsOf.{SpRows, is_among, rows_after}
 use Rattle.request_ledger.specs.Record.{drawn}
 
 -- for how many more rows of each kind there is memory
@@ -16,9 +16,10 @@ pub record RowSpare : Type 0 where
   pub opened : ℕ
   pub left : ℕ
 
--- the rows, the least number above all that were drawn, and the memory that was made ready
+-- the rows and whether they have indexes, the least number above all that were drawn, and the memory that was made ready
 pub record StandingView : Type 0 where
   pub rows : SpRows
+  pub is_indexed : Bool
   pub next : ℕ
   pub spare : RowSpare
 
@@ -60,6 +61,22 @@ pub record AreFew (rows : SpRows) : Type 0 where
   pub opened : length rows.opened < 4294967295
   pub left : length rows.left < 4294967295
 
+-- at that place alone there is the row of this request
+pub record IsAskedAt (asked : List AskedRow) (request : List ℕ) (place : ℕ) : Type 0 where
+  pub within : place < length asked
+  pub request_is : id_at (map (λ row. row.request) asked) place ≡ request
+  pub only : (k : ℕ) → k < length asked → id_at (map (λ row. row.request) asked) k ≡ request → k ≡ place
+
+-- each request that was asked has a mark, which says whether it is among those of sessions, and these were asked
+pub record AreMarks (marks : List Bool) (asked opened : List (List ℕ)) : Type 0 where
+  pub long : length marks ≡ length asked
+  pub each : (k : ℕ) → k < length asked → slice_index_or marks k false ≡ is_among (id_at asked k) opened
+  pub named : (id : List ℕ) → is_among id opened ≡ true → is_among id asked ≡ true
+
+-- the marks say which requests are spent
+abbrev pub AreSpent : List Bool → SpRows → Type 0
+AreSpent spent rows = AreMarks spent (map (λ row. row.request) rows.asked) (map (λ row. row.request) rows.opened)
+
 -- at that place there is the session of this token, which is not closed, and no other session has it
 pub record IsOpenAt (opened : List OpenedRow) (token : List ℕ) (place : ℕ) : Type 0 where
   pub row : OpenedRow
@@ -79,4 +96,5 @@ pub record IsWaitingAt (left : List LeftRow) (request : List ℕ) (place : ℕ) 
 -- what stands after one record more
 pub record IsAfter (old new : StandingView) (r : SpRecord) : Type 0 where
   pub rows : new.rows ≡ rows_after old.rows r
+  pub indexed : new.is_indexed ≡ old.is_indexed
   pub next : new.next ≡ max old.next (above (drawn r))

@@ -183,7 +183,7 @@ fn standing_of(alloc: Global, payloads: &[Blob]) -> Result<Standing, NoMemory>
         standing.reserve(&entry)?;
         standing.put(entry);
     }
-    Ok(standing)
+    Ok(standing.indexed(alloc)?)
 }
 
 /// The records that are kept at a moment.

@@ -26,7 +26,7 @@ pub struct Ledger {
 }
 
 impl Model for Ledger {
-    ghost use Rattle.std.specs.Prelude.{◌≡◌, false};
+    ghost use Rattle.std.specs.Prelude.{◌≡◌, true, false};
     ghost use Rattle.request_ledger.specs.Ledger.{Opened};
     ghost use Rattle.request_ledger.specs.Keeping.{opened_of, StandsFor};
 
@@ -34,7 +34,7 @@ impl Model for Ledger {
 
     ghost view = { λ l. opened_of l.journal l.standing l.key l.broken };
 
-    ghost invariant = { λ l. StandsFor l.journal.kept.holds l.standing × (l.broken ≡ false → l.journal.broken ≡ false) };
+    ghost invariant = { λ l. StandsFor l.journal.kept.holds l.standing × (l.broken ≡ false → l.journal.broken ≡ false) × (l.standing.is_indexed ≡ true) };
 }
 
 impl Ledger {

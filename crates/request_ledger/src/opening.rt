@@ -7,7 +7,7 @@ ghost use Rattle.gate_journal.specs.Opening.{open_fault_of, CausesFaults};
 ghost use Rattle.request_ledger.specs.Ledger.{IsOwn, LeftByOpening, held_of, ledger_in, some_held, taken};
 ghost use Rattle.ledger_records.specs.SpRecord.{sp_bytes};
 ghost use Rattle.ledger_records.specs.Found.{sp_record};
-ghost use Rattle.request_ledger.specs.Standing.{AreFew};
+ghost use Rattle.request_ledger.specs.Standing.{AreFew, AreSpent};
 ghost use Rattle.request_ledger.specs.Loading.{IsLoaded, IsTakenFrom, IsVersion, LoadsOne, Loads, in_version_2};
 ghost use Rattle.gate_journal.specs.Journal.{Fits, IsOldOrNew};
 ghost use Rattle.gate_journal.specs.Journal.{IsOwn as IsJournalsOwn};
@@ -24,20 +24,24 @@ use std::alloc::Global;
 /// Where the version of a file stands.
 const VERSION_PLACE: u64 = 32;
 
-/// What the payloads of a journal stand for, and the payloads of version 2 where it has version 1.
+/// What the payloads of a journal stand for, which requests are spent, each in its place, and the payloads of version 2
+/// where it has version 1.
 #[derive(Debug, Drop)]
 pub(crate) struct Loaded {
     pub(crate) standing: Standing,
+    pub(crate) spent: Vec<bool>,
     pub(crate) payloads: Vec<Blob>,
 }
 
 impl Loaded {
     /// What no payloads stand for. It takes no memory.
     pub(crate) fn new(alloc: Global) -> Loaded
-        ensures { (version : ℕ) → IsLoaded version [] result }
+        ensures loaded { (version : ℕ) → IsLoaded version [] result }
+        ensures spent { AreSpent result.spent.items result.standing.rows }
     {
         Loaded {
             standing: Standing::new(alloc),
+            spent: Vec::new(alloc),
             payloads: Vec::new(alloc),
         }
     }
@@ -46,6 +50,7 @@ impl Loaded {
     fn keep_anew(&mut self, alloc: Global, entry: &SpRecord, version: u8) -> Result<(), NoMemory>
         requires { length (sp_bytes 2 entry.now) < 2 ^ 32 }
         ensures standing { self.new.standing ≡ self.old.standing }
+        ensures spent { self.new.spent ≡ self.old.spent }
         ensures anew { OnOk result (version ≡ 1 → self.new.payloads.items ≡ self.old.payloads.items ++ sp_bytes 2 entry.now ∷ []) }
         ensures found { OnOk result (version ≡ 1 → sp_record 2 (sp_bytes 2 entry.now) ≡ Some entry.now) }
     {
@@ -54,6 +59,19 @@ impl Loaded {
             self.payloads.push(entry.payload(alloc)?)?;
         }
         Ok(())
+    }
+
+    /// The same with indexes of the rows. Where there is no memory all is let go.
+    fn indexed(self, alloc: Global) -> Result<Loaded, NoMemory>
+        ensures loaded { IfOk result (λ loaded. (version : ℕ) (payloads : List (List ℕ)) → IsLoaded version payloads self → IsLoaded version payloads loaded) }
+        ensures indexed { IfOk result (λ loaded. loaded.standing.is_indexed ≡ true) }
+    {
+        let standing = self.standing.indexed(alloc)?;
+        Ok(Loaded {
+            standing,
+            spent: self.spent,
+            payloads: self.payloads,
+        })
     }
 }
 
@@ -66,15 +84,18 @@ pub(crate) fn load_one(
 ) -> Result<bool, NoMemory>
     requires few { AreFew loaded.old.standing.rows }
     requires short { length payload.now ≤ 1048576 }
-    ensures { IfOk result (λ is. (payloads : List (List ℕ)) → IsLoaded version payloads loaded.old → LoadsOne version payloads payload.now is loaded.new) }
+    requires spent { AreSpent loaded.old.spent.items loaded.old.standing.rows }
+    ensures spent { IfOk result (λ is. is ≡ true → AreSpent loaded.new.spent.items loaded.new.standing.rows) }
+    ensures loads { IfOk result (λ is. (payloads : List (List ℕ)) → IsLoaded version payloads loaded.old → LoadsOne version payloads payload.now is loaded.new) }
 {
     let Some(entry) = read_sp_record(alloc, payload, version)? else {
         return Ok(false);
     };
-    if !loaded.standing.is_next(&entry) {
+    if !loaded.standing.is_next(&entry, &loaded.spent) {
         return Ok(false);
     }
     loaded.keep_anew(alloc, &entry, version)?;
+    loaded.standing.mark(&entry, &mut loaded.spent)?;
     loaded.standing.reserve(&entry)?;
     loaded.standing.put(entry);
     Ok(true)
@@ -82,7 +103,8 @@ pub(crate) fn load_one(
 
 /// What the payloads of a journal stand for, or the number of the first that is no record of the ledger.
 fn load(alloc: Global, journal: &Journal) -> Result<Loaded, OpenFault>
-    ensures { Loads journal.now.kept result }
+    ensures loads { Loads journal.now.kept result }
+    ensures indexed { IfOk result (λ loaded. loaded.standing.is_indexed ≡ true) }
 {
     journal.records_fit();
     let version = journal.version();
@@ -95,7 +117,7 @@ fn load(alloc: Global, journal: &Journal) -> Result<Loaded, OpenFault>
             });
         }
     }
-    Ok(loaded)
+    Ok(loaded.indexed(alloc)?)
 }
 
 /// Makes a journal of version 1 anew in version 2, with these payloads.
@@ -134,13 +156,18 @@ fn take<D: Disk>(
     requires whole { journal.broken ≡ false }
     ensures gives { IsVersion journal.kept.holds.version → Gives (λ pair. held_in pair.0.kept) open_fault_of result (taken (some_held (held_of journal.kept))) }
     ensures whole { IfOk result (λ pair. (pair.0.broken ≡ false) × StandsFor pair.0.kept.holds pair.1) }
+    ensures indexed { IfOk result (λ pair. pair.1.is_indexed ≡ true) }
     ensures own { IfOk result (λ pair. IsJournalsOwn (D.told disk.new) pair.0) }
     ensures err { OnErr result ((image : Image) → Leaves (D.told disk.new) image → Leaves (D.told disk.old) image ⊎ IsOk (ledger_in image)) }
     ensures moments { LeavesOnly D.moment D.left_since disk.old disk.new (IsTakenFrom journal.kept) }
     ensures faults { CausesFaults result (D.faults_of disk.old) (D.faults_of disk.new) }
 {
     journal.records_fit();
-    let Loaded { standing, payloads } = load(alloc, &journal)?;
+    let Loaded {
+        standing,
+        payloads,
+        ..
+    } = load(alloc, &journal)?;
     to_version_2(&mut journal, disk, &payloads)?;
     Ok((journal, standing))
 }
@@ -149,6 +176,7 @@ fn take<D: Disk>(
 fn open_both<D: Disk>(alloc: Global, disk: &mut D) -> Result<(Journal, Standing), OpenFault>
     ensures gives { IfSome (D.told disk.old) (λ d. Gives (λ pair. held_in pair.0.kept) open_fault_of result (taken (ledger_in (image_of d)))) }
     ensures whole { IfOk result (λ pair. (pair.0.broken ≡ false) × StandsFor pair.0.kept.holds pair.1) }
+    ensures indexed { IfOk result (λ pair. pair.1.is_indexed ≡ true) }
     ensures own { IfOk result (λ pair. IsJournalsOwn (D.told disk.new) pair.0) }
     ensures err { OnErr result (((image : Image) → Leaves (D.told disk.old) image → IsOk (ledger_in image)) → (image : Image) → Leaves (D.told disk.new) image → IsOk (ledger_in image)) }
     ensures moments { LeavesOnly D.moment D.left_since disk.old disk.new (LeftByOpening (D.told disk.old)) }

@@ -1,18 +1,19 @@
 //! What the records of a service provider stand for.
-ghost use Rattle.std.specs.Prelude.{◌≡◌, ◌≤◌, ◌^◌, true, false, [], OnOk, IfSome, IfNone};
+ghost use Rattle.std.specs.Prelude.{◌≡◌, ◌≤◌, ◌^◌, true, false, ◌&&◌, not, [], OnOk, IfOk, IfSome, IfNone};
 ghost use Rattle.std.specs.List.{list_all};
 ghost use Rattle.ledger_records.specs.declared.sp_record.SpRecord.TheVariants as kinds;
 ghost use Rattle.std.specs.Str.{bytes_eq};
-ghost use Rattle.request_ledger.specs.RowsOf.{is_among, closed_where};
+ghost use Rattle.request_ledger.specs.RowsOf.{is_among, closed_where, rows_after};
+ghost use Rattle.request_rows.specs.Rows.{is_spent};
 ghost use Rattle.request_ledger.specs.Record.{is_asked, is_open, is_waiting, is_free, is_next};
-ghost use Rattle.request_ledger.specs.Standing.{rows_in, HasRoom, KeepsRoom, AreFew, IsAfter, IsOpenAt, IsWaitingAt};
+ghost use Rattle.request_ledger.specs.Standing.{rows_in, HasRoom, KeepsRoom, AreFew, AreSpent, IsAfter, IsAskedAt, IsOpenAt, IsWaitingAt};
 
 use crate::checks::{are_fresh, are_xml_texts, moment_of};
 use ledger_records::SpRecord;
 use ledger_records::sp_record::{Asked, Confirmed, Ended, Left, Opened};
 use ledger_rules::Numbers;
 use owned_values::{NoMemory, Text};
-use request_rows::{AskedRow, LeftRow, OpenedRow, Rows};
+use request_rows::{AskedRow, KeptRows, LeftRow, OpenedRow, Rows};
 use std::alloc::Global;
 use std::marker::Model;
 
@@ -22,7 +23,7 @@ pub(crate) const LAST: u64 = 253_402_300_799_999;
 /// The rows of records, the numbers by which they are found, and the least number above all that were drawn.
 #[derive(Debug, Drop)]
 pub(crate) struct Standing {
-    rows: Rows,
+    rows: KeptRows,
     asked: Numbers,
     opened: Numbers,
     left: Numbers,
@@ -36,19 +37,20 @@ impl Model for Standing {
     ghost Value = { StandingView };
 
     ghost view = { λ s. record {
-      rows = rows_in s.rows;
+      rows = rows_in s.rows.rows;
+      is_indexed = s.rows.is_indexed;
       next = s.next;
       spare = record {
-        asked = min s.rows.spare.asked s.asked.spare;
-        opened = min s.rows.spare.opened s.opened.spare;
-        left = min s.rows.spare.left s.left.spare;
+        asked = min s.rows.rows.spare.asked s.asked.spare;
+        opened = min s.rows.rows.spare.opened s.opened.spare;
+        left = min s.rows.rows.spare.left s.left.spare;
       };
     } };
 
-    ghost invariant = { λ s. HaveNumbers s.next s.asked.listed (map (λ row. row.request) s.rows.asked)
-        × HaveNumbers s.next s.opened.listed (map (λ row. row.token) s.rows.opened)
-        × HaveNumbers s.next s.left.listed (map (λ row. row.request) s.rows.left)
-        × (s.next ≤ 2 ^ 63) × AreCounted s.rows };
+    ghost invariant = { λ s. HaveNumbers s.next s.asked.listed (map (λ row. row.request) s.rows.rows.asked)
+        × HaveNumbers s.next s.opened.listed (map (λ row. row.token) s.rows.rows.opened)
+        × HaveNumbers s.next s.left.listed (map (λ row. row.request) s.rows.rows.left)
+        × (s.next ≤ 2 ^ 63) × AreCounted s.rows.rows };
 }
 
 impl Standing {
@@ -58,7 +60,7 @@ impl Standing {
         ensures next { result.next ≡ 0 }
     {
         Standing {
-            rows: Rows::new(alloc),
+            rows: KeptRows::new(alloc),
             asked: Numbers::new(alloc),
             opened: Numbers::new(alloc),
             left: Numbers::new(alloc),
@@ -66,11 +68,28 @@ impl Standing {
         }
     }
 
-    /// The rows.
+    /// The same with indexes of its rows. Where there is no memory all is let go.
+    pub(crate) fn indexed(self, alloc: Global) -> Result<Standing, NoMemory>
+        ensures rows { IfOk result (λ standing. standing.rows ≡ self.rows) }
+        ensures next { IfOk result (λ standing. standing.next ≡ self.next) }
+        ensures indexed { IfOk result (λ standing. standing.is_indexed ≡ true) }
+    {
+        let rows = self.rows.indexed(alloc)?;
+        Ok(Standing {
+            rows,
+            asked: self.asked,
+            opened: self.opened,
+            left: self.left,
+            next: self.next,
+        })
+    }
+
+    /// The rows, with their indexes.
     pub(crate) fn rows(&self) -> &Rows
+        requires { self.now.is_indexed ≡ true }
         ensures { rows_in result.now ≡ self.now.rows }
     {
-        &self.rows
+        self.rows.rows()
     }
 
     /// The least number above all that were drawn.
@@ -81,13 +100,16 @@ impl Standing {
         self.next
     }
 
-    /// Whether there is a row of a request.
-    fn is_asked(&self, request: &str) -> bool
-        ensures { result ≡ is_asked self.now.rows.asked request.now }
+    /// The place of the row of a request.
+    fn asked_place(&self, request: &str) -> Option<usize>
+        ensures some { IfSome result (IsAskedAt self.now.rows.asked request.now) }
+        ensures none { IfNone result (is_asked self.now.rows.asked request.now ≡ false) }
     {
-        match self.asked.place_of(request) {
-            Some(place) => self.rows.asked()[place].request.as_str() == request,
-            None => false,
+        let place = self.asked.place_of(request)?;
+        if self.rows.asked()[place].request.as_str() == request {
+            Some(place)
+        } else {
+            None
         }
     }
 
@@ -119,15 +141,25 @@ impl Standing {
         }
     }
 
+    /// Whether this request was asked and is not spent.
+    fn is_unspent(&self, request: &str, spent: &[bool]) -> bool
+        requires { AreSpent spent.now self.now.rows }
+        ensures { result ≡ (is_asked self.now.rows.asked request.now && not (is_spent self.now.rows.opened request.now)) }
+    {
+        match self.asked_place(request) {
+            Some(place) => !spent[place],
+            None => false,
+        }
+    }
+
     /// Whether each row that a record names is there, and free for it.
-    fn is_free(&self, entry: &SpRecord) -> bool
+    fn is_free(&self, entry: &SpRecord, spent: &[bool]) -> bool
+        requires { AreSpent spent.now self.now.rows }
         ensures { result ≡ is_free self.now.rows entry.now }
     {
         match entry {
             SpRecord::Asked(_) => true,
-            SpRecord::Opened(r) => {
-                self.is_asked(r.request.as_str()) && !self.rows.is_spent(r.request.as_str())
-            }
+            SpRecord::Opened(r) => self.is_unspent(r.request.as_str(), spent),
             SpRecord::Left(r) => self.is_open(r.token.as_str()),
             SpRecord::Ended(r) => self.are_open(r.tokens.as_slice()),
             SpRecord::Confirmed(r) => self.is_waiting(r.request.as_str()),
@@ -155,19 +187,54 @@ impl Standing {
         self.waiting_place(request).is_some()
     }
 
-    /// Whether a record may come behind those that stand here.
-    pub(crate) fn is_next(&self, entry: &SpRecord) -> bool
+    /// Whether a record may come behind those that stand here, where the marks say which requests are spent.
+    pub(crate) fn is_next(&self, entry: &SpRecord, spent: &[bool]) -> bool
+        requires { AreSpent spent.now self.now.rows }
         ensures { result ≡ is_next self.now.rows self.now.next entry.now }
     {
-        self.is_free(entry)
+        self.is_free(entry, spent)
             && are_fresh(self.next, entry)
             && are_xml_texts(entry)
             && moment_of(entry) <= LAST
     }
 
+    /// Marks the request of a session that may come next.
+    fn mark_spent(&self, r: &Opened, spent: &mut Vec<bool>)
+        requires is { is_next self.now.rows self.now.next (kinds.Opened r.now) ≡ true }
+        requires spent { AreSpent spent.old.items self.now.rows }
+        ensures { AreSpent spent.new.items (rows_after self.now.rows (kinds.Opened r.now)) }
+    {
+        if let Some(place) = self.asked_place(r.request.as_str()) {
+            spent[place] = true;
+        }
+    }
+
+    /// Makes the marks of spent requests those behind a record that may come next.
+    pub(crate) fn mark(&self, entry: &SpRecord, spent: &mut Vec<bool>) -> Result<(), NoMemory>
+        requires is { is_next self.now.rows self.now.next entry.now ≡ true }
+        requires spent { AreSpent spent.old.items self.now.rows }
+        ensures { OnOk result (AreSpent spent.new.items (rows_after self.now.rows entry.now)) }
+    {
+        let _next = self.next;
+        match entry {
+            SpRecord::Asked(_) => {
+                spent.push(false)?;
+                Ok(())
+            }
+            SpRecord::Opened(r) => {
+                self.mark_spent(r, spent);
+                Ok(())
+            }
+            SpRecord::Left(_) => Ok(()),
+            SpRecord::Ended(_) => Ok(()),
+            SpRecord::Confirmed(_) => Ok(()),
+        }
+    }
+
     /// Makes room for the row of a record, so that `put` takes no memory. It changes nothing else, and takes away no room.
     pub(crate) fn reserve(&mut self, entry: &SpRecord) -> Result<(), NoMemory>
         ensures rows { self.new.rows ≡ self.old.rows }
+        ensures indexed { self.new.is_indexed ≡ self.old.is_indexed }
         ensures next { self.new.next ≡ self.old.next }
         ensures ok { OnOk result (HasRoom self.new.spare entry.now) }
         ensures kept { KeepsRoom self.old.spare self.new.spare }

@@ -14,7 +14,7 @@ use Rattle.request_rows.specs.Indexed.{entry_order, IsRank}
 use Rattle.request_rows.proofs.Orders.{key_total, place_below}
 use Rattle.request_rows.proofs.Places.{number_less}
 
-range_push : (a n : ℕ) → range_with_len a (suc n) ≡ range_with_len a n ++ (a + n) ∷ []
+pub range_push : (a n : ℕ) → range_with_len a (suc n) ≡ range_with_len a n ++ (a + n) ∷ []
 range_push a zero = ap (λ x. x ∷ []) (sym (add-zero a))
 range_push a (suc n) =
     let e : a + 1 + n ≡ a + suc n = omega arith in

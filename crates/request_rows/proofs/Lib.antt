@@ -4,3 +4,4 @@ pub mod Adding
 pub mod Finding
 pub mod Changing
 pub mod OneOrder
+pub mod Sorting

@@ -21,7 +21,7 @@ less_number p q h = ranked p q Less (sym h)
 pub number_less : (p q : ℕ) → p < q → nat_cmp p q ≡ Less
 number_less p q h = sym (nat_cmp_is p q Less h)
 
-both_equal : (o q : Ordering) → ordering_then o q ≡ Equal → (o ≡ Equal) × (q ≡ Equal)
+pub both_equal : (o q : Ordering) → ordering_then o q ≡ Equal → (o ≡ Equal) × (q ≡ Equal)
 both_equal Less q h = absurd (let wrong : Less ≡ Equal = h in cc)
 both_equal Equal q h = (refl, h)
 both_equal Greater q h = absurd (let wrong : Greater ≡ Equal = h in cc)

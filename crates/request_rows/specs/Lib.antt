@@ -2,3 +2,4 @@ pub mod Examples
 pub mod Rows
 pub mod Order
 pub mod Indexed
+pub mod Kept

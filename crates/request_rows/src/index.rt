@@ -1,12 +1,25 @@
 //! The lists that have indexes, and an index: the places of a list's rows, sorted by a key of theirs.
-ghost use Rattle.std.specs.Prelude.{◌≡◌, ℕ, ◌+◌, ◌<◌, ◌≤◌, [], length, insert, OnOk, OnErr};
-ghost use Rattle.request_rows.specs.Order.{keys_of, key_at, IsOrder};
+ghost use Rattle.std.specs.Prelude.{◌≡◌, ℕ, ◌+◌, ◌<◌, ◌≤◌, ◌^◌, [], length, insert, IfOk, OnOk, OnErr};
+ghost use Rattle.std.specs.List.{range_with_len};
+ghost use Rattle.request_rows.specs.Order.{keys_of, key_at, place_order, IsOrder};
 ghost use Rattle.request_rows.specs.Indexed.{key_texts, IsRank, ArePlacesOf, room};
 
 use crate::key::{Key, RowKey};
 use crate::row::{AskedRow, OpenedRow};
 use owned_values::NoMemory;
 use std::alloc::Global;
+use std::cmp::Ordering;
+
+/// The numbers from 0 on, so many.
+fn numbers_to(alloc: Global, count: u32) -> Result<Vec<u32>, NoMemory>
+    ensures { IfOk result (λ numbers. numbers.items ≡ range_with_len 0 count) }
+{
+    let mut numbers = Vec::with_capacity(alloc, count as usize)?;
+    for number in 0..count {
+        numbers.push(number)?;
+    }
+    Ok(numbers)
+}
 
 /// The lists that have indexes.
 #[derive(Debug, Drop)]
@@ -16,24 +29,60 @@ pub(crate) struct Lists {
 }
 
 impl Lists {
-    /// The key of the row at a place.
+    /// How many rows have such a key.
+    fn count(&self, by: RowKey) -> usize
+        ensures { result ≡ length (keys_of by self.now.asked.items self.now.opened.items) }
+    {
+        match by {
+            RowKey::AskedRequest => self.asked.len(),
+            RowKey::OpenedRequest | RowKey::OpenedAssertion | RowKey::OpenedToken => {
+                self.opened.len()
+            }
+        }
+    }
+
+    /// The key of the row at a place, the empty one where there is no row.
     fn key_at(&self, by: RowKey, place: usize) -> Key<'_>
-        requires { place < length (keys_of by self.now.asked.items self.now.opened.items) }
         ensures { key_texts result ≡ key_at (keys_of by self.now.asked.items self.now.opened.items) place }
     {
         match by {
-            RowKey::AskedRequest => Key::one(self.asked[place].request.as_str()),
-            RowKey::OpenedRequest => Key::one(self.opened[place].request.as_str()),
-            RowKey::OpenedAssertion => {
-                let row = &self.opened[place];
-                Key {
-                    first: row.issuer.as_str(),
-                    second: row.assertion.as_str(),
-                }
-            }
-            RowKey::OpenedToken => Key::one(self.opened[place].token.as_str()),
+            RowKey::AskedRequest => match self.asked.get(place) {
+                Some(row) => Key::one(row.request.as_str()),
+                None => Key::one(""),
+            },
+            RowKey::OpenedRequest => match self.opened.get(place) {
+                Some(row) => Key::one(row.request.as_str()),
+                None => Key::one(""),
+            },
+            RowKey::OpenedAssertion => match self.opened.get(place) {
+                Some(row) => Key::two(row.issuer.as_str(), row.assertion.as_str()),
+                None => Key::one(""),
+            },
+            RowKey::OpenedToken => match self.opened.get(place) {
+                Some(row) => Key::one(row.token.as_str()),
+                None => Key::one(""),
+            },
         }
     }
+
+    /// The order of two places by the keys of their rows, and of equal keys by the places.
+    fn place_order(&self, by: RowKey, one: u32, other: u32) -> Ordering
+        ensures { result ≡ place_order (keys_of by self.now.asked.items self.now.opened.items) one other }
+    {
+        self.key_at(by, one as usize)
+            .compare(self.key_at(by, other as usize))
+            .then(one.cmp(&other))
+    }
+}
+
+/// Where to look next in what is left of an index: in its middle, or so many entries from its end where that is nearer.
+fn next_probe(low: usize, high: usize, step: usize) -> usize
+    requires left { low < high }
+    requires step { 0 < step }
+    ensures front { low ≤ result }
+    ensures back { result < high }
+{
+    (low + (high - low) / 2).max(high.saturating_sub(step))
 }
 
 /// The places of a list's rows, sorted by a key of theirs.
@@ -52,7 +101,18 @@ impl Index {
         }
     }
 
-    /// How many entries come before this key and this place. It halves what is left at each step.
+    /// The index of rows that are there. It takes one sort.
+    pub(crate) fn of(alloc: Global, lists: &Lists, by: RowKey) -> Result<Index, NoMemory>
+        requires { length (keys_of by lists.now.asked.items lists.now.opened.items) < 2 ^ 32 }
+        ensures { IfOk result (λ index. IsOrder (keys_of by lists.now.asked.items lists.now.opened.items) index.places.items) }
+    {
+        let mut places = numbers_to(alloc, lists.count(by) as u32)?;
+        places.sort_unstable_by(|one, other| lists.place_order(by, *one, *other));
+        Ok(Index { places })
+    }
+
+    /// How many entries come before this key and this place. It looks from the end on, where a new row mostly belongs, each
+    /// time twice as far, and then halves what is left.
     pub(crate) fn rank(&self, lists: &Lists, by: RowKey, key: Key<'_>, place: usize) -> usize
         requires { IsOrder (keys_of by lists.now.asked.items lists.now.opened.items) self.now.places.items }
         ensures { IsRank (keys_of by lists.now.asked.items lists.now.opened.items) self.now.places.items (key_texts key.entry) place result }
@@ -60,14 +120,16 @@ impl Index {
         // `partition_point` wants a test that may be called at every number, and only a place of the index has a row.
         let mut low = 0;
         let mut high = self.places.len();
+        let mut step = 1;
         while low < high {
-            let middle = low + (high - low) / 2;
+            let middle = next_probe(low, high, step);
             let there = self.places[middle] as usize;
             let order = lists.key_at(by, there).compare(key).then(there.cmp(&place));
             if order.is_lt() {
                 low = middle + 1;
             } else {
                 high = middle;
+                step = step.saturating_mul(2);
             }
         }
         low

@@ -36,6 +36,13 @@ impl<'a> Key<'a> {
         }
     }
 
+    /// The key that is these two texts.
+    pub(crate) fn two(first: &'a str, second: &'a str) -> Key<'a>
+        ensures { key_texts result ≡ record { first = first.now; second = second.now } }
+    {
+        Key { first, second }
+    }
+
     /// The order of two keys, by bytes.
     pub(crate) fn compare(self, other: Key<'_>) -> Ordering
         ensures { result ≡ key_order (key_texts self.entry) (key_texts other.entry) }

@@ -12,6 +12,9 @@
 //! and only one that is still visible, where that is said. It finds it by halving a sorted list of places
 //! ([`Rows::order`]), and takes no memory. The rows determine each such list ([`laws::keys_have_one_order`]).
 //!
+//! [`KeptRows`] are the rows of a ledger. They are gathered while its records are read, and have their indexes, each made by
+//! one sort, from then on; so to open a ledger takes time in the order of n log n, whatever keys come in which order.
+//!
 //! Moments are milliseconds since 1970-01-01T00:00:00Z. A row is visible where the moment `until` which it holds is greater
 //! than the larger of the present and the horizon, the latest moment at which rows were dropped.
 //!
@@ -20,6 +23,7 @@
 #![tactic(auto)]
 
 mod index;
+mod kept;
 mod key;
 pub mod laws;
 mod row;
@@ -27,6 +31,7 @@ mod rows;
 #[cfg(test)]
 mod tests;
 
+pub use kept::KeptRows;
 pub use key::RowKey;
 pub use row::{AskedRow, LeftRow, NewSession, OpenedRow};
 pub use rows::{ROW_LIMIT, Rows};

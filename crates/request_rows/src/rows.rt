@@ -1,5 +1,5 @@
 //! The rows, with their indexes.
-ghost use Rattle.std.specs.Prelude.{◌≡◌, ◌<◌, ◌≤◌, ◌+◌, ◌&&◌, not, [], ◌∷◌, ◌++◌, length, OnOk, OnErr, option_copied};
+ghost use Rattle.std.specs.Prelude.{◌≡◌, ◌<◌, ◌≤◌, ◌+◌, ◌&&◌, not, [], ◌∷◌, ◌++◌, length, IfOk, OnOk, OnErr, option_copied};
 ghost use Rattle.request_rows.specs.Rows.{visible, asked_row, is_spent, is_seen, session_row, closed_at, confirmed_at};
 ghost use Rattle.request_rows.specs.Order.{keys_of, IsOrder};
 ghost use Rattle.request_rows.specs.Indexed.{room};
@@ -68,7 +68,7 @@ fn is_live(row: &OpenedRow, now: u64, horizon: u64) -> bool
 }
 
 /// Puts a row at the end of a list that has room for it.
-fn put_last<T: Drop>(list: &mut Vec<T>, row: T)
+pub(crate) fn put_last<T: Drop>(list: &mut Vec<T>, row: T)
     requires { 0 < room list.old }
     ensures items { list.new.items ≡ list.old.items ++ row ∷ [] }
     ensures room { room list.old ≤ room list.new + 1 }
@@ -97,6 +97,28 @@ impl Rows {
             opened_assertion: Index::new(alloc),
             opened_token: Index::new(alloc),
         }
+    }
+
+    /// The rows of these lists, with an index that is sorted once by each key. Where there is no memory they are let go.
+    pub(crate) fn of(alloc: Global, lists: Lists, left: Vec<LeftRow>) -> Result<Rows, NoMemory>
+        requires asked { length lists.asked.items ≤ ROW_LIMIT }
+        requires opened { length lists.opened.items ≤ ROW_LIMIT }
+        ensures asked { IfOk result (λ rows. rows.asked ≡ lists.asked.items) }
+        ensures opened { IfOk result (λ rows. rows.opened ≡ lists.opened.items) }
+        ensures left { IfOk result (λ rows. rows.left ≡ left.items) }
+    {
+        let asked_request = Index::of(alloc, &lists, RowKey::AskedRequest)?;
+        let opened_request = Index::of(alloc, &lists, RowKey::OpenedRequest)?;
+        let opened_assertion = Index::of(alloc, &lists, RowKey::OpenedAssertion)?;
+        let opened_token = Index::of(alloc, &lists, RowKey::OpenedToken)?;
+        Ok(Rows {
+            lists,
+            left,
+            asked_request,
+            opened_request,
+            opened_assertion,
+            opened_token,
+        })
     }
 
     /// The asked rows, in the order in which they came.

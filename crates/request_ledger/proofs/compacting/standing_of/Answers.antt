@@ -32,4 +32,4 @@ loop-payload-preserved c records is =
 pub returns : goal.returns
 returns c =
     stands_all c.args.payloads.now c.requires.read.records c.loop-payload.payload-index c.loop-payload.standing c.requires.read.are c.loop-payload-test.false
-    (c.loop-payload.invariant c.requires.read.records c.requires.read.are)
+    (c.loop-payload.invariant c.requires.read.records c.requires.read.are) c.in_ok-indexed.field-0 c.in_ok-indexed.ensures.rows c.in_ok-indexed.ensures.next c.in_ok-indexed.ensures.indexed

@@ -73,7 +73,7 @@ invariant_of-self-2 g c =
     let after : IsAfter standing c.put.new.self r = subst (λ (e : SpRecord). IsAfter standing c.put.new.self e) c.draft.view_is c.put.ensures in
     let more = stands_more kept standing c.put.new.self payload r c.self.invariant.0 spells' is after in
     let stands : StandsFor c.append.new.self.kept.holds c.put.new.self = subst (λ (j : OpenedJournal). StandsFor j.kept.holds c.put.new.self) (sym new) more in
-    (stands, λ whole. ap (λ (j : OpenedJournal). j.broken) new)
+    (stands, λ whole. ap (λ (j : OpenedJournal). j.broken) new, after.indexed ∙ c.self.invariant.2)
 
 pub returns-clause-ok : goal.returns-clause-ok
 returns-clause-ok g c =

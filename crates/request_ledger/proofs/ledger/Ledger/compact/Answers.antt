@@ -33,6 +33,7 @@ invariant_of-self g c =
       subst (λ (j : OpenedJournal). StandsFor j.kept.holds chosen.standing) (sym anew)
           (stands_anew c.args.now kept c.self.inside.standing c.self.invariant.0 chosen c.in_ok-payloads.ensures horizon next),
       λ whole. ap (λ (j : OpenedJournal). j.broken) anew,
+      c.in_ok-payloads.ensures.stands.indexed,
     )
 
 pub returns-in-Ok-clause-ok : goal.returns-in-Ok-clause-ok

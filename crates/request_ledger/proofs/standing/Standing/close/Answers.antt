@@ -1,5 +1,6 @@
 use Rattle.std.proofs.Common.{◌∙◌, ap, sym}
 use Rattle.request_rows.specs.Rows.{closed_at}
+use Rattle.request_rows.specs.Kept.{KeptView}
 use Rattle.request_ledger.specs.contracts.standing.Standing.{the_view}
 use Rattle.request_ledger.proofs.StandingRows.{closes_open, closes_nothing}
 use Rattle.request_ledger.proofs.StandingKept.{kept_closed, with_opened}
@@ -7,7 +8,7 @@ use Rattle.request_ledger.proofs.standing.Standing.close.Goals as goal
 
 pub invariant_of-self : goal.invariant_of-self
 invariant_of-self c =
-    kept_closed c.self.inside.next c.self.inside.asked.listed c.self.inside.opened.listed c.self.inside.left.listed c.self.inside.rows c.self.invariant c.in-Some.place c.close.new.self c.close.ensures
+    kept_closed c.self.inside.next c.self.inside.asked.listed c.self.inside.opened.listed c.self.inside.left.listed c.self.inside.rows.rows c.self.invariant c.in-Some.place c.close.new.self.rows (ap (λ (k : KeptView). k.rows) c.close.ensures)
 
 pub returns-in-Some : goal.returns-in-Some
 returns-in-Some c =

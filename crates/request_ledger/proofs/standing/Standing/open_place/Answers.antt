@@ -11,7 +11,7 @@ use Rattle.request_ledger.proofs.standing.Standing.open_place.Goals.{else-eq-via
 pub returns-in_err-place-clause-none : goal.returns-in_err-place-clause-none
 returns-in_err-place-clause-none c =
     let token = c.args.token.now in
-    let none = open_nowhere c.self.inside.rows.opened c.self.inside.next c.self.inside.opened.listed c.self.invariant.1 token c.in_err-place.ensures in
+    let none = open_nowhere c.self.inside.rows.rows.opened c.self.inside.next c.self.inside.opened.listed c.self.invariant.1 token c.in_err-place.ensures in
     rw c.from_residual.ensures (sym (ap (λ v. is_open v.rows.opened token) c.self.view_is) ∙ none)
 
 pub returns-then-not-row-clause-some : goal.returns-then-not-row-clause-some
@@ -21,7 +21,7 @@ returns-then-not-row-clause-some c =
     let read = c.index-opened-place.is ∙ ap (λ rows. get_or rows c.in_ok-place.place row) c.opened.ensures in
     let same : row.token ≡ token = sym c.as_str.ensures ∙ (bytes_eq-Decides c.as_str.result.now token).0 (sym c.if-eq.ensures) in
     subst (λ v. IsOpenAt v.rows.opened token c.in_ok-place.place) c.self.view_is
-    (open_there c.self.inside.rows.opened c.self.inside.next c.self.inside.opened.listed c.self.invariant.1 token c.in_ok-place.place c.in_ok-place.ensures row read same c.if-not-row.true)
+    (open_there c.self.inside.rows.rows.opened c.self.inside.next c.self.inside.opened.listed c.self.invariant.1 token c.in_ok-place.place c.in_ok-place.ensures row read same c.if-not-row.true)
 
 pub returns-else-eq-clause-none : goal.returns-else-eq-clause-none
 returns-else-eq-clause-none c =
@@ -35,4 +35,4 @@ returns-else-eq-clause-none c =
           and_left (bytes_eq row.token token) (not row.closed) (ap (λ text. bytes_eq text token) (sym c.as_str.ensures) ∙ sym c.eq.ensures ∙ w.if-eq.false)
     ] in
     sym (ap (λ v. is_open v.rows.opened token) c.self.view_is)
-    ∙ open_refused c.self.inside.rows.opened c.self.inside.next c.self.inside.opened.listed c.self.invariant.1 token c.in_ok-place.place c.in_ok-place.ensures row read fails
+    ∙ open_refused c.self.inside.rows.rows.opened c.self.inside.next c.self.inside.opened.listed c.self.invariant.1 token c.in_ok-place.place c.in_ok-place.ensures row read fails

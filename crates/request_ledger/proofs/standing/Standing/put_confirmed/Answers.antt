@@ -1,4 +1,5 @@
-use Rattle.std.proofs.Common.{◌≡◌, false, ap, sym, subst, arith}
+use Rattle.std.proofs.Common.{◌≡◌, ◌∙◌, false, refl, ap, sym, subst, arith}
+use Rattle.request_rows.specs.Kept.{KeptView}
 use Rattle.request_ledger.specs.Record.{is_waiting}
 use Rattle.request_ledger.specs.Standing.{IsWaitingAt}
 use Rattle.request_ledger.proofs.StandingRows.{confirms_nothing}
@@ -7,7 +8,7 @@ use Rattle.request_ledger.proofs.standing.Standing.put_confirmed.Goals as goal
 
 pub invariant_of-self : goal.invariant_of-self
 invariant_of-self c =
-    kept_confirmed c.self.inside.next c.self.inside.asked.listed c.self.inside.opened.listed c.self.inside.left.listed c.self.inside.rows c.self.invariant c.in-Some.place c.confirm.new.self c.confirm.ensures
+    kept_confirmed c.self.inside.next c.self.inside.asked.listed c.self.inside.opened.listed c.self.inside.left.listed c.self.inside.rows.rows c.self.invariant c.in-Some.place c.confirm.new.self.rows (ap (λ (k : KeptView). k.rows) c.confirm.ensures)
 
 pub returns-in-Some : goal.returns-in-Some
 returns-in-Some c =
@@ -15,7 +16,8 @@ returns-in-Some c =
     let next = ap (λ v. v.next) c.self.view_is in
     let is = subst (λ request. IsWaitingAt old.left request c.in-Some.place) c.as_str.ensures c.in-Some.ensures.some in
     record {
-      rows = rows_confirmed c.self.inside.rows c.confirm.new.self old (ap (λ v. v.rows) c.self.view_is) c.in-Some.place c.confirm.ensures c.args.r.request is;
+      rows = rows_confirmed c.self.inside.rows.rows c.confirm.new.self.rows old (ap (λ v. v.rows) c.self.view_is) c.in-Some.place (ap (λ (k : KeptView). k.rows) c.confirm.ensures) c.args.r.request is;
+      indexed = ap (λ (k : KeptView). k.is_indexed) c.confirm.ensures ∙ ap (λ v. v.is_indexed) c.self.view_is;
       next = omega (arith, next);
     }
 
@@ -25,5 +27,6 @@ returns c =
     let none = subst (λ request. is_waiting old.left request ≡ false) c.as_str.ensures c.in_default.ensures.none in
     record {
       rows = ap (λ left. record old { left = left }) (sym (confirms_nothing old.left c.args.r.request none));
+      indexed = refl;
       next = omega arith;
     }

@@ -1,4 +1,5 @@
 use Rattle.std.proofs.Common.{ap, arith, length}
+use Rattle.request_rows.specs.Kept.{KeptView}
 use Rattle.request_ledger.proofs.StandingRows.{fresh_token}
 use Rattle.request_ledger.proofs.StandingKept.{kept_opened}
 use Rattle.request_ledger.proofs.standing.Standing.put_opened.Goals as goal
@@ -10,6 +11,6 @@ invariant_of-self c =
     let first = fresh_token now.rows now.next r c.requires.is in
     let next = ap (λ v. v.next) c.self.view_is in
     let size = ap (λ v. length v.rows.opened) c.self.view_is in
-    kept_opened c.self.inside.next _ c.self.inside.asked.listed c.self.inside.opened.listed c.self.inside.left.listed c.self.inside.rows c.self.invariant
+    kept_opened c.self.inside.next _ c.self.inside.asked.listed c.self.inside.opened.listed c.self.inside.left.listed c.self.inside.rows.rows c.self.invariant
     r.first _ (omega (arith, next, first.least_is)) (omega arith) (omega (arith, first.below)) first.has (omega (arith, size, c.requires.few.opened))
-    c.put.new.self.listed c.put.ensures.listed _ c.put_opened.new.self c.put_opened.ensures.rows
+    c.put.new.self.listed c.put.ensures.listed _ c.put_opened.new.self.rows (ap (λ (k : KeptView). k.rows) c.put_opened.ensures.rows)

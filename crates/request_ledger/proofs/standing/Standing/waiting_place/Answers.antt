@@ -11,7 +11,7 @@ use Rattle.request_ledger.proofs.standing.Standing.waiting_place.Goals.{else-eq-
 pub returns-in_err-place-clause-none : goal.returns-in_err-place-clause-none
 returns-in_err-place-clause-none c =
     let request = c.args.request.now in
-    let none = waiting_nowhere c.self.inside.rows.left c.self.inside.next c.self.inside.left.listed c.self.invariant.2 request c.in_err-place.ensures in
+    let none = waiting_nowhere c.self.inside.rows.rows.left c.self.inside.next c.self.inside.left.listed c.self.invariant.2 request c.in_err-place.ensures in
     rw c.from_residual.ensures (sym (ap (λ v. is_waiting v.rows.left request) c.self.view_is) ∙ none)
 
 pub returns-then-not-row-clause-some : goal.returns-then-not-row-clause-some
@@ -21,7 +21,7 @@ returns-then-not-row-clause-some c =
     let read = c.index-left-place.is ∙ ap (λ rows. get_or rows c.in_ok-place.place row) c.left.ensures in
     let same : row.request ≡ request = sym c.as_str.ensures ∙ (bytes_eq-Decides c.as_str.result.now request).0 (sym c.if-eq.ensures) in
     subst (λ v. IsWaitingAt v.rows.left request c.in_ok-place.place) c.self.view_is
-    (waiting_there c.self.inside.rows.left c.self.inside.next c.self.inside.left.listed c.self.invariant.2 request c.in_ok-place.place c.in_ok-place.ensures row read same c.if-not-row.true)
+    (waiting_there c.self.inside.rows.rows.left c.self.inside.next c.self.inside.left.listed c.self.invariant.2 request c.in_ok-place.place c.in_ok-place.ensures row read same c.if-not-row.true)
 
 pub returns-else-eq-clause-none : goal.returns-else-eq-clause-none
 returns-else-eq-clause-none c =
@@ -35,4 +35,4 @@ returns-else-eq-clause-none c =
           and_left (bytes_eq row.request request) (not row.confirmed) (ap (λ text. bytes_eq text request) (sym c.as_str.ensures) ∙ sym c.eq.ensures ∙ w.if-eq.false)
     ] in
     sym (ap (λ v. is_waiting v.rows.left request) c.self.view_is)
-    ∙ waiting_refused c.self.inside.rows.left c.self.inside.next c.self.inside.left.listed c.self.invariant.2 request c.in_ok-place.place c.in_ok-place.ensures row read fails
+    ∙ waiting_refused c.self.inside.rows.rows.left c.self.inside.next c.self.inside.left.listed c.self.invariant.2 request c.in_ok-place.place c.in_ok-place.ensures row read fails

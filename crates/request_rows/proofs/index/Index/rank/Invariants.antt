@@ -14,6 +14,7 @@ invariant-loop-low l =
     → entry_order (keys_of l.by l.lists.asked.items l.lists.opened.items) (slice_index l.self.places.items k) (key_texts l.key) l.place ≡ Less)
     × ((k : ℕ) → l.high ≤ k → k < length l.self.places.items
     → is_lt (entry_order (keys_of l.by l.lists.asked.items l.lists.opened.items) (slice_index l.self.places.items k) (key_texts l.key) l.place) ≡ false)
+    × (0 < l.step)
 
 abbrev pub decreases-loop-low : goal.decreases-loop-low
 decreases-loop-low l = l.high - l.low
