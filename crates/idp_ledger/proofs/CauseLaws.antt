@@ -21,7 +21,7 @@ some_at test (x ∷ xs) some =
     ]
 
 -- a record is one of the ledger behind those before it
-record_there : (front before later : List IdpRecord) (r : IdpRecord) → AreRecordsAfter front (before ++ r ∷ later) → is_record (front ++ before) r ≡ true
+pub record_there : (front before later : List IdpRecord) (r : IdpRecord) → AreRecordsAfter front (before ++ r ∷ later) → is_record (front ++ before) r ≡ true
 record_there front [] later r are = subst (λ b. is_record b r ≡ true) (sym (append-nil front)) are.0
 record_there front (x ∷ before) later r are =
     subst (λ b. is_record b r ≡ true) (append_assoc front (x ∷ []) before) (record_there (front ++ x ∷ []) before later r are.1)

@@ -8,6 +8,7 @@ pub mod LoadLaws
 pub mod OpenLaws
 pub mod Draftable
 pub mod RowTexts
+pub mod Endings
 pub mod DraftedRecords
 pub mod LawWords
 pub mod KeptMarks

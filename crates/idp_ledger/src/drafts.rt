@@ -88,8 +88,7 @@ impl IdpLedger {
         ensures same { SameLedger self.old self.new }
         ensures spare { KeepsSpare self.old self.new }
     {
-        let horizon = self.header().horizon;
-        if !self.standing.is_waiting(request, now, horizon) {
+        if !self.is_waiting(request, now) {
             return Ok(None);
         }
         let entry = IdpRecord::Confirmed(Confirmed {
@@ -194,6 +193,19 @@ impl IdpLedger {
             }
         }
         Ok(cookies)
+    }
+
+    /// Whether there is a live session of a name in which an assertion was issued to a peer, and whose index is listed, or any
+    /// of these where none is listed: one that `draft_end` would end.
+    pub fn has_ending(&self, now: u64, peer: &str, name: &str, indexes: &Texts) -> bool
+        ensures { result ≡ not (is_empty (ending now self.now.held.header.horizon peer.now name.now indexes.now (rows_in self.now))) }
+    {
+        for place in 0..self.sessions().len() {
+            if self.is_ending(place, now, peer, name, indexes) {
+                return true;
+            }
+        }
+        false
     }
 
     /// Whether in one of these sessions an assertion was issued to another peer too.

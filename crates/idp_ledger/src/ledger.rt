@@ -2,7 +2,7 @@
 ghost use Rattle.std.specs.Prelude.{◌≡◌, true, false, OnOk, OnErr, option_copied};
 ghost use Rattle.crash_disk.specs.Counts.{CountsFaults};
 ghost use Rattle.crash_disk.specs.Moments.{LeavesOnly};
-ghost use Rattle.idp_ledger.specs.Finding.{pending_found, session_found};
+ghost use Rattle.idp_ledger.specs.Finding.{is_waiting_now, pending_found, session_found};
 ghost use Rattle.idp_ledger.specs.Record.{AreRecords};
 ghost use Rattle.idp_ledger.specs.Standing.{AreFew};
 ghost use Rattle.idp_ledger.specs.Ledger.{CanCommit, IsOwn, IsWithOrWithout, held_with, next_number, rows_in};
@@ -114,6 +114,14 @@ impl IdpLedger {
     {
         let horizon = self.journal.header().horizon;
         self.standing.session(cookie, now, horizon)
+    }
+
+    /// Whether the logout of a request is visible and not confirmed: one that `draft_confirm` would confirm.
+    pub fn is_waiting(&self, request: &str, now: u64) -> bool
+        ensures { result ≡ is_waiting_now (rows_in self.now).lefts request.now now self.now.held.header.horizon }
+    {
+        let horizon = self.journal.header().horizon;
+        self.standing.is_waiting(request, now, horizon)
     }
 
     /// Adds the record of a draft. It takes no memory. At `Failed` the ledger is broken, and has to be opened again; the

@@ -12,9 +12,10 @@ use Rattle.node_runs.specs.Runs.{Outside, IsServed}
 use Rattle.node_runs.proofs.Completing.{complete_by}
 use Rattle.idp_ledger.specs.Ledger.{Held, ledger_in, taken}
 use Rattle.idp_rules.specs.declared.config.IdpConfig.{IdpConfig}
+use Rattle.idp_server.specs.Histories.{IsProviders}
 use Rattle.idp_server.specs.Step.{Provider}
 use Rattle.idp_setup.specs.Setup.{IsSetUp, IsBadSetUp}
-use Rattle.idp_runs.specs.Runs.{Begins, IsNotOpened, IsProviders, IsRunnable, OpeningFails, Runs}
+use Rattle.idp_runs.specs.Runs.{Begins, IsNotOpened, IsRunnable, OpeningFails, Runs}
 
 -- told files never set a provider up and fail to
 abbrev pub NeverBoth : Type 0

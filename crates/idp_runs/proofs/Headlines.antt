@@ -4,52 +4,88 @@ use Rattle.std.specs.List.{AllByRecursion}
 use Rattle.std.proofs.Common.{subst, sym}
 use Rattle.crash_disk.specs.Counts.{Rose}
 use Rattle.crash_disk.specs.Disk.{DiskState}
-use Rattle.conn_table.specs.Table.{Table}
 use Rattle.http_wire.specs.declared.answer.Answer.{Answer}
-use Rattle.http_wire.specs.declared.answer.Answer.TheVariants.{Full}
-use Rattle.node_serve.specs.Turns.{Asked, Asks, Turn, Taken, Full as AllTaken, StarvedStart, Over, Unknown, Waiting, Answered, Refused, StarvedPiece, Does, Run, asked_by}
+use Rattle.http_wire.specs.declared.answer.Answer.TheVariants as answers
+use Rattle.node_serve.specs.Turns.{Asked, Asks, Turn, Taken, Full, StarvedStart, Over, Unknown, Waiting, Answered, Refused, StarvedPiece, asked_by}
 use Rattle.node_serve.specs.Worlds.{World}
 use Rattle.node_runs.specs.Runs.{BadSetUp, NotSetUp, NotOpened, Deaf, Serving}
+use Rattle.idp_ledger.specs.Laws.{ImagesHoldRecords}
+use Rattle.idp_server.specs.Histories.{IsProviders, WhatIsAcknowledgedIsKept}
 use Rattle.idp_server.specs.Issues.{AnswersHaveUsers, WhatIsAnsweredIsRecorded}
+use Rattle.idp_server.specs.Logouts.{AnswersEndExactly, ServicesEndExactly, WhatIsAnsweredToALogoutIsRecorded, WhereverAPeerEnds, WhereverAUserLeaves}
 use Rattle.idp_server.specs.Signed.{EachSignedElementIsOfARecord}
 use Rattle.idp_server.specs.Step.{Provider, Steps}
-use Rattle.idp_runs.specs.Headline.{ARunCarriesTheHeadline, EachIssuesOnlyToUsers, IssuesOnlyToUsers, ServedNothing, ServedSo}
-use Rattle.idp_runs.specs.Runs.{IsProviders}
+use Rattle.idp_runs.specs.Headline.{ARunCarriesTheHeadline, EachGoesExactly, EndsExactly, GoesExactly, IssuesOnlyToUsers, ServedNothing, ServedSo}
+use Rattle.idp_runs.proofs.Kept.{kept_behind}
 
-module _ (users : AnswersHaveUsers) (signed : EachSignedElementIsOfARecord) (recorded : WhatIsAnsweredIsRecorded) where
-  issues : (asked : Asked Provider) (before told : World Provider) → Asks IsProviders asked before told → IssuesOnlyToUsers asked
-  issues asked before told asks =
-      let steps : Steps asked.node asked.disk asked.request asked.now (Rose before.disk_faults told.disk_faults) asked.answer told.node =
-      subst (λ (n : Provider). Steps n asked.disk asked.request asked.now (Rose before.disk_faults told.disk_faults) asked.answer told.node) (sym asks.node)
-      (subst (λ (d : Option DiskState). Steps before.node d asked.request asked.now (Rose before.disk_faults told.disk_faults) asked.answer told.node) (sym asks.disk) asks.answers.does) in
+-- the laws on which it stands
+pub record Laws : Type 0 where
+  pub users : AnswersHaveUsers
+  pub signed : EachSignedElementIsOfARecord
+  pub recorded : WhatIsAnsweredIsRecorded
+  pub logouts : WhatIsAnsweredToALogoutIsRecorded
+  pub only : AnswersEndExactly
+  pub services : ServicesEndExactly
+  pub wherever_left : WhereverAUserLeaves
+  pub wherever_ended : WhereverAPeerEnds
+  pub hold : ImagesHoldRecords
+  pub kept : WhatIsAcknowledgedIsKept
+
+-- the step by which a request was answered
+stepped : (asked : Asked Provider) (before told : World Provider) → Asks IsProviders asked before told
+    → Steps asked.node asked.disk asked.request asked.now (Rose before.disk_faults told.disk_faults) asked.answer told.node
+stepped asked before told asks =
+    subst (λ (n : Provider). Steps n asked.disk asked.request asked.now (Rose before.disk_faults told.disk_faults) asked.answer told.node) (sym asks.node)
+    (subst (λ (d : Option DiskState). Steps before.node d asked.request asked.now (Rose before.disk_faults told.disk_faults) asked.answer told.node) (sym asks.disk) asks.answers.does)
+
+module _ (laws : Laws) (asked : Asked Provider) where
+  issues : (before after : World Provider) → Asks IsProviders asked before after → IssuesOnlyToUsers asked before after
+  issues before after asks =
+      let steps = stepped asked before after asks in
       record {
-        faults = before.disk_faults;
-        later = told.disk_faults;
-        new = told.node;
-        disk = told.disk;
-        steps = steps;
-        users = λ held r answers. users asked.node.setup held asked.request asked.now asked.answer r answers;
-        signed = λ held bytes r answers. signed asked.node.setup held asked.request asked.now bytes r answers;
+        users = λ held r answers. laws.users asked.node.setup held asked.request asked.now asked.answer r answers;
+        signed = λ held bytes r answers. laws.signed asked.node.setup held asked.request asked.now bytes r answers;
         recorded = λ bytes is to.
-            recorded asked.node told.node asked.disk told.disk asked.request asked.now before.disk_faults told.disk_faults bytes
-            (subst (λ (a : Answer). Steps asked.node asked.disk asked.request asked.now (Rose before.disk_faults told.disk_faults) a told.node) is steps) asks.answers.owns to;
+            laws.recorded asked.node after.node asked.disk after.disk asked.request asked.now before.disk_faults after.disk_faults bytes
+            (subst (λ (a : Answer). Steps asked.node asked.disk asked.request asked.now (Rose before.disk_faults after.disk_faults) a after.node) is steps) asks.answers.owns to;
+        logout_recorded = λ bytes is to.
+            laws.logouts asked.node after.node asked.disk after.disk asked.request asked.now before.disk_faults after.disk_faults bytes
+            (subst (λ (a : Answer). Steps asked.node asked.disk asked.request asked.now (Rose before.disk_faults after.disk_faults) a after.node) is steps) asks.answers.owns to;
       }
 
-  of_turn : (turn : Turn Provider) (old : Table) (given : World Provider) (table : Table) (now : World Provider) → Does IsProviders old given turn table now
-      → AllByRecursion IssuesOnlyToUsers (asked_by turn)
-  of_turn (Taken conn) old given table now does = tt
-  of_turn (AllTaken conn) old given table now does = tt
-  of_turn (StarvedStart conn) old given table now does = tt
-  of_turn (Over conn) old given table now does = tt
-  of_turn (Unknown conn piece) old given table now does = tt
-  of_turn (Waiting conn piece) old given table now does = tt
-  of_turn (Answered piece asked) old given table now does = (issues asked given does.2.told does.2.asks, tt)
-  of_turn (Refused conn piece status) old given table now does = tt
-  of_turn (StarvedPiece conn piece) old given table now does = tt
+  ends_exactly : (before after : World Provider) → EndsExactly asked before after
+  ends_exactly before after = record {
+    only = λ held r answers. laws.only asked.node.setup held asked.request asked.now asked.answer r answers;
+    nothing_else = λ found serves whole.
+        laws.services found asked.request asked.now before.disk_faults after.disk_faults asked.answer asked.node after.node serves whole;
+    wherever_left = λ found row serves leaves place calm.
+        laws.wherever_left found asked.request asked.now before.disk_faults after.disk_faults asked.answer asked.node after.node row leaves place calm serves;
+    wherever_ended = λ found message peer cookie serves over among place calm.
+        laws.wherever_ended found asked.request asked.now before.disk_faults after.disk_faults asked.answer asked.node after.node message peer cookie over among place calm serves;
+  }
 
-  each_issues : (first : World Provider) (turns : List (Turn Provider)) (table : Table) (now : World Provider) → Run IsProviders first turns table now → EachIssuesOnlyToUsers turns
-  each_issues first [] table now run = tt
-  each_issues first (turn ∷ past) table now run = (of_turn turn run.0 run.2 table now run.5, each_issues first past run.0 run.1 run.3)
+  goes_exactly : GoesExactly asked
+  goes_exactly = record {
+    steps = stepped asked;
+    issues = issues;
+    ends = λ before after asks. ends_exactly before after;
+  }
+
+module _ (laws : Laws) where
+  of_turn : (turn : Turn Provider) → AllByRecursion GoesExactly (asked_by turn)
+  of_turn (Taken conn) = tt
+  of_turn (Full conn) = tt
+  of_turn (StarvedStart conn) = tt
+  of_turn (Over conn) = tt
+  of_turn (Unknown conn piece) = tt
+  of_turn (Waiting conn piece) = tt
+  of_turn (Answered piece asked) = (goes_exactly laws asked, tt)
+  of_turn (Refused conn piece status) = tt
+  of_turn (StarvedPiece conn piece) = tt
+
+  each_goes : (turns : List (Turn Provider)) → EachGoesExactly turns
+  each_goes [] = tt
+  each_goes (turn ∷ past) = (of_turn turn, each_goes past)
 
   pub headline : ARunCarriesTheHeadline
   headline told file budget before turns result after (BadSetUp bad line is e bare same) = ServedNothing bare
@@ -57,4 +93,5 @@ module _ (users : AnswersHaveUsers) (signed : EachSignedElementIsOfARecord) (rec
   headline told file budget before turns result after (NotOpened why bare same) = ServedNothing bare
   headline told file budget before turns result after (Deaf node opened begins e rose bare same) = ServedNothing bare
   headline told file budget before turns result after (Serving node last opened served begins serves e) =
-      ServedSo node opened begins (each_issues _ turns serves.kept serves.last serves.run)
+      ServedSo node last opened begins (each_goes turns)
+      (λ tells all. kept_behind laws.hold laws.kept told file budget before opened after node last turns served begins serves tells all)

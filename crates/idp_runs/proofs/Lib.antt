@@ -1,3 +1,4 @@
 pub mod Completing
+pub mod Kept
 pub mod Headlines
 pub mod Moments

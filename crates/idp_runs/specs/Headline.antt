@@ -1,54 +1,93 @@
--- What a run of an identity provider comes to: each Assertion is issued to a user with a password or a session, each element that it
--- signs is one of a record, and no form is sent before its record is durable.
-use Rattle.std.specs.Prelude.{◌≡◌, ◌⊎◌, ℕ, List, [], ◌∷◌, Option, Some, Result}
+-- What a run of an identity provider comes to: each Assertion is issued to a user with a password or a session, each signed element is one
+-- of a record that is durable before it is sent; sessions are ended exactly where their users leave them or a peer ends them, and one that
+-- is ended never lives again.
+use Rattle.std.specs.Prelude.{◌≡◌, ◌⊎◌, ℕ, true, false, List, [], ◌∷◌, Option, IsSome, Some, Result}
 use Rattle.std.specs.List.{AllByRecursion}
 use Rattle.saml_outside.specs.Files.{File}
 use Rattle.crash_disk.specs.Counts.{Rose}
-use Rattle.crash_disk.specs.Disk.{DiskState}
-use Rattle.http_wire.specs.declared.answer.Answer.TheVariants.{Full}
-use Rattle.ledger_records.specs.declared.idp_record.Issued.{Issued}
+use Rattle.http_wire.specs.declared.answer.Answer.TheVariants.{Fixed, Full}
 use Rattle.ledger_records.specs.declared.idp_record.IdpRecord.{IdpRecord}
 use Rattle.ledger_records.specs.declared.idp_record.IdpRecord.TheVariants as kinds
-use Rattle.node_serve.specs.Turns.{Asked, Turn, asked_by}
-use Rattle.node_runs.specs.Runs.{Outside}
+use Rattle.ledger_records.specs.declared.idp_record.Issued.{Issued}
+use Rattle.node_serve.specs.Turns.{Asked, Asks, Turn, asked_by}
+use Rattle.node_serve.specs.Worlds.{World}
+use Rattle.node_runs.specs.Runs.{Outside, world_of}
 use Rattle.node_runs.specs.declared.ended.Ended.{Ended}
 use Rattle.node_runs.specs.declared.ended.RunFault.{RunFault}
+use Rattle.peer_keys.specs.declared.peers.LogoutPeer.{LogoutPeer}
+use Rattle.protocol_messages.specs.declared.logout.LogoutRequest.{LogoutRequest}
+use Rattle.idp_ledger.specs.declared.row.SessionRow.{SessionRow}
 use Rattle.idp_ledger.specs.Ledger.{Held}
+use Rattle.idp_ledger.specs.RowsOf.{is_among}
+use Rattle.idp_server.specs.Histories.{AreKept, AreTold, IsEnded, IsProviders}
 use Rattle.idp_server.specs.Issues.{IsOfUser, IsRecorded}
-use Rattle.idp_server.specs.Routes.{Login, SignOn, To, route}
+use Rattle.idp_server.specs.Logouts.{Ends, EndsOver, IsOfLogoutIfEnding, LeavesOver}
+use Rattle.idp_server.specs.Routes.{Login, Logout, SignOn, SingleLogout, To, route}
 use Rattle.idp_server.specs.Signed.{Carries}
-use Rattle.idp_server.specs.Step.{Provider, Answers, Steps}
+use Rattle.idp_server.specs.Step.{Provider, Answers, HasPlace, NO_MEMORY, Serves, Steps, ended_by, ending_by, left_by}
 use Rattle.idp_runs.specs.Runs.{Begins, Runs}
 
--- Of a request that the provider was asked, and answered by one step: an Assertion is issued with its answer only for a user whose
--- password was posted for a login that was pending, or in the user's live session; each signed element in the answer is one that its
--- record stands for; and the answer's record is in every image that a crash may leave behind the step, before its first byte is sent.
-pub record IssuesOnlyToUsers (asked : Asked Provider) : Type 0 where
-  pub faults : ℕ
-  pub later : ℕ
-  pub new : Provider
-  pub disk : Option DiskState
-  pub steps : Steps asked.node asked.disk asked.request asked.now (Rose faults later) asked.answer new
+-- ---- one request, which the provider was asked in one world, and which left another behind
+
+-- An Assertion is issued with its answer only for a user whose password was posted for a login that was pending, or in the user's live
+-- session; each signed element in the answer, a message of a logout too, is one that its record stands for; and the answer's record is in
+-- every image that a crash may leave once the provider has answered, before a byte is sent.
+pub record IssuesOnlyToUsers (asked : Asked Provider) (before after : World Provider) : Type 0 where
   pub users : (held : Held) (r : Issued) → Answers asked.node.setup held asked.request asked.now asked.answer (Some (kinds.Issued r))
       → IsOfUser asked.node.setup held asked.request asked.now r
   pub signed : (held : Held) (bytes : List ℕ) (r : IdpRecord) → Answers asked.node.setup held asked.request asked.now (Full bytes) (Some r)
       → Carries asked.node.setup r bytes
   pub recorded : (bytes : List ℕ) → asked.answer ≡ Full bytes → (route asked.request ≡ To SignOn) ⊎ (route asked.request ≡ To Login)
-      → IsRecorded asked.node.setup asked.request asked.now (Full bytes) disk
+      → IsRecorded asked.node.setup asked.request asked.now (Full bytes) after.disk
+  pub logout_recorded : (bytes : List ℕ) → asked.answer ≡ Full bytes → (route asked.request ≡ To Logout) ⊎ (route asked.request ≡ To SingleLogout)
+      → IsRecorded asked.node.setup asked.request asked.now (Full bytes) after.disk
 
--- so it is of each request that the provider was asked
-abbrev pub EachIssuesOnlyToUsers : List (Turn Provider) → Type 0
-EachIssuesOnlyToUsers [] = Unit {0}
-EachIssuesOnlyToUsers (turn ∷ past) = AllByRecursion IssuesOnlyToUsers (asked_by turn) × EachIssuesOnlyToUsers past
+-- A record that ends a session is added with its answer only where the user of that live session leaves it, or a peer asks for it by a
+-- LogoutRequest that is accepted; and nothing but a record and a compaction changes the ledger. And wherever one of them does, over the
+-- ledger that the step found, where there is room and the disk does not fail, the session is ended behind the step; or there was no memory.
+pub record EndsExactly (asked : Asked Provider) (before after : World Provider) : Type 0 where
+  pub only : (held : Held) (r : IdpRecord) → Answers asked.node.setup held asked.request asked.now asked.answer (Some r)
+      → IsOfLogoutIfEnding asked.node.setup held asked.request asked.now r
+  pub nothing_else : (found : Held) → Serves found asked.request asked.now (Rose before.disk_faults after.disk_faults) asked.answer asked.node after.node
+      → after.node.ledger.broken ≡ false → Ends asked.node.setup found asked.request asked.now after.node
+  pub wherever_left : (found : Held) (row : SessionRow)
+      → Serves found asked.request asked.now (Rose before.disk_faults after.disk_faults) asked.answer asked.node after.node
+      → LeavesOver found asked.request asked.now row → HasPlace found (left_by asked.node.setup.id_key found asked.now row.cookie)
+      → ¬ (Rose before.disk_faults after.disk_faults)
+      → (asked.answer ≡ Fixed NO_MEMORY) ⊎ IsEnded after.node.ledger.held row.cookie
+  pub wherever_ended : (found : Held) (message : LogoutRequest) (peer : LogoutPeer) (cookie : List ℕ)
+      → Serves found asked.request asked.now (Rose before.disk_faults after.disk_faults) asked.answer asked.node after.node
+      → EndsOver asked.node.setup asked.request asked.now message peer → is_among cookie (ending_by found asked.now peer.peer.entity message) ≡ true
+      → HasPlace found (ended_by asked.node.setup.id_key found asked.now peer.peer.entity message)
+      → ¬ (Rose before.disk_faults after.disk_faults)
+      → (asked.answer ≡ Fixed NO_MEMORY) ⊎ IsEnded after.node.ledger.held cookie
 
--- a run that served nothing, or one that served so
-pub data Headline (told : Option (List File)) (file : List ℕ) (before : Outside) (turns : List (Turn Provider)) : Type 0 where
-  ServedNothing : turns ≡ [] → Headline told file before turns
-  ServedSo : (provider : Provider) (opened : Outside) → Begins told file before provider opened → EachIssuesOnlyToUsers turns
-      → Headline told file before turns
+-- ---- the run
+
+-- a request is answered by one step, and so it is of it, whatever the worlds are in which the provider was asked
+pub record GoesExactly (asked : Asked Provider) : Type 0 where
+  pub steps : (before after : World Provider) → Asks IsProviders asked before after
+      → Steps asked.node asked.disk asked.request asked.now (Rose before.disk_faults after.disk_faults) asked.answer after.node
+  pub issues : (before after : World Provider) → Asks IsProviders asked before after → IssuesOnlyToUsers asked before after
+  pub ends : (before after : World Provider) → Asks IsProviders asked before after → EndsExactly asked before after
+
+-- and of each request that the provider was asked
+abbrev pub EachGoesExactly : List (Turn Provider) → Type 0
+EachGoesExactly [] = Unit {0}
+EachGoesExactly (turn ∷ past) = AllByRecursion GoesExactly (asked_by turn) × EachGoesExactly past
+
+-- A run that served nothing, or one that served: each request issued Assertions to users alone, was answered once its record was durable,
+-- and ended sessions exactly; and where the disk tells, what the answers acknowledged is in the history of every ledger that a crash may
+-- leave behind the run, and in none of these a session lives that one of the answers ended, or that was ended at the start.
+pub data Headline (told : Option (List File)) (file : List ℕ) (before : Outside) (turns : List (Turn Provider)) (after : Outside) : Type 0 where
+  ServedNothing : turns ≡ [] → Headline told file before turns after
+  ServedSo : (provider last : Provider) (opened : Outside) → Begins told file before provider opened
+      → EachGoesExactly turns
+      → (IsSome before.disk → AreTold turns → AreKept (world_of provider opened) (world_of last after) turns)
+      → Headline told file before turns after
 
 -- The headline holds of each run.
 abbrev pub ARunCarriesTheHeadline : Type 0
 ARunCarriesTheHeadline =
     (told : Option (List File)) (file : List ℕ) (budget : ℕ) (before : Outside) (turns : List (Turn Provider)) (result : Result Ended RunFault) (after : Outside)
-    → Runs told file budget before turns result after → Headline told file before turns
+    → Runs told file budget before turns result after → Headline told file before turns after

@@ -3,9 +3,6 @@ use Rattle.std.specs.Prelude.{◌≡◌, ℕ, false, List, Option, None, Some, I
 use Rattle.saml_outside.specs.Files.{File}
 use Rattle.crash_disk.specs.Counts.{Rose}
 use Rattle.crash_disk.specs.Disk.{Image, DiskState, image_of}
-use Rattle.http_wire.specs.declared.answer.Answer.{Answer}
-use Rattle.http_wire.specs.Requests.{Request}
-use Rattle.node_serve.specs.Worlds.{NodeStep, IsAnswered}
 use Rattle.node_serve.specs.Turns.{Turn}
 use Rattle.node_runs.specs.declared.ended.Ended.{Ended}
 use Rattle.node_runs.specs.declared.ended.Ended.TheVariants as ends
@@ -14,17 +11,11 @@ use Rattle.node_runs.specs.declared.ended.RunFault.TheVariants as faults
 use Rattle.node_runs.specs.Runs.{Outside, RunsBy, RunLeavesBy}
 use Rattle.idp_ledger.specs.Ledger.{LeftByOpening, ledger_in, taken}
 use Rattle.idp_rules.specs.declared.config.IdpConfig.{IdpConfig}
-use Rattle.idp_server.specs.Step.{Provider, OwnsDisk, Steps, StepLeaves}
+use Rattle.idp_server.specs.Histories.{IsProviders}
+use Rattle.idp_server.specs.Step.{Provider, OwnsDisk, StepLeaves}
 use Rattle.idp_setup.specs.Setup.{IsSetUp, IsBadSetUp}
 
 -- A PROVIDER IS STARTED
-
--- what an answer of a provider does, and what a crash may leave
-abbrev pub StepOf : Provider → Option DiskState → Request → ℕ → ℕ → ℕ → Answer → Provider → Option DiskState → Type 0
-StepOf old disk request now before after answer new later = Steps old disk request now (Rose before after) answer new
-
-abbrev pub IsProviders : NodeStep Provider
-IsProviders = IsAnswered OwnsDisk StepOf StepLeaves
 
 -- A provider with this config, whose ledger is whole: that which is opened from the disk, as far as the disk tells.
 pub record IsStarted (config : IdpConfig) (disk : Option DiskState) (provider : Provider) : Type 0 where

@@ -93,12 +93,12 @@ pub fn run_idp<F: Files, L: Link, D: Disk, C: Clock>(
     clock: &mut C,
     budget: u64,
 ) -> Result<Ended, RunFault>
-    // The run goes so; each Assertion is issued to a user with a password or a session, each signed element is one of a record, and no
-    // form is sent before its record is durable; and a crash at any moment of it leaves what one inside the opening or inside an
-    // answer may leave.
+    // The run goes so; each Assertion is issued to a user with a password or a session, each signed element is one of a record, no
+    // form is sent before its record is durable, and sessions are ended exactly where their users leave them or a peer ends them, for
+    // good; and a crash at any moment of it leaves what one inside the opening or inside an answer may leave.
     ensures runs { (turns : List (Turn Provider))
         × Runs (F.holds files.old) config.now budget (outside (D.told disk.old) (D.faults_of disk.old) (L.told link.old) (L.faults_of link.old) (L.send_faults_of link.old) (C.to_come clock.old)) turns result (outside (D.told disk.new) (D.faults_of disk.new) (L.told link.new) (L.faults_of link.new) (L.send_faults_of link.new) (C.to_come clock.new))
-        × Headline (F.holds files.old) config.now (outside (D.told disk.old) (D.faults_of disk.old) (L.told link.old) (L.faults_of link.old) (L.send_faults_of link.old) (C.to_come clock.old)) turns
+        × Headline (F.holds files.old) config.now (outside (D.told disk.old) (D.faults_of disk.old) (L.told link.old) (L.faults_of link.old) (L.send_faults_of link.old) (C.to_come clock.old)) turns (outside (D.told disk.new) (D.faults_of disk.new) (L.told link.new) (L.faults_of link.new) (L.send_faults_of link.new) (C.to_come clock.new))
         × LeavesOnly D.moment D.left_since disk.old disk.new (RunLeaves (D.told disk.old) turns) }
 
     // Each fault has a cause.

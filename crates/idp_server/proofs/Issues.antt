@@ -25,7 +25,7 @@ use Rattle.idp_ledger.specs.Ledger.{Held, held_with, next_number}
 use Rattle.idp_ledger.specs.Draft.{issued_in}
 use Rattle.idp_ledger.specs.Drafts.{issue, login}
 use Rattle.idp_rules.specs.declared.config.IdpConfig.{IdpConfig}
-use Rattle.idp_server.specs.Routes.{Login, SignOn, To, route}
+use Rattle.idp_server.specs.Routes.{Login, Metadata, SignOn, To, route}
 use Rattle.idp_server.specs.Step as steps
 use Rattle.idp_server.specs.Step.{Provider, Answers, IsWhole, OwnsDisk, Serves, Steps, Typed, ask_of, session_for, session_used}
 use Rattle.idp_server.specs.Issues.{AnswersHaveUsers, Anew, IsOfSession, IsOfUser, IsOfUserIfIssued, IsRecorded, LeavesLedger, More, Nothing, ServicesHaveUsers, WhatIsAnsweredIsRecorded}
@@ -128,6 +128,13 @@ answer_has_user setup held request now answer adds r some (steps.ByLogin t row p
       user_is = sym (ap (λ (i : Issued). i.user) same);
       attributes_are = sym (ap (λ (i : Issued). i.attributes) same);
     })
+answer_has_user setup held request now answer adds r some (steps.ByNoSession to none_live is none) = absurd (cc)
+answer_has_user setup held request now answer adds r some (steps.ByLeaving row left bytes to live drafted adding answers full) = absurd (cc)
+answer_has_user setup held request now answer adds r some (steps.ByLogoutVerdict verdict to refused is none) = absurd (cc)
+answer_has_user setup held request now answer adds r some (steps.ByNothingToEnd asked peer relay to asks nothing is none) = absurd (cc)
+answer_has_user setup held request now answer adds r some (steps.ByEnding asked peer relay ended bytes to asks some_end drafted adding answers full) = absurd (cc)
+answer_has_user setup held request now answer adds r some (steps.ByUnknownLogout response to replies unknown is none) = absurd (cc)
+answer_has_user setup held request now answer adds r some (steps.ByConfirming response to replies waits adding full) = absurd (cc)
 
 pub answers_have_users : AnswersHaveUsers
 answers_have_users setup held request now answer r answers = answer_has_user setup held request now answer (Some (kinds.Issued r)) r refl answers
@@ -157,12 +164,11 @@ services_have_users found request now before after answer old new (steps.Starved
 
 -- ---- what stands behind an answer
 
--- a page for one of these routes stands for a record
+-- a page stands for a record, unless it is the metadata
 none_plain : (setup : IdpConfig) (held : Held) (request : Request) (now : ℕ) (bytes : List ℕ) (adds : Option IdpRecord) → adds ≡ None
-    → (route request ≡ To SignOn) ⊎ (route request ≡ To Login) → Answers setup held request now (Full bytes) adds → ⊥
+    → (route request ≡ To Metadata → ⊥) → Answers setup held request now (Full bytes) adds → ⊥
 none_plain setup held request now bytes adds empty routed (steps.ByStatus status to is none) = cc
-none_plain setup held request now bytes adds empty (inl signs) (steps.ByMetadata to is none) = let clash = sym signs ∙ to in cc
-none_plain setup held request now bytes adds empty (inr logs) (steps.ByMetadata to is none) = let clash = sym logs ∙ to in cc
+none_plain setup held request now bytes adds empty routed (steps.ByMetadata to is none) = routed to
 none_plain setup held request now bytes adds empty routed (steps.ByVerdict verdict to refused is none) = cc
 none_plain setup held request now bytes adds empty routed (steps.ByIssuing asked peer row other sent to is known used drafted adding answers full) = let clash = sym empty ∙ adding in cc
 none_plain setup held request now bytes adds empty routed (steps.ByPassive asked peer message sent to is known none passive adding named answers full) = let clash = sym empty ∙ adding in cc
@@ -171,6 +177,13 @@ none_plain setup held request now bytes adds empty routed (steps.ByFields to bad
 none_plain setup held request now bytes adds empty routed (steps.ByNoPending t to posted nothing is none) = cc
 none_plain setup held request now bytes adds empty routed (steps.ByPassword t row peer to posted pending refused is none) = cc
 none_plain setup held request now bytes adds empty routed (steps.ByLogin t row peer user other sent to posted pending accepted drafted adding answers full) = let clash = sym empty ∙ adding in cc
+none_plain setup held request now bytes adds empty routed (steps.ByNoSession to none_live is none) = cc
+none_plain setup held request now bytes adds empty routed (steps.ByLeaving row left sent to live drafted adding answers full) = let clash = sym empty ∙ adding in cc
+none_plain setup held request now bytes adds empty routed (steps.ByLogoutVerdict verdict to refused is none) = cc
+none_plain setup held request now bytes adds empty routed (steps.ByNothingToEnd asked peer relay to asks nothing is none) = cc
+none_plain setup held request now bytes adds empty routed (steps.ByEnding asked peer relay ended sent to asks some drafted adding answers full) = let clash = sym empty ∙ adding in cc
+none_plain setup held request now bytes adds empty routed (steps.ByUnknownLogout response to replies unknown is none) = cc
+none_plain setup held request now bytes adds empty routed (steps.ByConfirming response to replies waits adding full) = let clash = sym empty ∙ adding in cc
 
 -- a whole ledger is what each image of its own disk stands for
 kept : (old new : Provider) (held : Held) (later : Option DiskState) → IsWhole old new held → OwnsDisk new later → LeavesLedger later held
@@ -179,7 +192,7 @@ kept old new held (Some d) whole own = λ image left.
     settled (Some d) new.ledger image whole.unbroken own left ∙ ap (λ (h : Held). Ok (Some h)) whole.is
 
 is_recorded : (found : Held) (old new : Provider) (later : Option DiskState) (request : Request) (now : ℕ) (Risen : Type 0) (bytes : List ℕ) → OwnsDisk new later
-    → (route request ≡ To SignOn) ⊎ (route request ≡ To Login) → Serves found request now Risen (Full bytes) old new → IsRecorded old.setup request now (Full bytes) later
+    → (route request ≡ To Metadata → ⊥) → Serves found request now Risen (Full bytes) old new → IsRecorded old.setup request now (Full bytes) later
 is_recorded found old new later request now Risen bytes own routed (steps.Plain answers whole) = absurd (none_plain old.setup found request now bytes None refl routed answers)
 is_recorded found old new later request now Risen bytes own routed (steps.Recorded r answers place whole) =
     record { held = found; r = r; stands = answers; kept = kept old new (held_with r found) later whole own }
@@ -189,10 +202,19 @@ is_recorded found old new later request now Risen bytes own routed (steps.NoPlac
 is_recorded found old new later request now Risen bytes own routed (steps.Failed wanted other wants risen is broken) = absurd (cc)
 is_recorded found old new later request now Risen bytes own routed (steps.Starved held which is whole) = absurd (cc)
 
+-- a page that is not the metadata is recorded by a step
+pub step_recorded : (old new : Provider) (disk later : Option DiskState) (request : Request) (now : ℕ) (Risen : Type 0) (bytes : List ℕ) → Steps old disk request now Risen (Full bytes) new
+    → OwnsDisk new later → (route request ≡ To Metadata → ⊥) → IsRecorded old.setup request now (Full bytes) later
+step_recorded old new disk later request now Risen bytes (steps.WithLedger whole serves) own routed = is_recorded old.ledger.held old new later request now Risen bytes own routed serves
+step_recorded old new disk later request now Risen bytes (steps.WithOpened found broken told serves) own routed = is_recorded found old new later request now Risen bytes own routed serves
+step_recorded old new disk later request now Risen bytes (steps.NotOpened broken risen is stays) own routed = absurd (cc)
+step_recorded old new disk later request now Risen bytes (steps.Strange broken told is stays) own routed = absurd (cc)
+step_recorded old new disk later request now Risen bytes (steps.StarvedAtOpening broken is stays) own routed = absurd (cc)
+
+no_metadata : (request : Request) → (route request ≡ To SignOn) ⊎ (route request ≡ To Login) → route request ≡ To Metadata → ⊥
+no_metadata request (inl signs) to = let clash = sym signs ∙ to in cc
+no_metadata request (inr logs) to = let clash = sym logs ∙ to in cc
+
 pub what_is_answered : WhatIsAnsweredIsRecorded
-what_is_answered old new disk later request now before after bytes (steps.WithLedger whole serves) own routed =
-    is_recorded old.ledger.held old new later request now (Rose before after) bytes own routed serves
-what_is_answered old new disk later request now before after bytes (steps.WithOpened found broken told serves) own routed = is_recorded found old new later request now (Rose before after) bytes own routed serves
-what_is_answered old new disk later request now before after bytes (steps.NotOpened broken risen is stays) own routed = absurd (cc)
-what_is_answered old new disk later request now before after bytes (steps.Strange broken told is stays) own routed = absurd (cc)
-what_is_answered old new disk later request now before after bytes (steps.StarvedAtOpening broken is stays) own routed = absurd (cc)
+what_is_answered old new disk later request now before after bytes does own routed =
+    step_recorded old new disk later request now (Rose before after) bytes does own (no_metadata request routed)

@@ -1,13 +1,19 @@
 pub mod Alike
 pub mod Behind
+pub mod Closing
 pub mod Drafting
+pub mod Ending
+pub mod Histories
 pub mod Ids
 pub mod Issues
 pub mod Judged
+pub mod Logouts
 pub mod Sessions
+pub mod StayingEnded
 pub mod Fields
 mod Made
 mod Pages
+pub mod Peers
 pub mod Recorded
 pub mod Reopening
 pub mod Replies

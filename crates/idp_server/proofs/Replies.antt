@@ -1,6 +1,6 @@
 -- What follows where a request asks for a reply.
 use Rattle.std.specs.Prelude.{IsSome, slice_get}
-use Rattle.std.proofs.Common.{◌≡◌, ◌≢◌, ℕ, zero, suc, ◌+◌, ◌≤◌, ◌<◌, true, List, [], ◌∷◌, ◌++◌, length, Option, None, Some, refl, sym, subst, ap, ◌∙◌, arith}
+use Rattle.std.proofs.Common.{◌≡◌, ◌≢◌, ℕ, zero, suc, ◌+◌, ◌≤◌, ◌<◌, Bool, true, false, if◌then◌else◌, List, [], ◌∷◌, ◌++◌, length, Option, None, Some, refl, sym, subst, ap, ◌∙◌, arith}
 use Rattle.std.specs.List.{AllByRecursion, flat_map, list_all}
 use Rattle.std.specs.Option.{option_map}
 use Rattle.owned_values.specs.declared.attributes.Attribute.{Attribute}
@@ -8,6 +8,7 @@ use Rattle.xml_spec.specs.Characters.{IsText}
 use Rattle.xml_spec.proofs.Tests.{and_true}
 use Rattle.assertion_model.specs.Assertion.{IsStatable}
 use Rattle.http_wire.specs.declared.answer.Answer.{Answer}
+use Rattle.http_wire.specs.declared.answer.Answer.TheVariants.{Full}
 use Rattle.http_wire.specs.Requests.{Request}
 use Rattle.ledger_records.specs.declared.idp_record.Issued.{Issued}
 use Rattle.ledger_records.specs.declared.idp_record.IdpRecord.{IdpRecord}
@@ -22,20 +23,24 @@ use Rattle.idp_ledger.specs.declared.row.Ask.{Ask}
 use Rattle.idp_ledger.specs.declared.row.PendingRow.{PendingRow}
 use Rattle.idp_ledger.specs.declared.row.SessionRow.{SessionRow}
 use Rattle.idp_ledger.specs.RowsOf.{rows_of}
-use Rattle.idp_ledger.specs.Finding.{pending_found}
+use Rattle.idp_ledger.specs.Finding.{is_empty, pending_found}
 use Rattle.idp_ledger.specs.Record.{LAST, of_attribute}
 use Rattle.idp_ledger.specs.Ledger.{Held, next_number}
-use Rattle.idp_ledger.specs.Drafts.{IsXmlAsk, issue, login, pending, spoke}
+use Rattle.idp_ledger.specs.Drafts.{IsXmlAsk, confirmed, issue, login, pending, spoke}
 use Rattle.idp_ledger.specs.Draft.{drawn_cookie, first_id, second_id}
 use Rattle.idp_ledger.specs.Laws.{AnswerAlike}
 use Rattle.idp_ledger.proofs.Draftable.{text_is_allowed}
+use Rattle.idp_rules.specs.Config.{IsTextPeer}
 use Rattle.idp_rules.specs.declared.config.IdpConfig.{IdpConfig}
 use Rattle.idp_answers.specs.Answers.{IsNoPassiveAnswer}
+use Rattle.logout_answers.specs.Answers.{end_answer}
+use Rattle.protocol_messages.specs.declared.logout.LogoutRequest.{LogoutRequest}
 use Rattle.idp_server.specs.declared.reply.Reply.{Reply}
 use Rattle.idp_server.specs.declared.reply.Reply.TheVariants as replies
-use Rattle.idp_server.specs.Replies.{AsksAnew, AsksInSession, CanBeShown, HasAssertion, HasRefusal, IsIssuable, IsPage, IsTextAsk, IsTold, IsXmlReply, LogsIn, Wants, record_for}
-use Rattle.idp_server.specs.Step.{Answers, ByIssuing, ByPassive, ByAsking, ByLogin, IsAnswerFor, session_used}
+use Rattle.idp_server.specs.Replies.{AsksAnew, AsksForAnEnd, AsksInSession, CanBeShown, Confirms, HasAssertion, HasRefusal, HasRequest, HasResponse, IsIssuable, IsPage, IsTextAsk, IsTold, IsXmlReply, Leaves, LogsIn, Wants, record_for}
+use Rattle.idp_server.specs.Step.{Answers, ByIssuing, ByPassive, ByAsking, ByLogin, ByLeaving, ByEnding, ByConfirming, IsAnswerFor, IsEndingAnswer, IsLeavingAnswer, ended_by, ending_by, is_awaited, left_by, session_used}
 use Rattle.idp_server.proofs.Alike.{session_alike}
+use Rattle.idp_server.proofs.Sessions.{all_at}
 
 -- ---- the record
 
@@ -52,6 +57,12 @@ record_of setup held request now key (replies.Passive ask) w = (spoke key (next_
 record_of setup held request now key (replies.Question ask) w = (pending key (next_number held) now ask, refl)
 record_of setup held request now key (replies.Login id user attributes peer) w =
     (login key (next_number held) now w.row user attributes, ap (option_map (λ (row : PendingRow). login key (next_number held) now row user attributes)) w.found)
+record_of setup held request now key (replies.Leave cookie user index) w =
+    (left_by key held now cookie, ap (option_map (λ (row : SessionRow). left_by key held now cookie)) w.found)
+record_of setup held request now key (replies.End asked peer name relay) w =
+    (ended_by key held now name asked, ap (λ (b : Bool). if b then None else Some (ended_by key held now name asked)) w.some)
+record_of setup held request now key (replies.Confirm of partial) w =
+    (confirmed now of, ap (λ (b : Bool). if b then Some (confirmed now of) else None) w.awaited)
 
 session_record : (setup : IdpConfig) (held : Held) (request : Request) (now : ℕ) (key cookie : List ℕ) (ask : Ask) (peer : ℕ) (r : IdpRecord)
     → (w : AsksInSession setup held request now cookie ask peer) → record_for key held now (replies.InSession cookie ask peer) ≡ Some r
@@ -64,6 +75,21 @@ login_record : (setup : IdpConfig) (held : Held) (request : Request) (now : ℕ)
     → login key (next_number held) now w.row user attributes ≡ r
 login_record setup held request now key id user attributes peer r w is =
     the_one (login key (next_number held) now w.row user attributes) r _ (ap (option_map (λ (row : PendingRow). login key (next_number held) now row user attributes)) w.found) is
+
+left_record : (setup : IdpConfig) (held : Held) (request : Request) (now : ℕ) (key cookie user index : List ℕ) (r : IdpRecord) → (w : Leaves setup held request now cookie user index)
+    → record_for key held now (replies.Leave cookie user index) ≡ Some r → left_by key held now cookie ≡ r
+left_record setup held request now key cookie user index r w is =
+    the_one (left_by key held now cookie) r _ (ap (option_map (λ (row : SessionRow). left_by key held now cookie)) w.found) is
+
+ended_record : (setup : IdpConfig) (held : Held) (request : Request) (now : ℕ) (key : List ℕ) (asked : LogoutRequest) (peer : ℕ) (name : List ℕ) (relay : Option (List ℕ)) (r : IdpRecord)
+    → (w : AsksForAnEnd setup held request now asked peer name relay) → record_for key held now (replies.End asked peer name relay) ≡ Some r → ended_by key held now name asked ≡ r
+ended_record setup held request now key asked peer name relay r w is =
+    the_one (ended_by key held now name asked) r _ (ap (λ (b : Bool). if b then None else Some (ended_by key held now name asked)) w.some) is
+
+confirmed_record : (setup : IdpConfig) (held : Held) (request : Request) (now : ℕ) (key of : List ℕ) (partial : Bool) (r : IdpRecord) → (w : Confirms setup held request now of partial)
+    → record_for key held now (replies.Confirm of partial) ≡ Some r → confirmed now of ≡ r
+confirmed_record setup held request now key of partial r w is =
+    the_one (confirmed now of) r _ (ap (λ (b : Bool). if b then Some (confirmed now of) else None) w.awaited) is
 
 -- ---- its texts
 
@@ -88,6 +114,11 @@ reply_allowed setup held request now (replies.Passive ask) w = ask_allowed ask w
 reply_allowed setup held request now (replies.Question ask) w = ask_allowed ask w.asks.texts
 reply_allowed setup held request now (replies.Login id user attributes peer) w =
     (text_is_allowed user w.user_text, are_allowed (flat_map of_attribute attributes) (of_attributes attributes w.stated))
+reply_allowed setup held request now (replies.Leave cookie user index) w = tt
+reply_allowed setup held request now (replies.End asked peer name relay) w =
+    let who = all_at IsTextPeer setup.peers peer w.peer w.peers w.there in
+    (text_is_allowed asked.id w.id_text, text_is_allowed name (subst IsText (sym w.name_is) who.entity))
+reply_allowed setup held request now (replies.Confirm of partial) w = tt
 
 -- ---- it can be shown
 
@@ -100,7 +131,7 @@ drawn_named key kind n = id_named (id_text key kind n) (every_id_is_a_name key k
 drawn_text : (key : List ℕ) (kind : Kind) (n : ℕ) → IsText (id_text key kind n)
 drawn_text key kind n = (every_id_is_a_name key kind n).text
 
-there_inside : {X : Type 0} (xs : List X) (i : ℕ) (x : X) → slice_get xs i ≡ Some x → i < length xs
+pub there_inside : {X : Type 0} (xs : List X) (i : ℕ) (x : X) → slice_get xs i ≡ Some x → i < length xs
 there_inside [] i x is = absurd (cc)
 there_inside (y ∷ xs) zero x is = omega arith
 there_inside (y ∷ xs) (suc i) x is = omega (arith, there_inside xs i x is)
@@ -190,6 +221,33 @@ refusal_of setup held request now key ask r w is =
       consumer = w.asks.texts.consumer;
     })
 
+pub request_of : (setup : IdpConfig) (held : Held) (request : Request) (now : ℕ) (key cookie user index : List ℕ) (r : IdpRecord) → Leaves setup held request now cookie user index
+    → record_for key held now (replies.Leave cookie user index) ≡ Some r → HasRequest setup user index r
+request_of setup held request now key cookie user index r w is =
+    subst (HasRequest setup user index) (left_record setup held request now key cookie user index r w is) (record {
+      left = _;
+      is = refl;
+      request = drawn_text key _ (next_number held);
+      named = drawn_named key _ (next_number held);
+      user_text = w.user_text;
+      index_text = w.index_text;
+      peers = w.peers;
+    })
+
+pub response_of : (setup : IdpConfig) (held : Held) (request : Request) (now : ℕ) (key : List ℕ) (asked : LogoutRequest) (peer : ℕ) (name : List ℕ) (relay : Option (List ℕ)) (r : IdpRecord)
+    → AsksForAnEnd setup held request now asked peer name relay → record_for key held now (replies.End asked peer name relay) ≡ Some r → HasResponse setup asked peer r
+response_of setup held request now key asked peer name relay r w is =
+    subst (HasResponse setup asked peer) (ended_record setup held request now key asked peer name relay r w is) (record {
+      ended = _;
+      is = refl;
+      message = drawn_text key _ (next_number held);
+      named = drawn_named key _ (next_number held);
+      same = refl;
+      request = w.id_text;
+      known = there_inside setup.peers peer w.peer w.there;
+      peers = w.peers;
+    })
+
 pub shown_of : (setup : IdpConfig) (held : Held) (request : Request) (now : ℕ) (key : List ℕ) (reply : Reply) (r : IdpRecord) → now ≤ LAST → Wants setup held request now reply
     → record_for key held now reply ≡ Some r → CanBeShown setup reply r
 shown_of setup held request now key (replies.InSession cookie ask peer) r moment w is =
@@ -200,6 +258,9 @@ shown_of setup held request now key (replies.Question ask) r moment w is =
 shown_of setup held request now key (replies.Login id user attributes peer) r moment w is =
     let can = issued_at_login setup held request now key id user attributes peer r moment w is in
     (shown_with setup peer w.peer r w.there can.0, can.1)
+shown_of setup held request now key (replies.Leave cookie user index) r moment w is = request_of setup held request now key cookie user index r w is
+shown_of setup held request now key (replies.End asked peer name relay) r moment w is = response_of setup held request now key asked peer name relay r w is
+shown_of setup held request now key (replies.Confirm of partial) r moment w is = tt
 
 -- ---- the page stands for it
 
@@ -241,6 +302,22 @@ page_answers setup held request now (replies.Login id user attributes peer) r an
     w.checks (stated ∙ named ∙ same ∙ page.page.is) (ap Some page.page.is)
     (subst (λ (c : Option (List ℕ)). IsAnswerFor setup w.peer page.page.issued c now page.page.bytes) drawn
     (subst (λ (p : LogoutPeer). IsAnswerFor setup p page.page.issued (Some page.cookie) now page.page.bytes) who page.page.answers)) page.page.full
+page_answers setup held request now (replies.Leave cookie user index) r answer w is page =
+    let same = left_record setup held request now setup.id_key cookie user index r w is in
+    ByLeaving w.row page.left page.bytes w.to w.live (ap (left_by setup.id_key held now) (sym w.cookie_is) ∙ same ∙ page.is) (ap Some page.is)
+    (subst (λ (u : List ℕ). IsLeavingAnswer setup page.left u w.row.index now page.bytes) w.user_is
+    (subst (λ (i : List ℕ). IsLeavingAnswer setup page.left user i now page.bytes) w.index_is page.answers)) page.full
+page_answers setup held request now (replies.End asked peer name relay) r answer w is page =
+    let same = ended_record setup held request now setup.id_key asked peer name relay r w is in
+    let who = same_peer setup.peers peer page.peer w.peer page.there w.there in
+    ByEnding asked w.peer relay page.ended page.bytes w.to (record { place = peer; there = w.there; obeyed = w.obeyed })
+    (subst (λ (n : List ℕ). is_empty (ending_by held now n asked) ≡ false) w.name_is w.some)
+    (ap (λ (n : List ℕ). ended_by setup.id_key held now n asked) (sym w.name_is) ∙ same ∙ page.is) (ap Some page.is)
+    (subst (λ (p : LogoutPeer). IsEndingAnswer setup p page.ended relay now page.bytes) who page.answers) page.full
+page_answers setup held request now (replies.Confirm of partial) r answer w is page =
+    let same = confirmed_record setup held request now setup.id_key of partial r w is in
+    ByConfirming w.response w.to (record { place = w.place; obeyed = w.obeyed }) (subst (λ (q : List ℕ). is_awaited held now q ≡ true) w.of_is w.awaited)
+    (ap Some (sym same ∙ ap (confirmed now) w.of_is)) (page ∙ ap (λ (b : Bool). Full (end_answer b)) w.partial_is)
 
 -- ---- behind a compaction it is asked for as before
 
@@ -291,4 +368,37 @@ wants_still setup anew old request now (replies.Login id user attributes peer) l
   user_text = w.user_text;
   stated = w.stated;
   told = w.told;
+}
+wants_still setup anew old request now (replies.Leave cookie user index) like w = record {
+  to = w.to;
+  row = w.row;
+  live = session_alike now anew old request like ∙ w.live;
+  found = like.session cookie ∙ w.found;
+  cookie_is = w.cookie_is;
+  user_is = w.user_is;
+  index_is = w.index_is;
+  user_text = w.user_text;
+  index_text = w.index_text;
+  peers = w.peers;
+  told = w.told;
+}
+wants_still setup anew old request now (replies.End asked peer name relay) like w = record {
+  to = w.to;
+  obeyed = w.obeyed;
+  peer = w.peer;
+  there = w.there;
+  name_is = w.name_is;
+  some = ap is_empty (like.ending name asked.name asked.indexes) ∙ w.some;
+  id_text = w.id_text;
+  peers = w.peers;
+  told = w.told;
+}
+wants_still setup anew old request now (replies.Confirm of partial) like w = record {
+  to = w.to;
+  response = w.response;
+  place = w.place;
+  obeyed = w.obeyed;
+  of_is = w.of_is;
+  awaited = like.waiting of ∙ w.awaited;
+  partial_is = w.partial_is;
 }

@@ -1,7 +1,7 @@
 -- The session of a request's cookie, and what asks for a login.
-use Rattle.std.specs.Prelude.{codes, slice_get}
+use Rattle.std.specs.Prelude.{IfSome, Option, codes, slice_get}
 use Rattle.std.specs.Option.{option_and_then}
-use Rattle.std.proofs.Common.{◌≡◌, ℕ, zero, suc, Bool, cond, List, [], ◌∷◌, None, Some, sym, subst, ap}
+use Rattle.std.proofs.Common.{◌≡◌, ℕ, zero, suc, Bool, false, cond, List, [], ◌∷◌, None, Some, sym, subst, ap}
 use Rattle.std.specs.List.{AllByRecursion}
 use Rattle.xml_spec.specs.Characters.{IsText}
 use Rattle.http_wire.specs.Cookies.{cookie_value}
@@ -20,8 +20,8 @@ use Rattle.idp_rules.specs.Asking.{IsAsked}
 use Rattle.idp_rules.specs.Config.{IsTextPeer, IsTextUser, sign_on}
 use Rattle.idp_rules.specs.declared.asked.Asked.{Asked}
 use Rattle.idp_rules.specs.declared.config.IdpConfig.{IdpConfig}
-use Rattle.idp_server.specs.Replies.{AsksFor, IsTextAsk}
-use Rattle.idp_server.specs.Routes.{SignOn, To, route}
+use Rattle.idp_server.specs.Replies.{AreTold, AsksFor, IsTextAsk, IsTextSession, Leaves}
+use Rattle.idp_server.specs.Routes.{Logout, SignOn, To, route}
 use Rattle.idp_server.specs.Step.{ask_of, session_for}
 use Rattle.idp_server.proofs.Issues.{followed, found_at, used_is}
 
@@ -48,6 +48,11 @@ all_at {X} P [] place x all is = absurd (cc)
 all_at {X} P (y ∷ xs) zero x all is = let same : y ≡ x = cc in subst P same all.0
 all_at {X} P (y ∷ xs) (suc place) x all is = all_at P xs place x all.1 is
 
+-- of an option what holds where it has something
+pub some_text : (o : Option (List ℕ)) → IfSome o IsText → (text : List ℕ) → o ≡ Some text → IsText text
+some_text None texts text is = absurd (cc)
+some_text (Some other) texts text is = let same : other ≡ text = cc in subst IsText same texts
+
 -- the texts of what is asked for
 abbrev pub AreTextsOfRequests : Type 0
 AreTextsOfRequests =
@@ -71,6 +76,26 @@ asks_for setup request ask asked texts all to is says =
         texts = subst IsTextAsk (sym said) (record { request = both.0; peer = peer.entity; consumer = both.1 });
       },
     )
+
+-- a user leaves the session of a cookie
+pub leaves : (setup : IdpConfig) (held : Held) (request : Request) (now : ℕ) (row : SessionRow) (cookie user index : List ℕ) → AllByRecursion IsTextPeer setup.peers → AreRecords held.records
+    → route request ≡ To Logout → Some row ≡ session_for held now request → cookie ≡ row.cookie → user ≡ row.user → index ≡ row.index → IsTextSession row → AreTold now row.until
+    → Leaves setup held request now cookie user index
+leaves setup held request now row cookie user index peers are to live cookie_is user_is index_is texts told =
+    let used = used_session held false request now row are live in
+    record {
+      to = to;
+      row = row;
+      live = sym live;
+      found = subst (λ (c : List ℕ). session_found (rows_of held.records).sessions c now held.header.horizon ≡ Some row) (sym cookie_is) used.found;
+      cookie_is = cookie_is;
+      user_is = user_is;
+      index_is = index_is;
+      user_text = subst IsText (sym user_is) texts.user;
+      index_text = subst IsText (sym index_is) texts.index;
+      peers = peers;
+      told = told;
+    }
 
 -- the texts of a user that is found
 pub user_texts : (users : List User) (name password : List ℕ) (user : User) → AllByRecursion IsTextUser users → checked users name password ≡ Some user → IsTextUser user

@@ -1,18 +1,21 @@
 -- The page that is made of a draft stands for it.
 use Rattle.std.specs.Prelude.{IfOk, Result, Ok, Err, slice_get}
-use Rattle.std.proofs.Common.{◌≡◌, ℕ, List, Option, Some, sym, subst, refl, ap, ◌∙◌}
+use Rattle.logout_answers.specs.Answers.{Ending, Leaving, end_answer}
+use Rattle.protocol_messages.specs.declared.logout.LogoutRequest.{LogoutRequest}
+use Rattle.peer_keys.specs.Peers.{place_of}
+use Rattle.std.proofs.Common.{◌≡◌, ℕ, Bool, true, List, [], ◌∷◌, Option, None, Some, sym, subst, refl, ap, ◌∙◌}
 use Rattle.assertion_model.specs.declared.login.Login.{Login}
 use Rattle.http_wire.specs.declared.answer.Answer.TheVariants.{Full}
 use Rattle.ledger_records.specs.declared.idp_record.Issued.{Issued}
 use Rattle.ledger_records.specs.declared.idp_record.IdpRecord.{IdpRecord}
 use Rattle.ledger_records.specs.declared.idp_record.IdpRecord.TheVariants as kinds
 use Rattle.peer_keys.specs.declared.peers.LogoutPeer.{LogoutPeer}
-use Rattle.idp_ledger.specs.Draft.{issued_in}
+use Rattle.idp_ledger.specs.Draft.{first_id, issued_in, partial_in, peer_in}
 use Rattle.idp_rules.specs.declared.config.IdpConfig.{IdpConfig}
 use Rattle.idp_answers.specs.Answers.{IsIssuedAnswer}
 use Rattle.idp_server.specs.Logins.{login_of}
-use Rattle.idp_server.specs.Replies.{HasAssertion, IsAssertionPage}
-use Rattle.idp_server.specs.Step.{IsAnswerFor}
+use Rattle.idp_server.specs.Replies.{HasAssertion, HasRequest, HasResponse, IsAssertionPage, IsEndingPage, IsLeavingPage}
+use Rattle.idp_server.specs.Step.{IsAnswerFor, ToNone, ToPeer}
 
 -- the Issued of a record that has an Assertion
 the_same : (setup : IdpConfig) (place : ℕ) (r : IdpRecord) (issued : Issued) → HasAssertion setup place r → Some issued ≡ issued_in r → r ≡ kinds.Issued issued
@@ -52,3 +55,79 @@ page_of setup place r peer issued key login message consumer relay cookie now (O
   full = refl;
 }
 page_of setup place r peer issued key login message consumer relay cookie now (Err e) has is there of answer = answer
+
+-- ---- of a logout
+
+-- what the answer to a user who leaves is made of
+pub record IsLeftWith (setup : IdpConfig) (user index : List ℕ) (r : IdpRecord) (id goes issuer name : List ℕ) (indexes : List (List ℕ)) : Type 0 where
+  pub id_is : Some id ≡ first_id r
+  pub goes_is : Some goes ≡ peer_in r
+  pub issuer_is : issuer ≡ setup.entity
+  pub name_is : name ≡ user
+  pub indexes_are : indexes ≡ index ∷ []
+
+some_same : (one other : List ℕ) → Some one ≡ Some other → one ≡ other
+some_same one other is = cc
+
+pub leaving_page_of : {E : Type 0} (setup : IdpConfig) (user index : List ℕ) (r : IdpRecord) (now place : ℕ) (peer : LogoutPeer) (id goes issuer name : List ℕ) (indexes : List (List ℕ))
+    (result : Result (List ℕ) E) → HasRequest setup user index r → IsLeftWith setup user index r id goes issuer name indexes → place_of goes setup.peers ≡ Some place
+    → slice_get setup.peers place ≡ Some peer → IfOk result (Leaving peer id issuer now name indexes) → IfOk result (λ bytes. IsLeavingPage setup user index r now (Full bytes))
+leaving_page_of setup user index r now place peer id goes issuer name indexes (Ok bytes) has of known there leaves =
+    let id_is : id ≡ has.left.request = some_same id has.left.request (of.id_is ∙ ap first_id has.is) in
+    let goes_is : goes ≡ has.left.peer = some_same goes has.left.peer (of.goes_is ∙ ap peer_in has.is) in
+    record {
+      left = has.left;
+      is = has.is;
+      bytes = bytes;
+      answers = ToPeer peer (place, subst (λ (e : List ℕ). place_of e setup.peers ≡ Some place) goes_is known, there)
+          (subst (λ (i : List ℕ). Leaving peer i setup.entity now user (index ∷ []) bytes) id_is
+          (subst (λ (e : List ℕ). Leaving peer id e now user (index ∷ []) bytes) of.issuer_is
+          (subst (λ (n : List ℕ). Leaving peer id issuer now n (index ∷ []) bytes) of.name_is
+          (subst (λ (xs : List (List ℕ)). Leaving peer id issuer now name xs bytes) of.indexes_are leaves))));
+      full = refl;
+    }
+leaving_page_of setup user index r now place peer id goes issuer name indexes (Err e) has of known there leaves = leaves
+
+-- its peer is not known any more
+pub left_page_of : {E : Type 0} (setup : IdpConfig) (user index : List ℕ) (r : IdpRecord) (now : ℕ) (goes : List ℕ) (result : Result (List ℕ) E) → HasRequest setup user index r
+    → Some goes ≡ peer_in r → place_of goes setup.peers ≡ None → IfOk result (λ bytes. bytes ≡ end_answer true) → IfOk result (λ bytes. IsLeavingPage setup user index r now (Full bytes))
+left_page_of setup user index r now goes (Ok bytes) has goes_is none ends =
+    let same : goes ≡ has.left.peer = some_same goes has.left.peer (goes_is ∙ ap peer_in has.is) in
+    record { left = has.left; is = has.is; bytes = bytes; answers = ToNone (subst (λ (e : List ℕ). place_of e setup.peers ≡ None) same none) ends; full = refl }
+left_page_of setup user index r now goes (Err e) has goes_is none ends = ends
+
+-- what the answer to a peer that asked to end sessions is made of
+pub record IsEndedWith (setup : IdpConfig) (asked : LogoutRequest) (r : IdpRecord) (id issuer request : List ℕ) (partial : Bool) : Type 0 where
+  pub id_is : Some id ≡ first_id r
+  pub issuer_is : issuer ≡ setup.entity
+  pub request_is : request ≡ asked.id
+  pub partial_is : Some partial ≡ partial_in r
+
+part_same : (one other : Bool) → Some one ≡ Some other → one ≡ other
+part_same one other is = cc
+
+pub ending_page_of : {E : Type 0} (setup : IdpConfig) (asked : LogoutRequest) (place : ℕ) (relay given : Option (List ℕ)) (r : IdpRecord) (now : ℕ) (peer : LogoutPeer) (id issuer request : List ℕ)
+    (partial : Bool) (result : Result (List ℕ) E) → HasResponse setup asked place r → IsEndedWith setup asked r id issuer request partial → given ≡ relay
+    → slice_get setup.peers place ≡ Some peer → IfOk result (Ending peer id issuer now request partial given) → IfOk result (λ bytes. IsEndingPage setup place relay r now (Full bytes))
+ending_page_of setup asked place relay given r now peer id issuer request partial (Ok bytes) has of relay_is there ends =
+    let id_is : id ≡ has.ended.message = some_same id has.ended.message (of.id_is ∙ ap first_id has.is) in
+    let partial_is : partial ≡ has.ended.partial = part_same partial has.ended.partial (of.partial_is ∙ ap partial_in has.is) in
+    record {
+      ended = has.ended;
+      is = has.is;
+      peer = peer;
+      there = there;
+      bytes = bytes;
+      answers = subst (λ (i : List ℕ). Ending peer i setup.entity now has.ended.request has.ended.partial relay bytes) id_is
+          (subst (λ (e : List ℕ). Ending peer id e now has.ended.request has.ended.partial relay bytes) of.issuer_is
+          (subst (λ (q : List ℕ). Ending peer id issuer now q has.ended.partial relay bytes) (of.request_is ∙ has.same)
+          (subst (λ (p : Bool). Ending peer id issuer now request p relay bytes) partial_is
+          (subst (λ (g : Option (List ℕ)). Ending peer id issuer now request partial g bytes) relay_is ends))));
+      full = refl;
+    }
+ending_page_of setup asked place relay given r now peer id issuer request partial (Err e) has of relay_is there ends = ends
+
+-- the page at the end of a logout
+pub end_shown : {E : Type 0} (partial : Bool) (result : Result (List ℕ) E) → IfOk result (λ bytes. bytes ≡ end_answer partial) → IfOk result (λ bytes. Full bytes ≡ Full (end_answer partial))
+end_shown partial (Ok bytes) is = ap Full is
+end_shown partial (Err e) is = is

@@ -1,40 +1,49 @@
 -- Each signed element of an answer is of its record.
 use Rattle.std.specs.Prelude.{slice_get, codes, if◌then◌else◌}
-use Rattle.std.proofs.Common.{◌≡◌, ℕ, suc, Bool, true, false, cond, List, [], ◌∷◌, ◌++◌, Option, None, Some, refl, sym, subst, ap, ◌∙◌}
+use Rattle.std.proofs.Common.{◌≡◌, ℕ, Bool, true, false, List, [], ◌∷◌, ◌++◌, Option, None, Some, refl, sym, subst, ap, ◌∙◌}
 use Rattle.std.specs.List.{AllByRecursion}
 use Rattle.std.specs.Option.{option_map}
-use Rattle.std.specs.Str.{bytes_eq}
-use Rattle.std.proofs.lemmas.Slice.Eq.{bytes_eq-Decides}
 use Rattle.owned_values.specs.declared.attributes.Attribute.{Attribute}
 use Rattle.xml_spec.specs.Tree.{Attribute as TreeAttribute}
 use Rattle.saml_time.specs.Instant.{TellsInFull}
 use Rattle.element_make.specs.declared.names.Ns.{Ns}
 use Rattle.element_make.specs.declared.names.Ns.TheVariants.{Saml}
-use Rattle.element_make.specs.Made.{Made, MadeNodes, NothingMade, MadeElement, alone}
+use Rattle.element_make.specs.Made.{Made, MadeNodes, NothingMade, MadeElement, alone, written}
 use Rattle.sig_reference.specs.Signing.{has_no_signature, signed}
 use Rattle.assertion_model.specs.Assertion.{IsAssertionOf, all_holding, assertion, joined_all, stated, statements}
-use Rattle.protocol_messages.specs.Making.{response}
+use Rattle.saml_names.specs.Uris.{partial_logout}
+use Rattle.protocol_messages.specs.Making.{failed, logged_out, logout_request, request_end, response, succeeded}
+use Rattle.post_binding.specs.Pages.{auto_form}
+use Rattle.post_binding.specs.declared.posted.Field.TheVariants as fields
+use Rattle.http_wire.specs.Answers.{answer}
 use Rattle.provider_config.specs.declared.idp_config.SignMode.{SignMode}
 use Rattle.provider_config.specs.declared.idp_config.SignMode.TheVariants as modes
 use Rattle.http_wire.specs.declared.answer.Answer.{Answer}
 use Rattle.http_wire.specs.declared.answer.Answer.TheVariants.{Full}
 use Rattle.http_wire.specs.Requests.{Request}
+use Rattle.ledger_records.specs.declared.idp_record.Ended.{Ended}
 use Rattle.ledger_records.specs.declared.idp_record.Issued.{Issued}
+use Rattle.ledger_records.specs.declared.idp_record.Left.{Left}
 use Rattle.ledger_records.specs.declared.idp_record.IdpRecord.{IdpRecord}
 use Rattle.ledger_records.specs.declared.idp_record.IdpRecord.TheVariants as kinds
 use Rattle.peer_keys.specs.Peers.{place_of}
 use Rattle.peer_keys.specs.declared.peers.LogoutPeer.{LogoutPeer}
+use Rattle.idp_ledger.specs.declared.row.SessionRow.{SessionRow}
 use Rattle.idp_ledger.specs.Ledger.{Held, next_number}
 use Rattle.idp_ledger.specs.Drafts.{issue, login}
 use Rattle.idp_rules.specs.Asking.{IsAsked}
 use Rattle.idp_rules.specs.declared.asked.Asked.{Asked}
 use Rattle.idp_rules.specs.declared.config.IdpConfig.{IdpConfig}
 use Rattle.idp_answers.specs.Answers.{IsNoPassiveAnswer, session_cookie, signed_assertion, signed_response, signs_assertion, signs_response}
+use Rattle.logout_answers.specs.Answers.{BySending, ByEnding, Leaving}
 use Rattle.idp_server.specs.Logins.{login_of}
-use Rattle.idp_server.specs.Signed.{Carries, AQuestion, AForm, EachSignedElementIsOfARecord, AnAssertion, AResponse, IsSignedOf, signed_elements}
+use Rattle.idp_server.specs.Signed.{Carries, ALogout, AnEnd, AQuestion, AForm, AReply, ARequest, EachSignedElementIsOfARecord, AnAssertion, AResponse, IsSignedOf, signed_elements}
 use Rattle.idp_server.specs.Step as steps
-use Rattle.idp_server.specs.Step.{Answers, IsAnswerFor, IsPeer, ask_of}
+use Rattle.idp_server.specs.Step.{Answers, IsAnswerFor, IsEndingAnswer, IsLeavingAnswer, IsPeer, ask_of, ended_by, is_in_part, left_by}
+use Rattle.idp_server.proofs.Ending.{IsAtItsPlace, asking_peer}
 use Rattle.idp_server.proofs.Issues.{the_issued}
+use Rattle.idp_server.proofs.Logouts.{the_ended, the_left}
+use Rattle.idp_server.proofs.Peers.{place_names}
 
 -- ---- in an Assertion nothing is signed
 
@@ -145,28 +154,67 @@ carries_refusal setup r message request consumer relay now bytes a =
     AForm a.sent (record { consumer = consumer; relay = relay; cookie = None; is = a.is })
     (subst (λ (m : Made). AllByRecursion (IsSignedOf setup r) (signed_elements (alone m))) (sym a.answers.is) tt)
 
--- ---- the peer of a record
+-- ---- of an answer in a logout
 
--- the first peer of a name has it
-place_names : (entity : List ℕ) (peers : List LogoutPeer) (place : ℕ) (peer : LogoutPeer) → place_of entity peers ≡ Some place → slice_get peers place ≡ Some peer → peer.peer.entity ≡ entity
-place_names entity [] place peer is there = absurd (cc)
-place_names entity (first ∷ peers) place peer is there =
-    by_test (bytes_eq first.peer.entity entity) refl (λ p q r. place_names entity peers p peer q r) is
-  where
-    by_test : (b : Bool) → bytes_eq first.peer.entity entity ≡ b
-        → ((p : ℕ) → place_of entity peers ≡ Some p → slice_get peers p ≡ Some peer → peer.peer.entity ≡ entity)
-        → cond b (Some 0) (option_map suc (place_of entity peers)) ≡ Some place → peer.peer.entity ≡ entity
-    by_test true same later here =
-        let at : 0 ≡ place = cc in
-        let is_first : first ≡ peer = (let e : Some first ≡ Some peer = subst (λ (p : ℕ). slice_get (first ∷ peers) p ≡ Some peer) (sym at) there in cc) in
-        ap (λ (p : LogoutPeer). p.peer.entity) (sym is_first) ∙ (bytes_eq-Decides first.peer.entity entity).0 same
-    by_test false other later next = behind (place_of entity peers) refl next
-      where
-        behind : (o : Option ℕ) → place_of entity peers ≡ o → option_map suc o ≡ Some place → peer.peer.entity ≡ entity
-        behind None none is = absurd (cc)
-        behind (Some p) found is =
-            let at : suc p ≡ place = cc in
-            later p found (subst (λ (q : ℕ). slice_get (first ∷ peers) q ≡ Some peer) (sym at) there)
+-- one element is signed of a LogoutRequest, and of a LogoutResponse
+request_signed : (key id issuer address name index at end : List ℕ)
+    → signed_elements (alone (signed key (logout_request id issuer address name (index ∷ []) at end))) ≡ signed key (logout_request id issuer address name (index ∷ []) at end) ∷ []
+request_signed key id issuer address name index at end = refl
+
+response_signed : (key id issuer address request : List ℕ) (partial : Bool) (at : List ℕ)
+    → signed_elements (alone (signed key (logged_out id issuer address request (if partial then failed partial_logout else succeeded) at)))
+    ≡ signed key (logged_out id issuer address request (if partial then failed partial_logout else succeeded) at) ∷ []
+response_signed key id issuer address request true at = refl
+response_signed key id issuer address request false at = refl
+
+carries_asking : (setup : IdpConfig) (r : Left) (row : SessionRow) (now : ℕ) (bytes : List ℕ) (peer : LogoutPeer) → IsPeer setup r.peer peer → r.moment ≡ now → row.cookie ≡ r.cookie
+    → Leaving peer r.request setup.entity now row.user (row.index ∷ []) bytes → Carries setup (kinds.Left r) bytes
+carries_asking setup r row now bytes peer known at cookie (ByEnding none is) = AnEnd true is
+carries_asking setup r row now bytes peer known at cookie (BySending a) =
+    let q = a.request in
+    let key = peer.key_out in
+    let built = logout_request r.request setup.entity q.address row.user (row.index ∷ []) q.made.instant q.made.until in
+    let P : Made → Type 0 = IsSignedOf setup (kinds.Left r) in
+    let one : P (signed key built) = record {
+      key = key;
+      made = built;
+      stands = ARequest r peer row q.address built known q.given cookie (record {
+        instant = q.made.instant;
+        until = q.made.until;
+        told = subst (TellsInFull q.made.instant) (sym at) q.made.told;
+        ended = subst (λ (m : ℕ). TellsInFull q.made.until (request_end m)) (sym at) q.made.ended;
+        is = refl;
+      });
+      is = refl;
+    } in
+    ALogout (signed key built)
+    (record { address = q.address; field = fields.Request; relay = None; is = a.is ∙ ap (λ (m : List ℕ). answer 200 None None (auto_form q.address fields.Request m None)) (q.signed.is ∙ ap (λ (m : Made). written (signed key m)) q.made.is) })
+    (subst (AllByRecursion P) (sym (request_signed key r.request setup.entity q.address row.user row.index q.made.instant q.made.until)) (one, tt))
+
+carries_leaving : (setup : IdpConfig) (r : Left) (row : SessionRow) (now : ℕ) (bytes : List ℕ) → r.moment ≡ now → row.cookie ≡ r.cookie → IsLeavingAnswer setup r row.user row.index now bytes
+    → Carries setup (kinds.Left r) bytes
+carries_leaving setup r row now bytes at cookie (steps.ToPeer peer known answers) = carries_asking setup r row now bytes peer known at cookie answers
+carries_leaving setup r row now bytes at cookie (steps.ToNone none is) = AnEnd true is
+
+carries_ending : (setup : IdpConfig) (r : Ended) (relay : Option (List ℕ)) (now : ℕ) (bytes : List ℕ) (peer : LogoutPeer) → IsPeer setup r.peer peer → r.moment ≡ now
+    → IsEndingAnswer setup peer r relay now bytes → Carries setup (kinds.Ended r) bytes
+carries_ending setup r relay now bytes peer known at (ByEnding none is) = AnEnd r.partial is
+carries_ending setup r relay now bytes peer known at (BySending a) =
+    let q = a.response in
+    let key = peer.key_out in
+    let built = logged_out r.message setup.entity q.address r.request (if r.partial then failed partial_logout else succeeded) q.made.instant in
+    let P : Made → Type 0 = IsSignedOf setup (kinds.Ended r) in
+    let one : P (signed key built) = record {
+      key = key;
+      made = built;
+      stands = AReply r peer q.address built known q.given (record { instant = q.made.instant; told = subst (TellsInFull q.made.instant) (sym at) q.made.told; is = refl });
+      is = refl;
+    } in
+    ALogout (signed key built)
+    (record { address = q.address; field = fields.Response; relay = relay; is = a.is ∙ ap (λ (m : List ℕ). answer 200 None None (auto_form q.address fields.Response m relay)) (q.signed.is ∙ ap (λ (m : Made). written (signed key m)) q.made.is) })
+    (subst (AllByRecursion P) (sym (response_signed key r.message setup.entity q.address r.request r.partial q.made.instant)) (one, tt))
+
+-- ---- the peer of a record
 
 known_peer : (setup : IdpConfig) (address body : List ℕ) (asked : Asked) (peer : LogoutPeer) → IsAsked setup.peers address body asked → slice_get setup.peers asked.peer ≡ Some peer
     → IsPeer setup peer.peer.entity peer
@@ -176,33 +224,52 @@ known_peer setup address body asked peer is there =
     let named = place_names is.carried.request.issuer setup.peers is.place peer is.asks.known at in
     (is.place, subst (λ (e : List ℕ). place_of e setup.peers ≡ Some is.place) (sym named) is.asks.known, at)
 
-carried : (setup : IdpConfig) (held : Held) (request : Request) (now : ℕ) (answer : Answer) (bytes : List ℕ) (adds : Option IdpRecord) (r : IdpRecord) → answer ≡ Full bytes → adds ≡ Some r
+carried : IsAtItsPlace → (setup : IdpConfig) (held : Held) (request : Request) (now : ℕ) (answer : Answer) (bytes : List ℕ) (adds : Option IdpRecord) (r : IdpRecord) → answer ≡ Full bytes → adds ≡ Some r
     → Answers setup held request now answer adds → Carries setup r bytes
-carried setup held request now answer bytes adds r shown some (steps.ByStatus status to is none) = absurd (let e = sym some ∙ none in cc)
-carried setup held request now answer bytes adds r shown some (steps.ByMetadata to is none) = absurd (let e = sym some ∙ none in cc)
-carried setup held request now answer bytes adds r shown some (steps.ByVerdict verdict to refused is none) = absurd (let e = sym some ∙ none in cc)
-carried setup held request now answer bytes adds r shown some (steps.ByIssuing asked peer row other sent to is known used drafted adding answers full) =
+carried law setup held request now answer bytes adds r shown some (steps.ByStatus status to is none) = absurd (let e = sym some ∙ none in cc)
+carried law setup held request now answer bytes adds r shown some (steps.ByMetadata to is none) = absurd (let e = sym some ∙ none in cc)
+carried law setup held request now answer bytes adds r shown some (steps.ByVerdict verdict to refused is none) = absurd (let e = sym some ∙ none in cc)
+carried law setup held request now answer bytes adds r shown some (steps.ByIssuing asked peer row other sent to is known used drafted adding answers full) =
     let same : kinds.Issued other ≡ r = (let e = sym adding ∙ some in cc) in
     let spelled : sent ≡ bytes = (let e = sym full ∙ shown in cc) in
     let made = the_issued other (issue setup.id_key (next_number held) now row (ask_of asked peer)) _ drafted refl in
     let known_as = subst (λ (e : List ℕ). IsPeer setup e peer) (ap (λ (i : Issued). i.peer) made) (known_peer setup _ request.body asked peer is known) in
     subst (λ (x : IdpRecord). Carries setup x bytes) same (subst (Carries setup (kinds.Issued other)) spelled
     (carries_issued setup peer other None now sent known_as (sym (ap (λ (i : Issued). i.moment) made)) answers))
-carried setup held request now answer bytes adds r shown some (steps.ByPassive asked peer message sent to is known none passive adding named answers full) =
+carried law setup held request now answer bytes adds r shown some (steps.ByPassive asked peer message sent to is known none passive adding named answers full) =
     let spelled : sent ≡ bytes = (let e = sym full ∙ shown in cc) in
     subst (Carries setup r) spelled (carries_refusal setup r message asked.request asked.consumer asked.relay now sent answers)
-carried setup held request now answer bytes adds r shown some (steps.ByAsking asked peer id to is known none passive adding named full) =
+carried law setup held request now answer bytes adds r shown some (steps.ByAsking asked peer id to is known none passive adding named full) =
     AQuestion id (let e = sym shown ∙ full in cc)
-carried setup held request now answer bytes adds r shown some (steps.ByFields to bad is none) = absurd (let e = sym some ∙ none in cc)
-carried setup held request now answer bytes adds r shown some (steps.ByNoPending t to posted nothing is none) = absurd (let e = sym some ∙ none in cc)
-carried setup held request now answer bytes adds r shown some (steps.ByPassword t row peer to posted pending refused is none) = absurd (let e = sym some ∙ none in cc)
-carried setup held request now answer bytes adds r shown some (steps.ByLogin t row peer user other sent to posted pending accepted drafted adding answers full) =
+carried law setup held request now answer bytes adds r shown some (steps.ByFields to bad is none) = absurd (let e = sym some ∙ none in cc)
+carried law setup held request now answer bytes adds r shown some (steps.ByNoPending t to posted nothing is none) = absurd (let e = sym some ∙ none in cc)
+carried law setup held request now answer bytes adds r shown some (steps.ByPassword t row peer to posted pending refused is none) = absurd (let e = sym some ∙ none in cc)
+carried law setup held request now answer bytes adds r shown some (steps.ByLogin t row peer user other sent to posted pending accepted drafted adding answers full) =
     let same : kinds.Issued other ≡ r = (let e = sym adding ∙ some in cc) in
     let spelled : sent ≡ bytes = (let e = sym full ∙ shown in cc) in
     let made = the_issued other (login setup.id_key (next_number held) now row user.name user.attributes) _ drafted refl in
     let known_as = subst (λ (e : List ℕ). IsPeer setup e peer) (ap (λ (i : Issued). i.peer) made) pending.1 in
     subst (λ (x : IdpRecord). Carries setup x bytes) same (subst (Carries setup (kinds.Issued other)) spelled
     (carries_issued setup peer other (Some other.cookie) now sent known_as (sym (ap (λ (i : Issued). i.moment) made)) answers))
+carried law setup held request now answer bytes adds r shown some (steps.ByNoSession to none_live is none) = absurd (let e = sym some ∙ none in cc)
+carried law setup held request now answer bytes adds r shown some (steps.ByLeaving row left sent to live drafted adding answers full) =
+    let same : kinds.Left left ≡ r = (let e = sym adding ∙ some in cc) in
+    let spelled : sent ≡ bytes = (let e = sym full ∙ shown in cc) in
+    let made = the_left left (left_by setup.id_key held now row.cookie) _ drafted refl in
+    subst (λ (x : IdpRecord). Carries setup x bytes) same (subst (Carries setup (kinds.Left left)) spelled
+    (carries_leaving setup left row now sent (sym (ap (λ (l : Left). l.moment) made)) (ap (λ (l : Left). l.cookie) made) answers))
+carried law setup held request now answer bytes adds r shown some (steps.ByLogoutVerdict verdict to refused is none) = absurd (let e = sym some ∙ none in cc)
+carried law setup held request now answer bytes adds r shown some (steps.ByNothingToEnd asked peer relay to asks nothing is none) = absurd (let e = sym some ∙ none in cc)
+carried law setup held request now answer bytes adds r shown some (steps.ByEnding asked peer relay ended sent to asks some_end drafted adding answers full) =
+    let same : kinds.Ended ended ≡ r = (let e = sym adding ∙ some in cc) in
+    let spelled : sent ≡ bytes = (let e = sym full ∙ shown in cc) in
+    let made = the_ended ended (ended_by setup.id_key held now peer.peer.entity asked) _ drafted refl in
+    let known_as = subst (λ (e : List ℕ). IsPeer setup e peer) (ap (λ (l : Ended). l.peer) made) (asking_peer law setup request now asked peer relay asks) in
+    subst (λ (x : IdpRecord). Carries setup x bytes) same (subst (Carries setup (kinds.Ended ended)) spelled
+    (carries_ending setup ended relay now sent peer known_as (sym (ap (λ (l : Ended). l.moment) made)) answers))
+carried law setup held request now answer bytes adds r shown some (steps.ByUnknownLogout response to replies unknown is none) = absurd (let e = sym some ∙ none in cc)
+carried law setup held request now answer bytes adds r shown some (steps.ByConfirming response to replies waits adding full) =
+    AnEnd (is_in_part response.outcome) (let e = sym shown ∙ full in cc)
 
-pub each_signed : EachSignedElementIsOfARecord
-each_signed setup held request now bytes r answers = carried setup held request now (Full bytes) bytes (Some r) r refl refl answers
+pub each_signed : IsAtItsPlace → EachSignedElementIsOfARecord
+each_signed law setup held request now bytes r answers = carried law setup held request now (Full bytes) bytes (Some r) r refl refl answers

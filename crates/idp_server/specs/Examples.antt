@@ -7,22 +7,24 @@ use Rattle.element_make.specs.declared.names.Ns.TheVariants.{Ds, Saml}
 use Rattle.element_make.specs.Made.{MadeNodes, NothingMade, MadeElement}
 use Rattle.idp_ledger.specs.declared.row.SessionRow.{SessionRow}
 use Rattle.idp_rules.specs.declared.asked.Asked.{Asked}
-use Rattle.idp_server.specs.Routes.{Login, SignOn, Metadata, To, Refused, route, service_at}
+use Rattle.idp_server.specs.Routes.{Login, SignOn, Logout, Metadata, SingleLogout, To, Refused, route, service_at}
 use Rattle.idp_server.specs.Signed.{signed_elements}
-use Rattle.idp_server.specs.Step.{session_used, typed_in}
+use Rattle.protocol_messages.specs.declared.logout.Outcome.TheVariants.{Success, Partial, Other}
+use Rattle.idp_server.specs.Step.{is_in_part, session_used, typed_in}
 
 -- a request without a form
 sent : Method → List ℕ → Request
 sent method path = record { method = method; path = path; cookie = None; content_type = None; body = [] }
 
 services : (service_at (codes "/sso") ≡ Some (Post, SignOn)) × (service_at (codes "/login") ≡ Some (Post, Login)) × (service_at (codes "/slow") ≡ None)
-services = (refl, refl, refl)
+    × (service_at (codes "/slo") ≡ Some (Post, SingleLogout)) × (service_at (codes "/logout") ≡ Some (Post, Logout))
+services = (refl, refl, refl, refl, refl)
 
 routes : (route (sent Get (codes "/metadata")) ≡ To Metadata) × (route (sent Get (codes "/sso")) ≡ Refused 405)
     × (route (sent Post (codes "/sso")) ≡ Refused 415) × (route (sent Post (codes "/login")) ≡ Refused 415)
-    × (route (sent Post (codes "/metadata")) ≡ Refused 405) × (route (sent Get (codes "/slow")) ≡ Refused 404)
+    × (route (sent Post (codes "/metadata")) ≡ Refused 405) × (route (sent Get (codes "/slo")) ≡ Refused 405) × (route (sent Post (codes "/logout")) ≡ Refused 415) × (route (sent Get (codes "/slow")) ≡ Refused 404)
 unfolding sent
-routes = (refl, refl, refl, refl, refl, refl)
+routes = (refl, refl, refl, refl, refl, refl, refl, refl)
 
 -- the three fields of the page, and one that is missing
 fields : (typed_in (Some (codes "p" ∷ codes "u" ∷ codes "w" ∷ [])) ≡ Some (record { pending = codes "p"; user = codes "u"; password = codes "w" }))
@@ -50,3 +52,7 @@ one_signed : signed_elements (MadeElement Saml (codes "Response") [] an_assertio
 } ∷ []
 unfolding an_assertion
 one_signed = refl
+
+-- a logout ended at each participant only where that is said
+outcomes : (is_in_part Success ≡ false) × (is_in_part Partial ≡ true) × (is_in_part Other ≡ true)
+outcomes = (refl, refl, refl)

@@ -5,6 +5,8 @@ pub mod Node
 pub mod Serving
 pub mod Replies
 pub mod Issues
+pub mod Histories
 pub mod Signed
+pub mod Logouts
 pub mod Views
 pub mod Examples

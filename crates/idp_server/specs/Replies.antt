@@ -1,5 +1,5 @@
 -- How a request is replied to with a record: what it asks for, the record that stands for it, and the page.
-use Rattle.std.specs.Prelude.{◌≡◌, ◌≢◌, ℕ, ◌+◌, ◌≤◌, ◌<◌, min, Bool, true, false, List, [], length, Option, None, Some, IsSome, slice_get}
+use Rattle.std.specs.Prelude.{◌≡◌, ◌≢◌, ℕ, ◌+◌, ◌≤◌, ◌<◌, min, Bool, true, false, List, [], length, Option, None, Some, IsSome, slice_get, if◌then◌else◌}
 use Rattle.std.specs.List.{AllByRecursion}
 use Rattle.std.specs.Option.{option_map}
 use Rattle.xml_spec.specs.Characters.{IsText}
@@ -9,7 +9,9 @@ use Rattle.assertion_model.specs.Assertion.{IsStatable}
 use Rattle.http_wire.specs.declared.answer.Answer.{Answer}
 use Rattle.http_wire.specs.declared.answer.Answer.TheVariants.{Full}
 use Rattle.http_wire.specs.Requests.{Request}
+use Rattle.ledger_records.specs.declared.idp_record.Ended.{Ended}
 use Rattle.ledger_records.specs.declared.idp_record.Issued.{Issued}
+use Rattle.ledger_records.specs.declared.idp_record.Left.{Left}
 use Rattle.ledger_records.specs.declared.idp_record.IdpRecord.{IdpRecord}
 use Rattle.ledger_records.specs.declared.idp_record.IdpRecord.TheVariants as kinds
 use Rattle.ledger_rules.specs.Numbers.{is_xml_text}
@@ -21,25 +23,30 @@ use Rattle.idp_ledger.specs.declared.row.Ask.{Ask}
 use Rattle.idp_ledger.specs.declared.row.PendingRow.{PendingRow}
 use Rattle.idp_ledger.specs.declared.row.SessionRow.{SessionRow}
 use Rattle.idp_ledger.specs.RowsOf.{rows_of}
-use Rattle.idp_ledger.specs.Finding.{pending_found, session_found}
+use Rattle.idp_ledger.specs.Finding.{is_empty, pending_found, session_found}
 use Rattle.idp_ledger.specs.Record.{LAST}
 use Rattle.idp_ledger.specs.Ledger.{Held, next_number}
 use Rattle.idp_ledger.specs.Draft.{first_id, second_id}
-use Rattle.idp_ledger.specs.Drafts.{ASSERTION_LIFE, SESSION_LIFE, AreXmlAttributes, IsXmlAsk, issue, login, pending, spoke}
+use Rattle.idp_ledger.specs.Drafts.{ASSERTION_LIFE, SESSION_LIFE, AreXmlAttributes, IsXmlAsk, confirmed, issue, login, pending, spoke}
 use Rattle.idp_rules.specs.Asking.{IsAsked}
-use Rattle.idp_rules.specs.Config.{sign_on}
+use Rattle.idp_rules.specs.Config.{IsTextPeer, sign_on}
 use Rattle.idp_rules.specs.declared.asked.Asked.{Asked}
 use Rattle.idp_rules.specs.declared.config.IdpConfig.{IdpConfig}
 use Rattle.idp_answers.specs.Answers.{IsNoPassiveAnswer, login_answer}
+use Rattle.logout_answers.specs.Answers.{end_answer}
+use Rattle.logout_profile.specs.declared.logout.Logout.TheVariants as messages
+use Rattle.protocol_messages.specs.declared.logout.LogoutRequest.{LogoutRequest}
+use Rattle.protocol_messages.specs.declared.logout.LogoutResponse.{LogoutResponse}
 use Rattle.idp_server.specs.declared.reply.Reply.{Reply}
 use Rattle.idp_server.specs.declared.reply.Reply.TheVariants as replies
 use Rattle.idp_server.specs.Routes as routes
 use Rattle.idp_server.specs.Routes.{To, route}
-use Rattle.idp_server.specs.Step.{IsAnswerFor, Typed, ask_of, session_for, session_used, typed}
+use Rattle.idp_server.specs.Step.{IsAnswerFor, IsEndingAnswer, IsLeavingAnswer, IsObeyed, Typed, ask_of, ended_by, ending_by, is_awaited, is_in_part, left_by, session_for, session_used, typed}
 
 -- THE RECORD
 
--- the record that stands for a reply over a ledger; none where the session does not live or the login is not pending
+-- the record that stands for a reply over a ledger; none where the session does not live, the login is not pending, there is no session
+-- to end, or no logout waits
 abbrev pub record_for : (key : List ℕ) → Held → ℕ → Reply → Option IdpRecord
 record_for key held now (replies.InSession cookie ask peer) =
     option_map (λ row. issue key (next_number held) now row ask) (session_found (rows_of held.records).sessions cookie now held.header.horizon)
@@ -47,6 +54,10 @@ record_for key held now (replies.Passive ask) = Some (spoke key (next_number hel
 record_for key held now (replies.Question ask) = Some (pending key (next_number held) now ask)
 record_for key held now (replies.Login id user attributes peer) =
     option_map (λ row. login key (next_number held) now row user attributes) (pending_found (rows_of held.records).pendings id now held.header.horizon)
+record_for key held now (replies.Leave cookie user index) =
+    option_map (λ row. left_by key held now cookie) (session_found (rows_of held.records).sessions cookie now held.header.horizon)
+record_for key held now (replies.End asked peer name relay) = if is_empty (ending_by held now name asked) then None else Some (ended_by key held now name asked)
+record_for key held now (replies.Confirm request partial) = if is_awaited held now request then Some (confirmed now request) else None
 
 -- THE PAGE
 
@@ -80,12 +91,33 @@ pub record IsQuestionPage (r : IdpRecord) (answer : Answer) : Type 0 where
   pub named : first_id r ≡ Some id
   pub full : answer ≡ Full (login_answer id)
 
+-- the answer to a user who leaves
+pub record IsLeavingPage (setup : IdpConfig) (user index : List ℕ) (r : IdpRecord) (now : ℕ) (answer : Answer) : Type 0 where
+  pub left : Left
+  pub is : r ≡ kinds.Left left
+  pub bytes : List ℕ
+  pub answers : IsLeavingAnswer setup left user index now bytes
+  pub full : answer ≡ Full bytes
+
+-- the answer to a peer that asked to end sessions
+pub record IsEndingPage (setup : IdpConfig) (place : ℕ) (relay : Option (List ℕ)) (r : IdpRecord) (now : ℕ) (answer : Answer) : Type 0 where
+  pub ended : Ended
+  pub is : r ≡ kinds.Ended ended
+  pub peer : LogoutPeer
+  pub there : slice_get setup.peers place ≡ Some peer
+  pub bytes : List ℕ
+  pub answers : IsEndingAnswer setup peer ended relay now bytes
+  pub full : answer ≡ Full bytes
+
 -- the answer that stands for the record of a reply
 abbrev pub IsPage : IdpConfig → Reply → IdpRecord → ℕ → Answer → Type 0
 IsPage setup (replies.InSession cookie ask peer) r now answer = IsAssertionPage setup peer None r now answer
 IsPage setup (replies.Passive ask) r now answer = IsPassivePage setup ask r now answer
 IsPage setup (replies.Question ask) r now answer = IsQuestionPage r answer
 IsPage setup (replies.Login id user attributes peer) r now answer = IsLoginPage setup peer r now answer
+IsPage setup (replies.Leave cookie user index) r now answer = IsLeavingPage setup user index r now answer
+IsPage setup (replies.End asked peer name relay) r now answer = IsEndingPage setup peer relay r now answer
+IsPage setup (replies.Confirm request partial) r now answer = answer ≡ Full (end_answer partial)
 
 -- WHAT A PAGE NEEDS
 
@@ -118,12 +150,36 @@ pub record HasRefusal (ask : Ask) (r : IdpRecord) : Type 0 where
   pub request : IsText ask.request
   pub consumer : IsText ask.consumer
 
+-- a Left whose request may stand in a document, with the name and the index that it says
+pub record HasRequest (setup : IdpConfig) (user index : List ℕ) (r : IdpRecord) : Type 0 where
+  pub left : Left
+  pub is : r ≡ kinds.Left left
+  pub request : IsText left.request
+  pub named : left.request ≢ []
+  pub user_text : IsText user
+  pub index_text : IsText index
+  pub peers : AllByRecursion IsTextPeer setup.peers
+
+-- an Ended whose answer to this request may stand in a document
+pub record HasResponse (setup : IdpConfig) (asked : LogoutRequest) (place : ℕ) (r : IdpRecord) : Type 0 where
+  pub ended : Ended
+  pub is : r ≡ kinds.Ended ended
+  pub message : IsText ended.message
+  pub named : ended.message ≢ []
+  pub same : asked.id ≡ ended.request
+  pub request : IsText asked.id
+  pub known : place < length setup.peers
+  pub peers : AllByRecursion IsTextPeer setup.peers
+
 -- the record of a reply can be shown
 abbrev pub CanBeShown : IdpConfig → Reply → IdpRecord → Type 0
 CanBeShown setup (replies.InSession cookie ask peer) r = HasAssertion setup peer r
 CanBeShown setup (replies.Passive ask) r = HasRefusal ask r
 CanBeShown setup (replies.Question ask) r = IsSome (first_id r)
 CanBeShown setup (replies.Login id user attributes peer) r = HasAssertion setup peer r × IsSome (second_id r)
+CanBeShown setup (replies.Leave cookie user index) r = HasRequest setup user index r
+CanBeShown setup (replies.End asked peer name relay) r = HasResponse setup asked peer r
+CanBeShown setup (replies.Confirm request partial) r = Unit {0}
 
 -- a document may hold the texts of what is recorded
 abbrev pub IsXmlReply : Reply → Type 0
@@ -131,6 +187,9 @@ IsXmlReply (replies.InSession cookie ask peer) = IsXmlAsk ask
 IsXmlReply (replies.Passive ask) = IsXmlAsk ask
 IsXmlReply (replies.Question ask) = IsXmlAsk ask
 IsXmlReply (replies.Login id user attributes peer) = (is_xml_text user ≡ true) × AreXmlAttributes attributes
+IsXmlReply (replies.Leave cookie user index) = Unit {0}
+IsXmlReply (replies.End asked peer name relay) = (is_xml_text asked.id ≡ true) × (is_xml_text name ≡ true)
+IsXmlReply (replies.Confirm request partial) = Unit {0}
 
 -- WHEN A REQUEST ASKS FOR A REPLY
 
@@ -212,9 +271,48 @@ pub record LogsIn (setup : IdpConfig) (held : Held) (request : Request) (now : �
   pub stated : AllByRecursion IsStatable attributes
   pub told : AreTold now (min LAST (now + SESSION_LIFE))
 
+-- a user leaves the session of this cookie
+pub record Leaves (setup : IdpConfig) (held : Held) (request : Request) (now : ℕ) (cookie user index : List ℕ) : Type 0 where
+  pub to : route request ≡ To routes.Logout
+  pub row : SessionRow
+  pub live : session_for held now request ≡ Some row
+  pub found : session_found (rows_of held.records).sessions cookie now held.header.horizon ≡ Some row
+  pub cookie_is : cookie ≡ row.cookie
+  pub user_is : user ≡ row.user
+  pub index_is : index ≡ row.index
+  pub user_text : IsText user
+  pub index_text : IsText index
+  pub peers : AllByRecursion IsTextPeer setup.peers
+  pub told : AreTold now row.until
+
+-- the peer of this name at this place asks to end sessions, and there are some of these
+pub record AsksForAnEnd (setup : IdpConfig) (held : Held) (request : Request) (now : ℕ) (asked : LogoutRequest) (place : ℕ) (name : List ℕ) (relay : Option (List ℕ)) : Type 0 where
+  pub to : route request ≡ To routes.SingleLogout
+  pub obeyed : IsObeyed setup now request.body (messages.Ask asked place relay)
+  pub peer : LogoutPeer
+  pub there : slice_get setup.peers place ≡ Some peer
+  pub name_is : name ≡ peer.peer.entity
+  pub some : is_empty (ending_by held now name asked) ≡ false
+  pub id_text : IsText asked.id
+  pub peers : AllByRecursion IsTextPeer setup.peers
+  pub told : IsTold now
+
+-- a peer replies to the logout of this request, which waits
+pub record Confirms (setup : IdpConfig) (held : Held) (request : Request) (now : ℕ) (of : List ℕ) (partial : Bool) : Type 0 where
+  pub to : route request ≡ To routes.SingleLogout
+  pub response : LogoutResponse
+  pub place : ℕ
+  pub obeyed : IsObeyed setup now request.body (messages.Reply response place)
+  pub of_is : of ≡ response.request
+  pub awaited : is_awaited held now of ≡ true
+  pub partial_is : partial ≡ is_in_part response.outcome
+
 -- a request asks for a reply over a ledger at a moment
 abbrev pub Wants : IdpConfig → Held → Request → ℕ → Reply → Type 0
 Wants setup held request now (replies.InSession cookie ask peer) = AsksInSession setup held request now cookie ask peer
 Wants setup held request now (replies.Passive ask) = AsksAnew true setup held request now ask
 Wants setup held request now (replies.Question ask) = AsksAnew false setup held request now ask
 Wants setup held request now (replies.Login id user attributes peer) = LogsIn setup held request now id user attributes peer
+Wants setup held request now (replies.Leave cookie user index) = Leaves setup held request now cookie user index
+Wants setup held request now (replies.End asked peer name relay) = AsksForAnEnd setup held request now asked peer name relay
+Wants setup held request now (replies.Confirm request_id partial) = Confirms setup held request now request_id partial

@@ -14,6 +14,10 @@ pub data Service : Type 0 where
   Login : Service
   -- the metadata of the provider
   Metadata : Service
+  -- the address to which a user posts who leaves
+  Logout : Service
+  -- the address to which messages of a logout are posted: SAML Metadata, 2.4.2, SingleLogoutService
+  SingleLogout : Service
 
 -- the service of a path, and the method that it takes
 abbrev pub service_at : List ℕ → Option (Method × Service)
@@ -21,6 +25,8 @@ service_at path =
     if bytes_eq path (codes "/sso") then Some (Post, SignOn)
     else if bytes_eq path (codes "/login") then Some (Post, Login)
     else if bytes_eq path (codes "/metadata") then Some (Get, Metadata)
+    else if bytes_eq path (codes "/logout") then Some (Post, Logout)
+    else if bytes_eq path (codes "/slo") then Some (Post, SingleLogout)
     else None
 
 abbrev pub is_method : Method → Method → Bool

@@ -1,20 +1,27 @@
 -- Which elements an identity provider's records stand for as signed ones.
-use Rattle.std.specs.Prelude.{◌≡◌, ℕ, true, List, [], ◌∷◌, ◌++◌, None, Option, Some, if◌then◌else◌}
+use Rattle.std.specs.Prelude.{◌≡◌, ℕ, Bool, true, List, [], ◌∷◌, ◌++◌, None, Option, Some, if◌then◌else◌}
 use Rattle.std.specs.List.{AllByRecursion}
-use Rattle.element_make.specs.Made.{Made, MadeNodes, NothingMade, MadeElement, MadeText, alone}
+use Rattle.element_make.specs.Made.{Made, MadeNodes, NothingMade, MadeElement, MadeText, alone, written}
+use Rattle.saml_names.specs.Uris.{partial_logout}
 use Rattle.sig_reference.specs.Signing.{has_no_signature, signed}
 use Rattle.assertion_model.specs.Assertion.{IsAssertionOf}
-use Rattle.protocol_messages.specs.Making.{response, IsMadeAt}
+use Rattle.protocol_messages.specs.Making.{failed, logged_out, logout_request, request_end, response, succeeded, IsMadeAt, IsMadeFrom}
+use Rattle.post_binding.specs.Pages.{auto_form}
+use Rattle.post_binding.specs.declared.posted.Field.{Field}
 use Rattle.http_wire.specs.declared.answer.Answer.TheVariants.{Full}
 use Rattle.http_wire.specs.Answers.{answer}
 use Rattle.http_wire.specs.Requests.{Request}
 use Rattle.ledger_records.specs.declared.idp_record.IdpRecord.{IdpRecord}
 use Rattle.ledger_records.specs.declared.idp_record.IdpRecord.TheVariants as kinds
+use Rattle.ledger_records.specs.declared.idp_record.Ended.{Ended}
 use Rattle.ledger_records.specs.declared.idp_record.Issued.{Issued}
+use Rattle.ledger_records.specs.declared.idp_record.Left.{Left}
 use Rattle.peer_keys.specs.declared.peers.LogoutPeer.{LogoutPeer}
+use Rattle.idp_ledger.specs.declared.row.SessionRow.{SessionRow}
 use Rattle.idp_ledger.specs.Ledger.{Held}
 use Rattle.idp_rules.specs.declared.config.IdpConfig.{IdpConfig}
 use Rattle.idp_answers.specs.Answers.{login_answer, response_form, signed_assertion, signs_assertion, signs_response}
+use Rattle.logout_answers.specs.Answers.{end_answer}
 use Rattle.idp_server.specs.Logins.{login_of}
 use Rattle.idp_server.specs.Step.{Answers, IsPeer}
 
@@ -27,8 +34,9 @@ signed_elements (MadeElement ns local attributes kids rest) =
 signed_elements (MadeText text rest) = signed_elements rest
 
 -- An element that is signed for a record, before it is signed, and the key: the Assertion of an Issued where the mode signs it; the
--- Response that carries this, where the mode signs that; both with the key of what is sent to the record's peer. No other record
--- stands for a signed element: the Response of a Spoke is not signed.
+-- Response that carries this, where the mode signs that; the LogoutRequest of a Left for the user and the index of the session that was
+-- left, and the LogoutResponse of an Ended, where the peer has an address for logout; all with the key of what is sent to the record's
+-- peer. No other record stands for a signed element: the Response of a Spoke is not signed.
 pub data IsSignedFor (setup : IdpConfig) : IdpRecord → (key : List ℕ) → Made → Type 0 where
   AnAssertion : (r : Issued) (peer : LogoutPeer) (made : Made) → IsPeer setup r.peer peer → signs_assertion setup.mode ≡ true
       → IsAssertionOf (login_of setup.entity r) made → IsSignedFor setup (kinds.Issued r) peer.key_out made
@@ -36,6 +44,12 @@ pub data IsSignedFor (setup : IdpConfig) : IdpRecord → (key : List ℕ) → Ma
       → IsAssertionOf (login_of setup.entity r) assertion
       → IsMadeAt r.moment (response r.message setup.entity r.consumer r.request (Some (signed_assertion setup.mode peer.key_out assertion))) made
       → IsSignedFor setup (kinds.Issued r) peer.key_out made
+  ARequest : (r : Left) (peer : LogoutPeer) (row : SessionRow) (address : List ℕ) (made : Made) → IsPeer setup r.peer peer → peer.peer.logout ≡ Some address
+      → row.cookie ≡ r.cookie → IsMadeFrom r.moment (request_end r.moment) (logout_request r.request setup.entity address row.user (row.index ∷ [])) made
+      → IsSignedFor setup (kinds.Left r) peer.key_out made
+  AReply : (r : Ended) (peer : LogoutPeer) (address : List ℕ) (made : Made) → IsPeer setup r.peer peer → peer.peer.logout ≡ Some address
+      → IsMadeAt r.moment (logged_out r.message setup.entity address r.request (if r.partial then failed partial_logout else succeeded)) made
+      → IsSignedFor setup (kinds.Ended r) peer.key_out made
 
 -- the element is one of these with its Signature
 pub record IsSignedOf (setup : IdpConfig) (r : IdpRecord) (element : Made) : Type 0 where
@@ -51,11 +65,20 @@ pub record Sends (bytes : List ℕ) (sent : Made) : Type 0 where
   pub cookie : Option (List ℕ)
   pub is : bytes ≡ answer 200 None cookie (response_form sent consumer relay)
 
--- what an answer that stands for a record carries: the page where the user logs in, or a Response whose signed elements are
--- all of the record
+-- the answer is a form that sends this message of a logout on
+pub record SendsOn (bytes : List ℕ) (sent : Made) : Type 0 where
+  pub address : List ℕ
+  pub field : Field
+  pub relay : Option (List ℕ)
+  pub is : bytes ≡ answer 200 None None (auto_form address field (written sent) relay)
+
+-- what an answer that stands for a record carries: the page where the user logs in, a Response or a message of a logout whose signed
+-- elements are all of the record, or the page at the end of a logout
 pub data Carries (setup : IdpConfig) (r : IdpRecord) (bytes : List ℕ) : Type 0 where
   AQuestion : (id : List ℕ) → bytes ≡ login_answer id → Carries setup r bytes
   AForm : (sent : Made) → Sends bytes sent → AllByRecursion (IsSignedOf setup r) (signed_elements (alone sent)) → Carries setup r bytes
+  ALogout : (sent : Made) → SendsOn bytes sent → AllByRecursion (IsSignedOf setup r) (signed_elements (alone sent)) → Carries setup r bytes
+  AnEnd : (partial : Bool) → bytes ≡ end_answer partial → Carries setup r bytes
 
 abbrev pub EachSignedElementIsOfARecord : Type 0
 EachSignedElementIsOfARecord =

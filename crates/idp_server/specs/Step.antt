@@ -1,5 +1,5 @@
 -- What an identity provider does at one request.
-use Rattle.std.specs.Prelude.{◌≡◌, ◌⊎◌, ℕ, true, false, List, [], ◌∷◌, codes, Option, None, Some, IfSome, Ok, Err, if◌then◌else◌, slice_get}
+use Rattle.std.specs.Prelude.{◌≡◌, ◌⊎◌, ℕ, Bool, true, false, List, [], ◌∷◌, codes, Option, None, Some, IfSome, Ok, Err, if◌then◌else◌, slice_get}
 use Rattle.std.specs.Option.{option_and_then}
 use Rattle.crash_disk.specs.Disk.{Image, DiskState, image_of}
 use Rattle.http_wire.specs.declared.answer.Answer.{Answer}
@@ -8,9 +8,15 @@ use Rattle.http_wire.specs.Requests.{Request}
 use Rattle.http_wire.specs.Cookies.{cookie_value}
 use Rattle.post_binding.specs.Form.{fields}
 use Rattle.verdict_codes.specs.Codes.{number_of}
+use Rattle.protocol_messages.specs.declared.logout.LogoutRequest.{LogoutRequest}
+use Rattle.protocol_messages.specs.declared.logout.LogoutResponse.{LogoutResponse}
+use Rattle.protocol_messages.specs.declared.logout.Outcome.{Outcome}
+use Rattle.protocol_messages.specs.declared.logout.Outcome.TheVariants as outcomes
 use Rattle.verdict_codes.specs.declared.codes.Verdict.{Verdict}
 use Rattle.verdict_codes.specs.declared.codes.Verdict.TheVariants as verdicts
+use Rattle.ledger_records.specs.declared.idp_record.Ended.{Ended}
 use Rattle.ledger_records.specs.declared.idp_record.Issued.{Issued}
+use Rattle.ledger_records.specs.declared.idp_record.Left.{Left}
 use Rattle.ledger_records.specs.declared.idp_record.IdpRecord.{IdpRecord}
 use Rattle.ledger_records.specs.declared.idp_record.IdpRecord.TheVariants as kinds
 use Rattle.gate_journal.specs.Format.{Fault}
@@ -22,19 +28,23 @@ use Rattle.idp_ledger.specs.declared.row.Ask.{Ask}
 use Rattle.idp_ledger.specs.declared.row.PendingRow.{PendingRow}
 use Rattle.idp_ledger.specs.declared.row.SessionRow.{SessionRow}
 use Rattle.idp_ledger.specs.RowsOf.{rows_of}
-use Rattle.idp_ledger.specs.Finding.{pending_found, session_found}
+use Rattle.idp_ledger.specs.Finding.{ending, is_empty, is_partial, is_waiting_now, last_peer, pending_found, session_found}
 use Rattle.idp_ledger.specs.Ledger.{Held, Opened, IsFitting, IsOwn, LeftByOpening, ledger_in, taken, next_number, held_with}
 use Rattle.idp_ledger.specs.Draft.{first_id}
-use Rattle.idp_ledger.specs.Drafts.{issue, login, pending, spoke, is_full}
+use Rattle.idp_ledger.specs.Drafts.{confirmed, ended, issue, left, login, pending, spoke, is_full}
 use Rattle.idp_ledger.specs.Compacting.{Compacts}
 use Rattle.idp_rules.specs.Asking.{IsAsked}
-use Rattle.idp_rules.specs.Config.{sign_on}
+use Rattle.idp_rules.specs.Config.{logout, sign_on}
 use Rattle.idp_rules.specs.Verdict.{IsRefused}
 use Rattle.idp_rules.specs.declared.asked.Asked.{Asked}
 use Rattle.idp_rules.specs.declared.config.IdpConfig.{IdpConfig}
 use Rattle.idp_answers.specs.Answers.{IsIssuedAnswer, IsNoPassiveAnswer, login_answer, metadata_answer}
+use Rattle.logout_answers.specs.Answers.{Ending, Leaving, end_answer}
+use Rattle.logout_profile.specs.Verdict as logouts
+use Rattle.logout_profile.specs.declared.logout.Logout.{Logout as Message}
+use Rattle.logout_profile.specs.declared.logout.Logout.TheVariants as messages
 use Rattle.idp_server.specs.Logins.{login_of}
-use Rattle.idp_server.specs.Routes.{SignOn, Login, Metadata, To, Refused, route}
+use Rattle.idp_server.specs.Routes.{SignOn, Login, Metadata, Logout, SingleLogout, To, Refused, route}
 
 -- a provider: what it is set up with, and its ledger
 pub record Provider : Type 0 where
@@ -80,12 +90,67 @@ abbrev pub IsPending : IdpConfig → Held → ℕ → List ℕ → PendingRow �
 IsPending setup held now id row peer =
     (pending_found (rows_of held.records).pendings id now held.header.horizon ≡ Some row) × IsPeer setup row.peer peer
 
+-- ---- what a request brings of a logout: SAML Profiles, 4.4
+
+-- a posted form asks or replies this, or is refused with this verdict
+abbrev pub IsObeyed : IdpConfig → ℕ → (body : List ℕ) → Message → Type 0
+IsObeyed setup now body message = logouts.IsAccepted setup.peers None (logout setup) setup.skew now body message
+
+abbrev pub IsNotObeyed : IdpConfig → ℕ → (body : List ℕ) → Verdict → Type 0
+IsNotObeyed setup now body verdict = logouts.IsRefused setup.peers None (logout setup) setup.skew now body verdict
+
+-- a peer asks by a posted form to end sessions, and the form had this relay
+pub record AsksToEnd (setup : IdpConfig) (request : Request) (now : ℕ) (asked : LogoutRequest) (peer : LogoutPeer) (relay : Option (List ℕ)) : Type 0 where
+  pub place : ℕ
+  pub there : slice_get setup.peers place ≡ Some peer
+  pub obeyed : IsObeyed setup now request.body (messages.Ask asked place relay)
+
+-- a peer replies by a posted form to a logout that began here
+pub record RepliesTo (setup : IdpConfig) (request : Request) (now : ℕ) (response : LogoutResponse) : Type 0 where
+  pub place : ℕ
+  pub obeyed : IsObeyed setup now request.body (messages.Reply response place)
+
+-- the cookies of the sessions that a peer asks to end: SAML Core, 3.7.3.2
+abbrev pub ending_by : Held → ℕ → (peer : List ℕ) → LogoutRequest → List (List ℕ)
+ending_by held now peer asked = ending now held.header.horizon peer asked.name asked.indexes (rows_of held.records)
+
+-- the record that ends them
+abbrev pub ended_by : (key : List ℕ) → Held → ℕ → (peer : List ℕ) → LogoutRequest → IdpRecord
+ended_by key held now peer asked =
+    ended key (next_number held) now (ending_by held now peer asked) asked.id peer
+    (is_partial now held.header.horizon peer asked.name asked.indexes (rows_of held.records))
+
+-- the record of a user who leaves the session of this cookie: the peer to which its last Assertion went is asked to end it too
+abbrev pub left_by : (key : List ℕ) → Held → ℕ → (cookie : List ℕ) → IdpRecord
+left_by key held now cookie = left key (next_number held) now cookie (last_peer (rows_of held.records).issues cookie)
+
+-- whether a logout that began here waits for the reply to this request
+abbrev pub is_awaited : Held → ℕ → (request : List ℕ) → Bool
+is_awaited held now request = is_waiting_now (rows_of held.records).lefts request now held.header.horizon
+
+-- SAML Core, 3.2.2.2: a logout ended at each participant only where this is said
+abbrev pub is_in_part : Outcome → Bool
+is_in_part outcomes.Success = false
+is_in_part outcomes.Partial = true
+is_in_part outcomes.Other = true
+
 -- ---- the answers that stand for records
 
 -- the answer to a request for which this was issued, to this peer, with a cookie where a session began: SAML Profiles, 4.1.4.2
 abbrev pub IsAnswerFor : IdpConfig → LogoutPeer → Issued → (cookie : Option (List ℕ)) → ℕ → List ℕ → Type 0
 IsAnswerFor setup peer r cookie now bytes =
     IsIssuedAnswer setup.mode peer.key_out (login_of setup.entity r) r.message r.consumer r.relay cookie now bytes
+
+-- The answer to a user of this name who leaves the session with this index: a request to the peer of the record (SAML Profiles, 4.4.3.1).
+-- Where that peer is not known any more the logout is partial.
+pub data IsLeavingAnswer (setup : IdpConfig) (r : Left) (user index : List ℕ) (now : ℕ) (bytes : List ℕ) : Type 0 where
+  ToPeer : (peer : LogoutPeer) → IsPeer setup r.peer peer → Leaving peer r.request setup.entity now user (index ∷ []) bytes
+      → IsLeavingAnswer setup r user index now bytes
+  ToNone : place_of r.peer setup.peers ≡ None → bytes ≡ end_answer true → IsLeavingAnswer setup r user index now bytes
+
+-- the answer to the peer that asked for what is recorded
+abbrev pub IsEndingAnswer : IdpConfig → LogoutPeer → Ended → (relay : Option (List ℕ)) → ℕ → List ℕ → Type 0
+IsEndingAnswer setup peer r relay now bytes = Ending peer r.message setup.entity now r.request r.partial relay bytes
 
 -- What is answered to a request by this ledger at this moment where nothing fails, and the record that is added with it.
 pub data Answers (setup : IdpConfig) (held : Held) (request : Request) (now : ℕ) (answer : Answer) (adds : Option IdpRecord) : Type 0 where
@@ -134,6 +199,33 @@ pub data Answers (setup : IdpConfig) (held : Held) (request : Request) (now : �
       → typed request.body ≡ Some t → IsPending setup held now t.pending row peer → checked setup.users t.user t.password ≡ Some user
       → login setup.id_key (next_number held) now row user.name user.attributes ≡ kinds.Issued r → adds ≡ Some (kinds.Issued r)
       → IsAnswerFor setup peer r (Some r.cookie) now bytes → answer ≡ Full bytes → Answers setup held request now answer adds
+  -- a user leaves who has no live session
+  ByNoSession : route request ≡ To Logout → session_for held now request ≡ None → answer ≡ Fixed (number_of verdicts.NoSuchSession) → adds ≡ None
+      → Answers setup held request now answer adds
+  -- a user leaves, and the session ends
+  ByLeaving : (row : SessionRow) (r : Left) (bytes : List ℕ) → route request ≡ To Logout → session_for held now request ≡ Some row
+      → left_by setup.id_key held now row.cookie ≡ kinds.Left r → adds ≡ Some (kinds.Left r) → IsLeavingAnswer setup r row.user row.index now bytes
+      → answer ≡ Full bytes → Answers setup held request now answer adds
+  -- a posted form neither asks nor replies anything of a logout
+  ByLogoutVerdict : (verdict : Verdict) → route request ≡ To SingleLogout → IsNotObeyed setup now request.body verdict
+      → answer ≡ Fixed (number_of verdict) → adds ≡ None → Answers setup held request now answer adds
+  -- a peer asks to end sessions, and there are none of these
+  ByNothingToEnd : (asked : LogoutRequest) (peer : LogoutPeer) (relay : Option (List ℕ)) → route request ≡ To SingleLogout
+      → AsksToEnd setup request now asked peer relay → is_empty (ending_by held now peer.peer.entity asked) ≡ true
+      → answer ≡ Fixed (number_of verdicts.NoSuchSession) → adds ≡ None → Answers setup held request now answer adds
+  -- there are, and they end
+  ByEnding : (asked : LogoutRequest) (peer : LogoutPeer) (relay : Option (List ℕ)) (r : Ended) (bytes : List ℕ) → route request ≡ To SingleLogout
+      → AsksToEnd setup request now asked peer relay → is_empty (ending_by held now peer.peer.entity asked) ≡ false
+      → ended_by setup.id_key held now peer.peer.entity asked ≡ kinds.Ended r → adds ≡ Some (kinds.Ended r) → IsEndingAnswer setup peer r relay now bytes
+      → answer ≡ Full bytes → Answers setup held request now answer adds
+  -- a peer replies to a logout that does not wait for a reply
+  ByUnknownLogout : (response : LogoutResponse) → route request ≡ To SingleLogout → RepliesTo setup request now response
+      → is_awaited held now response.request ≡ false → answer ≡ Fixed (number_of verdicts.UnknownLogout) → adds ≡ None
+      → Answers setup held request now answer adds
+  -- it does, and the logout is over
+  ByConfirming : (response : LogoutResponse) → route request ≡ To SingleLogout → RepliesTo setup request now response
+      → is_awaited held now response.request ≡ true → adds ≡ Some (confirmed now response.request)
+      → answer ≡ Full (end_answer (is_in_part response.outcome)) → Answers setup held request now answer adds
 
 -- there is room for a record: fewer rows of its kind are kept than may be, and it fits
 pub record HasPlace (held : Held) (r : IdpRecord) : Type 0 where

@@ -80,6 +80,14 @@ impl IdpNode {
                 let reply = self.log_in(request, now);
                 self.replied(request, reply, now, disk)
             }
+            Route::Logout => {
+                let reply = self.leave(request, now);
+                self.replied(request, reply, now, disk)
+            }
+            Route::SingleLogout => {
+                let reply = self.single_logout(request, now);
+                self.replied(request, reply, now, disk)
+            }
         }
     }
 }

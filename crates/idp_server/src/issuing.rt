@@ -7,7 +7,7 @@ ghost use Rattle.http_wire.specs.Answers.{is_one_line};
 ghost use Rattle.http_wire.specs.declared.answer.Answer.TheVariants.{Full};
 ghost use Rattle.saml_time.specs.declared.TheConstants.{LAST};
 ghost use Rattle.idp_server.specs.Logins as spec;
-ghost use Rattle.idp_server.specs.Replies.{CanBeShown, HasAssertion, HasRefusal, IsAssertionPage, IsIssuable, IsPage, IsPassivePage};
+ghost use Rattle.idp_server.specs.Replies.{CanBeShown, HasAssertion, HasRefusal, HasRequest, HasResponse, IsAssertionPage, IsEndingPage, IsIssuable, IsLeavingPage, IsPage, IsPassivePage};
 
 use crate::node::IdpNode;
 use crate::reply::Reply;
@@ -15,17 +15,26 @@ use assertion_model::{Audiences, Login};
 use idp_answers::{issued_answer, login_answer, no_passive_answer};
 use idp_ledger::{Ask, Draft};
 use ledger_records::idp_record::Issued;
+use logout_answers::{end_answer, ending_answer, leaving_answer};
 use owned_values::{Blob, NoMemory, Text, Texts};
+use protocol_messages::LogoutRequest;
 use std::alloc::Global;
+
+/// A list of one text.
+fn just(alloc: Global, text: &Text) -> Result<Texts, NoMemory>
+    ensures { IfOk result (λ texts. texts ≡ text.now ∷ []) }
+{
+    let mut texts = Texts::new(alloc);
+    texts.push(text.copy()?)?;
+    Ok(texts)
+}
 
 /// The one audience of an Assertion: the peer that asked (SAML Core, 2.5.1.4).
 fn audiences_of(alloc: Global, peer: &Text) -> Result<Audiences, NoMemory>
     ensures { IfOk result (λ audiences. audiences ≡ (peer.now ∷ []) ∷ []) }
 {
-    let mut restriction = Texts::new(alloc);
-    restriction.push(peer.copy()?)?;
     let mut audiences = Audiences::new(alloc);
-    audiences.push(restriction)?;
+    audiences.push(just(alloc, peer)?)?;
     Ok(audiences)
 }
 
@@ -109,6 +118,58 @@ impl IdpNode {
         )
     }
 
+    /// The answer to this user, who leaves the session with this index: a request to the peer of the draft, where it is known.
+    fn leaving_page(
+        &self,
+        draft: &Draft,
+        user: &Text,
+        index: &Text,
+        now: u64,
+    ) -> Result<Blob, NoMemory>
+        requires moment { now ≤ LAST }
+        requires shown { HasRequest self.now.setup user.now index.now draft.now }
+        ensures { IfOk result (λ bytes. IsLeavingPage self.now.setup user.now index.now draft.now now (Full bytes)) }
+    {
+        let Some(place) = self.config.peers.place_of(draft.peer()) else {
+            return end_answer(self.alloc, true);
+        };
+        let indexes = just(self.alloc, index)?;
+        leaving_answer(
+            self.alloc,
+            self.config.peers.at(place),
+            draft.first().as_str(),
+            self.config.entity.as_str(),
+            now,
+            user.as_str(),
+            &indexes,
+        )
+    }
+
+    /// The answer to the peer at this place, which asked to end sessions.
+    fn ending_page(
+        &self,
+        draft: &Draft,
+        asked: &LogoutRequest,
+        peer: usize,
+        relay: &Option<Text>,
+        now: u64,
+    ) -> Result<Blob, NoMemory>
+        requires moment { now ≤ LAST }
+        requires shown { HasResponse self.now.setup asked.now peer draft.now }
+        ensures { IfOk result (λ bytes. IsEndingPage self.now.setup peer relay.now draft.now now (Full bytes)) }
+    {
+        ending_answer(
+            self.alloc,
+            self.config.peers.at(peer),
+            draft.first().as_str(),
+            self.config.entity.as_str(),
+            now,
+            asked.id.as_str(),
+            draft.partial(),
+            text_of(relay),
+        )
+    }
+
     /// The answer that stands for the draft of a reply.
     pub(crate) fn page(&self, reply: &Reply, draft: &Draft, now: u64) -> Result<Blob, NoMemory>
         requires moment { now ≤ LAST }
@@ -123,6 +184,14 @@ impl IdpNode {
                 let cookie = draft.second().as_str();
                 self.assertion_page(draft, *peer, Some(cookie), now)
             }
+            Reply::Leave { user, index, .. } => self.leaving_page(draft, user, index, now),
+            Reply::End {
+                asked,
+                peer,
+                relay,
+                ..
+            } => self.ending_page(draft, asked, *peer, relay, now),
+            Reply::Confirm { partial, .. } => end_answer(self.alloc, *partial),
         }
     }
 }

@@ -1,5 +1,7 @@
 //! Laws of an identity provider, each the contract of a function that does nothing.
 ghost use Rattle.idp_server.specs.Issues.{AnswersHaveUsers, ServicesHaveUsers, WhatIsAnsweredIsRecorded};
+ghost use Rattle.idp_server.specs.Histories.{AnEndedSessionStaysEnded, WhatIsAcknowledgedIsKept};
+ghost use Rattle.idp_server.specs.Logouts.{AnswersEndExactly, ServicesEndExactly, WhatIsAnsweredToALogoutIsRecorded, WhereverAPeerEnds, WhereverAUserLeaves};
 ghost use Rattle.idp_server.specs.Signed.{EachSignedElementIsOfARecord};
 
 /// Each Assertion that is issued has a password or a session: it answers a login that was pending and not used, for a user whose
@@ -15,8 +17,45 @@ pub fn what_is_answered_is_recorded()
     ensures { WhatIsAnsweredIsRecorded }
 {}
 
-/// The elements that are signed in an answer are those that its record stands for: its Assertion, the Response with this, or both,
-/// with the key of what is sent to the record's peer.
+/// A session is ended exactly where its user leaves it, by a POST with its cookie while it lives, or where a peer asks for it by a
+/// LogoutRequest that is accepted: what is recorded lists the sessions that it asks to end, and no others. And wherever one does, where
+/// there is room, the disk does not fail and memory is found, it is ended. A logout is over only where it waits and a LogoutResponse to
+/// it is accepted.
+pub fn a_session_is_ended_exactly()
+    ensures answers { AnswersEndExactly }
+    ensures services { ServicesEndExactly }
+    ensures wherever_left { WhereverAUserLeaves }
+    ensures wherever_ended { WhereverAPeerEnds }
+{
+    logout_profile::laws::a_logout_form_has_one_verdict();
+}
+
+/// A session that was ended is never found live again, whatever is recorded, compacted and opened since.
+pub fn an_ended_session_stays_ended()
+    ensures { AnEndedSessionStaysEnded }
+{
+    idp_ledger::laws::compactions_change_no_answer();
+}
+
+/// Over each list of events, moments, disk faults and openings: what an answer acknowledged is in the history of every ledger that a
+/// crash may leave, and in none of these a session lives that was ended.
+pub fn what_is_acknowledged_is_kept()
+    ensures { WhatIsAcknowledgedIsKept }
+{
+    idp_ledger::laws::images_hold_records();
+    idp_ledger::laws::compactions_change_no_answer();
+}
+
+/// Each form and each page that is answered to a user who leaves, or to a message of a logout, stands for one record, and behind the
+/// step this is in every image that a crash may leave.
+pub fn what_is_answered_to_a_logout_is_recorded()
+    ensures { WhatIsAnsweredToALogoutIsRecorded }
+{}
+
+/// The elements that are signed in an answer are those that its record stands for: its Assertion, the Response with this, or both; its
+/// LogoutRequest or LogoutResponse; with the key of what is sent to the record's peer.
 pub fn each_signed_element_is_of_a_record()
     ensures { EachSignedElementIsOfARecord }
-{}
+{
+    logout_profile::laws::what_an_obeyed_form_says();
+}

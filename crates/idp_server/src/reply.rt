@@ -2,6 +2,7 @@
 
 use idp_ledger::Ask;
 use owned_values::{Attributes, Text};
+use protocol_messages::LogoutRequest;
 
 /// A reply that stands for a record.
 #[derive(Debug, Drop)]
@@ -26,5 +27,23 @@ pub(crate) enum Reply {
         user: Text,
         attributes: Attributes,
         peer: usize,
+    },
+    /// A LogoutRequest, as this user leaves the live session of this cookie, which has this index (SAML Profiles, 4.4.3.1).
+    Leave {
+        cookie: Text,
+        user: Text,
+        index: Text,
+    },
+    /// A LogoutResponse to the peer at this place, of this name, which asks to end sessions that there are (SAML Core, 3.7.3.2).
+    End {
+        asked: LogoutRequest,
+        peer: usize,
+        name: Text,
+        relay: Option<Text>,
+    },
+    /// The page at the end of the logout of this request, which waits for a reply: it ended at each participant, or in part.
+    Confirm {
+        request: Text,
+        partial: bool,
     },
 }

@@ -48,6 +48,9 @@ impl IdpNode {
             } => self
                 .ledger
                 .draft_login(now, pending.as_str(), user.as_str(), attributes),
+            Reply::Leave { cookie, .. } => self.ledger.draft_leave(now, cookie.as_str()),
+            Reply::End { asked, name, .. } => self.draft_end(asked, name.as_str(), now),
+            Reply::Confirm { request, .. } => self.draft_confirm(request.as_str(), now),
         }
     }
 

@@ -1,7 +1,8 @@
 //! Which requests are served.
-ghost use Rattle.std.specs.Prelude.{◌≡◌};
+ghost use Rattle.std.specs.Prelude.{◌≡◌, Some};
 ghost use Rattle.http_wire.specs.Views.{request_view};
 ghost use Rattle.idp_server.specs.Routes as spec;
+ghost use Rattle.idp_server.specs.Routes.{Service, To};
 ghost use Rattle.idp_server.specs.Views.{route_view};
 
 use http_wire::{HttpRequest, Method, is_form_type};
@@ -12,6 +13,8 @@ pub(crate) enum Route {
     SignOn,
     Login,
     Metadata,
+    Logout,
+    SingleLogout,
     Refused(u16),
 }
 
@@ -24,27 +27,32 @@ fn is_form(request: &HttpRequest<'_>) -> bool
         .is_some_and(|content_type| is_form_type(content_type))
 }
 
+/// The route of a form, or the status that is answered where none is posted.
+fn posted(request: &HttpRequest<'_>, route: Route) -> Route
+    ensures { (service : Service) → route_view route ≡ To service → route_view result ≡ spec.checked (request_view request.now) (Some (Method.Post, service)) }
+{
+    if request.method != Method::Post {
+        Route::Refused(405)
+    } else if is_form(request) {
+        route
+    } else {
+        Route::Refused(415)
+    }
+}
+
 /// Where a request goes.
 pub(crate) fn route_of(request: &HttpRequest<'_>) -> Route
     ensures { route_view result ≡ spec.route (request_view request.now) }
 {
     let path = request.path;
     if path == "/sso" {
-        if request.method != Method::Post {
-            Route::Refused(405)
-        } else if is_form(request) {
-            Route::SignOn
-        } else {
-            Route::Refused(415)
-        }
+        posted(request, Route::SignOn)
     } else if path == "/login" {
-        if request.method != Method::Post {
-            Route::Refused(405)
-        } else if is_form(request) {
-            Route::Login
-        } else {
-            Route::Refused(415)
-        }
+        posted(request, Route::Login)
+    } else if path == "/logout" {
+        posted(request, Route::Logout)
+    } else if path == "/slo" {
+        posted(request, Route::SingleLogout)
     } else if path == "/metadata" {
         if request.method == Method::Get {
             Route::Metadata

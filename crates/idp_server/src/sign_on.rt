@@ -30,7 +30,7 @@ const SESSION_COOKIE: &str = "idp_sid";
 
 /// That the texts of a session are texts that a document may hold, and that the moments of an Assertion in it have a written
 /// form. It is there for the proof.
-fn can_be_stated(row: &SessionRow, now: u64)
+pub(crate) fn can_be_stated(row: &SessionRow, now: u64)
     requires index { is_xml_text row.now.index ≡ true }
     requires user { is_xml_text row.now.user ≡ true }
     requires attributes { AreXmlAttributes row.now.attributes }
@@ -47,7 +47,7 @@ fn can_be_stated(row: &SessionRow, now: u64)
 
 impl IdpNode {
     /// The live session of a request's cookie.
-    fn session_for(&self, request: &HttpRequest<'_>, now: u64) -> Option<&SessionRow>
+    pub(crate) fn session_for(&self, request: &HttpRequest<'_>, now: u64) -> Option<&SessionRow>
         ensures { option_copied result ≡ session_for self.now.ledger.held now (request_view request.now) }
     {
         let cookie = cookie_of(request.cookie?, SESSION_COOKIE)?;

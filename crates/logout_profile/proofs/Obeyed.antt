@@ -1,6 +1,6 @@
 -- What is known of a message of a logout that is obeyed.
 use Rattle.std.specs.Prelude.{IfSome, Option, None, Some}
-use Rattle.std.proofs.Common.{◌≡◌, ℕ, suc, Bool, true, false, if◌then◌else◌, List, [], ◌∷◌, codes, not, sym, subst, ◌∙◌}
+use Rattle.std.proofs.Common.{◌≡◌, ℕ, zero, suc, Bool, true, false, if◌then◌else◌, List, [], ◌∷◌, codes, not, sym, subst, ap, ◌∙◌, refl}
 use Rattle.std.specs.List.{AllByRecursion, filter}
 use Rattle.std.specs.Option.{option_map}
 use Rattle.std.specs.Str.{bytes_eq}
@@ -95,6 +95,10 @@ only_place entity peer place is = one_place (bytes_eq peer.peer.entity entity) p
 asked_place : (message : Message) (request : LogoutRequest) (place n : ℕ) (relay r : Option (List ℕ)) → logouts.Ask request n r ≡ logout_of message place relay → n ≡ place
 asked_place (messages.Ask m) request place n relay r same = cc
 asked_place (messages.Reply m) request place n relay r same = absurd (cc)
+
+pub asked_at : (peers : List LogoutPeer) (second : Option (List ℕ)) (address : List ℕ) (skew now : ℕ) (body : List ℕ) (request : LogoutRequest) (n : ℕ) (relay : Option (List ℕ))
+    → (is : IsAccepted peers second address skew now body (logouts.Ask request n relay)) → n ≡ is.place
+asked_at peers second address skew now body request n relay is = asked_place is.carried.message request is.place n is.carried.relay relay is.is
 
 pub asked_at_first : (peer : LogoutPeer) (second : Option (List ℕ)) (address : List ℕ) (skew now : ℕ) (body : List ℕ) (request : LogoutRequest) (n : ℕ) (relay : Option (List ℕ))
     → IsAccepted (peer ∷ []) second address skew now body (logouts.Ask request n relay) → n ≡ 0

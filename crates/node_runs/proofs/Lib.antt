@@ -1,3 +1,4 @@
 pub mod Completing
+pub mod Ending
 pub mod Moments
 pub mod Serving

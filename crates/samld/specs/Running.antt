@@ -85,11 +85,13 @@ Does words told before ran after =
     MatchOption (command_of words) ((ran ≡ Unserved) × (after ≡ before)) (λ command. DoesCommand told command before ran after)
 
 -- What the program carries over what it did. Where it ran a service provider, sessions were opened exactly where a posted form opens
--- one, each of a login that was signed, and no two of one request. Where it ran an identity provider, each Assertion was issued to a
--- user with a password or a session, and each signed element is one of a record that was durable before it was sent.
+-- one, each of a login that was signed, and no two of one request; and they were closed exactly where their users left them or the
+-- identity provider ended them, for good. Where it ran an identity provider, each Assertion was issued to a user with a password or a
+-- session, each signed element is one of a record that was durable before it was sent, and sessions were ended exactly where their
+-- users left them or a peer ended them, for good.
 abbrev pub CommandCarries : Option (List File) → Command → Outside → Ran → Outside → Type 0
 CommandCarries told (Sp config events) before (RanSp turns result) after = sp_headline.Headline told config before turns after
-CommandCarries told (Idp config events) before (RanIdp turns result) after = idp_headline.Headline told config before turns
+CommandCarries told (Idp config events) before (RanIdp turns result) after = idp_headline.Headline told config before turns after
 CommandCarries told command before ran after = Unit {0}
 
 abbrev pub Carries : List (List ℕ) → Option (List File) → Outside → Ran → Outside → Type 0

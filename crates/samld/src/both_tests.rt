@@ -1,4 +1,5 @@
-//! What no clause says: that the two providers understand each other, from the page that a user asks for to that page.
+//! What no clause says: that the two providers understand each other, from the page that a user asks for to that page, and until
+//! the user has left.
 
 use crate::serve_tests::{FILES, IDP_FILES, add_piece, serve_as};
 use crash_disk::MemDisk;
@@ -91,31 +92,80 @@ fn issued(alloc: Global, of_idp: &mut MemDisk, login: &str) -> Result<String, No
     posting(alloc, "/acs", &[response, relay])
 }
 
-/// What the browser asks for then: the place that it is sent to, with the cookie of the session.
-fn sent_on(alloc: Global, of_sp: &mut MemDisk, response: &str) -> Result<String, NoMemory> {
+/// Where the browser is sent to then, and the cookie of the session.
+fn sent_on(
+    alloc: Global,
+    of_sp: &mut MemDisk,
+    response: &str,
+) -> Result<(String, String), NoMemory> {
     let answer = answer_of(alloc, "sp", &FILES, of_sp, response)?;
     let place = between(answer.as_str(), "Location: ", "\r\n");
     let cookie = between(answer.as_str(), "Set-Cookie: ", ";");
-    Ok(format!(in alloc; "GET {place} HTTP/1.1\r\nCookie: {cookie}\r\n\r\n")?)
+    Ok((
+        format!(in alloc; "{place}")?,
+        format!(in alloc; "{cookie}")?,
+    ))
 }
 
-/// What the user sees at last.
-fn shown(alloc: Global) -> Result<String, NoMemory> {
+/// Logs alice in.
+fn logged_in(
+    alloc: Global,
+    of_sp: &mut MemDisk,
+    of_idp: &mut MemDisk,
+) -> Result<(String, String), NoMemory> {
+    let request = asked(alloc, of_sp)?;
+    let login = filled_in(alloc, of_idp, request.as_str())?;
+    let response = issued(alloc, of_idp, login.as_str())?;
+    sent_on(alloc, of_sp, response.as_str())
+}
+
+/// What the user of this cookie sees at this place.
+fn shown(
+    alloc: Global,
+    of_sp: &mut MemDisk,
+    place: &str,
+    cookie: &str,
+) -> Result<String, NoMemory> {
+    let again = format!(in alloc; "GET {place} HTTP/1.1\r\nCookie: {cookie}\r\n\r\n")?;
+    answer_of(alloc, "sp", &FILES, of_sp, again.as_str())
+}
+
+/// What the page posts that the user of this cookie gets who leaves.
+fn left(alloc: Global, of_sp: &mut MemDisk, cookie: &str) -> Result<String, NoMemory> {
+    let leaves = format!(in alloc;
+        "POST /logout HTTP/1.1\r\nCookie: {cookie}\r\nContent-Type: application/x-www-form-urlencoded\r\nContent-Length: 0\r\n\r\n"
+    )?;
+    let page = answer_of(alloc, "sp", &FILES, of_sp, leaves.as_str())?;
+    let request = ("SAMLRequest", between(page.as_str(), REQUEST, "\""));
+    posting(alloc, "/slo", &[request])
+}
+
+/// What the page with the LogoutResponse posts.
+fn ended(alloc: Global, of_idp: &mut MemDisk, request: &str) -> Result<String, NoMemory> {
+    let page = answer_of(alloc, "idp", &IDP_FILES, of_idp, request)?;
+    let response = ("SAMLResponse", between(page.as_str(), RESPONSE, "\""));
+    posting(alloc, "/slo", &[response])
+}
+
+/// What the user sees who has logged in, and who has left then.
+fn seen(alloc: Global) -> Result<(String, String), NoMemory> {
     let mut of_sp = MemDisk::new(alloc);
     let mut of_idp = MemDisk::new(alloc);
-    let request = asked(alloc, &mut of_sp)?;
-    let login = filled_in(alloc, &mut of_idp, request.as_str())?;
-    let response = issued(alloc, &mut of_idp, login.as_str())?;
-    let again = sent_on(alloc, &mut of_sp, response.as_str())?;
-    answer_of(alloc, "sp", &FILES, &mut of_sp, again.as_str())
+    let (place, cookie) = logged_in(alloc, &mut of_sp, &mut of_idp)?;
+    let page = shown(alloc, &mut of_sp, place.as_str(), cookie.as_str())?;
+    let request = left(alloc, &mut of_sp, cookie.as_str())?;
+    let response = ended(alloc, &mut of_idp, request.as_str())?;
+    let end = answer_of(alloc, "sp", &FILES, &mut of_sp, response.as_str())?;
+    Ok((page, end))
 }
 
 #[test]
-fn a_user_is_logged_in(rt: HostRuntime) -> Result<(), Fail> {
-    let page = shown(rt.alloc())?;
+fn a_user_is_logged_in_and_out(rt: HostRuntime) -> Result<(), Fail> {
+    let (page, end) = seen(rt.alloc())?;
     assert_eq!(rt;
         between(page.as_str(), "<p id=\"name\">", "<form"),
         "alice</p><ul><li>a=b</li></ul>"
     );
+    assert_eq!(rt; between(end.as_str(), "<p>", "</p>"), "Logged out: Success");
     Ok(())
 }

@@ -16,7 +16,7 @@ pub(crate) const FILES: [(&str, &str); 3] = [
     ),
     (
         "idp.xml",
-        "<m:EntityDescriptor xmlns:m=\"urn:oasis:names:tc:SAML:2.0:metadata\" entityID=\"urn:example:idp\"><m:IDPSSODescriptor><m:SingleSignOnService Binding=\"urn:oasis:names:tc:SAML:2.0:bindings:HTTP-POST\" Location=\"http://127.0.0.1:8080/sso\"/></m:IDPSSODescriptor></m:EntityDescriptor>",
+        "<m:EntityDescriptor xmlns:m=\"urn:oasis:names:tc:SAML:2.0:metadata\" entityID=\"urn:example:idp\"><m:IDPSSODescriptor><m:SingleLogoutService Binding=\"urn:oasis:names:tc:SAML:2.0:bindings:HTTP-POST\" Location=\"http://127.0.0.1:8080/slo\"/><m:SingleSignOnService Binding=\"urn:oasis:names:tc:SAML:2.0:bindings:HTTP-POST\" Location=\"http://127.0.0.1:8080/sso\"/></m:IDPSSODescriptor></m:EntityDescriptor>",
     ),
     ("key", "32 bytes make a key of all kinds"),
 ];
@@ -29,7 +29,7 @@ pub(crate) const IDP_FILES: [(&str, &str); 4] = [
     ),
     (
         "sp.xml",
-        "<m:EntityDescriptor xmlns:m=\"urn:oasis:names:tc:SAML:2.0:metadata\" entityID=\"urn:example:sp\"><m:SPSSODescriptor><m:AssertionConsumerService Binding=\"urn:oasis:names:tc:SAML:2.0:bindings:HTTP-POST\" Location=\"http://127.0.0.1:8081/acs\"/></m:SPSSODescriptor></m:EntityDescriptor>",
+        "<m:EntityDescriptor xmlns:m=\"urn:oasis:names:tc:SAML:2.0:metadata\" entityID=\"urn:example:sp\"><m:SPSSODescriptor><m:SingleLogoutService Binding=\"urn:oasis:names:tc:SAML:2.0:bindings:HTTP-POST\" Location=\"http://127.0.0.1:8081/slo\"/><m:AssertionConsumerService Binding=\"urn:oasis:names:tc:SAML:2.0:bindings:HTTP-POST\" Location=\"http://127.0.0.1:8081/acs\"/></m:SPSSODescriptor></m:EntityDescriptor>",
     ),
     // the password of alice is `password`
     (

@@ -22,13 +22,17 @@ use Rattle.fault_verdicts.specs.Verdicts.{of_document, of_signature}
 use Rattle.verdict_codes.specs.Codes.{number_of}
 use Rattle.verdict_codes.specs.declared.codes.Verdict.{Verdict}
 use Rattle.verdict_codes.specs.declared.codes.Verdict.TheVariants as verdicts
+use Rattle.logout_profile.specs.Carrying.{destination_of, until_of}
+use Rattle.logout_profile.specs.Verdict as logouts
+use Rattle.peer_keys.specs.declared.peers.LogoutPeer.{LogoutPeer}
 use Rattle.request_rows.specs.Rows.{RowsView}
 use Rattle.request_ledger.specs.Ledger.{Held}
 use Rattle.sp_rules.specs.declared.config.SpConfig.{SpConfig}
 use Rattle.sp_rules.specs.Meant.{consumer, is_from, is_for, is_sent_to, is_in_time}
 use Rattle.sp_rules.specs.Outstanding.{asked_for, is_outstanding, is_unspent, is_unseen, is_relayed}
 use Rattle.sp_rules.specs.Verdict.{form_refusal, number_refusal, first_failing, IsRefused, by_form, by_document, by_root, by_head, by_signature, by_assertion, by_login}
-use Rattle.sp_server.specs.Routes.{Route, Service, App, Consumer, Metadata, To, Refused, is_target, is_method, is_typed, at_target, checked, service_at}
+use Rattle.sp_server.specs.Routes.{Route, Service, App, Consumer, Metadata, Logout, SingleLogout, To, Refused, is_target, is_method, is_typed, at_target, checked, service_at}
+use Rattle.sp_server.specs.Peer.{idp_at, logout_address, second_key}
 use Rattle.sp_server.specs.Step as steps
 use Rattle.sp_server.specs.Step.{Setup, Provider, Answers, Steps, REGISTRY_EXPIRED, is_expired}
 
@@ -103,6 +107,39 @@ refused_small config rows horizon now body verdict (by_login b k e) =
     login_small (is_from config c.head b.login) (is_for config b.login) (is_sent_to (consumer config) c.head b.login) (is_in_time config now b.login)
     (is_outstanding asked c.head b.login) (is_unspent rows b.login) (is_unseen rows horizon now b.login) (is_relayed asked c.relay) verdict e
 
+-- ---- so has the verdict on a message of a logout
+
+-- the codes of messages end at 35
+abbrev IsOfLogouts : Verdict → Type 0
+IsOfLogouts verdict = number_of verdict ≤ 35
+
+logout_small : (given verdict : Verdict) → IsOfLogouts given → Some given ≡ Some verdict → IsOfLogouts verdict
+logout_small given verdict h e = let same : given ≡ verdict = cc in subst IsOfLogouts same h
+
+smaller : (verdict : Verdict) → IsOfForms verdict → IsOfLogouts verdict
+smaller verdict few = omega (arith, few)
+
+posted_small : (r : Result Posted FormFault) (verdict : Verdict) → logouts.form_refusal r ≡ Some verdict → IsOfLogouts verdict
+posted_small (Err forms.BadForm) verdict e = logout_small verdicts.BadForm verdict (omega arith) e
+posted_small (Err forms.BadBase64) verdict e = logout_small verdicts.BadBase64 verdict (omega arith) e
+posted_small (Err (forms.TooLarge bytes)) verdict e = logout_small verdicts.TooLarge verdict (omega arith) e
+posted_small (Err forms.NoMemory) verdict e = absurd (cc)
+posted_small (Ok posted) verdict e = absurd (cc)
+
+meant_small : (sent timely : Bool) (verdict : Verdict) → (if sent then (if timely then None else Some verdicts.LogoutNotInTime) else Some verdicts.LogoutDestination) ≡ Some verdict → IsOfLogouts verdict
+meant_small true true verdict e = absurd (cc)
+meant_small true false verdict e = logout_small verdicts.LogoutNotInTime verdict (omega arith) e
+meant_small false timely verdict e = logout_small verdicts.LogoutDestination verdict (omega arith) e
+
+disobeyed_small : (peers : List LogoutPeer) (second : Option (List ℕ)) (address : List ℕ) (skew now : ℕ) (body : List ℕ) (verdict : Verdict) → logouts.IsRefused peers second address skew now body verdict → IsOfLogouts verdict
+disobeyed_small peers second address skew now body verdict (logouts.by_form e) = posted_small (form body) verdict e
+disobeyed_small peers second address skew now body verdict (logouts.by_document field text relay fault p r e) = smaller verdict (document_small fault verdict e)
+disobeyed_small peers second address skew now body verdict (logouts.by_root field text relay tree p s n e) = subst IsOfLogouts (sym e) (omega arith)
+disobeyed_small peers second address skew now body verdict (logouts.by_issuer c k n e) = subst IsOfLogouts (sym e) (omega arith)
+disobeyed_small peers second address skew now body verdict (logouts.by_signature c place peer fault k p n e) = smaller verdict (signature_small fault verdict e)
+disobeyed_small peers second address skew now body verdict (logouts.by_message c place peer key k p v e) =
+    meant_small (logouts.is_sent_to address (destination_of c.message)) (logouts.is_in_time skew now (until_of c.message)) verdict e
+
 -- ---- so has the status of a request that is not served
 
 -- none of the code's number
@@ -118,6 +155,8 @@ target_other : (path : List ℕ) (service : Service) → IsOther (at_target path
 target_other path App = chosen (is_target path) (To App) (Refused 404) tt (λ e. omega (arith, e))
 target_other path Consumer = tt
 target_other path Metadata = tt
+target_other path Logout = tt
+target_other path SingleLogout = tt
 
 checked_other : (request : Request) (o : Option (Method × Service)) → IsOther (checked request o)
 checked_other request None = λ e. omega (arith, e)
@@ -134,6 +173,9 @@ number_in m n e = cc
 not_full : (bytes : List ℕ) (n : ℕ) → Full bytes ≡ Fixed n → ⊥
 not_full bytes n e = cc
 
+other_code : (answer : Answer) (n : ℕ) → n ≢ 70 → answer ≡ Fixed n → answer ≡ Fixed REGISTRY_EXPIRED → ⊥
+other_code answer n differs is e = differs (number_in n REGISTRY_EXPIRED (sym is ∙ e))
+
 unexpired : (setup : Setup) (held : Held) (request : Request) (now : ℕ) (answer : Answer) (adds : Option SpRecord) → setup.expiry ≡ None → Answers setup held request now answer adds →
     answer ≡ Fixed REGISTRY_EXPIRED → ⊥
 unexpired setup held request now answer adds none (steps.ByStatus status to is nothing) e =
@@ -147,9 +189,15 @@ unexpired setup held request now answer adds none (steps.ByVerdict verdict to be
     let same : number_of verdict ≡ 70 = number_in (number_of verdict) REGISTRY_EXPIRED (sym is ∙ e) in omega (arith, few, same)
 unexpired setup held request now answer adds none (steps.ByExpiry at expired is nothing) e =
     let never : false ≡ true = sym (ap (λ (o : Option ℕ). is_expired o now) none) ∙ expired in cc
-
-other_code : (answer : Answer) (n : ℕ) → n ≢ 70 → answer ≡ Fixed n → answer ≡ Fixed REGISTRY_EXPIRED → ⊥
-other_code answer n differs is e = differs (number_in n REGISTRY_EXPIRED (sym is ∙ e))
+unexpired setup held request now answer adds none (steps.ByLeaving row id bytes to before found is has leaves shown) e = not_full bytes REGISTRY_EXPIRED (sym shown ∙ e)
+unexpired setup held request now answer adds none (steps.ByNoSession to before found is nothing) e = other_code answer 33 (λ n. omega (arith, n)) is e
+unexpired setup held request now answer adds none (steps.ByLogoutVerdict verdict to before refused is nothing) e =
+    let few = disobeyed_small (idp_at setup.config now ∷ []) (second_key setup.config now) (logout_address setup.config) setup.config.skew now request.body verdict refused in
+    other_code answer (number_of verdict) (λ n. omega (arith, few, n)) is e
+unexpired setup held request now answer adds none (steps.ByEnding asked relay id bytes to before obeyed some is has ends shown) e = not_full bytes REGISTRY_EXPIRED (sym shown ∙ e)
+unexpired setup held request now answer adds none (steps.ByNothingToEnd asked relay to before obeyed empty is nothing) e = other_code answer 33 (λ n. omega (arith, n)) is e
+unexpired setup held request now answer adds none (steps.ByConfirming response to before obeyed awaited is shown) e = not_full _ REGISTRY_EXPIRED (sym shown ∙ e)
+unexpired setup held request now answer adds none (steps.ByUnknownLogout response to before obeyed unknown is nothing) e = other_code answer 34 (λ n. omega (arith, n)) is e
 
 serves_unexpired : (found : Held) (request : Request) (now : ℕ) (Risen : Type 0) (answer : Answer) (old new : Provider) → old.setup.expiry ≡ None →
     steps.Serves found request now Risen answer old new → answer ≡ Fixed REGISTRY_EXPIRED → ⊥

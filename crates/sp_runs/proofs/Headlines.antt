@@ -1,56 +1,116 @@
 -- The headline follows from how a run goes.
 use Rattle.std.specs.Prelude.{List, [], ◌∷◌, Option}
 use Rattle.std.specs.List.{AllByRecursion}
-use Rattle.std.proofs.Common.{subst, sym}
+use Rattle.std.proofs.Common.{◌≡◌, ℕ, subst, sym}
 use Rattle.crash_disk.specs.Counts.{Rose}
 use Rattle.crash_disk.specs.Disk.{DiskState}
-use Rattle.conn_table.specs.Table.{Table}
-use Rattle.node_serve.specs.Turns.{Asked, Asks, Turn, Taken, Full, StarvedStart, Over, Unknown, Waiting, Answered, Refused, StarvedPiece, Does, Run, asked_by}
+use Rattle.http_wire.specs.declared.answer.Answer.{Answer}
+use Rattle.http_wire.specs.declared.answer.Answer.TheVariants as answers
+use Rattle.http_wire.specs.Requests.{Request}
+use Rattle.node_serve.specs.Turns.{Asked, Asks, Turn, Taken, Full, StarvedStart, Over, Unknown, Waiting, Answered, Refused, StarvedPiece, asked_by}
 use Rattle.node_serve.specs.Worlds.{World}
 use Rattle.node_runs.specs.Runs.{BadSetUp, NotSetUp, NotOpened, Deaf, Serving}
 use Rattle.sp_server.specs.Histories.{IsProviders}
+use Rattle.sp_server.specs.Logouts.{NothingElseCloses, OnlyWhereAUserLeaves, OnlyWhereSessionsEnd, WhereverAUserLeaves, WhereverSessionsEnd}
+use Rattle.sp_server.specs.Recorded.{WhatIsAnsweredIsRecorded, WhatIsAskedIsRecorded}
 use Rattle.sp_server.specs.Sessions.{OnlyWhereAFormOpens, WhereverAFormOpens}
-use Rattle.sp_server.specs.Step.{Provider, Steps}
-use Rattle.sp_runs.specs.Headline.{ARunCarriesTheHeadline, EachOpensExactly, IsOfASignedLogin, OpensExactly, ServedNothing, ServedSo}
-use Rattle.sp_runs.specs.Laws.{EachSessionWasSigned, WhatARunAcknowledgedIsKeptOnce}
+use Rattle.sp_server.specs.Step.{Provider, Serves, Steps}
+use Rattle.request_ledger.specs.Ledger.{Held}
+use Rattle.sp_runs.specs.Headline.{ARunCarriesTheHeadline, ClosesExactly, EachGoesExactly, GoesExactly, IsRecordedFirst, OpensExactly, ServedNothing, ServedSo}
+use Rattle.sp_runs.specs.Laws.{EachSessionWasSigned, SessionsStayClosedInARun, WhatARunAcknowledgedIsKeptOnce}
 
-module _ (only : OnlyWhereAFormOpens) (wherever : WhereverAFormOpens) (signed : EachSessionWasSigned) where
-  opens_exactly : (asked : Asked Provider) (before told : World Provider) → Asks IsProviders asked before told → OpensExactly asked
-  opens_exactly asked before told asks = record {
-    faults = before.disk_faults;
-    later = told.disk_faults;
-    new = told.node;
-    steps = subst (λ (n : Provider). Steps n asked.disk asked.request asked.now (Rose before.disk_faults told.disk_faults) asked.answer told.node) (sym asks.node)
-        (subst (λ (d : Option DiskState). Steps before.node d asked.request asked.now (Rose before.disk_faults told.disk_faults) asked.answer told.node) (sym asks.disk) asks.answers.does);
-    only = λ held r answers. only asked.node.setup held asked.request asked.now asked.answer r answers;
+-- the laws on which it stands
+pub record Laws : Type 0 where
+  pub opens_only : OnlyWhereAFormOpens
+  pub opens_wherever : WhereverAFormOpens
+  pub signed : EachSessionWasSigned
+  pub only_left : OnlyWhereAUserLeaves
+  pub only_ended : OnlyWhereSessionsEnd
+  pub nothing_else : NothingElseCloses
+  pub wherever_left : WhereverAUserLeaves
+  pub wherever_ended : WhereverSessionsEnd
+  pub posted : WhatIsAnsweredIsRecorded
+  pub requested : WhatIsAskedIsRecorded
+  pub kept : WhatARunAcknowledgedIsKeptOnce
+  pub closed : SessionsStayClosedInARun
+
+-- what a request does, by the provider and the disk that it came to
+stepped : (asked : Asked Provider) (before told : World Provider) → Asks IsProviders asked before told
+    → Steps asked.node asked.disk asked.request asked.now (Rose before.disk_faults told.disk_faults) asked.answer told.node
+stepped asked before told asks =
+    subst (λ (n : Provider). Steps n asked.disk asked.request asked.now (Rose before.disk_faults told.disk_faults) asked.answer told.node) (sym asks.node)
+    (subst (λ (d : Option DiskState). Steps before.node d asked.request asked.now (Rose before.disk_faults told.disk_faults) asked.answer told.node) (sym asks.disk) asks.answers.does)
+
+step_of : (old : Provider) (disk : Option DiskState) (request : Request) (now : ℕ) (Risen : Type 0) (one other : Answer) (new : Provider) → one ≡ other
+    → Steps old disk request now Risen one new → Steps old disk request now Risen other new
+step_of old disk request now Risen one other new same steps = subst (λ (a : Answer). Steps old disk request now Risen a new) same steps
+
+serves_of : (found : Held) (request : Request) (now : ℕ) (Risen : Type 0) (one other : Answer) (old new : Provider) → one ≡ other → Serves found request now Risen one old new
+    → Serves found request now Risen other old new
+serves_of found request now Risen one other old new same serves = subst (λ (a : Answer). Serves found request now Risen a old new) same serves
+
+module _ (laws : Laws) (asked : Asked Provider) where
+  opens_exactly : (before after : World Provider) → OpensExactly asked before after
+  opens_exactly before after = record {
+    only = λ held r answers. laws.opens_only asked.node.setup held asked.request asked.now asked.answer r answers;
     wherever = λ found b row serves opens place calm.
-        wherever found asked.request asked.now before.disk_faults told.disk_faults asked.answer asked.node told.node b row opens place calm serves;
+        laws.opens_wherever found asked.request asked.now before.disk_faults after.disk_faults asked.answer asked.node after.node b row opens place calm serves;
   }
 
-  of_a_login : (asked : Asked Provider) → IsOfASignedLogin asked
-  of_a_login asked = λ issued held r all unforged none gives. signed issued asked.node.setup held asked.request asked.now r asked.answer all unforged none gives
+  closes_exactly : (before after : World Provider) → ClosesExactly asked before after
+  closes_exactly before after = record {
+    only_left = λ held r answers. laws.only_left asked.node.setup held asked.request asked.now asked.answer r answers;
+    only_ended = λ held r answers. laws.only_ended asked.node.setup held asked.request asked.now asked.answer r answers;
+    nothing_else = λ found token row are serves whole live none.
+        laws.nothing_else found asked.request asked.now before.disk_faults after.disk_faults asked.answer asked.node after.node token row are serves whole live none;
+    wherever_left = λ found row serves leaves place calm.
+        laws.wherever_left found asked.request asked.now before.disk_faults after.disk_faults asked.answer asked.node after.node row leaves place calm serves;
+    wherever_ended = λ found message relay token serves ends among place calm.
+        laws.wherever_ended found asked.request asked.now before.disk_faults after.disk_faults asked.answer asked.node after.node message relay token ends among place calm serves;
+  }
 
-  of_turn : (turn : Turn Provider) (old : Table) (given : World Provider) (table : Table) (now : World Provider) → Does IsProviders old given turn table now
-      → AllByRecursion (λ asked. OpensExactly asked × IsOfASignedLogin asked) (asked_by turn)
-  of_turn (Taken conn) old given table now does = tt
-  of_turn (Full conn) old given table now does = tt
-  of_turn (StarvedStart conn) old given table now does = tt
-  of_turn (Over conn) old given table now does = tt
-  of_turn (Unknown conn piece) old given table now does = tt
-  of_turn (Waiting conn piece) old given table now does = tt
-  of_turn (Answered piece asked) old given table now does = ((opens_exactly asked given does.2.told does.2.asks, of_a_login asked), tt)
-  of_turn (Refused conn piece status) old given table now does = tt
-  of_turn (StarvedPiece conn piece) old given table now does = tt
+  recorded_first : (before after : World Provider) → Asks IsProviders asked before after → IsRecordedFirst asked before after
+  recorded_first before after asks = record {
+    posted = λ bytes is posts.
+        laws.posted asked.node after.node asked.disk after.disk asked.request asked.now before.disk_faults after.disk_faults bytes
+        (step_of asked.node asked.disk asked.request asked.now (Rose before.disk_faults after.disk_faults) asked.answer (answers.Full bytes) after.node is (stepped asked before after asks))
+        asks.answers.owns posts;
+    requested = λ found bytes is serves app none.
+        laws.requested found asked.request asked.now before.disk_faults after.disk_faults bytes asked.node after.node after.disk
+        (serves_of found asked.request asked.now (Rose before.disk_faults after.disk_faults) asked.answer (answers.Full bytes) asked.node after.node is serves) asks.answers.owns app none;
+  }
 
-  each_opens : (first : World Provider) (turns : List (Turn Provider)) (table : Table) (now : World Provider) → Run IsProviders first turns table now → EachOpensExactly turns
-  each_opens first [] table now run = tt
-  each_opens first (turn ∷ past) table now run = (of_turn turn run.0 run.2 table now run.5, each_opens first past run.0 run.1 run.3)
+  goes_exactly : GoesExactly asked
+  goes_exactly = record {
+    steps = stepped asked;
+    opens = λ before after asks. opens_exactly before after;
+    closes = λ before after asks. closes_exactly before after;
+    recorded = recorded_first;
+    signed = λ issued held r all unforged none gives. laws.signed issued asked.node.setup held asked.request asked.now r asked.answer all unforged none gives;
+  }
 
-  pub headline : WhatARunAcknowledgedIsKeptOnce → ARunCarriesTheHeadline
-  headline kept told file budget before turns result after (BadSetUp bad line is e bare same) = ServedNothing bare
-  headline kept told file budget before turns result after (NotSetUp why bare same) = ServedNothing bare
-  headline kept told file budget before turns result after (NotOpened why bare same) = ServedNothing bare
-  headline kept told file budget before turns result after (Deaf node opened begins e rose bare same) = ServedNothing bare
-  headline kept told file budget before turns result after (Serving node last opened served begins serves e) =
-      ServedSo node last opened begins (each_opens _ turns serves.kept serves.last serves.run)
-      (λ tells all. kept told file budget before opened after node last turns served tells all begins serves)
+module _ (laws : Laws) where
+  of_turn : (turn : Turn Provider) → AllByRecursion GoesExactly (asked_by turn)
+  of_turn (Taken conn) = tt
+  of_turn (Full conn) = tt
+  of_turn (StarvedStart conn) = tt
+  of_turn (Over conn) = tt
+  of_turn (Unknown conn piece) = tt
+  of_turn (Waiting conn piece) = tt
+  of_turn (Answered piece asked) = (goes_exactly laws asked, tt)
+  of_turn (Refused conn piece status) = tt
+  of_turn (StarvedPiece conn piece) = tt
+
+  each_goes : (turns : List (Turn Provider)) → EachGoesExactly turns
+  each_goes [] = tt
+  each_goes (turn ∷ past) = (of_turn turn, each_goes past)
+
+  pub headline : ARunCarriesTheHeadline
+  headline told file budget before turns result after (BadSetUp bad line is e bare same) = ServedNothing bare
+  headline told file budget before turns result after (NotSetUp why bare same) = ServedNothing bare
+  headline told file budget before turns result after (NotOpened why bare same) = ServedNothing bare
+  headline told file budget before turns result after (Deaf node opened begins e rose bare same) = ServedNothing bare
+  headline told file budget before turns result after (Serving node last opened served begins serves e) =
+      ServedSo node last opened begins (each_goes turns)
+      (λ tells all. laws.kept told file budget before opened after node last turns served tells all begins serves)
+      (λ tells all. laws.closed told file budget before opened after node last turns served tells all begins serves)

@@ -1,6 +1,6 @@
 -- A provider serves by what it was started with, at each request of a run.
 use Rattle.std.specs.Prelude.{Contains, Option, None, Some}
-use Rattle.std.proofs.Common.{◌≡◌, ◌≤◌, ◌⊎◌, inl, inr, ℕ, zero, suc, nat_le, true, false, List, [], ◌∷◌, sym, subst, refl, ap, ◌∙◌, arith}
+use Rattle.std.proofs.Common.{◌≡◌, ◌≤◌, ◌⊎◌, inl, inr, ℕ, zero, suc, nat_le, true, List, [], ◌∷◌, sym, subst, refl, ap, ◌∙◌, arith}
 use Rattle.std.proofs.lemmas.List.Elements.{Contains-append_cases}
 use Rattle.crash_disk.specs.Counts.{Rose}
 use Rattle.crash_disk.specs.Disk.{DiskState}
@@ -15,7 +15,7 @@ use Rattle.sp_server.specs.Step as steps
 use Rattle.sp_server.specs.Step.{Setup, Provider, Answers, Steps, is_expired}
 use Rattle.sp_server.specs.Histories.{IsProviders, Stands, ForRecord, ForNone, ForCode}
 use Rattle.sp_setup.specs.Laws.{ARegistryTellsTheProvider, WithoutARegistryNothingEnds}
-use Rattle.sp_runs.specs.Laws.{ARunUsesWhatItsRegistryLists, EachRequestIsServedByTheSameSetup, AnEndedRegistryOpensNothing, AnEndedRegistryAsksNothing, AsksAndOpensNothing, WithoutARegistryNothingIsExpired, is_of_login}
+use Rattle.sp_runs.specs.Laws.{ARunUsesWhatItsRegistryLists, EachRequestIsServedByTheSameSetup, AnEndedRegistryRecordsNothing, AnEndedRegistryAsksNothing, AsksAndOpensNothing, WithoutARegistryNothingIsExpired}
 use Rattle.sp_setup.specs.Setup as setups
 use Rattle.node_runs.specs.Runs.{world_of}
 use Rattle.sp_runs.specs.Runs.{served_by}
@@ -107,11 +107,18 @@ ended_adds setup held request now answer adds r ended some (steps.ByAsking bytes
 ended_adds setup held request now answer adds r ended some (steps.ByOpening b row to unexpired opens token is has shown) = let e = sym ended ∙ unexpired in cc
 ended_adds setup held request now answer adds r ended some (steps.ByVerdict verdict to unexpired refused is none) = cc
 ended_adds setup held request now answer adds r ended some (steps.ByExpiry at expired is none) = cc
+ended_adds setup held request now answer adds r ended some (steps.ByLeaving row id bytes to unexpired found is has leaves shown) = let e = sym ended ∙ unexpired in cc
+ended_adds setup held request now answer adds r ended some (steps.ByNoSession to unexpired found is none) = cc
+ended_adds setup held request now answer adds r ended some (steps.ByLogoutVerdict verdict to unexpired refused is none) = cc
+ended_adds setup held request now answer adds r ended some (steps.ByEnding asked relay id bytes to unexpired obeyed any is has ends shown) = let e = sym ended ∙ unexpired in cc
+ended_adds setup held request now answer adds r ended some (steps.ByNothingToEnd asked relay to unexpired obeyed empty is none) = cc
+ended_adds setup held request now answer adds r ended some (steps.ByConfirming response to unexpired obeyed awaited is shown) = let e = sym ended ∙ unexpired in cc
+ended_adds setup held request now answer adds r ended some (steps.ByUnknownLogout response to unexpired obeyed unknown is none) = cc
 
-stands_for_none : (asked : Asked Provider) (stood : Option SpRecord) (r : SpRecord) → is_expired asked.node.setup.expiry asked.now ≡ true → stood ≡ Some r → Stands asked stood → is_of_login r ≡ false
-stands_for_none asked stood r ended some (ForRecord held other answers) = absurd (ended_adds asked.node.setup held asked.request asked.now asked.answer (Some other) other ended refl answers)
-stands_for_none asked stood r ended some (ForNone held answers) = absurd (cc)
-stands_for_none asked stood r ended some (ForCode code is) = absurd (cc)
+stands_for_none : (asked : Asked Provider) (stood : Option SpRecord) (r : SpRecord) → is_expired asked.node.setup.expiry asked.now ≡ true → stood ≡ Some r → Stands asked stood → ⊥
+stands_for_none asked stood r ended some (ForRecord held other answers) = ended_adds asked.node.setup held asked.request asked.now asked.answer (Some other) other ended refl answers
+stands_for_none asked stood r ended some (ForNone held answers) = cc
+stands_for_none asked stood r ended some (ForCode code is) = cc
 
 at_or_after : (until now : ℕ) → until ≤ now → nat_le until now ≡ true
 at_or_after until now late = grind (arith, Rattle.std.proofs.lemmas.Bool.Decides.nat_tests)
@@ -122,7 +129,7 @@ is_over : (asked : Asked Provider) (until : ℕ) (setup : setups.Setup) → aske
 is_over asked until setup by ends late =
     ap (λ (s : Setup). is_expired s.expiry asked.now) by ∙ ap (λ (e : Option ℕ). is_expired e asked.now) ends ∙ at_or_after until asked.now late
 
-pub ended : AnEndedRegistryOpensNothing
+pub ended : AnEndedRegistryRecordsNothing
 ended told file budget before opened after provider last turns served asked until r begins serves ends there late stands =
     let by = served_by_one told file budget before opened after provider last turns served asked begins serves there in
     stands_for_none asked (Some r) r (is_over asked until begins.setup by ends late) refl stands
@@ -137,6 +144,13 @@ without setup held request now answer adds over (steps.ByAsking bytes to unexpir
 without setup held request now answer adds over (steps.ByOpening b row to unexpired opens token is has shown) = absurd (let e = sym over ∙ unexpired in cc)
 without setup held request now answer adds over (steps.ByVerdict verdict to unexpired refused is none) = inl (_, is)
 without setup held request now answer adds over (steps.ByExpiry at expired is none) = inl (steps.REGISTRY_EXPIRED, is)
+without setup held request now answer adds over (steps.ByLeaving row id bytes to unexpired found is has leaves shown) = absurd (let e = sym over ∙ unexpired in cc)
+without setup held request now answer adds over (steps.ByNoSession to unexpired found is none) = inl (_, is)
+without setup held request now answer adds over (steps.ByLogoutVerdict verdict to unexpired refused is none) = inl (_, is)
+without setup held request now answer adds over (steps.ByEnding asked relay id bytes to unexpired obeyed any is has ends shown) = absurd (let e = sym over ∙ unexpired in cc)
+without setup held request now answer adds over (steps.ByNothingToEnd asked relay to unexpired obeyed empty is none) = inl (_, is)
+without setup held request now answer adds over (steps.ByConfirming response to unexpired obeyed awaited is shown) = absurd (let e = sym over ∙ unexpired in cc)
+without setup held request now answer adds over (steps.ByUnknownLogout response to unexpired obeyed unknown is none) = inl (_, is)
 
 serves_without : (found : Held) (request : Request) (now : ℕ) (Risen : Type 0) (answer : Answer) (old new : Provider) → is_expired old.setup.expiry now ≡ true →
     steps.Serves found request now Risen answer old new → AsksAndOpensNothing old.setup request answer

@@ -30,7 +30,16 @@ shown setup held request now answer adds row app live (steps.ByAsking bytes to n
 shown setup held request now answer adds row app live (steps.ByOpening b asked to unexpired opens token is has what) = absurd (let e = sym app ∙ to in cc)
 shown setup held request now answer adds row app live (steps.ByVerdict verdict to unexpired refused is none) = absurd (let e = sym app ∙ to in cc)
 shown setup held request now answer adds row app live (steps.ByExpiry (inl to) expired is none) = absurd (let e = sym app ∙ to in cc)
-shown setup held request now answer adds row app live (steps.ByExpiry (inr at) expired is none) = absurd (let e = sym live ∙ at.1 in cc)
+shown setup held request now answer adds row app live (steps.ByExpiry (inr (inl at)) expired is none) = absurd (let e = sym live ∙ at.1 in cc)
+shown setup held request now answer adds row app live (steps.ByExpiry (inr (inr (inl to))) expired is none) = absurd (let e = sym app ∙ to in cc)
+shown setup held request now answer adds row app live (steps.ByExpiry (inr (inr (inr to))) expired is none) = absurd (let e = sym app ∙ to in cc)
+shown setup held request now answer adds row app live (steps.ByLeaving found id bytes to unexpired session is has leaves what) = absurd (let e = sym app ∙ to in cc)
+shown setup held request now answer adds row app live (steps.ByNoSession to unexpired found is none) = absurd (let e = sym app ∙ to in cc)
+shown setup held request now answer adds row app live (steps.ByLogoutVerdict verdict to unexpired refused is none) = absurd (let e = sym app ∙ to in cc)
+shown setup held request now answer adds row app live (steps.ByEnding asked relay id bytes to unexpired obeyed any is has ends what) = absurd (let e = sym app ∙ to in cc)
+shown setup held request now answer adds row app live (steps.ByNothingToEnd asked relay to unexpired obeyed empty is none) = absurd (let e = sym app ∙ to in cc)
+shown setup held request now answer adds row app live (steps.ByConfirming response to unexpired obeyed awaited is what) = absurd (let e = sym app ∙ to in cc)
+shown setup held request now answer adds row app live (steps.ByUnknownLogout response to unexpired obeyed unknown is none) = absurd (let e = sym app ∙ to in cc)
 
 no_record : (setup : Setup) (held : Held) (request : Request) (now : ℕ) (answer : Answer) (r : SpRecord) (row : OpenedRow) → route request ≡ To App →
     session_for held now request ≡ Some row → Answers setup held request now answer (Some r) → ⊥

@@ -1,5 +1,5 @@
 -- What a provider serves by, behind its start.
-use Rattle.std.proofs.Common.{◌≡◌, ℕ, List, Option, None, Some, refl, sym, ap, ◌∙◌}
+use Rattle.std.proofs.Common.{◌≡◌, ℕ, List, Option, None, Some, refl, ap}
 use Rattle.access_policy.specs.declared.rule.Rule.{Rule}
 use Rattle.sp_rules.specs.declared.config.SpConfig.{SpConfig}
 use Rattle.sp_server.specs.Step.{Setup, Provider}

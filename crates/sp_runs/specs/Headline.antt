@@ -1,46 +1,89 @@
 -- What a run of a service provider comes to: sessions are opened exactly where a posted form opens one, no request opens two, and where
--- only the identity provider makes HMACs that match, each session is a login that it signed.
-use Rattle.std.specs.Prelude.{◌≡◌, ◌⊎◌, ℕ, List, [], ◌∷◌, Option, IsSome, Some, Result}
+-- only the identity provider makes HMACs that match, each session is a login that it signed; they are closed exactly where their users
+-- leave them or the identity provider ends them, and one that is closed is never live again.
+use Rattle.std.specs.Prelude.{◌≡◌, ◌⊎◌, ℕ, true, false, List, [], ◌∷◌, Option, IsSome, None, Some, Result}
 use Rattle.std.specs.List.{AllByRecursion}
 use Rattle.saml_outside.specs.Files.{File}
 use Rattle.crash_disk.specs.Counts.{Rose}
-use Rattle.http_wire.specs.declared.answer.Answer.TheVariants.{Fixed}
+use Rattle.http_wire.specs.declared.answer.Answer.TheVariants.{Fixed, Full}
+use Rattle.ledger_records.specs.declared.sp_record.Ended.{Ended as EndedRecord}
+use Rattle.ledger_records.specs.declared.sp_record.Left.{Left as LeftRecord}
 use Rattle.ledger_records.specs.declared.sp_record.Opened.{Opened as OpenedRecord}
 use Rattle.ledger_records.specs.declared.sp_record.SpRecord.{SpRecord}
 use Rattle.ledger_records.specs.declared.sp_record.SpRecord.TheVariants as kinds
 use Rattle.login_origin.specs.Signed.{Signed, IsSigned}
 use Rattle.login_origin.specs.Premises.{Unforged, NoCollision}
 use Rattle.login_origin.specs.Origin.{IsLoginOf}
-use Rattle.node_serve.specs.Turns.{Asked, Turn, asked_by}
+use Rattle.node_serve.specs.Turns.{Asked, Asks, Turn, asked_by}
+use Rattle.node_serve.specs.Worlds.{World}
+use Rattle.protocol_messages.specs.declared.logout.LogoutRequest.{LogoutRequest}
 use Rattle.request_ledger.specs.Ledger.{Held, held_with}
+use Rattle.request_ledger.specs.Record.{AreRecords}
+use Rattle.request_ledger.specs.RowsOf.{is_among, rows_of}
 use Rattle.request_rows.specs.declared.row.AskedRow.{AskedRow}
+use Rattle.request_rows.specs.declared.row.OpenedRow.{OpenedRow}
+use Rattle.request_rows.specs.Rows.{session_row}
 use Rattle.sp_rules.specs.Opening.{Brought}
-use Rattle.sp_server.specs.Histories.{AreTold, AreKeptOnce}
+use Rattle.sp_server.specs.Histories.{IsProviders, AreTold, AreKeptOnce}
+use Rattle.sp_server.specs.Logouts.{EndsOver, IsClosed, IsClosedWith, IsEndedBy, IsLeftBy, LeavesOver, StayClosed, points}
+use Rattle.sp_server.specs.Recorded.{IsRecorded, TakesPosts}
+use Rattle.sp_server.specs.Routes.{App, To, route}
 use Rattle.sp_server.specs.Sessions.{GivesSession, OpensOver, record_of}
-use Rattle.sp_server.specs.Step.{Provider, Answers, HasPlace, NO_MEMORY, Serves, Steps}
+use Rattle.sp_server.specs.Step.{Provider, Answers, HasPlace, NO_MEMORY, Serves, Steps, ended_by, ended_record, left_record, session_for}
 use Rattle.node_runs.specs.Runs.{Outside, world_of}
 use Rattle.node_runs.specs.declared.ended.Ended.{Ended}
 use Rattle.node_runs.specs.declared.ended.RunFault.{RunFault}
 use Rattle.sp_runs.specs.Runs.{Begins, Runs}
 
--- ---- one request
+-- ---- one request, which the provider was asked in one world, and which left another behind
 
--- Of a request that the provider was asked, and answered by one step: a session is recorded with its answer only where the posted form
--- opens it. And wherever a form does, over the ledger that the step found, where there is room and the disk does not fail, the session
--- is recorded and given; or there was no memory.
-pub record OpensExactly (asked : Asked Provider) : Type 0 where
-  pub faults : ℕ
-  pub later : ℕ
-  pub new : Provider
-  pub steps : Steps asked.node asked.disk asked.request asked.now (Rose faults later) asked.answer new
+-- A session is recorded with its answer only where the posted form opens it. And wherever a form does, over the ledger that the step found,
+-- where there is room and the disk does not fail, the session is recorded and given; or there was no memory.
+pub record OpensExactly (asked : Asked Provider) (before after : World Provider) : Type 0 where
   pub only : (held : Held) (r : OpenedRecord) → Answers asked.node.setup held asked.request asked.now asked.answer (Some (kinds.Opened r))
       → GivesSession asked.node.setup held asked.request asked.now (kinds.Opened r) asked.answer
-  pub wherever : (found : Held) (b : Brought) (row : AskedRow) → Serves found asked.request asked.now (Rose faults later) asked.answer asked.node new
+  pub wherever : (found : Held) (b : Brought) (row : AskedRow)
+      → Serves found asked.request asked.now (Rose before.disk_faults after.disk_faults) asked.answer asked.node after.node
       → OpensOver asked.node.setup found asked.request asked.now b row
       → ((other : Brought) (for_other : AskedRow) → OpensOver asked.node.setup found asked.request asked.now other for_other → HasPlace found (record_of asked.node.setup found asked.now other))
-      → ¬ (Rose faults later)
+      → ¬ (Rose before.disk_faults after.disk_faults)
       → (asked.answer ≡ Fixed NO_MEMORY)
-      ⊎ ((r : SpRecord) × GivesSession asked.node.setup found asked.request asked.now r asked.answer × (new.ledger.held ≡ held_with r found))
+      ⊎ ((r : SpRecord) × GivesSession asked.node.setup found asked.request asked.now r asked.answer × (after.node.ledger.held ≡ held_with r found))
+
+-- A session is closed with its answer only by a Left of its token, which a POST to /logout with its cookie adds while it lives, or by an
+-- Ended that lists it, which a request with a LogoutRequest of the identity provider that is obeyed adds; nothing else closes one. And
+-- wherever one of them does, over the ledger that the step found, where there is room and the disk does not fail, the session is closed
+-- behind the step; or there was no memory.
+pub record ClosesExactly (asked : Asked Provider) (before after : World Provider) : Type 0 where
+  pub only_left : (held : Held) (r : LeftRecord) → Answers asked.node.setup held asked.request asked.now asked.answer (Some (kinds.Left r))
+      → IsLeftBy asked.node.setup held asked.request asked.now r
+  pub only_ended : (held : Held) (r : EndedRecord) → Answers asked.node.setup held asked.request asked.now asked.answer (Some (kinds.Ended r))
+      → IsEndedBy asked.node.setup held asked.request asked.now r
+  pub nothing_else : (found : Held) (token : List ℕ) (row : OpenedRow) → AreRecords found.records
+      → Serves found asked.request asked.now (Rose before.disk_faults after.disk_faults) asked.answer asked.node after.node → after.node.ledger.broken ≡ false
+      → session_row (rows_of found.records).opened token asked.now found.header.horizon ≡ Some row
+      → session_row (rows_of after.node.ledger.held.records).opened token asked.now after.node.ledger.held.header.horizon ≡ None
+      → IsClosedWith asked.node.setup found asked.request asked.now asked.answer token
+  pub wherever_left : (found : Held) (row : OpenedRow)
+      → Serves found asked.request asked.now (Rose before.disk_faults after.disk_faults) asked.answer asked.node after.node
+      → LeavesOver asked.node.setup found asked.request asked.now row → HasPlace found (left_record asked.node.setup.config found asked.now row.token)
+      → ¬ (Rose before.disk_faults after.disk_faults)
+      → (asked.answer ≡ Fixed NO_MEMORY) ⊎ IsClosed after.node.ledger.held row.token
+  pub wherever_ended : (found : Held) (message : LogoutRequest) (relay : Option (List ℕ)) (token : List ℕ)
+      → Serves found asked.request asked.now (Rose before.disk_faults after.disk_faults) asked.answer asked.node after.node
+      → EndsOver asked.node.setup asked.request asked.now message relay → is_among token (ended_by asked.node.setup.config found asked.now message) ≡ true
+      → HasPlace found (ended_record asked.node.setup.config found asked.now message) → ¬ (Rose before.disk_faults after.disk_faults)
+      → (asked.answer ≡ Fixed NO_MEMORY) ⊎ IsClosed after.node.ledger.held token
+
+-- Each form and each page that is answered to what is posted, and each form that asks for a login, stands for one record, which is in every
+-- image that a crash may leave once the provider has answered, before a byte is sent.
+pub record IsRecordedFirst (asked : Asked Provider) (before after : World Provider) : Type 0 where
+  pub posted : (bytes : List ℕ) → asked.answer ≡ Full bytes → TakesPosts (route asked.request)
+      → IsRecorded asked.node.setup asked.request asked.now (Full bytes) after.disk
+  pub requested : (found : Held) (bytes : List ℕ) → asked.answer ≡ Full bytes
+      → Serves found asked.request asked.now (Rose before.disk_faults after.disk_faults) asked.answer asked.node after.node
+      → route asked.request ≡ To App → session_for found asked.now asked.request ≡ None
+      → IsRecorded asked.node.setup asked.request asked.now (Full bytes) after.disk
 
 -- Each session that is given with its answer is of a login that was signed: for every list of what an identity provider signed, where
 -- no HMAC is forged and no hash collides in the posted form.
@@ -51,19 +94,30 @@ IsOfASignedLogin asked =
 
 -- ---- the run
 
--- so it is of each request that the provider was asked
-abbrev pub EachOpensExactly : List (Turn Provider) → Type 0
-EachOpensExactly [] = Unit {0}
-EachOpensExactly (turn ∷ past) = AllByRecursion (λ asked. OpensExactly asked × IsOfASignedLogin asked) (asked_by turn) × EachOpensExactly past
+-- a request is answered by one step, and so it is of it, whatever the worlds are in which the provider was asked
+pub record GoesExactly (asked : Asked Provider) : Type 0 where
+  pub steps : (before after : World Provider) → Asks IsProviders asked before after
+      → Steps asked.node asked.disk asked.request asked.now (Rose before.disk_faults after.disk_faults) asked.answer after.node
+  pub opens : (before after : World Provider) → Asks IsProviders asked before after → OpensExactly asked before after
+  pub closes : (before after : World Provider) → Asks IsProviders asked before after → ClosesExactly asked before after
+  pub recorded : (before after : World Provider) → Asks IsProviders asked before after → IsRecordedFirst asked before after
+  pub signed : IsOfASignedLogin asked
 
--- A run that served nothing, or one that served: each request opened sessions exactly, of logins that were signed; and where the disk
--- tells, what the answers acknowledged is in the history of every ledger that a crash may leave behind the run, and no two sessions are
--- of one request, those at the start and those that were let go included.
+-- and of each request that the provider was asked
+abbrev pub EachGoesExactly : List (Turn Provider) → Type 0
+EachGoesExactly [] = Unit {0}
+EachGoesExactly (turn ∷ past) = AllByRecursion GoesExactly (asked_by turn) × EachGoesExactly past
+
+-- A run that served nothing, or one that served: each request opened and closed sessions exactly, those that it opened of logins that were
+-- signed, and was answered once its record was durable; and where the disk tells, what the answers acknowledged is in the history of every
+-- ledger that a crash may leave behind the run, no two sessions are of one request, those at the start and those that were let go included,
+-- and a session that is closed is live at no later request, and in no ledger that a crash may leave since.
 pub data Headline (told : Option (List File)) (file : List ℕ) (before : Outside) (turns : List (Turn Provider)) (after : Outside) : Type 0 where
   ServedNothing : turns ≡ [] → Headline told file before turns after
   ServedSo : (provider last : Provider) (opened : Outside) → Begins told file before provider opened
-      → EachOpensExactly turns
+      → EachGoesExactly turns
       → (IsSome before.disk → AreTold turns → AreKeptOnce (world_of provider opened) (world_of last after) turns)
+      → (IsSome before.disk → AreTold turns → StayClosed (points (world_of provider opened) turns (world_of last after)))
       → Headline told file before turns after
 
 -- The headline holds of each run.

@@ -1,5 +1,5 @@
 -- The laws of whole runs.
-use Rattle.std.specs.Prelude.{◌≡◌, ◌≢◌, ◌≤◌, ◌⊎◌, ℕ, Bool, true, false, List, Contains, Option, IsSome, Some, Ok, Result}
+use Rattle.std.specs.Prelude.{◌≡◌, ◌≢◌, ◌≤◌, ◌⊎◌, ℕ, false, List, Contains, Option, IsSome, Some, Ok, Result}
 use Rattle.std.specs.List.{AllByRecursion}
 use Rattle.saml_outside.specs.Files.{File}
 use Rattle.crash_disk.specs.Counts.{Rose}
@@ -8,7 +8,6 @@ use Rattle.http_wire.specs.declared.answer.Answer.{Answer}
 use Rattle.http_wire.specs.declared.answer.Answer.TheVariants.{Fixed, Full}
 use Rattle.http_wire.specs.Requests.{Request}
 use Rattle.ledger_records.specs.declared.sp_record.SpRecord.{SpRecord}
-use Rattle.ledger_records.specs.declared.sp_record.SpRecord.TheVariants as kinds
 use Rattle.login_origin.specs.Signed.{Signed, IsSigned}
 use Rattle.login_origin.specs.Premises.{Unforged, NoCollision}
 use Rattle.login_origin.specs.Origin.{IsLoginOf}
@@ -26,6 +25,7 @@ use Rattle.sp_server.specs.Routes.{App, To, route}
 use Rattle.sp_server.specs.Step.{Provider, Setup, Steps, session_for, shown_to, NO_MEMORY, REGISTRY_EXPIRED}
 use Rattle.sp_server.specs.Sessions.{GivesSession}
 use Rattle.sp_server.specs.Histories.{IsProviders, Stands, AreTold, AreKeptOnce}
+use Rattle.sp_server.specs.Logouts.{StayClosed, points}
 use Rattle.sp_setup.specs.Laws.{IsFromRegistry}
 use Rattle.node_runs.specs.Runs.{Outside, world_of}
 use Rattle.sp_runs.specs.Runs.{Begins, served_by}
@@ -42,6 +42,14 @@ WhatARunAcknowledgedIsKeptOnce =
     → IsSome before.disk → AreTold turns → Begins told file before provider opened
     → Serves IsProviders budget turns (world_of provider opened) served (world_of last after)
     → AreKeptOnce (world_of provider opened) (world_of last after) turns
+
+-- And a session that is closed is live at no later request of such a run, and in no ledger that a crash may leave since.
+abbrev pub SessionsStayClosedInARun : Type 0
+SessionsStayClosedInARun =
+    (told : Option (List File)) (file : List ℕ) (budget : ℕ) (before opened after : Outside) (provider last : Provider) (turns : List (Turn Provider)) (served : Result Served ServeFault)
+    → IsSome before.disk → AreTold turns → Begins told file before provider opened
+    → Serves IsProviders budget turns (world_of provider opened) served (world_of last after)
+    → StayClosed (points (world_of provider opened) turns (world_of last after))
 
 -- If only the identity provider makes HMACs that match, and no other text has the hash of one that it signed, then each session that
 -- is given is that of a login which it signed.
@@ -68,19 +76,14 @@ EachRequestIsServedByTheSameSetup =
     → Serves IsProviders budget turns (world_of provider opened) served (world_of last after)
     → Contains (asked_in turns) asked → asked.node.setup ≡ served_by begins.setup
 
--- the record is of a request that was asked, or of a session that was opened
-abbrev pub is_of_login : SpRecord → Bool
-is_of_login (kinds.Asked r) = true
-is_of_login (kinds.Opened r) = true
-is_of_login other = false
-
--- From the moment on at which its registry ends no answer of a run stands for a request that was asked or a session that was opened.
-abbrev pub AnEndedRegistryOpensNothing : Type 0
-AnEndedRegistryOpensNothing =
+-- From the moment on at which its registry ends no answer of a run stands for a record: no login is asked for, no session is opened, and
+-- none is left or ended.
+abbrev pub AnEndedRegistryRecordsNothing : Type 0
+AnEndedRegistryRecordsNothing =
     (told : Option (List File)) (file : List ℕ) (budget : ℕ) (before opened after : Outside) (provider last : Provider) (turns : List (Turn Provider)) (served : Result Served ServeFault)
     (asked : Asked Provider) (until : ℕ) (r : SpRecord) → (begins : Begins told file before provider opened)
     → Serves IsProviders budget turns (world_of provider opened) served (world_of last after)
-    → begins.setup.expiry ≡ Some until → Contains (asked_in turns) asked → until ≤ asked.now → Stands asked (Some r) → is_of_login r ≡ false
+    → begins.setup.expiry ≡ Some until → Contains (asked_in turns) asked → until ≤ asked.now → ¬ (Stands asked (Some r))
 
 -- an answer that is no form which asks for a login, and gives no session: a code, the metadata, or the page of a session that lives
 abbrev pub AsksAndOpensNothing : Setup → Request → Answer → Type 0

@@ -1,6 +1,6 @@
 //! The laws of whole runs, each the contract of a function that does nothing.
 ghost use Rattle.sp_runs.specs.Headline.{ARunCarriesTheHeadline};
-ghost use Rattle.sp_runs.specs.Laws.{AnEndedRegistryAsksNothing, AnEndedRegistryOpensNothing, ARunUsesWhatItsRegistryLists, ASessionIsShownByItsRow, EachRequestIsServedByTheSameSetup, EachSessionWasSigned, EqualRowsAreShownAlike, NoImageHasARequestTwice, WhatARunAcknowledgedIsKeptOnce, WithoutARegistryNothingIsExpired};
+ghost use Rattle.sp_runs.specs.Laws.{AnEndedRegistryAsksNothing, AnEndedRegistryRecordsNothing, ARunUsesWhatItsRegistryLists, ASessionIsShownByItsRow, EachRequestIsServedByTheSameSetup, EachSessionWasSigned, EqualRowsAreShownAlike, NoImageHasARequestTwice, SessionsStayClosedInARun, WhatARunAcknowledgedIsKeptOnce, WithoutARegistryNothingIsExpired};
 
 use request_ledger::laws::{images_hold_records, no_request_opens_twice};
 
@@ -22,6 +22,14 @@ pub fn what_a_run_acknowledged_is_kept_once()
     sp_server::laws::what_is_acknowledged_is_kept_once();
 }
 
+/// In such a run a session that is closed is live at no later request, and in no ledger that a crash may leave since.
+pub fn sessions_stay_closed_in_a_run()
+    ensures { SessionsStayClosedInARun }
+{
+    images_hold_records();
+    sp_server::laws::sessions_stay_closed_in_a_service();
+}
+
 /// If only the identity provider makes HMACs that match, and no other text has the hash of one that it signed: each session
 /// that is given is that of a login which it signed.
 pub fn each_session_was_signed()
@@ -32,11 +40,12 @@ pub fn each_session_was_signed()
 
 /// A run whose config has a registry has its identity provider from the one descriptor of that name that the registry lists,
 /// inside the element that the signature covers, at each of its requests; and from the moment on at which the registry ends it
-/// asks for no login and opens no session. A run whose config has none never answers that one has ended.
+/// asks for no login, opens no session and serves no logout: nothing is recorded. A run whose config has none never answers that
+/// one has ended.
 pub fn a_registry_tells_and_ends()
     ensures tells { ARunUsesWhatItsRegistryLists }
     ensures same { EachRequestIsServedByTheSameSetup }
-    ensures ends { AnEndedRegistryOpensNothing }
+    ensures ends { AnEndedRegistryRecordsNothing }
     ensures asks { AnEndedRegistryAsksNothing }
     ensures without { WithoutARegistryNothingIsExpired }
 {
@@ -50,11 +59,16 @@ pub fn a_session_is_shown_by_its_row()
 {}
 
 /// A run opens sessions exactly where a posted form opens one, each of a login that was signed where only the identity provider
-/// makes HMACs that match, and no two sessions are of one request, wherever a crash stops.
+/// makes HMACs that match, and no two sessions are of one request, wherever a crash stops. It closes sessions exactly where their
+/// users leave them or the identity provider ends them, and one that is closed is never live again. No message of a logout is sent
+/// before its record is durable.
 pub fn a_run_carries_the_headline()
     ensures { ARunCarriesTheHeadline }
 {
     sp_server::laws::a_session_opens_exactly();
+    sp_server::laws::a_session_is_closed_exactly();
+    sp_server::laws::what_is_answered_is_recorded();
     each_session_was_signed();
     what_a_run_acknowledged_is_kept_once();
+    sessions_stay_closed_in_a_run();
 }

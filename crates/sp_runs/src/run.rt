@@ -138,7 +138,8 @@ pub fn run_sp<F: Files, L: Link, D: Disk, C: Clock>(
     budget: u64,
 ) -> Result<Ended, RunFault>
     // The run goes so; it opens sessions exactly where a posted form opens one, each of a login that was signed, and no two of one
-    // request; and a crash at any moment of it leaves what one inside the opening or inside an answer may leave.
+    // request; it closes them exactly where their users leave them or the identity provider ends them, for good; and a crash at any
+    // moment of it leaves what one inside the opening or inside an answer may leave.
     ensures runs { (turns : List (Turn Provider))
         × Runs (F.holds files.old) config.now budget (outside (D.told disk.old) (D.faults_of disk.old) (L.told link.old) (L.faults_of link.old) (L.send_faults_of link.old) (C.to_come clock.old)) turns result (outside (D.told disk.new) (D.faults_of disk.new) (L.told link.new) (L.faults_of link.new) (L.send_faults_of link.new) (C.to_come clock.new))
         × Headline (F.holds files.old) config.now (outside (D.told disk.old) (D.faults_of disk.old) (L.told link.old) (L.faults_of link.old) (L.send_faults_of link.old) (C.to_come clock.old)) turns (outside (D.told disk.new) (D.faults_of disk.new) (L.told link.new) (L.faults_of link.new) (L.send_faults_of link.new) (C.to_come clock.new))

@@ -16,11 +16,11 @@ use Rattle.node_serve.specs.Turns.{Asked, Turn, Taken, Full, StarvedStart, Over,
 use Rattle.sp_server.specs.Step.{Provider}
 use Rattle.sp_server.specs.Histories.{IsProviders, Includes, Nothing, This, Another, CameFrom, AreAcknowledged, AreTold, IsAtStart, WhatIsAcknowledgedIsKeptOnce}
 use Rattle.sp_server.proofs.Serving.{settled}
-use Rattle.sp_server.proofs.Histories.{SessionsHoldTexts, Holds, holds_same, asked_goes}
+use Rattle.sp_server.proofs.Histories.{HoldTexts, Holds, holds_same, asked_goes}
 
 -- ---- the world from turn to turn
 
-module _ (texts : SessionsHoldTexts) (start : Held) where
+module _ (texts : HoldTexts) (start : Held) where
   -- the records that were acknowledged in turns, and what is known then
   record Knows (turns : List (Turn Provider)) (w : World Provider) : Type 0 where
     records : List SpRecord
@@ -64,10 +64,11 @@ module _ (texts : SessionsHoldTexts) (start : Held) where
       passes past turn old kept given last told.0 does (record { records = knows.records; are = knows.are; holds = given_holds })
 
 -- at the start
-begins : (texts : SessionsHoldTexts) (first : World Provider) → IsAtStart first → Holds texts first.node.ledger.held first []
+begins : (texts : HoldTexts) (first : World Provider) → IsAtStart first → Holds texts first.node.ledger.held first []
 begins texts first at =
     let came : CameFrom first.node.ledger.held [] first.node.ledger.held = record { events = []; leads = refl; includes = Nothing } in
     record {
+      begun = at.records;
       witness = (first.node.ledger.held, came);
       node = λ _. came;
       disk = λ image left. (first.node.ledger.held, settled first.disk first.node.ledger image at.whole at.own left, came);
@@ -125,7 +126,7 @@ still_differ (Opens ∷ past) records base (Another includes) different = still_
 
 -- ---- the law
 
-pub kept_once : SessionsHoldTexts → NoRequestOpensTwiceInARun → WhatIsAcknowledgedIsKeptOnce
+pub kept_once : HoldTexts → NoRequestOpensTwiceInARun → WhatIsAcknowledgedIsKeptOnce
 kept_once texts never_twice first last turns kept at told run =
     let start = first.node.ledger.held in
     let knows = known texts start first last turns kept (begins texts first at) told run in

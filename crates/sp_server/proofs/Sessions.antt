@@ -41,6 +41,13 @@ given setup held request now answer adds r some (steps.ByOpening b row to unexpi
     }
 given setup held request now answer adds r some (steps.ByVerdict verdict to unexpired refused is none) = absurd (cc)
 given setup held request now answer adds r some (steps.ByExpiry at expired is none) = absurd (cc)
+given setup held request now answer adds r some (steps.ByLeaving row id bytes to unexpired live is has leaves shown) = absurd (cc)
+given setup held request now answer adds r some (steps.ByNoSession to unexpired none is nothing) = absurd (cc)
+given setup held request now answer adds r some (steps.ByLogoutVerdict verdict to unexpired refused is none) = absurd (cc)
+given setup held request now answer adds r some (steps.ByEnding asked relay id bytes to unexpired obeyed any is has ends shown) = absurd (cc)
+given setup held request now answer adds r some (steps.ByNothingToEnd asked relay to unexpired obeyed none is nothing) = absurd (cc)
+given setup held request now answer adds r some (steps.ByConfirming response to unexpired obeyed waits is shown) = absurd (cc)
+given setup held request now answer adds r some (steps.ByUnknownLogout response to unexpired obeyed none is nothing) = absurd (cc)
 
 pub only_where : OnlyWhereAFormOpens
 only_where setup held request now answer r answers = given setup held request now answer (Some (kinds.Opened r)) r refl answers
@@ -65,6 +72,13 @@ answered not_refused setup held request now answer adds b row over (steps.ByOpen
 answered not_refused setup held request now answer adds b row over (steps.ByVerdict verdict to unexpired refused is none) =
     absurd (not_refused setup.config _ held.header.horizon now request.body b row verdict over.opens refused)
 answered not_refused setup held request now answer adds b row over (steps.ByExpiry at expired is none) = absurd (let e = sym over.unexpired ∙ expired in cc)
+answered not_refused setup held request now answer adds b row over (steps.ByLeaving left id bytes to unexpired live is has leaves shown) = absurd (let e = sym over.posted ∙ to in cc)
+answered not_refused setup held request now answer adds b row over (steps.ByNoSession to unexpired none is nothing) = absurd (let e = sym over.posted ∙ to in cc)
+answered not_refused setup held request now answer adds b row over (steps.ByLogoutVerdict verdict to unexpired refused is none) = absurd (let e = sym over.posted ∙ to in cc)
+answered not_refused setup held request now answer adds b row over (steps.ByEnding asked relay id bytes to unexpired obeyed any is has ends shown) = absurd (let e = sym over.posted ∙ to in cc)
+answered not_refused setup held request now answer adds b row over (steps.ByNothingToEnd asked relay to unexpired obeyed none is nothing) = absurd (let e = sym over.posted ∙ to in cc)
+answered not_refused setup held request now answer adds b row over (steps.ByConfirming response to unexpired obeyed waits is shown) = absurd (let e = sym over.posted ∙ to in cc)
+answered not_refused setup held request now answer adds b row over (steps.ByUnknownLogout response to unexpired obeyed none is nothing) = absurd (let e = sym over.posted ∙ to in cc)
 
 -- there was room for what was wanted
 had_room : (setup : Setup) (found : Held) (request : Request) (now : ℕ) (other : Answer) (wanted : SpRecord)

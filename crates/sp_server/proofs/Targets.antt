@@ -10,7 +10,7 @@ use Rattle.xml_spec.proofs.Tests.{and_true, both_true}
 use Rattle.http_wire.specs.declared.method.Method.{Method}
 use Rattle.http_wire.specs.Requests.{Request}
 use Rattle.ledger_rules.specs.Numbers.{is_xml_text}
-use Rattle.sp_server.specs.Routes.{To, Refused, Service, App, Consumer, Metadata, checked, is_method, is_path_byte, is_target, is_typed, route, service_at}
+use Rattle.sp_server.specs.Routes.{To, Refused, Service, App, Consumer, Metadata, Logout, SingleLogout, checked, is_method, is_path_byte, is_target, is_typed, route, service_at}
 
 graphic : (b : ℕ) → is_path_byte b ≡ true → (45 ≤ b) × (b < 127)
 graphic b h = grind (arith, nat_tests)
@@ -53,10 +53,22 @@ tested_metadata true true is = cc
 tested_metadata true false is = cc
 tested_metadata false typed is = cc
 
+tested_logout : (takes typed : Bool) → ¬ ((if takes then (if typed then To Logout else Refused 415) else Refused 405) ≡ To App)
+tested_logout true true is = cc
+tested_logout true false is = cc
+tested_logout false typed is = cc
+
+tested_single : (takes typed : Bool) → ¬ ((if takes then (if typed then To SingleLogout else Refused 415) else Refused 405) ≡ To App)
+tested_single true true is = cc
+tested_single true false is = cc
+tested_single false typed is = cc
+
 at_service : (request : Request) (method : Method) (service : Service) → checked request (Some (method, service)) ≡ To App → is_target request.path ≡ true
 at_service request method App is = tested (is_method method request.method) (is_typed method request.content_type) (is_target request.path) is
 at_service request method Consumer is = absurd (tested_consumer (is_method method request.method) (is_typed method request.content_type) is)
 at_service request method Metadata is = absurd (tested_metadata (is_method method request.method) (is_typed method request.content_type) is)
+at_service request method Logout is = absurd (tested_logout (is_method method request.method) (is_typed method request.content_type) is)
+at_service request method SingleLogout is = absurd (tested_single (is_method method request.method) (is_typed method request.content_type) is)
 
 at_any : (request : Request) (at : Option (Method × Service)) → checked request at ≡ To App → is_target request.path ≡ true
 at_any request None is = cc

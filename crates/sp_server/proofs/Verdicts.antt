@@ -1,17 +1,15 @@
 -- The verdict on a form over two ledgers that answer alike.
-use Rattle.std.specs.Prelude.{IsSome, ◌↔◌, not}
-use Rattle.std.proofs.Common.{◌≡◌, ◌⊎◌, inl, inr, ℕ, ◌≤◌, Bool, List, [], ◌∷◌, Option, None, Some, sym, subst, ap, refl, ◌∙◌}
+use Rattle.std.specs.Prelude.{IsSome, not}
+use Rattle.std.proofs.Common.{◌≡◌, inl, inr, ℕ, Bool, List, [], ◌∷◌, Option, None, Some, sym, subst, ap, refl, ◌∙◌}
 use Rattle.assertion_model.specs.declared.login.Login.{Login}
 use Rattle.protocol_messages.specs.declared.response.ResponseHead.{ResponseHead}
 use Rattle.request_rows.specs.Rows.{asked_row, is_seen, is_spent}
 use Rattle.request_rows.specs.declared.row.AskedRow.{AskedRow}
-use Rattle.request_ledger.specs.Compacting.{IsCompacted}
 use Rattle.request_ledger.specs.Laws.{AnswerAlike, CompactionsChangeNoAnswer}
 use Rattle.request_ledger.specs.Ledger.{Held}
-use Rattle.request_ledger.specs.Record.{AreRecords}
 use Rattle.request_ledger.specs.RowsOf.{rows_of}
 use Rattle.sp_rules.specs.Meant.{consumer, is_from, is_for, is_sent_to, is_in_time}
-use Rattle.sp_rules.specs.Outstanding.{asked_for, is_outstanding, is_relayed}
+use Rattle.sp_rules.specs.Outstanding.{is_outstanding, is_relayed}
 use Rattle.sp_rules.specs.Verdict as refusals
 use Rattle.sp_rules.specs.Verdict.{IsRefused, IsVerdict, first_failing, login_refusal}
 use Rattle.sp_rules.specs.declared.config.SpConfig.{SpConfig}

@@ -1,8 +1,12 @@
 pub mod Routes
+pub mod Peer
 pub mod Step
 pub mod Node
 pub mod Serving
+pub mod Changes
 pub mod Views
 pub mod Histories
 pub mod Sessions
 pub mod Verdicts
+pub mod Logouts
+pub mod Recorded

@@ -1,6 +1,7 @@
 -- What the code keeps of a provider, and what a restart and a compaction do.
 use Rattle.std.specs.Prelude.{◌≡◌, ◌≤◌, ℕ, true, false, List, Option, IfSome, IsOk, Result, Ok, Err, OnOk, OnErr}
 use Rattle.owned_values.specs.Gives.{Gives}
+use Rattle.xml_spec.specs.Characters.{IsText}
 use Rattle.crash_disk.specs.Disk.{Image, DiskState, MayLeave, image_of}
 use Rattle.gate_journal.specs.declared.fault.OpenFault.{OpenFault}
 use Rattle.gate_journal.specs.declared.fault.OpenFault.TheVariants.{DiskFault, NoMemory}
@@ -12,12 +13,13 @@ use Rattle.sp_rules.specs.declared.config.TheConstants.{GREATEST_SKEW}
 use Rattle.sp_answers.specs.Answers.{HoldsTexts}
 use Rattle.sp_server.specs.Step.{Provider, IsWhole, IsBroken}
 
--- A config with which a provider can be started: its texts hold characters that a document may hold, and the difference of the
--- clocks and the times of its keys are in order.
+-- A config with which a provider can be started: its texts and the addresses of the identity provider hold characters that a document
+-- may hold, and the difference of the clocks and the times of its keys are in order.
 pub record IsUsable (config : SpConfig) : Type 0 where
   pub texts : HoldsTexts config
   pub skew : config.skew ≤ GREATEST_SKEW
   pub times : IfSome config.next_in (λ next. next.from ≤ next.until)
+  pub logout : IfSome config.idp.logout IsText
 
 -- and the key of the ledger's IDs is that of the config
 pub record IsSound (config : SpConfig) (key : List ℕ) : Type 0 where

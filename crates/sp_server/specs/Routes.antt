@@ -16,6 +16,10 @@ pub data Service : Type 0 where
   Consumer : Service
   -- the metadata of the provider
   Metadata : Service
+  -- where a user leaves: SAML Profiles, 4.4.3.1
+  Logout : Service
+  -- the address to which messages of a logout are posted: SAML Metadata, 2.4.2, SingleLogoutService
+  SingleLogout : Service
 
 -- /app, and each path below it
 abbrev pub is_app : List ℕ → Bool
@@ -34,6 +38,8 @@ service_at path =
     if is_app path then Some (Get, App)
     else if bytes_eq path (codes "/acs") then Some (Post, Consumer)
     else if bytes_eq path (codes "/metadata") then Some (Get, Metadata)
+    else if bytes_eq path (codes "/logout") then Some (Post, Logout)
+    else if bytes_eq path (codes "/slo") then Some (Post, SingleLogout)
     else None
 
 abbrev pub is_method : Method → Method → Bool
@@ -59,6 +65,8 @@ abbrev pub at_target : List ℕ → Service → Route
 at_target path App = if is_target path then To App else Refused 404
 at_target path Consumer = To Consumer
 at_target path Metadata = To Metadata
+at_target path Logout = To Logout
+at_target path SingleLogout = To SingleLogout
 
 abbrev pub checked : Request → Option (Method × Service) → Route
 checked request None = Refused 404

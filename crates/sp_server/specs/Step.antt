@@ -1,6 +1,6 @@
 -- What a service provider does at one request.
 use Rattle.std.specs.Prelude.{◌≡◌, ◌⊎◌, ℕ, nat_le, Bool, true, false, List, codes, Option, None, Some, IfSome, Ok, Err, if◌then◌else◌}
-use Rattle.std.specs.Option.{option_and_then}
+use Rattle.std.specs.Option.{option_and_then, option_to_list}
 use Rattle.crash_disk.specs.Disk.{Image, DiskState, image_of}
 use Rattle.http_wire.specs.declared.answer.Answer.{Answer}
 use Rattle.http_wire.specs.declared.answer.Answer.TheVariants.{Fixed, Full}
@@ -8,6 +8,11 @@ use Rattle.http_wire.specs.Requests.{Request}
 use Rattle.http_wire.specs.Cookies.{cookie_value}
 use Rattle.verdict_codes.specs.Codes.{number_of}
 use Rattle.verdict_codes.specs.declared.codes.Verdict.{Verdict}
+use Rattle.verdict_codes.specs.declared.codes.Verdict.TheVariants.{NoSuchSession, UnknownLogout}
+use Rattle.protocol_messages.specs.declared.logout.LogoutRequest.{LogoutRequest}
+use Rattle.protocol_messages.specs.declared.logout.LogoutResponse.{LogoutResponse}
+use Rattle.logout_profile.specs.declared.logout.Logout.TheVariants as logouts
+use Rattle.logout_answers.specs.Answers.{Leaving, Ending, end_answer}
 use Rattle.access_policy.specs.declared.rule.Rule.{Rule}
 use Rattle.access_policy.specs.Decide as policies
 use Rattle.ledger_records.specs.declared.sp_record.SpRecord.{SpRecord}
@@ -18,14 +23,15 @@ use Rattle.request_ledger.specs.RowsOf.{SpRows, rows_of}
 use Rattle.gate_journal.specs.Format.{Fault}
 use Rattle.request_ledger.specs.Ledger.{Held, Opened, IsFitting, IsOwn, LeftByOpening, ledger_in, taken, next_number, held_with}
 use Rattle.request_ledger.specs.Draft.{drawn_id}
-use Rattle.request_ledger.specs.Drafts.{asked, opened, is_full}
+use Rattle.request_ledger.specs.Drafts.{asked, opened, left, ended, confirmed, ending, is_empty, is_waiting_now, is_full}
 use Rattle.request_ledger.specs.Compacting.{Compacts}
 use Rattle.sp_rules.specs.declared.config.SpConfig.{SpConfig}
 use Rattle.sp_rules.specs.Opening.{Brought, Opens}
 use Rattle.sp_rules.specs.Shown.{session_of}
 use Rattle.sp_rules.specs.Verdict.{IsRefused}
 use Rattle.sp_answers.specs.Answers.{IsAskAnswer, user_answer, denied_answer, opened_answer, metadata_answer}
-use Rattle.sp_server.specs.Routes.{App, Consumer, Metadata, To, Refused, route}
+use Rattle.sp_server.specs.Routes.{App, Consumer, Metadata, Logout, SingleLogout, To, Refused, route}
+use Rattle.sp_server.specs.Peer.{idp_at, is_partial, IsObeyed, IsNotObeyed}
 
 -- what a provider is set up with: its config, the rules of its policy where it has one, and the moment at which its registry
 -- of metadata ends where it has one
@@ -73,6 +79,25 @@ HasIds r first second = (drawn_id r 0 ≡ Some first) × (drawn_id r 1 ≡ Some 
 abbrev pub HasToken : SpRecord → List ℕ → Type 0
 HasToken r token = drawn_id r 0 ≡ Some token
 
+abbrev pub HasId : SpRecord → List ℕ → Type 0
+HasId r id = drawn_id r 0 ≡ Some id
+
+-- the tokens of the live sessions that a LogoutRequest of the identity provider ends (SAML Core, 3.7.3.1): those of its user with a
+-- listed index, or all where none is listed
+abbrev pub ended_by : SpConfig → Held → (now : ℕ) → LogoutRequest → List (List ℕ)
+ended_by config held now asked = ending now held.header.horizon config.idp.entity asked.name asked.indexes (rows_of held.records).opened
+
+-- whether a logout that began here with a request of this ID waits for its response
+abbrev pub is_awaited : Held → (now : ℕ) → (request : List ℕ) → Bool
+is_awaited held now request = is_waiting_now (rows_of held.records).left request now held.header.horizon
+
+-- the records of a logout: a user leaves a session; sessions end for the identity provider; it replied
+abbrev pub left_record : SpConfig → Held → (now : ℕ) → (token : List ℕ) → SpRecord
+left_record config held now token = left config.id_key (next_number held) now token
+
+abbrev pub ended_record : SpConfig → Held → (now : ℕ) → LogoutRequest → SpRecord
+ended_record config held now asked = ended config.id_key (next_number held) now (ended_by config held now asked) asked.id
+
 -- What is answered to a request by this ledger at this moment where nothing fails, and the record that is added with it.
 pub data Answers (setup : Setup) (held : Held) (request : Request) (now : ℕ) (answer : Answer) (adds : Option SpRecord) : Type 0 where
   -- there is no such service
@@ -98,9 +123,39 @@ pub data Answers (setup : Setup) (held : Held) (request : Request) (now : ℕ) (
   ByVerdict : (verdict : Verdict) → route request ≡ To Consumer → is_expired setup.expiry now ≡ false
       → IsRefused setup.config (rows_seen (rows_of held.records)) held.header.horizon now request.body verdict
       → answer ≡ Fixed (number_of verdict) → adds ≡ None → Answers setup held request now answer adds
-  -- the registry has ended: nothing is asked and no session is opened
-  ByExpiry : (route request ≡ To Consumer) ⊎ ((route request ≡ To App) × (session_for held now request ≡ None)) → is_expired setup.expiry now ≡ true
-      → answer ≡ Fixed REGISTRY_EXPIRED → adds ≡ None → Answers setup held request now answer adds
+  -- the registry has ended: nothing is asked, no session is opened, and no logout is served
+  ByExpiry : (route request ≡ To Consumer) ⊎ (((route request ≡ To App) × (session_for held now request ≡ None)) ⊎ ((route request ≡ To Logout) ⊎ (route request ≡ To SingleLogout)))
+      → is_expired setup.expiry now ≡ true → answer ≡ Fixed REGISTRY_EXPIRED → adds ≡ None → Answers setup held request now answer adds
+  -- a user leaves a live session, and the identity provider is asked to end its own: SAML Profiles, 4.4.3.1
+  ByLeaving : (row : OpenedRow) (id bytes : List ℕ) → route request ≡ To Logout → is_expired setup.expiry now ≡ false → session_for held now request ≡ Some row
+      → adds ≡ Some (left_record setup.config held now row.token) → HasId (left_record setup.config held now row.token) id
+      → Leaving (idp_at setup.config now) id setup.config.entity now row.name (option_to_list row.index) bytes
+      → answer ≡ Full bytes → Answers setup held request now answer adds
+  -- there is no live session to leave
+  ByNoSession : route request ≡ To Logout → is_expired setup.expiry now ≡ false → session_for held now request ≡ None
+      → answer ≡ Fixed (number_of NoSuchSession) → adds ≡ None → Answers setup held request now answer adds
+  -- a message of a logout that is refused
+  ByLogoutVerdict : (verdict : Verdict) → route request ≡ To SingleLogout → is_expired setup.expiry now ≡ false → IsNotObeyed setup.config now request.body verdict
+      → answer ≡ Fixed (number_of verdict) → adds ≡ None → Answers setup held request now answer adds
+  -- the identity provider asks to end sessions: they end, and it is told so with its relay (SAML Core, 3.7.3.1; SAML Profiles, 4.4.3.4)
+  ByEnding : (asked : LogoutRequest) (relay : Option (List ℕ)) (id bytes : List ℕ) → route request ≡ To SingleLogout → is_expired setup.expiry now ≡ false
+      → IsObeyed setup.config now request.body (logouts.Ask asked 0 relay) → is_empty (ended_by setup.config held now asked) ≡ false
+      → adds ≡ Some (ended_record setup.config held now asked) → HasId (ended_record setup.config held now asked) id
+      → Ending (idp_at setup.config now) id setup.config.entity now asked.id false relay bytes
+      → answer ≡ Full bytes → Answers setup held request now answer adds
+  -- there is no such session to end
+  ByNothingToEnd : (asked : LogoutRequest) (relay : Option (List ℕ)) → route request ≡ To SingleLogout → is_expired setup.expiry now ≡ false
+      → IsObeyed setup.config now request.body (logouts.Ask asked 0 relay) → is_empty (ended_by setup.config held now asked) ≡ true
+      → answer ≡ Fixed (number_of NoSuchSession) → adds ≡ None → Answers setup held request now answer adds
+  -- the identity provider replies to a logout that began here, and the user is shown how it ended: SAML Profiles, 4.4.3.5
+  ByConfirming : (response : LogoutResponse) → route request ≡ To SingleLogout → is_expired setup.expiry now ≡ false
+      → IsObeyed setup.config now request.body (logouts.Reply response 0) → is_awaited held now response.request ≡ true
+      → adds ≡ Some (confirmed now response.request)
+      → answer ≡ Full (end_answer (is_partial response.outcome)) → Answers setup held request now answer adds
+  -- no such logout waits for a response
+  ByUnknownLogout : (response : LogoutResponse) → route request ≡ To SingleLogout → is_expired setup.expiry now ≡ false
+      → IsObeyed setup.config now request.body (logouts.Reply response 0) → is_awaited held now response.request ≡ false
+      → answer ≡ Fixed (number_of UnknownLogout) → adds ≡ None → Answers setup held request now answer adds
 
 -- there is room for a record: fewer rows of its kind are kept than may be, and it fits
 pub record HasPlace (held : Held) (r : SpRecord) : Type 0 where

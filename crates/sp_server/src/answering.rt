@@ -56,6 +56,8 @@ impl SpNode {
             },
             Route::App => self.answer_app(request, now, disk),
             Route::Consumer => self.answer_form(request, now, disk),
+            Route::Logout => self.answer_leave(request, now, disk),
+            Route::SingleLogout => self.answer_logout(request, now, disk),
         }
     }
 }

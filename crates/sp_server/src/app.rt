@@ -37,7 +37,7 @@ fn has_instant(now: u64)
 
 impl SpNode {
     /// The live session of a request's cookie.
-    fn session_for(&self, request: &HttpRequest<'_>, now: u64) -> Option<&OpenedRow>
+    pub(crate) fn session_for(&self, request: &HttpRequest<'_>, now: u64) -> Option<&OpenedRow>
         ensures { option_copied result ≡ session_for self.now.ledger.held now (request_view request.now) }
     {
         let token = cookie_of(request.cookie?, SESSION_COOKIE)?;

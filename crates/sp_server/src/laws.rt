@@ -1,5 +1,7 @@
 //! Laws of a service provider, each the contract of a function that does nothing.
 ghost use Rattle.sp_server.specs.Histories.{WhatIsAcknowledgedIsKeptOnce};
+ghost use Rattle.sp_server.specs.Logouts.{OnlyWhereAUserLeaves, OnlyWhereSessionsEnd, NothingElseCloses, WhereverAUserLeaves, WhereverSessionsEnd, AClosedSessionStaysClosed, SessionsStayClosedInAService};
+ghost use Rattle.sp_server.specs.Recorded.{WhatIsAnsweredIsRecorded, WhatIsAskedIsRecorded};
 ghost use Rattle.sp_server.specs.Sessions.{OnlyWhereAFormOpens, WhereverAFormOpens};
 ghost use Rattle.sp_server.specs.Verdicts.{CompactionsChangeNoVerdict};
 
@@ -10,6 +12,7 @@ pub fn what_is_acknowledged_is_kept_once()
 {
     canon_laws::a_spelled_tree_is_writable();
     assertion_model::laws::the_texts_of_a_login_are_texts();
+    logout_profile::laws::what_an_obeyed_form_says();
     request_ledger::laws::no_request_opens_twice_in_a_run();
 }
 
@@ -21,6 +24,44 @@ pub fn a_session_opens_exactly()
 {
     sp_rules::laws::a_form_has_one_verdict();
 }
+
+/// A session is closed only where its user leaves it or the identity provider ends it, by nothing else, and wherever either does,
+/// where there is room, the disk does not fail and memory is found.
+pub fn a_session_is_closed_exactly()
+    ensures only_left { OnlyWhereAUserLeaves }
+    ensures only_ended { OnlyWhereSessionsEnd }
+    ensures nothing_else { NothingElseCloses }
+    ensures wherever_left { WhereverAUserLeaves }
+    ensures wherever_ended { WhereverSessionsEnd }
+{
+    logout_profile::laws::a_logout_form_has_one_verdict();
+    request_ledger::laws::compactions_change_no_answer();
+}
+
+/// A session that is closed is never found live again, whatever is recorded, compacted and opened since.
+pub fn a_closed_session_stays_closed()
+    ensures { AClosedSessionStaysClosed }
+{
+    request_ledger::laws::compactions_change_no_answer();
+}
+
+/// Over each list of events, moments, disk faults and openings: a session that is closed is live at no later request, and in no
+/// ledger that a crash may leave since.
+pub fn sessions_stay_closed_in_a_service()
+    ensures { SessionsStayClosedInAService }
+{
+    canon_laws::a_spelled_tree_is_writable();
+    assertion_model::laws::the_texts_of_a_login_are_texts();
+    logout_profile::laws::what_an_obeyed_form_says();
+    a_closed_session_stays_closed();
+}
+
+/// Each form and each page that is answered to what is posted stands for one record, and so does each form that asks for a login;
+/// behind the step this is in every image that a crash may leave: no message is sent before its record is durable.
+pub fn what_is_answered_is_recorded()
+    ensures posted { WhatIsAnsweredIsRecorded }
+    ensures asked { WhatIsAskedIsRecorded }
+{}
 
 /// From the moment of a compaction on each form has the verdict that it had without.
 pub fn compactions_change_no_verdict()

@@ -84,7 +84,7 @@ impl SpNode {
     }
 
     /// Gives the provider the moment at which its registry of metadata ends, in milliseconds since 1970-01-01T00:00:00Z: from
-    /// then on nothing is asked and no session is opened.
+    /// then on nothing is asked, no session is opened, and no logout is served.
     pub fn set_expiry(&mut self, valid_until: u64)
         ensures { self.new ≡ record self.old { setup = record self.old.setup { expiry = Some valid_until } } }
     {

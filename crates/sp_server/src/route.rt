@@ -1,5 +1,5 @@
 //! Which requests are served.
-ghost use Rattle.std.specs.Prelude.{◌≡◌};
+ghost use Rattle.std.specs.Prelude.{◌≡◌, if◌then◌else◌};
 ghost use Rattle.std.specs.List.{list_all};
 ghost use Rattle.http_wire.specs.Views.{request_view};
 ghost use Rattle.sp_server.specs.Routes as spec;
@@ -13,6 +13,8 @@ pub(crate) enum Route {
     App,
     Consumer,
     Metadata,
+    Logout,
+    SingleLogout,
     Refused(u16),
 }
 
@@ -47,6 +49,22 @@ fn is_app(path: &str) -> bool
     path == "/app" || path.starts_with("/app/")
 }
 
+/// Where a request goes whose path takes the form of a service.
+fn form_route(request: &HttpRequest<'_>, service: Route) -> Route
+    ensures { result ≡ (if spec.is_method Method.Post (request_view request.now).method then (if spec.is_typed Method.Post (request_view request.now).content_type then service else Route.Refused 415) else Route.Refused 405) }
+{
+    if request.method != Method::Post {
+        Route::Refused(405)
+    } else if request
+        .content_type
+        .is_some_and(|content_type| is_form_type(content_type))
+    {
+        service
+    } else {
+        Route::Refused(415)
+    }
+}
+
 /// Where a request goes.
 pub(crate) fn route_of(request: &HttpRequest<'_>) -> Route
     ensures { route_view result ≡ spec.route (request_view request.now) }
@@ -61,22 +79,17 @@ pub(crate) fn route_of(request: &HttpRequest<'_>) -> Route
             Route::Refused(404)
         }
     } else if path == "/acs" {
-        if request.method != Method::Post {
-            Route::Refused(405)
-        } else if request
-            .content_type
-            .is_some_and(|content_type| is_form_type(content_type))
-        {
-            Route::Consumer
-        } else {
-            Route::Refused(415)
-        }
+        form_route(request, Route::Consumer)
     } else if path == "/metadata" {
         if request.method == Method::Get {
             Route::Metadata
         } else {
             Route::Refused(405)
         }
+    } else if path == "/logout" {
+        form_route(request, Route::Logout)
+    } else if path == "/slo" {
+        form_route(request, Route::SingleLogout)
     } else {
         Route::Refused(404)
     }

@@ -48,13 +48,24 @@ fn code_answered(node: &mut SpNode, disk: &mut MemDisk, bytes: &[u8]) -> u16
     }
 }
 
+/// A user who leaves without a session.
+const LEAVE: &[u8] =
+    b"POST /logout HTTP/1.1\r\nContent-Type: application/x-www-form-urlencoded\r\nContent-Length: 0\r\n\r\n";
+
+/// A posted document that is no message of a logout: `<a/>`.
+const POSTED: &[u8] =
+    b"POST /slo HTTP/1.1\r\nContent-Type: application/x-www-form-urlencoded\r\nContent-Length: 24\r\n\r\nSAMLRequest=PGEvPg%3D%3D";
+
 /// Whether each call of a provider has what it needs.
 fn answers(node: &mut SpNode, disk: &mut MemDisk) -> bool
     requires { OwnsDisk node.old (Some (state_of disk.old)) }
 {
     let asked = code_answered(node, disk, b"GET /app HTTP/1.1\r\n\r\n");
     let shown = code_answered(node, disk, b"GET /metadata HTTP/1.1\r\n\r\n");
-    asked == 0 && shown == 0 && node.compact(disk, 0).is_ok() && node.restart(disk).is_ok()
+    let left = code_answered(node, disk, LEAVE);
+    let posted = code_answered(node, disk, POSTED);
+    let codes = (asked, shown, left, posted);
+    codes == (0, 0, 33, 30) && node.compact(disk, 0).is_ok() && node.restart(disk).is_ok()
 }
 
 #[test]

@@ -93,19 +93,24 @@ not_empty_text None h = tt
 not_empty_text (Some []) h = tt
 not_empty_text (Some (b ∷ text)) h = h
 
-service_of : (name : List ℕ) (service logout_address : Option (List ℕ)) (peer : Peer) → IfSome service IsText →
-    with_service name service logout_address ≡ Ok peer → IsText peer.service
-service_of name None logout_address peer h e = absurd (cc)
-service_of name (Some service) logout_address peer h e =
-    let is : record { entity = name; service = service; logout = logout_address } ≡ peer = cc in subst (λ (p : Peer). IsText p.service) is h
+-- the addresses of a provider are texts
+record AreTexts (peer : Peer) : Type 0 where
+  service : IsText peer.service
+  logout : IfSome peer.logout IsText
+
+service_of : (name : List ℕ) (service logout_address : Option (List ℕ)) (peer : Peer) → IfSome service IsText → IfSome logout_address IsText →
+    with_service name service logout_address ≡ Ok peer → AreTexts peer
+service_of name None logout_address peer h l e = absurd (cc)
+service_of name (Some service) logout_address peer h l e =
+    let is : record { entity = name; service = service; logout = logout_address } ≡ peer = cc in subst AreTexts is (record { service = h; logout = l })
 
 service_text : (tree : Nodes) (role : Role) (name : Option (List ℕ)) (descriptors : List ℕ) (peer : Peer) → IsWritable tree →
-    described tree role name descriptors ≡ Ok peer → IsText peer.service
+    described tree role name descriptors ≡ Ok peer → AreTexts peer
 service_text tree role None descriptors peer h e = absurd (cc)
 service_text tree role (Some name) [] peer h e = absurd (cc)
 service_text tree role (Some name) (d ∷ []) peer h e =
     service_of name (not_empty (address tree d (sign_on role))) (address tree d logout) peer
-    (not_empty_text (address tree d (sign_on role)) (location_text tree _ h)) e
+    (not_empty_text (address tree d (sign_on role)) (location_text tree _ h)) (location_text tree _ h) e
 service_text tree role (Some name) (d ∷ c ∷ others) peer h e = absurd (cc)
 
 -- ---- what is set up
@@ -120,9 +125,9 @@ FromListed =
     (key : List ℕ) (tree : Nodes) (registry : RegistryView) (entity_id : List ℕ) (role : Role) (peer : Peer) → IsRegistryOf key tree 0 registry →
     peer_in registry entity_id role ≡ Ok peer → (d : ℕ) × IsListed key tree entity_id d × (peer_of tree d role ≡ Ok peer)
 
--- the address of an identity provider that was read is a text
+-- the addresses of an identity provider that was read are texts
 abbrev IdpIsText : Loaded → Type 0
-IdpIsText loaded = IfSome loaded.idp (λ (peer : Peer). IsText peer.service)
+IdpIsText loaded = IfSome loaded.idp AreTexts
 
 idp_more : (role : FileRole) (bytes : List ℕ) (before after : Loaded) → AreWritable → Loads role bytes before after → IdpIsText before → IdpIsText after
 idp_more roles.Idp bytes before after law h text =
@@ -136,7 +141,7 @@ idp_more roles.IdKey bytes before after law h text = subst IdpIsText (sym h.1) t
 idp_more roles.Policy bytes before after law h text = subst IdpIsText (sym h.2) text
 
 -- that of one that a registry lists, too
-listed_text : (bytes key entity_id : List ℕ) (peer : Peer) (until : ℕ) → AreWritable → FromListed → Lists bytes key entity_id peer until → IsText peer.service
+listed_text : (bytes key entity_id : List ℕ) (peer : Peer) (until : ℕ) → AreWritable → FromListed → Lists bytes key entity_id peer until → AreTexts peer
 listed_text bytes key entity_id peer until law from h =
     let tree = h.read.tree in
     let there = from key tree h.registry entity_id Idp peer h.read.root h.says in
@@ -168,5 +173,5 @@ pub texts : (told : Option (List File)) (lines : Config) (setup : SetUp) → Are
 texts told lines setup law from h entity base listen =
     let loaded = h.loaded in
     let made = made_from loaded.idp loaded.key_in loaded.key_out loaded.id_key _ setup.config h.is.config in
-    let idp : IsText (made.0).service = rw made.4 at (idp_loaded told lines.files nothing loaded law from h.all tt) in
-    subst HasTexts made.5 (record { entity = entity; base = base; listen = listen; service = idp })
+    let idp : AreTexts made.0 = rw made.4 at (idp_loaded told lines.files nothing loaded law from h.all tt) in
+    subst HasTexts made.5 (record { entity = entity; base = base; listen = listen; service = idp.service; logout = idp.logout })

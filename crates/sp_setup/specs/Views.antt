@@ -61,3 +61,4 @@ pub record HasTexts (config : SpConfig) : Type 0 where
   pub base : IsText config.base
   pub listen : IsText config.listen
   pub service : IsText config.idp.service
+  pub logout : IfSome config.idp.logout IsText

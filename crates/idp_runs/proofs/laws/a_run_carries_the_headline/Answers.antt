@@ -3,4 +3,15 @@ use Rattle.idp_runs.proofs.laws.a_run_carries_the_headline.Goals as goal
 
 pub returns : goal.returns
 returns c =
-    headline c.each_issue_has_a_password_or_a_session.ensures.answers c.each_signed_element_is_of_a_record.ensures c.what_is_answered_is_recorded.ensures
+    headline (record {
+      users = c.each_issue_has_a_password_or_a_session.ensures.answers;
+      signed = c.each_signed_element_is_of_a_record.ensures;
+      recorded = c.what_is_answered_is_recorded.ensures;
+      logouts = c.what_is_answered_to_a_logout_is_recorded.ensures;
+      only = c.a_session_is_ended_exactly.ensures.answers;
+      services = c.a_session_is_ended_exactly.ensures.services;
+      wherever_left = c.a_session_is_ended_exactly.ensures.wherever_left;
+      wherever_ended = c.a_session_is_ended_exactly.ensures.wherever_ended;
+      hold = c.images_hold_records.ensures;
+      kept = c.what_is_acknowledged_is_kept.ensures;
+    })

@@ -4,9 +4,10 @@ use Rattle.node_serve.specs.Serving.{MightLeave}
 use Rattle.node_runs.specs.declared.ended.RunFault.TheVariants as faults
 use Rattle.node_runs.specs.Runs.{Deaf, outside}
 use Rattle.node_runs.proofs.Serving.{only_listened, served_so}
+use Rattle.idp_server.specs.Histories.{IsProviders}
 use Rattle.idp_server.specs.Step.{StepLeaves}
 use Rattle.idp_setup.specs.Setup.{IsBadSetUp}
-use Rattle.idp_runs.specs.Runs.{Begins, IsNotOpened, IsProviders}
+use Rattle.idp_runs.specs.Runs.{Begins, IsNotOpened}
 use Rattle.idp_runs.proofs.run.listen_and_serve.Goals as goal
 
 pub returns-in_err-listen-clause-runs : goal.returns-in_err-listen-clause-runs

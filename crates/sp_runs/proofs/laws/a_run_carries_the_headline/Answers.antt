@@ -3,5 +3,17 @@ use Rattle.sp_runs.proofs.laws.a_run_carries_the_headline.Goals as goal
 
 pub returns : goal.returns
 returns c =
-    headline c.a_session_opens_exactly.ensures.only c.a_session_opens_exactly.ensures.wherever c.each_session_was_signed.ensures
-    c.what_a_run_acknowledged_is_kept_once.ensures
+    headline (record {
+      opens_only = c.a_session_opens_exactly.ensures.only;
+      opens_wherever = c.a_session_opens_exactly.ensures.wherever;
+      signed = c.each_session_was_signed.ensures;
+      only_left = c.a_session_is_closed_exactly.ensures.only_left;
+      only_ended = c.a_session_is_closed_exactly.ensures.only_ended;
+      nothing_else = c.a_session_is_closed_exactly.ensures.nothing_else;
+      wherever_left = c.a_session_is_closed_exactly.ensures.wherever_left;
+      wherever_ended = c.a_session_is_closed_exactly.ensures.wherever_ended;
+      posted = c.what_is_answered_is_recorded.ensures.posted;
+      requested = c.what_is_answered_is_recorded.ensures.asked;
+      kept = c.what_a_run_acknowledged_is_kept_once.ensures;
+      closed = c.sessions_stay_closed_in_a_run.ensures;
+    })

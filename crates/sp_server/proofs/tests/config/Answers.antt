@@ -12,4 +12,5 @@ returns c = record {
   };
   skew = omega arith;
   times = tt;
+  logout = tt;
 }

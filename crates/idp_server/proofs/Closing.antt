@@ -1,0 +1,214 @@
+-- Wherever sessions are ended.
+use Rattle.std.specs.Prelude.{codes, slice_get}
+use Rattle.std.proofs.Common.{◌≡◌, inl, inr, ℕ, Bool, true, false, ◌&&◌, ◌||◌, not, if◌then◌else◌, List, [], ◌∷◌, map, Option, None, Some, sym, subst, refl, ap, ◌∙◌}
+use Rattle.std.specs.List.{filter, list_any}
+use Rattle.std.specs.Option.{option_and_then}
+use Rattle.std.specs.Str.{bytes_eq}
+use Rattle.http_wire.specs.Cookies.{cookie_value}
+use Rattle.http_wire.specs.declared.answer.Answer.{Answer}
+use Rattle.http_wire.specs.Requests.{Request}
+use Rattle.ledger_records.specs.declared.idp_record.IdpRecord.{IdpRecord}
+use Rattle.logout_profile.specs.declared.logout.Logout.{Logout as Message}
+use Rattle.logout_profile.specs.declared.logout.Logout.TheVariants as messages
+use Rattle.logout_profile.specs.Verdict.{IsAccepted, IsRefused}
+use Rattle.peer_keys.specs.declared.peers.LogoutPeer.{LogoutPeer}
+use Rattle.protocol_messages.specs.declared.logout.LogoutRequest.{LogoutRequest}
+use Rattle.protocol_messages.specs.declared.logout.LogoutResponse.{LogoutResponse}
+use Rattle.verdict_codes.specs.declared.codes.Verdict.{Verdict}
+use Rattle.idp_ledger.specs.declared.row.SessionRow.{SessionRow}
+use Rattle.idp_ledger.specs.Finding.{is_empty, is_ending, session_found, visible}
+use Rattle.idp_ledger.specs.Ledger.{Held, held_with}
+use Rattle.idp_ledger.specs.RowsOf.{is_among, issued_rows, session_rows}
+use Rattle.idp_ledger.proofs.LawWords.{other_way, same_text, text_itself}
+use Rattle.idp_ledger.proofs.RowLaws.{rows_of-push}
+use Rattle.idp_ledger.proofs.RowTexts.{any_there}
+use Rattle.idp_rules.specs.declared.config.IdpConfig.{IdpConfig}
+use Rattle.idp_server.specs.Histories.{IsEnded}
+use Rattle.idp_server.specs.Logouts.{EndsOver, LeavesOver, WhereverAPeerEnds, WhereverAUserLeaves}
+use Rattle.idp_server.specs.Step as steps
+use Rattle.idp_server.specs.Step.{Answers, AsksToEnd, HasPlace, RepliesTo, ended_by, ending_by, left_by, session_for}
+use Rattle.idp_server.proofs.Issues.{followed, found_at}
+use Rattle.idp_server.proofs.StayingEnded.{cookies_stay, ended_all, ended_with}
+
+same_record : (adds : Option IdpRecord) (one other : IdpRecord) → adds ≡ Some one → adds ≡ Some other → one ≡ other
+same_record adds one other first second = let same : Some one ≡ Some other = sym first ∙ second in cc
+
+-- ---- a user who leaves
+
+left_ends : (key : List ℕ) (held : Held) (now : ℕ) (request : Request) (row : SessionRow) → session_for held now request ≡ Some row → IsEnded (held_with (left_by key held now row.cookie) held) row.cookie
+left_ends key held now request row live =
+    let rows = session_rows held.records in
+    let f : SessionRow → Bool = λ o. bytes_eq row.cookie o.cookie in
+    let cookie = followed (λ cookie. session_found rows cookie now held.header.horizon) (option_and_then (λ header. cookie_value header (codes "idp_sid")) request.cookie) row live in
+    let found = found_at (λ (s : SessionRow). bytes_eq s.cookie cookie.0 && not s.ended && visible s.until now held.header.horizon) rows row cookie.2 in
+    ended_with held (left_by key held now row.cookie) row.cookie _ (rows_of-push held.records (left_by key held now row.cookie))
+    (cookies_stay f rows row.cookie ∙ any_there (λ (s : SessionRow). bytes_eq s.cookie row.cookie) rows found.0 row found.1 (text_itself row.cookie))
+    (ended_all f rows row.cookie (λ o same. other_way o.cookie row.cookie same))
+
+left_added : (setup : IdpConfig) (held : Held) (request : Request) (now : ℕ) (answer : Answer) (adds : Option IdpRecord) (row : SessionRow) → LeavesOver held request now row
+    → Answers setup held request now answer adds → adds ≡ Some (left_by setup.id_key held now row.cookie)
+left_added setup held request now answer adds row over (steps.ByStatus status to is none) = absurd (let e = sym over.posted ∙ to in cc)
+left_added setup held request now answer adds row over (steps.ByMetadata to is none) = absurd (let e = sym over.posted ∙ to in cc)
+left_added setup held request now answer adds row over (steps.ByVerdict verdict to refused is none) = absurd (let e = sym over.posted ∙ to in cc)
+left_added setup held request now answer adds row over (steps.ByIssuing asked peer other r bytes to is known used drafted adding answers full) = absurd (let e = sym over.posted ∙ to in cc)
+left_added setup held request now answer adds row over (steps.ByPassive asked peer message bytes to is known none passive adding named answers full) = absurd (let e = sym over.posted ∙ to in cc)
+left_added setup held request now answer adds row over (steps.ByAsking asked peer id to is known none passive adding named full) = absurd (let e = sym over.posted ∙ to in cc)
+left_added setup held request now answer adds row over (steps.ByFields to bad is none) = absurd (let e = sym over.posted ∙ to in cc)
+left_added setup held request now answer adds row over (steps.ByNoPending t to posted nothing is none) = absurd (let e = sym over.posted ∙ to in cc)
+left_added setup held request now answer adds row over (steps.ByPassword t other peer to posted pends refused is none) = absurd (let e = sym over.posted ∙ to in cc)
+left_added setup held request now answer adds row over (steps.ByLogin t other peer user r bytes to posted pends accepted drafted adding answers full) = absurd (let e = sym over.posted ∙ to in cc)
+left_added setup held request now answer adds row over (steps.ByNoSession to none is nothing) = absurd (let e = sym none ∙ over.live in cc)
+left_added setup held request now answer adds row over (steps.ByLeaving other r bytes to live drafted adding answers full) =
+    let some : Some other ≡ Some row = sym live ∙ over.live in
+    let same : other ≡ row = cc in
+    adding ∙ ap Some (sym drafted) ∙ ap (λ (s : SessionRow). Some (left_by setup.id_key held now s.cookie)) same
+left_added setup held request now answer adds row over (steps.ByLogoutVerdict verdict to refused is none) = absurd (let e = sym over.posted ∙ to in cc)
+left_added setup held request now answer adds row over (steps.ByNothingToEnd asked peer relay to asks nothing is none) = absurd (let e = sym over.posted ∙ to in cc)
+left_added setup held request now answer adds row over (steps.ByEnding asked peer relay r bytes to asks some drafted adding answers full) = absurd (let e = sym over.posted ∙ to in cc)
+left_added setup held request now answer adds row over (steps.ByUnknownLogout response to replies unknown is none) = absurd (let e = sym over.posted ∙ to in cc)
+left_added setup held request now answer adds row over (steps.ByConfirming response to replies waits adding full) = absurd (let e = sym over.posted ∙ to in cc)
+
+left_is : (setup : IdpConfig) (held : Held) (request : Request) (now : ℕ) (answer : Answer) (wanted : IdpRecord) (row : SessionRow) → LeavesOver held request now row
+    → Answers setup held request now answer (Some wanted) → left_by setup.id_key held now row.cookie ≡ wanted
+left_is setup held request now answer wanted row over answers =
+    same_record (Some wanted) _ wanted (left_added setup held request now answer (Some wanted) row over answers) refl
+
+pub wherever_left : WhereverAUserLeaves
+wherever_left found request now faults later answer old new row over room calm (steps.Plain answers whole) =
+    absurd (let e = left_added old.setup found request now answer None row over answers in cc)
+wherever_left found request now faults later answer old new row over room calm (steps.Recorded r answers place whole) =
+    let same = left_is old.setup found request now answer r row over answers in
+    inr (subst (λ (h : Held). IsEnded h row.cookie) (sym whole.is)
+    (subst (λ (x : IdpRecord). IsEnded (held_with x found) row.cookie) same (left_ends old.setup.id_key found now request row over.live)))
+wherever_left found request now faults later answer old new row over room calm (steps.RecordedAfterCompaction held wanted r other wants none made answers place whole) =
+    absurd (none (subst (HasPlace found) (left_is old.setup found request now other wanted row over wants) room))
+wherever_left found request now faults later answer old new row over room calm (steps.NoPlace held wanted r other another wants none made answers still is whole) =
+    absurd (none (subst (HasPlace found) (left_is old.setup found request now other wanted row over wants) room))
+wherever_left found request now faults later answer old new row over room calm (steps.Failed wanted other wants risen is broken) = absurd (calm risen)
+wherever_left found request now faults later answer old new row over room calm (steps.Starved held which is whole) = inl is
+
+-- ---- a peer that asks
+
+-- a form that is obeyed asks one thing, and is not refused
+pub record IsOneLogout : Type 0 where
+  pub obeyed : (peers : List LogoutPeer) (second : Option (List ℕ)) (address : List ℕ) (skew now : ℕ) (body : List ℕ) (logout : Message) (verdict : Verdict)
+      → IsAccepted peers second address skew now body logout → ¬ (IsRefused peers second address skew now body verdict)
+  pub once : (peers : List LogoutPeer) (second : Option (List ℕ)) (address : List ℕ) (skew now : ℕ) (body : List ℕ) (one other : Message)
+      → IsAccepted peers second address skew now body one → IsAccepted peers second address skew now body other → one ≡ other
+
+kept_there : (p : Bool) (row : SessionRow) (kept : List SessionRow) (cookie : List ℕ) (rest : Bool)
+    → (list_any (λ other. bytes_eq other cookie) (map (λ (r : SessionRow). r.cookie) kept) ≡ true → rest ≡ true)
+    → list_any (λ other. bytes_eq other cookie) (map (λ (r : SessionRow). r.cookie) (if p then row ∷ kept else kept)) ≡ true → (bytes_eq row.cookie cookie || rest) ≡ true
+kept_there true row kept cookie rest more is = either (bytes_eq row.cookie cookie) _ rest more is
+  where
+    either : (a b c : Bool) → (b ≡ true → c ≡ true) → (a || b) ≡ true → (a || c) ≡ true
+    either true b c more is = refl
+    either false b c more is = more is
+kept_there false row kept cookie rest more is = behind (bytes_eq row.cookie cookie) rest (more is)
+  where
+    behind : (a c : Bool) → c ≡ true → (a || c) ≡ true
+    behind true c is = refl
+    behind false c is = is
+
+filtered_there : (test : SessionRow → Bool) (rows : List SessionRow) (cookie : List ℕ) → is_among cookie (map (λ (r : SessionRow). r.cookie) (filter test rows)) ≡ true
+    → list_any (λ (r : SessionRow). bytes_eq r.cookie cookie) rows ≡ true
+filtered_there test [] cookie is = absurd (let clash : false ≡ true = is in cc)
+filtered_there test (row ∷ rows) cookie is = kept_there (test row) row (filter test rows) cookie _ (filtered_there test rows cookie) is
+
+ended_ends : (key : List ℕ) (held : Held) (now : ℕ) (peer : List ℕ) (asked : LogoutRequest) (cookie : List ℕ) → is_among cookie (ending_by held now peer asked) ≡ true
+    → IsEnded (held_with (ended_by key held now peer asked) held) cookie
+ended_ends key held now peer asked cookie among =
+    let rows = session_rows held.records in
+    let cookies = ending_by held now peer asked in
+    let f : SessionRow → Bool = λ o. is_among o.cookie cookies in
+    ended_with held (ended_by key held now peer asked) cookie _ (rows_of-push held.records (ended_by key held now peer asked))
+    (cookies_stay f rows cookie ∙ filtered_there (is_ending now held.header.horizon peer asked.name asked.indexes (issued_rows held.records)) rows cookie among)
+    (ended_all f rows cookie (λ o same. subst (λ (t : List ℕ). is_among t cookies ≡ true) (sym (same_text o.cookie cookie same)) among))
+
+some_among : (cookie : List ℕ) (cookies : List (List ℕ)) → is_among cookie cookies ≡ true → is_empty cookies ≡ true → ⊥
+some_among cookie [] among none = let clash : false ≡ true = among in cc
+some_among cookie (first ∷ cookies) among none = let clash : false ≡ true = none in cc
+
+-- one request of one peer
+record AreSame (one other : LogoutRequest) (peer another : LogoutPeer) : Type 0 where
+  asked : one ≡ other
+  peers : peer ≡ another
+
+abbrev asked_in : Message → Option LogoutRequest
+asked_in (messages.Ask request place relay) = Some request
+asked_in (messages.Reply response place) = None
+
+abbrev place_in : Message → Option ℕ
+place_in (messages.Ask request place relay) = Some place
+place_in (messages.Reply response place) = None
+
+module _ (law : IsOneLogout) where
+  one_asks : (setup : IdpConfig) (request : Request) (now : ℕ) (one other : LogoutRequest) (peer another : LogoutPeer) (relay more : Option (List ℕ))
+      → AsksToEnd setup request now one peer relay → AsksToEnd setup request now other another more → AreSame one other peer another
+  one_asks setup request now one other peer another relay more first second =
+      let same = law.once _ _ _ _ now request.body _ _ first.obeyed second.obeyed in
+      let asked : Some one ≡ Some other = ap asked_in same in
+      let placed : Some first.place ≡ Some second.place = ap place_in same in
+      let place : first.place ≡ second.place = cc in
+      let both : Some peer ≡ Some another = sym first.there ∙ ap (λ (p : ℕ). slice_get setup.peers p) place ∙ second.there in
+      record { asked = cc; peers = cc }
+
+  no_reply : (setup : IdpConfig) (request : Request) (now : ℕ) (asked : LogoutRequest) (peer : LogoutPeer) (relay : Option (List ℕ)) (response : LogoutResponse)
+      → AsksToEnd setup request now asked peer relay → RepliesTo setup request now response → ⊥
+  no_reply setup request now asked peer relay response asks replies =
+      let same = law.once _ _ _ _ now request.body _ _ asks.obeyed replies.obeyed in
+      let clash : Some asked ≡ None = ap asked_in same in
+      cc
+
+  ended_added : (setup : IdpConfig) (held : Held) (request : Request) (now : ℕ) (answer : Answer) (adds : Option IdpRecord) (asked : LogoutRequest) (peer : LogoutPeer) (cookie : List ℕ)
+      → EndsOver setup request now asked peer → is_among cookie (ending_by held now peer.peer.entity asked) ≡ true → Answers setup held request now answer adds
+      → adds ≡ Some (ended_by setup.id_key held now peer.peer.entity asked)
+  ended_added setup held request now answer adds asked peer cookie over among (steps.ByStatus status to is none) = absurd (let e = sym over.posted ∙ to in cc)
+  ended_added setup held request now answer adds asked peer cookie over among (steps.ByMetadata to is none) = absurd (let e = sym over.posted ∙ to in cc)
+  ended_added setup held request now answer adds asked peer cookie over among (steps.ByVerdict verdict to refused is none) = absurd (let e = sym over.posted ∙ to in cc)
+  ended_added setup held request now answer adds asked peer cookie over among (steps.ByIssuing a p row r bytes to is known used drafted adding answers full) = absurd (let e = sym over.posted ∙ to in cc)
+  ended_added setup held request now answer adds asked peer cookie over among (steps.ByPassive a p message bytes to is known none passive adding named answers full) =
+      absurd (let e = sym over.posted ∙ to in cc)
+  ended_added setup held request now answer adds asked peer cookie over among (steps.ByAsking a p id to is known none passive adding named full) = absurd (let e = sym over.posted ∙ to in cc)
+  ended_added setup held request now answer adds asked peer cookie over among (steps.ByFields to bad is none) = absurd (let e = sym over.posted ∙ to in cc)
+  ended_added setup held request now answer adds asked peer cookie over among (steps.ByNoPending t to posted nothing is none) = absurd (let e = sym over.posted ∙ to in cc)
+  ended_added setup held request now answer adds asked peer cookie over among (steps.ByPassword t row p to posted pends refused is none) = absurd (let e = sym over.posted ∙ to in cc)
+  ended_added setup held request now answer adds asked peer cookie over among (steps.ByLogin t row p user r bytes to posted pends accepted drafted adding answers full) =
+      absurd (let e = sym over.posted ∙ to in cc)
+  ended_added setup held request now answer adds asked peer cookie over among (steps.ByNoSession to none is nothing) = absurd (let e = sym over.posted ∙ to in cc)
+  ended_added setup held request now answer adds asked peer cookie over among (steps.ByLeaving row r bytes to live drafted adding answers full) = absurd (let e = sym over.posted ∙ to in cc)
+  ended_added setup held request now answer adds asked peer cookie over among (steps.ByLogoutVerdict verdict to refused is none) =
+      absurd (law.obeyed _ _ _ _ now request.body _ verdict over.asks.obeyed refused)
+  ended_added setup held request now answer adds asked peer cookie over among (steps.ByNothingToEnd other another more to asks nothing is none) =
+      let same = one_asks setup request now other asked another peer more over.relay asks over.asks in
+      absurd (some_among cookie (ending_by held now peer.peer.entity asked) among
+      (subst (λ (p : LogoutPeer). is_empty (ending_by held now p.peer.entity asked) ≡ true) same.peers
+      (subst (λ (x : LogoutRequest). is_empty (ending_by held now another.peer.entity x) ≡ true) same.asked nothing)))
+  ended_added setup held request now answer adds asked peer cookie over among (steps.ByEnding other another more r bytes to asks some drafted adding answers full) =
+      let same = one_asks setup request now other asked another peer more over.relay asks over.asks in
+      adding ∙ ap Some (sym drafted) ∙ ap (λ (p : LogoutPeer). Some (ended_by setup.id_key held now p.peer.entity other)) same.peers
+      ∙ ap (λ (x : LogoutRequest). Some (ended_by setup.id_key held now peer.peer.entity x)) same.asked
+  ended_added setup held request now answer adds asked peer cookie over among (steps.ByUnknownLogout response to replies unknown is none) =
+      absurd (no_reply setup request now asked peer over.relay response over.asks replies)
+  ended_added setup held request now answer adds asked peer cookie over among (steps.ByConfirming response to replies waits adding full) =
+      absurd (no_reply setup request now asked peer over.relay response over.asks replies)
+
+  ended_is : (setup : IdpConfig) (held : Held) (request : Request) (now : ℕ) (answer : Answer) (wanted : IdpRecord) (asked : LogoutRequest) (peer : LogoutPeer) (cookie : List ℕ)
+      → EndsOver setup request now asked peer → is_among cookie (ending_by held now peer.peer.entity asked) ≡ true → Answers setup held request now answer (Some wanted)
+      → ended_by setup.id_key held now peer.peer.entity asked ≡ wanted
+  ended_is setup held request now answer wanted asked peer cookie over among answers =
+      same_record (Some wanted) _ wanted (ended_added setup held request now answer (Some wanted) asked peer cookie over among answers) refl
+
+  pub wherever_ended : WhereverAPeerEnds
+  wherever_ended found request now faults later answer old new asked peer cookie over among room calm (steps.Plain answers whole) =
+      absurd (let e = ended_added old.setup found request now answer None asked peer cookie over among answers in cc)
+  wherever_ended found request now faults later answer old new asked peer cookie over among room calm (steps.Recorded r answers place whole) =
+      let same = ended_is old.setup found request now answer r asked peer cookie over among answers in
+      inr (subst (λ (h : Held). IsEnded h cookie) (sym whole.is)
+      (subst (λ (x : IdpRecord). IsEnded (held_with x found) cookie) same (ended_ends old.setup.id_key found now peer.peer.entity asked cookie among)))
+  wherever_ended found request now faults later answer old new asked peer cookie over among room calm (steps.RecordedAfterCompaction held wanted r other wants none made answers place whole) =
+      absurd (none (subst (HasPlace found) (ended_is old.setup found request now other wanted asked peer cookie over among wants) room))
+  wherever_ended found request now faults later answer old new asked peer cookie over among room calm (steps.NoPlace held wanted r other another wants none made answers still is whole) =
+      absurd (none (subst (HasPlace found) (ended_is old.setup found request now other wanted asked peer cookie over among wants) room))
+  wherever_ended found request now faults later answer old new asked peer cookie over among room calm (steps.Failed wanted other wants risen is broken) = absurd (calm risen)
+  wherever_ended found request now faults later answer old new asked peer cookie over among room calm (steps.Starved held which is whole) = inl is

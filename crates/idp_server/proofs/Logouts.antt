@@ -1,0 +1,150 @@
+-- For what a session is ended.
+use Rattle.std.specs.Prelude.{codes}
+use Rattle.std.proofs.Common.{◌≡◌, ◌⊎◌, inl, inr, ℕ, true, false, not, ◌&&◌, Option, None, Some, refl, sym, subst, ap, ◌∙◌}
+use Rattle.std.specs.Option.{option_and_then}
+use Rattle.std.specs.Str.{bytes_eq}
+use Rattle.std.proofs.lemmas.Bool.{and_parts}
+use Rattle.std.proofs.lemmas.Slice.Eq.{bytes_eq-Decides}
+use Rattle.crash_disk.specs.Counts.{Rose}
+use Rattle.http_wire.specs.declared.answer.Answer.{Answer}
+use Rattle.http_wire.specs.Requests.{Request}
+use Rattle.http_wire.specs.Cookies.{cookie_value}
+use Rattle.ledger_records.specs.declared.idp_record.Ended.{Ended}
+use Rattle.ledger_records.specs.declared.idp_record.Left.{Left}
+use Rattle.ledger_records.specs.declared.idp_record.IdpRecord.{IdpRecord}
+use Rattle.ledger_records.specs.declared.idp_record.IdpRecord.TheVariants as kinds
+use Rattle.idp_ledger.specs.declared.row.SessionRow.{SessionRow}
+use Rattle.idp_ledger.specs.Finding.{is_empty, session_found, visible}
+use Rattle.idp_ledger.specs.RowsOf.{rows_of}
+use Rattle.idp_ledger.specs.Compacting.{Compacts}
+use Rattle.idp_ledger.specs.Drafts.{confirmed, pending, spoke}
+use Rattle.idp_ledger.specs.Ledger.{Held, next_number}
+use Rattle.idp_rules.specs.declared.config.IdpConfig.{IdpConfig}
+use Rattle.idp_server.specs.Routes.{Logout, Metadata, SingleLogout, To, route}
+use Rattle.idp_server.specs.Step as steps
+use Rattle.idp_server.specs.Step.{Provider, Answers, ask_of, ended_by, left_by, session_for}
+use Rattle.idp_server.specs.Logouts.{AnswersEndExactly, Anew, IsOfLogoutIfEnding, IsOfPeerThatAsks, IsOfPeerThatReplies, IsOfUserWhoLeaves, More, Nothing, ServicesEndExactly, WhatIsAnsweredToALogoutIsRecorded}
+use Rattle.idp_server.proofs.Issues.{followed, found_at, off, step_recorded}
+
+-- ---- the record of a kind
+
+abbrev left_in : IdpRecord → Option Left
+left_in (kinds.Pending r) = None
+left_in (kinds.Issued r) = None
+left_in (kinds.Ended r) = None
+left_in (kinds.Left r) = Some r
+left_in (kinds.Confirmed r) = None
+left_in (kinds.Spoke r) = None
+
+abbrev ended_in : IdpRecord → Option Ended
+ended_in (kinds.Pending r) = None
+ended_in (kinds.Issued r) = None
+ended_in (kinds.Ended r) = Some r
+ended_in (kinds.Left r) = None
+ended_in (kinds.Confirmed r) = None
+ended_in (kinds.Spoke r) = None
+
+pub the_left : (r : Left) (x : IdpRecord) (made : Left) → x ≡ kinds.Left r → left_in x ≡ Some made → made ≡ r
+the_left r x made is has = let both : Some made ≡ Some r = sym has ∙ ap left_in is in cc
+
+pub the_ended : (r : Ended) (x : IdpRecord) (made : Ended) → x ≡ kinds.Ended r → ended_in x ≡ Some made → made ≡ r
+the_ended r x made is has = let both : Some made ≡ Some r = sym has ∙ ap ended_in is in cc
+
+-- ---- why
+
+of_user : (setup : IdpConfig) (held : Held) (request : Request) (now : ℕ) (row : SessionRow) (r : Left) → route request ≡ To Logout → session_for held now request ≡ Some row
+    → left_by setup.id_key held now row.cookie ≡ kinds.Left r → IsOfUserWhoLeaves held request now r
+of_user setup held request now row r to live drafted =
+    let same = the_left r (left_by setup.id_key held now row.cookie) _ drafted refl in
+    let cookie = followed (λ cookie. session_found (rows_of held.records).sessions cookie now held.header.horizon)
+    (option_and_then (λ header. cookie_value header (codes "idp_sid")) request.cookie) row live in
+    let found = found_at (λ (s : SessionRow). bytes_eq s.cookie cookie.0 && not s.ended && visible s.until now held.header.horizon) (rows_of held.records).sessions row cookie.2 in
+    let first = and_parts (bytes_eq row.cookie cookie.0 && not row.ended) (visible row.until now held.header.horizon) found.2 in
+    let second = and_parts (bytes_eq row.cookie cookie.0) (not row.ended) first.0 in
+    let named : row.cookie ≡ cookie.0 = (bytes_eq-Decides row.cookie cookie.0).0 second.0 in
+    let left : row.cookie ≡ r.cookie = ap (λ (l : Left). l.cookie) same in
+    record {
+      to = to;
+      cookie = cookie.1 ∙ ap Some (sym named ∙ left);
+      place = found.0;
+      row = row;
+      there = found.1;
+      named = left;
+      unended = off row.ended second.1;
+      seen = first.1;
+    }
+
+ends_so : (setup : IdpConfig) (held : Held) (request : Request) (now : ℕ) (answer : Answer) (adds : Option IdpRecord) (r : IdpRecord) → adds ≡ Some r
+    → Answers setup held request now answer adds → IsOfLogoutIfEnding setup held request now r
+ends_so setup held request now answer adds r some (steps.ByStatus status to is none) = absurd (let e = sym some ∙ none in cc)
+ends_so setup held request now answer adds r some (steps.ByMetadata to is none) = absurd (let e = sym some ∙ none in cc)
+ends_so setup held request now answer adds r some (steps.ByVerdict verdict to refused is none) = absurd (let e = sym some ∙ none in cc)
+ends_so setup held request now answer adds r some (steps.ByIssuing asked peer row other bytes to is known used drafted adding answers full) =
+    let same : kinds.Issued other ≡ r = (let e = sym adding ∙ some in cc) in
+    subst (IsOfLogoutIfEnding setup held request now) same tt
+ends_so setup held request now answer adds r some (steps.ByPassive asked peer message bytes to is known none passive adding named answers full) =
+    let same : spoke setup.id_key (next_number held) now (ask_of asked peer) ≡ r = (let e = sym adding ∙ some in cc) in
+    subst (IsOfLogoutIfEnding setup held request now) same tt
+ends_so setup held request now answer adds r some (steps.ByAsking asked peer id to is known none passive adding named full) =
+    let same : pending setup.id_key (next_number held) now (ask_of asked peer) ≡ r = (let e = sym adding ∙ some in cc) in
+    subst (IsOfLogoutIfEnding setup held request now) same tt
+ends_so setup held request now answer adds r some (steps.ByFields to bad is none) = absurd (let e = sym some ∙ none in cc)
+ends_so setup held request now answer adds r some (steps.ByNoPending t to posted nothing is none) = absurd (let e = sym some ∙ none in cc)
+ends_so setup held request now answer adds r some (steps.ByPassword t row peer to posted pending refused is none) = absurd (let e = sym some ∙ none in cc)
+ends_so setup held request now answer adds r some (steps.ByLogin t row peer user other bytes to posted pending accepted drafted adding answers full) =
+    let same : kinds.Issued other ≡ r = (let e = sym adding ∙ some in cc) in
+    subst (IsOfLogoutIfEnding setup held request now) same tt
+ends_so setup held request now answer adds r some (steps.ByNoSession to none_live is none) = absurd (let e = sym some ∙ none in cc)
+ends_so setup held request now answer adds r some (steps.ByLeaving row left bytes to live drafted adding answers full) =
+    let same : kinds.Left left ≡ r = (let e = sym adding ∙ some in cc) in
+    subst (IsOfLogoutIfEnding setup held request now) same (of_user setup held request now row left to live drafted)
+ends_so setup held request now answer adds r some (steps.ByLogoutVerdict verdict to refused is none) = absurd (let e = sym some ∙ none in cc)
+ends_so setup held request now answer adds r some (steps.ByNothingToEnd asked peer relay to asks nothing is none) = absurd (let e = sym some ∙ none in cc)
+ends_so setup held request now answer adds r some (steps.ByEnding asked peer relay ended bytes to asks some_end drafted adding answers full) =
+    let same : kinds.Ended ended ≡ r = (let e = sym adding ∙ some in cc) in
+    let made = the_ended ended (ended_by setup.id_key held now peer.peer.entity asked) _ drafted refl in
+    let of : IsOfPeerThatAsks setup held request now ended = record {
+      to = to;
+      asked = asked;
+      peer = peer;
+      relay = relay;
+      asks = asks;
+      cookies_are = sym (ap (λ (l : Ended). l.cookies) made);
+      some = subst (λ (l : Ended). is_empty l.cookies ≡ false) made some_end;
+      request_is = sym (ap (λ (l : Ended). l.request) made);
+      peer_is = sym (ap (λ (l : Ended). l.peer) made);
+    } in
+    subst (IsOfLogoutIfEnding setup held request now) same of
+ends_so setup held request now answer adds r some (steps.ByUnknownLogout response to replies unknown is none) = absurd (let e = sym some ∙ none in cc)
+ends_so setup held request now answer adds r some (steps.ByConfirming response to replies waits adding full) =
+    let of : IsOfPeerThatReplies setup held request now (record { moment = now; request = response.request }) =
+    record { to = to; response = response; replies = replies; request_is = refl; awaited = waits } in
+    let same : confirmed now response.request ≡ r = (let e = sym adding ∙ some in cc) in
+    subst (IsOfLogoutIfEnding setup held request now) same of
+
+pub answers_end_exactly : AnswersEndExactly
+answers_end_exactly setup held request now answer r answers = ends_so setup held request now answer (Some r) r refl answers
+
+pub services_end_exactly : ServicesEndExactly
+services_end_exactly found request now before after answer old new (steps.Plain answers whole) unbroken = Nothing whole.is
+services_end_exactly found request now before after answer old new (steps.Recorded r answers place whole) unbroken =
+    More found r (inl refl) whole.is (answers_end_exactly old.setup found request now answer r answers)
+services_end_exactly found request now before after answer old new (steps.RecordedAfterCompaction held wanted r other wants none made answers place whole) unbroken =
+    More held r (inr made) whole.is (answers_end_exactly old.setup held request now answer r answers)
+services_end_exactly found request now before after answer old new (steps.NoPlace held wanted r other another wants none made answers still is whole) unbroken =
+    Anew (subst (λ (h : Held). Compacts now found h) (sym whole.is) made)
+services_end_exactly found request now before after answer old new (steps.Failed wanted other wants risen is broken) unbroken =
+    absurd (let clash : true ≡ false = sym broken.is_broken ∙ unbroken in cc)
+services_end_exactly found request now before after answer old new (steps.Starved held (inl same) is whole) unbroken = Nothing (whole.is ∙ same)
+services_end_exactly found request now before after answer old new (steps.Starved held (inr made) is whole) unbroken =
+    Anew (subst (λ (h : Held). Compacts now found h) (sym whole.is) made)
+
+-- ---- what stands behind an answer
+
+no_metadata : (request : Request) → (route request ≡ To Logout) ⊎ (route request ≡ To SingleLogout) → route request ≡ To Metadata → ⊥
+no_metadata request (inl leaves) to = let clash = sym leaves ∙ to in cc
+no_metadata request (inr posts) to = let clash = sym posts ∙ to in cc
+
+pub what_is_answered_to_a_logout : WhatIsAnsweredToALogoutIsRecorded
+what_is_answered_to_a_logout old new disk later request now before after bytes does own routed =
+    step_recorded old new disk later request now (Rose before after) bytes does own (no_metadata request routed)

@@ -1,0 +1,128 @@
+-- When a session is ended, and what stands behind an answer to a logout.
+use Rattle.std.specs.Prelude.{◌≡◌, ◌⊎◌, ℕ, true, false, List, codes, Option, Some, slice_get}
+use Rattle.std.specs.Option.{option_and_then}
+use Rattle.crash_disk.specs.Counts.{Rose}
+use Rattle.crash_disk.specs.Disk.{DiskState}
+use Rattle.http_wire.specs.declared.answer.Answer.{Answer}
+use Rattle.http_wire.specs.declared.answer.Answer.TheVariants.{Fixed, Full}
+use Rattle.http_wire.specs.Requests.{Request}
+use Rattle.http_wire.specs.Cookies.{cookie_value}
+use Rattle.ledger_records.specs.declared.idp_record.Ended.{Ended}
+use Rattle.ledger_records.specs.declared.idp_record.Left.{Left}
+use Rattle.ledger_records.specs.declared.idp_record.IdpRecord.{IdpRecord}
+use Rattle.ledger_records.specs.declared.idp_record.IdpRecord.TheVariants as kinds
+use Rattle.peer_keys.specs.declared.peers.LogoutPeer.{LogoutPeer}
+use Rattle.protocol_messages.specs.declared.logout.LogoutRequest.{LogoutRequest}
+use Rattle.protocol_messages.specs.declared.logout.LogoutResponse.{LogoutResponse}
+use Rattle.ledger_records.specs.declared.idp_record.Confirmed.{Confirmed}
+use Rattle.idp_ledger.specs.declared.row.SessionRow.{SessionRow}
+use Rattle.idp_ledger.specs.Finding.{is_empty, visible}
+use Rattle.idp_ledger.specs.RowsOf.{is_among, rows_of}
+use Rattle.idp_ledger.specs.Compacting.{Compacts}
+use Rattle.idp_ledger.specs.Ledger.{Held, held_with}
+use Rattle.idp_rules.specs.declared.config.IdpConfig.{IdpConfig}
+use Rattle.idp_server.specs.Histories.{IsEnded}
+use Rattle.idp_server.specs.Issues.{IsRecorded}
+use Rattle.idp_server.specs.Routes.{Logout, SingleLogout, To, route}
+use Rattle.idp_server.specs.Step.{Provider, Answers, AsksToEnd, HasPlace, NO_MEMORY, OwnsDisk, RepliesTo, Serves, Steps, ended_by, ending_by, is_awaited, left_by, session_for}
+
+-- ONLY
+
+-- The user leaves by a POST, whose cookie is that of a session that is in the ledger, was not ended and is visible: that session ends.
+pub record IsOfUserWhoLeaves (held : Held) (request : Request) (now : ℕ) (r : Left) : Type 0 where
+  pub to : route request ≡ To Logout
+  pub cookie : option_and_then (λ header. cookie_value header (codes "idp_sid")) request.cookie ≡ Some r.cookie
+  pub place : ℕ
+  pub row : SessionRow
+  pub there : slice_get (rows_of held.records).sessions place ≡ Some row
+  pub named : row.cookie ≡ r.cookie
+  pub unended : row.ended ≡ false
+  pub seen : visible row.until now held.header.horizon ≡ true
+
+-- A LogoutRequest of a peer was posted and accepted, and the sessions that end are those that it asks to end, of which there are some.
+pub record IsOfPeerThatAsks (setup : IdpConfig) (held : Held) (request : Request) (now : ℕ) (r : Ended) : Type 0 where
+  pub to : route request ≡ To SingleLogout
+  pub asked : LogoutRequest
+  pub peer : LogoutPeer
+  pub relay : Option (List ℕ)
+  pub asks : AsksToEnd setup request now asked peer relay
+  pub cookies_are : r.cookies ≡ ending_by held now peer.peer.entity asked
+  pub some : is_empty r.cookies ≡ false
+  pub request_is : r.request ≡ asked.id
+  pub peer_is : r.peer ≡ peer.peer.entity
+
+-- A LogoutResponse of a peer was posted and accepted, and the logout that it replies to waits for a reply.
+pub record IsOfPeerThatReplies (setup : IdpConfig) (held : Held) (request : Request) (now : ℕ) (r : Confirmed) : Type 0 where
+  pub to : route request ≡ To SingleLogout
+  pub response : LogoutResponse
+  pub replies : RepliesTo setup request now response
+  pub request_is : r.request ≡ response.request
+  pub awaited : is_awaited held now response.request ≡ true
+
+-- what is behind a record of a logout
+abbrev pub IsOfLogoutIfEnding : IdpConfig → Held → Request → ℕ → IdpRecord → Type 0
+IsOfLogoutIfEnding setup held request now (kinds.Pending r) = Unit {0}
+IsOfLogoutIfEnding setup held request now (kinds.Issued r) = Unit {0}
+IsOfLogoutIfEnding setup held request now (kinds.Ended r) = IsOfPeerThatAsks setup held request now r
+IsOfLogoutIfEnding setup held request now (kinds.Left r) = IsOfUserWhoLeaves held request now r
+IsOfLogoutIfEnding setup held request now (kinds.Confirmed r) = IsOfPeerThatReplies setup held request now r
+IsOfLogoutIfEnding setup held request now (kinds.Spoke r) = Unit {0}
+
+-- what a request may do to a ledger that stays whole: nothing, a compaction, or a record behind either, and a record of a logout only
+-- for one
+pub data Ends (setup : IdpConfig) (found : Held) (request : Request) (now : ℕ) (new : Provider) : Type 0 where
+  Nothing : new.ledger.held ≡ found → Ends setup found request now new
+  Anew : Compacts now found new.ledger.held → Ends setup found request now new
+  More : (held : Held) (r : IdpRecord) → (held ≡ found) ⊎ Compacts now found held → new.ledger.held ≡ held_with r held
+      → IsOfLogoutIfEnding setup held request now r → Ends setup found request now new
+
+-- Each session that is ended was left by its user or ended by a peer: an answer's record, and what a request does to the ledger.
+abbrev pub AnswersEndExactly : Type 0
+AnswersEndExactly =
+    (setup : IdpConfig) (held : Held) (request : Request) (now : ℕ) (answer : Answer) (r : IdpRecord)
+    → Answers setup held request now answer (Some r) → IsOfLogoutIfEnding setup held request now r
+
+abbrev pub ServicesEndExactly : Type 0
+ServicesEndExactly =
+    (found : Held) (request : Request) (now before after : ℕ) (answer : Answer) (old new : Provider)
+    → Serves found request now (Rose before after) answer old new → new.ledger.broken ≡ false → Ends old.setup found request now new
+
+-- WHEREVER
+
+-- Over a ledger, at a moment, the user of a request leaves the session of this row: the session lives, and the request has its cookie.
+pub record LeavesOver (held : Held) (request : Request) (now : ℕ) (row : SessionRow) : Type 0 where
+  pub posted : route request ≡ To Logout
+  pub live : session_for held now request ≡ Some row
+
+-- a peer asks by a form that is accepted to end sessions
+pub record EndsOver (setup : IdpConfig) (request : Request) (now : ℕ) (asked : LogoutRequest) (peer : LogoutPeer) : Type 0 where
+  pub posted : route request ≡ To SingleLogout
+  pub relay : Option (List ℕ)
+  pub asks : AsksToEnd setup request now asked peer relay
+
+-- Wherever a session is left or a peer asks to end it, there is room for the record and the disk does not fail, it is ended behind the
+-- step; or there was no memory.
+abbrev pub WhereverAUserLeaves : Type 0
+WhereverAUserLeaves =
+    (found : Held) (request : Request) (now faults later : ℕ) (answer : Answer) (old new : Provider) (row : SessionRow)
+    → LeavesOver found request now row → HasPlace found (left_by old.setup.id_key found now row.cookie)
+    → ¬ (Rose faults later) → Serves found request now (Rose faults later) answer old new
+    → (answer ≡ Fixed NO_MEMORY) ⊎ IsEnded new.ledger.held row.cookie
+
+abbrev pub WhereverAPeerEnds : Type 0
+WhereverAPeerEnds =
+    (found : Held) (request : Request) (now faults later : ℕ) (answer : Answer) (old new : Provider) (asked : LogoutRequest) (peer : LogoutPeer) (cookie : List ℕ)
+    → EndsOver old.setup request now asked peer → is_among cookie (ending_by found now peer.peer.entity asked) ≡ true
+    → HasPlace found (ended_by old.setup.id_key found now peer.peer.entity asked)
+    → ¬ (Rose faults later) → Serves found request now (Rose faults later) answer old new
+    → (answer ≡ Fixed NO_MEMORY) ⊎ IsEnded new.ledger.held cookie
+
+-- WHAT IS ANSWERED
+
+-- Whatever form or page is answered to a user who leaves, or to a message of a logout, its record is in every image that a crash may
+-- leave behind the step: it was written before the answer is sent.
+abbrev pub WhatIsAnsweredToALogoutIsRecorded : Type 0
+WhatIsAnsweredToALogoutIsRecorded =
+    (old new : Provider) (disk later : Option DiskState) (request : Request) (now before after : ℕ) (bytes : List ℕ)
+    → Steps old disk request now (Rose before after) (Full bytes) new → OwnsDisk new later
+    → (route request ≡ To Logout) ⊎ (route request ≡ To SingleLogout) → IsRecorded old.setup request now (Full bytes) later

@@ -1,0 +1,42 @@
+//! POST of a user who leaves.
+ghost use Rattle.std.specs.Prelude.{◌≡◌, ◌≤◌, IfErr, IfOk, None};
+ghost use Rattle.fault_verdicts.specs.Judging.{IsJudged};
+ghost use Rattle.http_wire.specs.Views.{request_view};
+ghost use Rattle.http_wire.specs.declared.answer.Answer.TheVariants.{Fixed};
+ghost use Rattle.saml_time.specs.declared.TheConstants.{LAST};
+ghost use Rattle.verdict_codes.specs.Codes.{number_of};
+ghost use Rattle.idp_server.specs.Routes.{Logout, To, route};
+ghost use Rattle.idp_server.specs.Step.{Answers};
+ghost use Rattle.idp_server.specs.Replies.{Wants};
+
+use crate::node::IdpNode;
+use crate::reply::Reply;
+use crate::sign_on::can_be_stated;
+use fault_verdicts::Judged;
+use http_wire::HttpRequest;
+use verdict_codes::Verdict;
+
+impl IdpNode {
+    /// The reply to a user who leaves, or why there is none.
+    ///
+    /// # Errors
+    ///
+    /// `NoSuchSession` where the user has no live session. `NoMemory` may come in place of any other answer.
+    pub(crate) fn leave(&self, request: &HttpRequest<'_>, now: u64) -> Result<Reply, Judged>
+        requires moment { now ≤ LAST }
+        requires route { route (request_view request.now) ≡ To Logout }
+        ensures reply { IfOk result (Wants self.now.setup self.now.ledger.held (request_view request.now) now) }
+        ensures refused { IfErr result (IsJudged (λ verdict. Answers self.now.setup self.now.ledger.held (request_view request.now) now (Fixed (number_of verdict)) None)) }
+    {
+        self.ledger.holds_records();
+        let Some(row) = self.session_for(request, now) else {
+            return Err(Judged::Code(Verdict::NoSuchSession));
+        };
+        can_be_stated(row, now);
+        Ok(Reply::Leave {
+            cookie: row.cookie.copy()?,
+            user: row.user.copy()?,
+            index: row.index.copy()?,
+        })
+    }
+}

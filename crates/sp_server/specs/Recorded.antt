@@ -1,0 +1,38 @@
+-- What stands behind an answer.
+use Rattle.std.specs.Prelude.{◌≡◌, ◌⊎◌, ℕ, List, Option, None, Some, Ok}
+use Rattle.crash_disk.specs.Counts.{Rose}
+use Rattle.crash_disk.specs.Disk.{Image, DiskState}
+use Rattle.crash_disk.specs.Moments.{Leaves}
+use Rattle.http_wire.specs.declared.answer.Answer.{Answer}
+use Rattle.http_wire.specs.declared.answer.Answer.TheVariants.{Full}
+use Rattle.http_wire.specs.Requests.{Request}
+use Rattle.ledger_records.specs.declared.sp_record.SpRecord.{SpRecord}
+use Rattle.request_ledger.specs.Ledger.{Held, held_with, ledger_in}
+use Rattle.sp_server.specs.Routes.{App, Consumer, Logout, SingleLogout, To, Route, route}
+use Rattle.sp_server.specs.Step.{Setup, Provider, Answers, OwnsDisk, Serves, Steps, session_for}
+
+-- a service to which something is posted: a form with a login, that a user leaves, a message of a logout
+abbrev pub TakesPosts : Route → Type 0
+TakesPosts to = (to ≡ To Consumer) ⊎ ((to ≡ To Logout) ⊎ (to ≡ To SingleLogout))
+
+-- the answer stands for a record, and each ledger that a crash may leave has it behind the others
+pub record IsRecorded (setup : Setup) (request : Request) (now : ℕ) (answer : Answer) (disk : Option DiskState) : Type 0 where
+  pub held : Held
+  pub r : SpRecord
+  pub stands : Answers setup held request now answer (Some r)
+  pub kept : (image : Image) → Leaves disk image → ledger_in image ≡ Ok (Some (held_with r held))
+
+-- Whatever form or page is answered to what is posted, its record is in every image that a crash may leave behind the step: it was
+-- written before the answer is sent. So each LogoutRequest and each LogoutResponse that is sent has the ID of a record that is kept.
+abbrev pub WhatIsAnsweredIsRecorded : Type 0
+WhatIsAnsweredIsRecorded =
+    (old new : Provider) (disk later : Option DiskState) (request : Request) (now before after : ℕ) (bytes : List ℕ)
+    → Steps old disk request now (Rose before after) (Full bytes) new → OwnsDisk new later → TakesPosts (route request)
+    → IsRecorded old.setup request now (Full bytes) later
+
+-- And so it is of a form that asks for a login: what is answered at the application where no session lives over the ledger that is found.
+abbrev pub WhatIsAskedIsRecorded : Type 0
+WhatIsAskedIsRecorded =
+    (found : Held) (request : Request) (now before after : ℕ) (bytes : List ℕ) (old new : Provider) (later : Option DiskState)
+    → Serves found request now (Rose before after) (Full bytes) old new → OwnsDisk new later → route request ≡ To App → session_for found now request ≡ None
+    → IsRecorded old.setup request now (Full bytes) later
