@@ -147,21 +147,35 @@ fn ended(alloc: Global, of_idp: &mut MemDisk, request: &str) -> Result<String, N
     posting(alloc, "/slo", &[response])
 }
 
+/// What the user of this cookie sees at last who leaves.
+fn gone(
+    alloc: Global,
+    of_sp: &mut MemDisk,
+    of_idp: &mut MemDisk,
+    cookie: &str,
+) -> Result<String, NoMemory> {
+    let request = left(alloc, of_sp, cookie)?;
+    let response = ended(alloc, of_idp, request.as_str())?;
+    answer_of(alloc, "sp", &FILES, of_sp, response.as_str())
+}
+
 /// What the user sees who has logged in, and who has left then.
-fn seen(alloc: Global) -> Result<(String, String), NoMemory> {
-    let mut of_sp = MemDisk::new(alloc);
-    let mut of_idp = MemDisk::new(alloc);
-    let (place, cookie) = logged_in(alloc, &mut of_sp, &mut of_idp)?;
-    let page = shown(alloc, &mut of_sp, place.as_str(), cookie.as_str())?;
-    let request = left(alloc, &mut of_sp, cookie.as_str())?;
-    let response = ended(alloc, &mut of_idp, request.as_str())?;
-    let end = answer_of(alloc, "sp", &FILES, &mut of_sp, response.as_str())?;
+fn seen(
+    alloc: Global,
+    of_sp: &mut MemDisk,
+    of_idp: &mut MemDisk,
+) -> Result<(String, String), NoMemory> {
+    let (place, cookie) = logged_in(alloc, of_sp, of_idp)?;
+    let page = shown(alloc, of_sp, place.as_str(), cookie.as_str())?;
+    let end = gone(alloc, of_sp, of_idp, cookie.as_str())?;
     Ok((page, end))
 }
 
 #[test]
 fn a_user_is_logged_in_and_out(rt: HostRuntime) -> Result<(), Fail> {
-    let (page, end) = seen(rt.alloc())?;
+    let mut of_sp = MemDisk::new(rt.alloc());
+    let mut of_idp = MemDisk::new(rt.alloc());
+    let (page, end) = seen(rt.alloc(), &mut of_sp, &mut of_idp)?;
     assert_eq!(rt;
         between(page.as_str(), "<p id=\"name\">", "<form"),
         "alice</p><ul><li>a=b</li></ul>"
