@@ -4,12 +4,13 @@ use Rattle.std.specs.List.{list_any}
 use Rattle.std.proofs.lemmas.Bool.{false≢true, and_parts, or_cases, not-true}
 use Rattle.ledger_records.specs.declared.idp_record.IdpRecord.{IdpRecord}
 use Rattle.ledger_records.specs.declared.idp_record.IdpRecord.TheVariants as kinds
+use Rattle.record_ledger.proofs.Words.{same_text}
 use Rattle.idp_ledger.specs.declared.row.PendingRow.{PendingRow}
 use Rattle.idp_ledger.specs.declared.row.SessionRow.{SessionRow}
 use Rattle.idp_ledger.specs.RowsOf.{rows_of}
 use Rattle.idp_ledger.specs.Record.{is_issue_free, is_record, AreRecordsAfter}
 use Rattle.idp_ledger.specs.Laws.{HasCause, EachIssueHasItsCause}
-use Rattle.idp_ledger.proofs.LawWords.{same_text, parts}
+use Rattle.idp_ledger.proofs.LawWords.{parts}
 
 -- an item at a place
 some_at : {X : Type 0} (test : X → Bool) (xs : List X) → list_any test xs ≡ true → (k : ℕ) × ((x : X) × (slice_get xs k ≡ Some x) × (test x ≡ true))

@@ -22,11 +22,12 @@ use Rattle.idp_ledger.specs.declared.row.SessionRow.{SessionRow}
 use Rattle.idp_ledger.specs.declared.ids.LoginIds.{LoginIds}
 use Rattle.idp_ledger.specs.RowsOf.{pending_rows, issued_rows, session_rows, left_rows, rows_of}
 use Rattle.idp_ledger.specs.Finding.{pending_found, session_found, ending, is_waiting_now, last_peer}
-use Rattle.idp_ledger.specs.Record.{drawn, LAST, of_attribute, AreRecords}
+use Rattle.idp_ledger.specs.Record.{drawn, LAST, of_attribute, AreRecords, idp_rules}
 use Rattle.idp_ledger.specs.Ledger.{Held, Opened, next_number}
 use Rattle.idp_ledger.specs.Ids.{AreLoginIds, login_ids}
 use Rattle.idp_ledger.specs.Drafts.{ASSERTION_LIFE, SESSION_LIFE, IsXmlAsk, AreXmlAttributes, pending, login, login_with, issue, issue_with, ended, left, confirmed, spoke, Drafts, IsDraftable}
-use Rattle.idp_ledger.proofs.Draftable.{both, BelowEnd, id_has_number, id_is_allowed, HasItsNumber, draftable, one_number, one_id, one_moment, two_moments}
+use Rattle.record_ledger.proofs.Draftable.{both, BelowEnd, id_has_number, id_is_allowed, HasItsNumber, one_number, one_id}
+use Rattle.idp_ledger.proofs.Draftable.{draftable, one_moment, two_moments}
 use Rattle.idp_ledger.proofs.RowTexts.{pendings_allowed, peers_allowed, sessions_allowed, requests_allowed, found_pending, found_session, session_texts, last_peer_xml, waiting_is, waiting_is_allowed, ending_unended, ending_allowed}
 
 -- ---- the texts that are given
@@ -58,7 +59,7 @@ pending_draftable held key now ask moment texts =
     let id = id_text key PendingId first in
     let d : Drawn = record { number = first; id = id } in
     let t = ask_texts ask texts in
-    draftable held (pending key first now ask) refl (one_number held d (omega arith)) (one_id d (id_has_number key PendingId first))
+    draftable held (pending key first now ask) refl (one_number idp_rules held d (omega arith)) (one_id d (id_has_number key PendingId first))
     (λ below. front_xml (id ∷ ask.request ∷ ask.peer ∷ ask.consumer ∷ []) [] (id_is_allowed key PendingId first, (t.request, (t.peer, (t.consumer, tt)))) refl) (one_moment now moment)
 
 pub spoke_draftable : (held : Held) (key : List ℕ) (now : ℕ) (ask : Ask) → now ≤ LAST → IsXmlAsk ask → IsDraftable held (spoke key (next_number held) now ask)
@@ -67,7 +68,7 @@ spoke_draftable held key now ask moment texts =
     let id = id_text key Message first in
     let d : Drawn = record { number = first; id = id } in
     let t = ask_texts ask texts in
-    draftable held (spoke key first now ask) refl (one_number held d (omega arith)) (one_id d (id_has_number key Message first))
+    draftable held (spoke key first now ask) refl (one_number idp_rules held d (omega arith)) (one_id d (id_has_number key Message first))
     (λ below. front_xml (id ∷ ask.request ∷ ask.peer ∷ []) [] (id_is_allowed key Message first, (t.request, (t.peer, tt))) refl) (one_moment now moment)
 
 -- ---- a logout that is begun
@@ -82,7 +83,7 @@ left_draftable held key now cookie row moment are some =
     let d : Drawn = record { number = first; id = request } in
     let found = found_session (session_rows held.records) cookie now held.header.horizon row some (sessions_allowed held.records are) in
     let allowed = ap is_xml_text (sym found.is) ∙ (session_texts row found.texts_are).cookie in
-    draftable held (left key first now cookie peer) found.unended (one_number held d (omega arith)) (one_id d (id_has_number key Request first))
+    draftable held (left key first now cookie peer) found.unended (one_number idp_rules held d (omega arith)) (one_id d (id_has_number key Request first))
     (λ below. front_xml (cookie ∷ request ∷ peer ∷ []) [] (allowed, (id_is_allowed key Request first, (last_peer_xml (issued_rows held.records) cookie (peers_allowed held.records are), tt))) refl)
     (one_moment now moment)
 
@@ -96,7 +97,7 @@ ended_draftable held key now peer name indexes request partial moment asks peers
     let cookies = ending now held.header.horizon peer name indexes (rows_of held.records) in
     let d : Drawn = record { number = first; id = message } in
     draftable held (ended key first now cookies request peer partial) (ending_unended now held.header.horizon peer name indexes (issued_rows held.records) (session_rows held.records))
-    (one_number held d (omega arith)) (one_id d (id_has_number key Message first))
+    (one_number idp_rules held d (omega arith)) (one_id d (id_has_number key Message first))
     (λ below. front_xml (message ∷ request ∷ peer ∷ []) cookies (id_is_allowed key Message first, (asks, (peers, tt)))
     (ending_allowed now held.header.horizon peer name indexes (issued_rows held.records) (session_rows held.records) (sessions_allowed held.records are)))
     (one_moment now moment)
@@ -235,7 +236,7 @@ same_ids key next ids are below =
     λ i. record { assertion = are.assertion i; message = message i; cookie = cookie i; index = index i }
 
 id_57 : (key : List ℕ) (kind : Rattle.saml_ids.specs.declared.Kind.Kind) (n : ℕ) (id : List ℕ) → length id ≡ 57 → length id ≡ length (id_text key kind n)
-id_57 key kind n id long = long ∙ sym (Rattle.idp_ledger.proofs.Draftable.id_long key kind n)
+id_57 key kind n id long = long ∙ sym (Rattle.record_ledger.proofs.Draftable.id_long key kind n)
 
 -- the IDs of the next numbers stand for those that were drawn
 pub login_drafts : (old new : Opened) (key : List ℕ) (next now : ℕ) (ids : LoginIds) (row : PendingRow) (user : List ℕ) (attributes : List Attribute) (result : Result IdpRecord DraftFault)

@@ -4,19 +4,22 @@ use Rattle.std.specs.List.{list_any}
 use Rattle.std.proofs.lemmas.Bool.{and_parts, or_cases, or_left, or_right, ltb-true, lt-ltb}
 use Rattle.ledger_records.specs.declared.idp_record.IdpRecord.{IdpRecord}
 use Rattle.ledger_records.specs.declared.idp_record.IdpRecord.TheVariants as kinds
+use Rattle.idp_ledger.specs.Naming.{has_visible, has_session_visible}
+use Rattle.record_ledger.proofs.Words.{each_weaker}
+use Rattle.record_ledger.specs.Marks.{all}
+use Rattle.record_ledger.proofs.KeptFlags.{are_marked}
 use Rattle.idp_ledger.specs.declared.row.PendingRow.{PendingRow}
 use Rattle.idp_ledger.specs.declared.row.IssuedRow.{IssuedRow}
 use Rattle.idp_ledger.specs.declared.row.SessionRow.{SessionRow}
 use Rattle.idp_ledger.specs.declared.row.LeftRow.{LeftRow}
 use Rattle.idp_ledger.specs.Finding.{visible, pending_found, session_found, is_waiting_now, is_listed, is_ending, ending, has_issued}
 use Rattle.idp_ledger.specs.RowsOf.{pending_rows, issued_rows, session_rows, left_rows, rows_of}
-use Rattle.idp_ledger.specs.Record.{AreRecords}
+use Rattle.idp_ledger.specs.Record.{AreRecords, idp_rules}
 use Rattle.idp_ledger.specs.Ledger.{Held}
-use Rattle.idp_ledger.specs.Compacting.{has_visible, has_session_visible, AreKept, IsCompacted}
+use Rattle.idp_ledger.specs.Compacting.{AreKept, IsCompacted}
 use Rattle.idp_ledger.specs.Laws.{CompactionsChangeNoAnswer}
-use Rattle.idp_ledger.proofs.LawWords.{Each, each_weaker}
-use Rattle.idp_ledger.proofs.KeptMarks.{Marked, all}
-use Rattle.idp_ledger.proofs.KeptFlags.{are_marked}
+use Rattle.idp_ledger.proofs.LawWords.{Each}
+use Rattle.idp_ledger.proofs.KeptMarks.{Marked}
 use Rattle.idp_ledger.proofs.KeptIssues.{issues_alike}
 use Rattle.idp_ledger.proofs.KeptRows.{find_counted, any_counted, filter_counted, pending_seen, session_seen, left_seen, pendings_alike, sessions_alike, lefts_alike}
 
@@ -52,7 +55,7 @@ record SameSeen (later horizon : ℕ) (records some : List IdpRecord) : Type 0 w
 
 same_seen : (now later horizon : ℕ) (records some : List IdpRecord) → now ≤ later → AreKept now horizon records some → SameSeen later horizon records some
 same_seen now later horizon records some first are_kept =
-    let m = are_marked now horizon records some are_kept in
+    let m = are_marked idp_rules now horizon records some are_kept in
     let keeps = each_weaker (λ (k : Marked). has_visible now horizon k.1 ≡ true → k.0 ≡ true) (λ (k : Marked). has_visible later horizon k.1 ≡ true → k.0 ≡ true)
     (λ k here seen. here (had_visible now later horizon k.1 first seen)) m.marks m.visible in
     record {
@@ -87,7 +90,7 @@ second_of a b c d e is =
 same_issues : (now horizon : ℕ) (records some : List IdpRecord) (peer : List ℕ) → AreRecords records → AreKept now horizon records some
     → Each (λ (row : SessionRow). has_issued false (issued_rows some) row.cookie peer ≡ has_issued false (issued_rows records) row.cookie peer) (session_rows some)
 same_issues now horizon records some peer are are_kept =
-    let m = are_marked now horizon records some are_kept in
+    let m = are_marked idp_rules now horizon records some are_kept in
     let alike = issues_alike false peer m.marks (subst AreRecords (sym m.are_all) are) m.linked in
     let one = subst (λ rs. Each (λ (row : SessionRow). has_issued false (issued_rows rs) row.cookie peer ≡ has_issued false (issued_rows (all m.marks)) row.cookie peer) (session_rows rs)) m.are_kept alike in
     subst (λ rs. Each (λ (row : SessionRow). has_issued false (issued_rows some) row.cookie peer ≡ has_issued false (issued_rows rs) row.cookie peer) (session_rows some)) m.are_all one

@@ -7,17 +7,22 @@ use Rattle.ledger_records.specs.declared.idp_record.Issued.{Issued}
 use Rattle.ledger_records.specs.declared.idp_record.IdpRecord.{IdpRecord}
 use Rattle.ledger_records.specs.declared.idp_record.IdpRecord.TheVariants as kinds
 use Rattle.ledger_rules.specs.Numbers.{has_number, NUMBER_END}
+use Rattle.idp_ledger.specs.Naming.{has_cookie, has_session, issue_names, names}
+use Rattle.record_ledger.specs.Marks.{all, kept, KeepsAll}
+use Rattle.record_ledger.proofs.Numbers.{one_number, IsFresh, all_fresh}
+use Rattle.record_ledger.proofs.Words.{each_weaker, each_push, same_text, text_itself}
+use Rattle.record_ledger.proofs.KeptMarks.{all_push, any_same}
 use Rattle.idp_ledger.specs.declared.row.SessionRow.{SessionRow}
 use Rattle.idp_ledger.specs.Finding.{is_that_peer, has_issued}
 use Rattle.idp_ledger.specs.RowsOf.{if_pending, issued_rows, session_rows, session_row, ends}
-use Rattle.idp_ledger.specs.Record.{drawn, next_of, is_record, AreRecordsAfter, AreRecords}
-use Rattle.idp_ledger.specs.Compacting.{has_cookie, has_session, issue_names, names}
-use Rattle.idp_ledger.proofs.NumberOnce.{one_number}
-use Rattle.idp_ledger.proofs.LawWords.{Each, each_weaker, each_push, same_text, text_itself, parts, next_push, IsFresh, all_fresh}
+use Rattle.idp_ledger.specs.Record.{drawn, next_of, is_record, AreRecordsAfter, AreRecords, idp_rules}
+use Rattle.idp_ledger.proofs.LawWords.{Each, parts, next_push}
 use Rattle.idp_ledger.proofs.StandingRows.{above_some, cookie_of, index_of}
-use Rattle.idp_ledger.proofs.LinkRows.{only, session_has, less_number}
-use Rattle.idp_ledger.proofs.LinkFree.{began_at}
-use Rattle.idp_ledger.proofs.KeptMarks.{Marked, all, kept, NamersOf, AreLinked, KeepsAll, all_push, any_same}
+use Rattle.record_ledger.proofs.LinkRows.{only, less_number}
+use Rattle.idp_ledger.specs.Linking.{idp_links}
+use Rattle.idp_ledger.proofs.LinkFree.{began_at, session_has}
+use Rattle.idp_ledger.proofs.RuleLaws.{freshly_drawn, link_laws}
+use Rattle.idp_ledger.proofs.KeptMarks.{Marked, NamersOf, AreLinked}
 
 -- whether a record is an Issued with this cookie
 abbrev pub is_of : List ℕ → IdpRecord → Bool
@@ -116,7 +121,7 @@ module _ (before : List IdpRecord) (r : Issued) (pending : List ℕ) (e : r.pend
 
   none_behind : (later : List IdpRecord) → AreRecordsAfter (before ++ kinds.Issued r ∷ []) later → (k : ℕ) (y : IdpRecord) → slice_get later k ≡ Some y → has_session (r.cookie ∷ []) y ≡ true → ⊥
   none_behind later are k y there has =
-      less_number before later (kinds.Issued r) is are k y there r.cookie (session_has (r.cookie ∷ []) (kinds.Issued r) begins_it) (session_has (r.cookie ∷ []) y has)
+      less_number idp_rules idp_links freshly_drawn link_laws before later (kinds.Issued r) is are k y there r.cookie (session_has (r.cookie ∷ []) (kinds.Issued r) begins_it) (session_has (r.cookie ∷ []) y has)
 
 -- what has the cookie behind it names it
 later_names : (r x : Issued) (pending : List ℕ) (p : Option (List ℕ)) → r.pending ≡ Some pending → bytes_eq x.cookie r.cookie ≡ true → (has_cookie (r.cookie ∷ []) p x.cookie ≡ true → ⊥)
@@ -124,7 +129,7 @@ later_names : (r x : Issued) (pending : List ℕ) (p : Option (List ℕ)) → r.
 later_names r x pending None e same never =
     ap (λ q. has_cookie (x.cookie ∷ []) q r.cookie) e ∙ or_left (bytes_eq x.cookie r.cookie) false same
 later_names r x pending (Some other) e same never =
-    absurd (never (or_left (bytes_eq r.cookie x.cookie) false (Rattle.idp_ledger.proofs.LawWords.other_way x.cookie r.cookie same)))
+    absurd (never (or_left (bytes_eq r.cookie x.cookie) false (Rattle.record_ledger.proofs.Words.other_way x.cookie r.cookie same)))
 
 of_names : (r : Issued) (pending : List ℕ) (x : IdpRecord) → r.pending ≡ Some pending → is_of r.cookie x ≡ true → (has_session (r.cookie ∷ []) x ≡ true → ⊥) → names x (kinds.Issued r) ≡ true
 of_names r pending (kinds.Pending x) e of never = absurd (false≢true of)

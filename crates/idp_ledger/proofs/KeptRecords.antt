@@ -1,27 +1,21 @@
 -- What is kept of records of a ledger are records of a ledger.
-use Rattle.std.proofs.Common.{◌≡◌, ℕ, ◌≤◌, Bool, true, false, ◌&&◌, not, List, [], ◌∷◌, ◌++◌, Option, None, Some, bytes_eq, refl, sym, subst, inl, inr, arith}
+use Rattle.std.proofs.Common.{◌≡◌, ℕ, Bool, true, false, ◌&&◌, not, List, [], ◌∷◌, ◌++◌, Option, None, Some, bytes_eq, refl, inl, inr}
 use Rattle.std.specs.List.{list_any, list_all}
 use Rattle.std.proofs.lemmas.Bool.{false≢true, and_parts, and_from, or_cases, or_left, or_right, not-true, not_from_false}
 use Rattle.ledger_records.specs.declared.idp_record.Issued.{Issued}
 use Rattle.ledger_records.specs.declared.idp_record.IdpRecord.{IdpRecord}
 use Rattle.ledger_records.specs.declared.idp_record.IdpRecord.TheVariants as kinds
+use Rattle.record_ledger.specs.Marks.{all, kept, KeepsAll, StaysRecord}
+use Rattle.record_ledger.proofs.KeptRecords as any
+use Rattle.idp_ledger.specs.Naming.{names, issue_names, has_cookie, has_pending, has_session, has_logout}
+use Rattle.record_ledger.proofs.Words.{each_weaker, other_way}
+use Rattle.record_ledger.proofs.Numbers.{fresh_below}
+use Rattle.record_ledger.proofs.KeptMarks.{none_kept}
 use Rattle.idp_ledger.specs.RowsOf.{rows_of, if_pending, session_row, pending_rows, session_rows, left_rows, uses, ends, confirms, is_among}
-use Rattle.idp_ledger.specs.Record.{is_unused, is_unended, is_waiting, is_issue_free, is_free, drawn, next_of, is_record, AreRecordsAfter, AreRecords}
-use Rattle.idp_ledger.specs.Compacting.{names, issue_names, has_cookie, has_pending, has_session, has_logout}
+use Rattle.idp_ledger.specs.Record.{is_unused, is_unended, is_waiting, is_issue_free, is_free, drawn, next_of, idp_rules}
 use Rattle.idp_ledger.specs.Laws.{KeptAreRecords}
-use Rattle.idp_ledger.proofs.LawWords.{Each, each_weaker, each_push, other_way, parts, from_parts, next_cons, fresh_below}
-use Rattle.idp_ledger.proofs.KeptMarks.{Marked, all, kept, NamersOf, AreLinked, KeepsAll, all_push, kept_push, left_push, none_kept}
-use Rattle.idp_ledger.proofs.KeptFlags.{are_marked}
-
-next_kept : (marks : List Marked) → next_of (kept marks) ≤ next_of (all marks)
-next_kept [] = omega arith
-next_kept ((true, r) ∷ marks) =
-    let rest = next_kept marks in
-    let one = next_cons r (kept marks) in
-    let other = next_cons r (all marks) in omega arith
-next_kept ((false, r) ∷ marks) =
-    let rest = next_kept marks in
-    let other = next_cons r (all marks) in omega arith
+use Rattle.idp_ledger.proofs.LawWords.{parts, from_parts}
+use Rattle.idp_ledger.proofs.KeptMarks.{Marked}
 
 unused_kept : (pending : List ℕ) (marks : List Marked) → KeepsAll (has_pending pending) marks
     → is_unused (pending_rows (all marks)) pending ≡ true → is_unused (pending_rows (kept marks)) pending ≡ true
@@ -198,43 +192,15 @@ free_kept marks (kinds.Left r) keeps free = unended_kept r.cookie marks keeps fr
 free_kept marks (kinds.Confirmed r) keeps free = waiting_kept r.request marks keeps free
 free_kept marks (kinds.Spoke r) keeps free = refl
 
-record_kept : (marks : List Marked) (r : IdpRecord) → KeepsAll (names r) marks → is_record (all marks) r ≡ true → is_record (kept marks) r ≡ true
+pub record_kept : StaysRecord idp_rules
 record_kept marks r keeps is =
     let p = parts (all marks) r is in
     from_parts (kept marks) r (record {
       free = free_kept marks r keeps p.free;
-      fresh = fresh_below (next_of (all marks)) (next_of (kept marks)) (drawn r) (next_kept marks) p.fresh;
+      fresh = fresh_below (next_of (all marks)) (next_of (kept marks)) (drawn r) (any.next_kept idp_rules marks) p.fresh;
       texts = p.texts;
       dated = p.dated;
     })
 
--- what the next record tells of those before it
-named_by : (earlier later : List Marked) (m : Marked) → Each (λ (e : Marked). NamersOf e (m ∷ later)) earlier
-    → Each (λ (e : Marked). names m.1 e.1 ≡ true → m.0 ≡ e.0) earlier
-named_by earlier later m =
-    each_weaker (λ (e : Marked). NamersOf e (m ∷ later)) (λ (e : Marked). names m.1 e.1 ≡ true → m.0 ≡ e.0) (λ e namers. namers.0) earlier
-
-onward : (earlier later : List Marked) (m : Marked) → Each (λ (e : Marked). NamersOf e (m ∷ later)) earlier → NamersOf m later
-    → Each (λ (e : Marked). NamersOf e later) (earlier ++ m ∷ [])
-onward earlier later m against own =
-    each_push (λ (e : Marked). NamersOf e later) earlier m
-    (each_weaker (λ (e : Marked). NamersOf e (m ∷ later)) (λ (e : Marked). NamersOf e later) (λ e namers. namers.1) earlier against) own
-
-kept_after : (earlier later : List Marked) → AreRecordsAfter (all earlier) (all later) → Each (λ (e : Marked). NamersOf e later) earlier → AreLinked later
-    → AreRecordsAfter (kept earlier) (kept later)
-kept_after earlier [] are against linked = tt
-kept_after earlier ((true, r) ∷ later) are against linked =
-    let rest = kept_after (earlier ++ (true, r) ∷ []) later (subst (λ b. AreRecordsAfter b (all later)) (sym (all_push earlier (true, r))) are.1)
-    (onward earlier later (true, r) against linked.0) linked.1 in
-    let keeps = each_weaker (λ (e : Marked). names r e.1 ≡ true → true ≡ e.0) (λ (e : Marked). names r e.1 ≡ true → e.0 ≡ true)
-    (λ e same here. sym (same here)) earlier (named_by earlier later (true, r) against) in
-    (record_kept earlier r keeps are.0, subst (λ b. AreRecordsAfter b (kept later)) (kept_push earlier r) rest)
-kept_after earlier ((false, r) ∷ later) are against linked =
-    let rest = kept_after (earlier ++ (false, r) ∷ []) later (subst (λ b. AreRecordsAfter b (all later)) (sym (all_push earlier (false, r))) are.1)
-    (onward earlier later (false, r) against linked.0) linked.1 in
-    subst (λ b. AreRecordsAfter b (kept later)) (left_push earlier r) rest
-
 pub kept_are_records : KeptAreRecords
-kept_are_records now horizon records some are are_kept =
-    let m = are_marked now horizon records some are_kept in
-    subst AreRecords m.are_kept (kept_after [] m.marks (subst AreRecords (sym m.are_all) are) tt m.linked)
+kept_are_records = any.kept_are_records idp_rules record_kept

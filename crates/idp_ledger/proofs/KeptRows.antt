@@ -7,14 +7,16 @@ use Rattle.ledger_records.specs.declared.idp_record.Issued.{Issued}
 use Rattle.ledger_records.specs.declared.idp_record.Left.{Left}
 use Rattle.ledger_records.specs.declared.idp_record.IdpRecord.{IdpRecord}
 use Rattle.ledger_records.specs.declared.idp_record.IdpRecord.TheVariants as kinds
+use Rattle.idp_ledger.specs.Naming.{has_visible, has_session_visible, has_cookie, issue_names, names}
+use Rattle.record_ledger.specs.Marks.{all, kept, KeepsAll}
+use Rattle.record_ledger.proofs.Words.{each_weaker, other_way}
+use Rattle.record_ledger.proofs.KeptMarks.{any_same}
 use Rattle.idp_ledger.specs.declared.row.PendingRow.{PendingRow}
 use Rattle.idp_ledger.specs.declared.row.SessionRow.{SessionRow}
 use Rattle.idp_ledger.specs.declared.row.LeftRow.{LeftRow}
 use Rattle.idp_ledger.specs.Finding.{visible}
 use Rattle.idp_ledger.specs.RowsOf.{if_pending, pending_rows, session_rows, left_rows, pending_row, session_row, left_row, is_pending, uses, ends, confirms}
-use Rattle.idp_ledger.specs.Compacting.{has_visible, has_session_visible, has_cookie, issue_names, names}
-use Rattle.idp_ledger.proofs.LawWords.{each_weaker, other_way}
-use Rattle.idp_ledger.proofs.KeptMarks.{Marked, all, kept, NamersOf, AreLinked, KeepsAll, any_same}
+use Rattle.idp_ledger.proofs.KeptMarks.{Marked, NamersOf, AreLinked}
 
 -- what a list answers where only those that pass a test count
 module _ {X : Type 0} (test counts : X → Bool) (only : (x : X) → test x ≡ true → counts x ≡ true) where

@@ -1,5 +1,5 @@
 -- The record that another one names, which no other names.
-use Rattle.std.proofs.Common.{◌≡◌, ℕ, zero, suc, ◌<◌, inl, inr, true, false, ◌&&◌, not, List, [], ◌∷◌, ◌++◌, slice_get, Option, None, Some, bytes_eq, refl, sym, ap, ◌∙◌, subst, arith}
+use Rattle.std.proofs.Common.{◌≡◌, ℕ, zero, suc, ◌<◌, inl, inr, Bool, true, false, ◌&&◌, not, List, [], ◌∷◌, ◌++◌, slice_get, Option, None, Some, bytes_eq, refl, sym, ap, ◌∙◌, subst, arith}
 use Rattle.std.specs.List.{list_any, list_all}
 use Rattle.std.proofs.lemmas.Bool.{false≢true, and_parts, or_from, or_cases, not-true}
 use Rattle.ledger_records.specs.declared.idp_record.Pending.{Pending}
@@ -7,12 +7,72 @@ use Rattle.ledger_records.specs.declared.idp_record.Issued.{Issued}
 use Rattle.ledger_records.specs.declared.idp_record.Left.{Left}
 use Rattle.ledger_records.specs.declared.idp_record.IdpRecord.{IdpRecord}
 use Rattle.ledger_records.specs.declared.idp_record.IdpRecord.TheVariants as kinds
+use Rattle.std.specs.Option.{is_some}
+use Rattle.ledger_rules.specs.Numbers.{Drawn}
+use Rattle.record_ledger.specs.Compacting.{passes}
+use Rattle.record_ledger.specs.Linking as any
+use Rattle.record_ledger.proofs.Words.{same_text, text_itself, other_way}
+use Rattle.record_ledger.proofs.LinkRows.{alone, other_not, among_one, among_itself, none_at}
 use Rattle.idp_ledger.specs.RowsOf.{if_pending, session_row, is_among, is_pending, uses, ends, confirms, pending_rows, session_rows, left_rows, rows_of}
-use Rattle.idp_ledger.specs.Record.{of_option, is_unused, is_unended, is_waiting, is_issue_free, is_record, AreRecords}
-use Rattle.idp_ledger.specs.Compacting.{has_cookie, has_session, issue_names}
-use Rattle.idp_ledger.specs.Linking.{is_none, names_up, names_down, named, has_id, HasRow}
-use Rattle.idp_ledger.proofs.LawWords.{same_text, text_itself, parts}
-use Rattle.idp_ledger.proofs.LinkRows.{other_not, among_one, among_itself, none_at, has_one, one_place}
+use Rattle.idp_ledger.specs.Record.{of_option, is_unused, is_unended, is_waiting, is_issue_free, is_record, idp_rules}
+use Rattle.idp_ledger.specs.Naming.{has_cookie, has_pending, has_session, has_logout, issue_names, names}
+use Rattle.idp_ledger.specs.Linking.{idp_links, named, row_found, session_found, where_none, within}
+use Rattle.idp_ledger.proofs.LawWords.{parts}
+
+-- whether a record has a row with one of these IDs, and whether one names another that is linked to it
+abbrev pub has_id : List (List ℕ) → IdpRecord → Bool
+has_id = any.has_id idp_rules idp_links
+
+abbrev pub names_up : IdpRecord → IdpRecord → Bool
+names_up = any.names_up idp_rules idp_links
+
+abbrev pub names_down : IdpRecord → IdpRecord → Bool
+names_down = any.names_down idp_rules idp_links
+
+abbrev pub FreeRow : List IdpRecord → IdpRecord → List ℕ → Type 0
+FreeRow = any.FreeRow idp_rules idp_links
+
+-- the cookie of an Issued that began a session
+cookie_found : (ids : List (List ℕ)) (p : Option (List ℕ)) (first : ℕ) (cookie : List ℕ) → passes (λ (d : Drawn). is_among d.id ids) (session_found p first cookie) ≡ has_cookie ids p cookie
+cookie_found ids None first cookie = refl
+cookie_found ids (Some pending) first cookie = refl
+
+pub pending_has : (id : List ℕ) (x : IdpRecord) → has_pending id x ≡ true → has_id (id ∷ []) x ≡ true
+pending_has id (kinds.Pending a) is = alone (bytes_eq id a.pending) (other_way a.pending id is)
+pending_has id (kinds.Issued x) is = absurd (false≢true is)
+pending_has id (kinds.Ended x) is = absurd (false≢true is)
+pending_has id (kinds.Left x) is = absurd (false≢true is)
+pending_has id (kinds.Confirmed x) is = absurd (false≢true is)
+pending_has id (kinds.Spoke x) is = absurd (false≢true is)
+
+pub session_has : (ids : List (List ℕ)) (x : IdpRecord) → has_session ids x ≡ true → has_id ids x ≡ true
+session_has ids (kinds.Pending x) is = absurd (false≢true is)
+session_has ids (kinds.Issued x) is = cookie_found ids x.pending x.first x.cookie ∙ is
+session_has ids (kinds.Ended x) is = absurd (false≢true is)
+session_has ids (kinds.Left x) is = absurd (false≢true is)
+session_has ids (kinds.Confirmed x) is = absurd (false≢true is)
+session_has ids (kinds.Spoke x) is = absurd (false≢true is)
+
+logout_has : (request : List ℕ) (x : IdpRecord) → has_logout request x ≡ true → has_id (request ∷ []) x ≡ true
+logout_has request (kinds.Pending x) is = absurd (false≢true is)
+logout_has request (kinds.Issued x) is = absurd (false≢true is)
+logout_has request (kinds.Ended x) is = absurd (false≢true is)
+logout_has request (kinds.Left l) is = alone (bytes_eq request l.request) (other_way l.request request is)
+logout_has request (kinds.Confirmed x) is = absurd (false≢true is)
+logout_has request (kinds.Spoke x) is = absurd (false≢true is)
+
+-- a record that is named and linked has one of the IDs
+issue_has : (p : Option (List ℕ)) (cookie : List ℕ) (x : IdpRecord) → (not (is_some (where_none p cookie)) && issue_names p cookie x) ≡ true → has_id (of_option p) x ≡ true
+issue_has None cookie x is = absurd (false≢true is)
+issue_has (Some pending) cookie x is = pending_has pending x is
+
+pub names_has : (r x : IdpRecord) → names_up r x ≡ true → has_id (named r) x ≡ true
+names_has (kinds.Pending r) x is = absurd (false≢true is)
+names_has (kinds.Issued r) x is = issue_has r.pending r.cookie x is
+names_has (kinds.Ended r) x is = session_has r.cookies x is
+names_has (kinds.Left r) x is = session_has (r.cookie ∷ []) x is
+names_has (kinds.Confirmed r) x is = logout_has r.request x is
+names_has (kinds.Spoke r) x is = absurd (false≢true is)
 
 -- the row of this pending, which nothing names yet, at its place
 record IsUnusedHere (records : List IdpRecord) (pending : List ℕ) : Type 0 where
@@ -173,7 +233,7 @@ unended_at (kinds.Confirmed r ∷ later) cookie is = unended_later (kinds.Confir
 unended_at (kinds.Spoke r ∷ later) cookie is = unended_later (kinds.Spoke r) later cookie (unended_at later cookie is)
 
 -- a record that is linked does not name what it does not use, end or confirm
-unused_by : (o : Pending) (p : Option (List ℕ)) (cookie : List ℕ) → is_pending o.pending p ≡ false → (not (is_none p) && issue_names p cookie (kinds.Pending o)) ≡ false
+unused_by : (o : Pending) (p : Option (List ℕ)) (cookie : List ℕ) → is_pending o.pending p ≡ false → (not (is_some (where_none p cookie)) && issue_names p cookie (kinds.Pending o)) ≡ false
 unused_by o None cookie none = refl
 unused_by o (Some pending) cookie none = other_not pending o.pending none
 
@@ -185,7 +245,7 @@ unused_names o (kinds.Left r) none = refl
 unused_names o (kinds.Confirmed r) none = refl
 unused_names o (kinds.Spoke r) none = refl
 
-within_or_pending : (o : Issued) (p : Option (List ℕ)) (cookie : List ℕ) → (not (is_none p) && issue_names p cookie (kinds.Issued o)) ≡ false
+within_or_pending : (o : Issued) (p : Option (List ℕ)) (cookie : List ℕ) → (not (is_some (where_none p cookie)) && issue_names p cookie (kinds.Issued o)) ≡ false
 within_or_pending o None cookie = refl
 within_or_pending o (Some pending) cookie = refl
 
@@ -201,7 +261,7 @@ unended_names o (kinds.Left r) none = not_among (r.cookie ∷ []) o.pending o.co
 unended_names o (kinds.Confirmed r) none = refl
 unended_names o (kinds.Spoke r) none = refl
 
-unconfirmed_by : (o : Left) (p : Option (List ℕ)) (cookie : List ℕ) → (not (is_none p) && issue_names p cookie (kinds.Left o)) ≡ false
+unconfirmed_by : (o : Left) (p : Option (List ℕ)) (cookie : List ℕ) → (not (is_some (where_none p cookie)) && issue_names p cookie (kinds.Left o)) ≡ false
 unconfirmed_by o None cookie = refl
 unconfirmed_by o (Some pending) cookie = refl
 
@@ -213,15 +273,6 @@ unconfirmed_names o (kinds.Left r) none = refl
 unconfirmed_names o (kinds.Confirmed r) none = other_not r.request o.request none
 unconfirmed_names o (kinds.Spoke r) none = refl
 
--- the record of an ID that one more record names
-pub record FreeRow (before : List IdpRecord) (r : IdpRecord) (id : List ℕ) : Type 0 where
-  pub place : ℕ
-  pub row : IdpRecord
-  pub there : slice_get before place ≡ Some row
-  pub has : has_id (id ∷ []) row ≡ true
-  pub named_is : names_up r row ≡ true
-  pub free : (l : ℕ) (y : IdpRecord) → place < l → slice_get before l ≡ Some y → names_up y row ≡ false
-
 has_it : (ids : List (List ℕ)) (o : Issued) → (p : List ℕ) × (o.pending ≡ Some p) → is_among o.cookie ids ≡ true → has_session ids (kinds.Issued o) ≡ true
 has_it ids o begun among = ap (λ p. has_cookie ids p o.cookie) begun.1 ∙ among
 
@@ -230,7 +281,7 @@ unended_free before r id o named = record {
   place = o.place;
   row = kinds.Issued o.row;
   there = o.there;
-  has = has_it (id ∷ []) o.row o.begun (subst (λ t. is_among t (id ∷ []) ≡ true) (sym o.id_is) (among_itself id));
+  has = session_has (id ∷ []) (kinds.Issued o.row) (has_it (id ∷ []) o.row o.begun (subst (λ t. is_among t (id ∷ []) ≡ true) (sym o.id_is) (among_itself id)));
   named_is = named;
   free = λ l y less is. unended_names o.row y (o.free l y less is);
 }
@@ -256,7 +307,7 @@ issued_free before r id (Some pending) e free among =
       row = kinds.Pending o.row;
       there = o.there;
       has = subst (λ t. is_among t (id ∷ []) ≡ true) (sym o.id_is) (among_itself id);
-      named_is = ap (λ q. not (is_none q) && issue_names q r.cookie (kinds.Pending o.row)) e
+      named_is = ap (λ q. not (is_some (where_none q r.cookie)) && issue_names q r.cookie (kinds.Pending o.row)) e
           ∙ subst (λ t. bytes_eq t pending ≡ true) (sym (o.id_is ∙ same)) (text_itself pending);
       free = λ l y less there. unused_names o.row y (o.free l y less there);
     }
@@ -285,29 +336,6 @@ free_row before (kinds.Confirmed r) id is among =
     }
 free_row before (kinds.Spoke r) id is among = absurd (false≢true among)
 
-pub has_row : (before : List IdpRecord) (r : IdpRecord) → is_record before r ≡ true → (id : List ℕ) → is_among id (named r) ≡ true → HasRow before id
-has_row before r is id among =
-    let f = free_row before r id is among in
-    record { place = f.place; row = f.row; there = f.there; has = f.has }
-
--- what a record with one of the IDs is: it is named, and no later one that is linked names it
-pub record IsNamed (before : List IdpRecord) (r : IdpRecord) (i : ℕ) (x : IdpRecord) : Type 0 where
-  pub is : names_up r x ≡ true
-  pub once : (l : ℕ) (y : IdpRecord) → i < l → slice_get before l ≡ Some y → names_up y x ≡ false
-
-pub is_named : (before : List IdpRecord) (r : IdpRecord) → AreRecords before → is_record before r ≡ true → (i : ℕ) (x : IdpRecord) → slice_get before i ≡ Some x
-    → has_id (named r) x ≡ true → IsNamed before r i x
-is_named before r are is i x there has =
-    let one = has_one (named r) x has in
-    let f = free_row before r one.0 is one.1 in
-    let same = one_place [] before are one.0 f.place i f.row x f.there there f.has one.2 in
-    let at : slice_get before i ≡ Some f.row = subst (λ p. slice_get before p ≡ Some f.row) same f.there in
-    let row : f.row ≡ x = cc in
-    record {
-      is = subst (λ y. names_up r y ≡ true) row f.named_is;
-      once = λ l y less at_l. subst (λ z. names_up y z ≡ false) row (f.free l y (omega (arith, less, same)) at_l);
-    }
-
 -- ---- the record that began a session
 
 -- an Issued in a session names the record that has the cookie, and no other
@@ -328,30 +356,44 @@ began_at before r none is =
       has = has_it (r.cookie ∷ []) o.row o.begun (subst (λ t. is_among t (r.cookie ∷ []) ≡ true) (sym o.id_is) (among_itself r.cookie));
     }
 
-names_none : (p : Option (List ℕ)) (cookie : List ℕ) (x : IdpRecord) → (is_none p && issue_names p cookie x) ≡ true → (p ≡ None) × (has_session (cookie ∷ []) x ≡ true)
-names_none None cookie x is = (refl, is)
-names_none (Some pending) cookie x is = absurd (false≢true is)
-
--- what names downwards is an Issued in a session
-pub record IsWithin (r x : IdpRecord) : Type 0 where
+-- what a record that is itself linked is
+pub record IsWithin (r : IdpRecord) (id : List ℕ) : Type 0 where
   pub issue : Issued
   pub is : r ≡ kinds.Issued issue
   pub none : issue.pending ≡ None
-  pub has : has_session (issue.cookie ∷ []) x ≡ true
+  pub id_is : issue.cookie ≡ id
 
-pub is_within_of : (r x : IdpRecord) → names_down r x ≡ true → IsWithin r x
-is_within_of (kinds.Pending r) x is = absurd (false≢true is)
-is_within_of (kinds.Issued r) x is = let both = names_none r.pending r.cookie x is in record { issue = r; is = refl; none = both.0; has = both.1 }
-is_within_of (kinds.Ended r) x is = absurd (false≢true is)
-is_within_of (kinds.Left r) x is = absurd (false≢true is)
-is_within_of (kinds.Confirmed r) x is = absurd (false≢true is)
-is_within_of (kinds.Spoke r) x is = absurd (false≢true is)
+pub is_within : (r : IdpRecord) (id : List ℕ) → within r ≡ Some id → IsWithin r id
+is_within (kinds.Pending r) id some = absurd (cc)
+is_within (kinds.Issued r) id some = let both = by_pending r.pending some in record { issue = r; is = refl; none = both.0; id_is = both.1 }
+  where
+    by_pending : (p : Option (List ℕ)) → where_none p r.cookie ≡ Some id → (p ≡ None) × (r.cookie ≡ id)
+    by_pending None e = (refl, cc)
+    by_pending (Some pending) e = absurd (cc)
+is_within (kinds.Ended r) id some = absurd (cc)
+is_within (kinds.Left r) id some = absurd (cc)
+is_within (kinds.Confirmed r) id some = absurd (cc)
+is_within (kinds.Spoke r) id some = absurd (cc)
 
-pub down_names : (r : Issued) (x : IdpRecord) → r.pending ≡ None → has_session (r.cookie ∷ []) x ≡ true → names_down (kinds.Issued r) x ≡ true
-down_names r x none has = ap (λ p. is_none p && issue_names p r.cookie x) none ∙ has
+pub within_row : (before : List IdpRecord) (r : IdpRecord) (id : List ℕ) → is_record before r ≡ true → within r ≡ Some id → any.NamedRow idp_rules idp_links before r id
+within_row before r id is some =
+    let w = is_within r id some in
+    let b = began_at before w.issue w.none (ap (is_record before) (sym w.is) ∙ is) in
+    record {
+      place = b.place;
+      row = b.row;
+      there = b.there;
+      has = subst (λ t. has_id (t ∷ []) b.row ≡ true) w.id_is (session_has (w.issue.cookie ∷ []) b.row b.has);
+      named_is = ap (λ x. names x b.row) w.is ∙ ap (λ p. issue_names p w.issue.cookie b.row) w.none ∙ b.has;
+    }
 
--- a record in a session has no row of its own that is found
-pub within_has_none : (ids : List (List ℕ)) (r x : IdpRecord) → names_down r x ≡ true → has_id ids r ≡ false
-within_has_none ids r x is =
-    let w = is_within_of r x is in
-    ap (has_id ids) w.is ∙ ap (λ p. has_cookie ids p w.issue.cookie) w.none
+pub within_names : (r x : IdpRecord) (id : List ℕ) → within r ≡ Some id → names r x ≡ true → has_id (id ∷ []) x ≡ true
+within_names r x id some is =
+    let w = is_within r id some in
+    let has = sym (ap (λ y. names y x) w.is ∙ ap (λ p. issue_names p w.issue.cookie x) w.none) ∙ is in
+    subst (λ t. has_id (t ∷ []) x ≡ true) w.id_is (session_has (w.issue.cookie ∷ []) x has)
+
+pub within_none : (r : IdpRecord) (id : List ℕ) → within r ≡ Some id → row_found r ≡ None
+within_none r id some =
+    let w = is_within r id some in
+    ap row_found w.is ∙ ap (λ p. session_found p w.issue.first w.issue.cookie) w.none

@@ -8,8 +8,8 @@ use Rattle.std.proofs.lemmas.List.Folds.{list_any_at, list_any_none}
 use Rattle.std.proofs.lemmas.Option.{slice_get_within, slice_get-get_or, slice_get_read, get_or_from_slice_get}
 use Rattle.std.proofs.lemmas.Slice.Eq.{bytes_eq-Decides}
 use Rattle.ledger_rules.specs.Numbers.{has_number, IsPlaceOf}
+use Rattle.record_ledger.proofs.Numbers.{one_number}
 use Rattle.idp_ledger.specs.Standing.{HaveNumbers, IsRowAt, id_at}
-use Rattle.idp_ledger.proofs.NumberOnce.{one_number}
 
 -- ---- where a row stands
 

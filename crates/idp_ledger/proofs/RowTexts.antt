@@ -21,7 +21,7 @@ use Rattle.idp_ledger.specs.Finding.{visible, pending_found, session_found, is_w
 use Rattle.idp_ledger.specs.Record.{LAST, of_option, of_attribute, is_unused, is_unended, is_waiting, next_of, is_record, AreRecords, AreRecordsAfter}
 use Rattle.idp_ledger.proofs.RowLaws.{is_record-is}
 use Rattle.idp_ledger.proofs.StandingRows.{NextParts, next_parts}
-use Rattle.idp_ledger.proofs.Draftable.{both}
+use Rattle.record_ledger.proofs.Draftable.{both}
 
 -- ---- tests
 

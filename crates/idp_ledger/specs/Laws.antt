@@ -1,16 +1,16 @@
 -- The laws of a ledger.
-use Rattle.std.specs.Prelude.{◌≡◌, ℕ, ◌≤◌, false, List, ◌∷◌, ◌++◌, Option, None, Some, Ok, slice_get}
-use Rattle.crash_disk.specs.Disk.{Image}
+use Rattle.std.specs.Prelude.{◌≡◌, ℕ, ◌≤◌, false, List, ◌∷◌, ◌++◌, Option, None, Some, slice_get}
 use Rattle.ledger_records.specs.declared.idp_record.Issued.{Issued}
 use Rattle.ledger_records.specs.declared.idp_record.IdpRecord.{IdpRecord}
 use Rattle.ledger_records.specs.declared.idp_record.IdpRecord.TheVariants as kinds
 use Rattle.idp_ledger.specs.declared.row.PendingRow.{PendingRow}
 use Rattle.idp_ledger.specs.declared.row.SessionRow.{SessionRow}
+use Rattle.record_ledger.specs.Laws as any
 use Rattle.idp_ledger.specs.Finding.{pending_found, session_found, ending, is_waiting_now}
 use Rattle.idp_ledger.specs.RowsOf.{IdpRows, rows_of}
-use Rattle.idp_ledger.specs.Record.{AreRecords}
-use Rattle.idp_ledger.specs.Ledger.{Held, ledger_in}
-use Rattle.idp_ledger.specs.Compacting.{IsCompacted, AreKept}
+use Rattle.idp_ledger.specs.Record.{AreRecords, idp_rules}
+use Rattle.idp_ledger.specs.Ledger.{Held}
+use Rattle.idp_ledger.specs.Compacting.{IsCompacted}
 
 -- At a moment the two rows with their horizons answer all that is asked of them alike: which login is pending, which session
 -- lives, which sessions an answered logout ends, and which logout waits.
@@ -22,11 +22,11 @@ pub record AnswerAlike (now : ℕ) (one other : Held) : Type 0 where
 
 -- what an image stands for has records of the ledger, each behind those before it
 abbrev pub ImagesHoldRecords : Type 0
-ImagesHoldRecords = (image : Image) (held : Held) → ledger_in image ≡ Ok (Some held) → AreRecords held.records
+ImagesHoldRecords = any.ImagesHoldRecords idp_rules
 
 -- what is kept of records of a ledger are records of a ledger
 abbrev pub KeptAreRecords : Type 0
-KeptAreRecords = (now horizon : ℕ) (records kept : List IdpRecord) → AreRecords records → AreKept now horizon records kept → AreRecords kept
+KeptAreRecords = any.KeptAreRecords idp_rules
 
 -- from the moment of a compaction on it changes no answer
 abbrev pub CompactionsChangeNoAnswer : Type 0

@@ -1,10 +1,9 @@
 pub mod RowsOf
 pub mod Finding
+pub mod Naming
 pub mod Record
 pub mod Standing
 pub mod Ledger
-pub mod Keeping
-pub mod Loading
 pub mod Draft
 pub mod Ids
 pub mod Drafts

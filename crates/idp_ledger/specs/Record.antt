@@ -1,5 +1,5 @@
 -- Which payloads are records of an identity provider's ledger.
-use Rattle.std.specs.Prelude.{◌≡◌, ℕ, ◌+◌, nat_le, Bool, true, ◌&&◌, not, List, [], ◌∷◌, ◌++◌, length, Option, None, Some, Result, Ok, Err, if◌then◌else◌}
+use Rattle.std.specs.Prelude.{ℕ, ◌+◌, nat_le, Bool, true, ◌&&◌, not, List, [], ◌∷◌, ◌++◌, Option, None, Some, Result}
 use Rattle.std.specs.List.{flat_map, list_all, list_any}
 use Rattle.std.specs.Str.{bytes_eq}
 use Rattle.owned_values.specs.declared.attributes.Attribute.{Attribute}
@@ -10,7 +10,11 @@ use Rattle.ledger_rules.specs.Numbers.{Drawn, above, are_fresh, is_xml_text}
 use Rattle.idp_ledger.specs.declared.row.PendingRow.{PendingRow}
 use Rattle.idp_ledger.specs.declared.row.SessionRow.{SessionRow}
 use Rattle.idp_ledger.specs.declared.row.LeftRow.{LeftRow}
-use Rattle.idp_ledger.specs.RowsOf.{IdpRows, if_pending, rows_of}
+use Rattle.ledger_records.specs.IdpRecord.{idp_bytes}
+use Rattle.record_ledger.specs.Rules.{RecordRules}
+use Rattle.record_ledger.specs.Rules as any
+use Rattle.idp_ledger.specs.RowsOf.{IdpRows, if_pending, rows_of, rows_of_kind}
+use Rattle.idp_ledger.specs.Naming.{has_visible, names}
 
 -- whether there is a pending login of this ID that is not used
 abbrev pub is_unused : List PendingRow → List ℕ → Bool
@@ -96,24 +100,25 @@ next_of records = above (flat_map drawn records)
 unfoldable pub is_record : List IdpRecord → IdpRecord → Bool
 is_record before r = is_next (rows_of before) (next_of before) r
 
--- The records that the payloads of a journal are, behind these, or the number of the first payload that is none. A payload
--- is the same record in both versions of a journal.
-abbrev pub with_next : List IdpRecord → Option IdpRecord → (IdpRecord → Result (List IdpRecord) ℕ) → Result (List IdpRecord) ℕ
-with_next before None go_on = Err (length before)
-with_next before (Some r) go_on = if is_record before r then go_on r else Err (length before)
+-- What is said of these records. A payload is the same record in both versions of a journal.
+abbrev pub idp_rules : RecordRules IdpRecord
+idp_rules = record {
+  bytes = λ version r. idp_bytes r;
+  found = λ version payload. idp_record payload;
+  is_record = is_record;
+  drawn = drawn;
+  rows_of_kind = λ records r. rows_of_kind (rows_of records) r;
+  has_visible = has_visible;
+  names = names;
+}
 
-unfoldable pub records_from : List IdpRecord → List (List ℕ) → Result (List IdpRecord) ℕ
-records_from before [] = Ok before
-records_from before (payload ∷ payloads) =
-    with_next before (idp_record payload) (λ r. records_from (before ++ r ∷ []) payloads)
-
+-- The records that the payloads of a journal are, or the number of the first payload that is none.
 abbrev pub records_of : List (List ℕ) → Result (List IdpRecord) ℕ
-records_of payloads = records_from [] payloads
+records_of = any.records_of idp_rules 2
 
 -- each is a record of the ledger behind those before it
 abbrev pub AreRecordsAfter : List IdpRecord → List IdpRecord → Type 0
-AreRecordsAfter before [] = Unit {0}
-AreRecordsAfter before (r ∷ later) = (is_record before r ≡ true) × AreRecordsAfter (before ++ r ∷ []) later
+AreRecordsAfter = any.AreRecordsAfter idp_rules
 
 abbrev pub AreRecords : List IdpRecord → Type 0
-AreRecords records = AreRecordsAfter [] records
+AreRecords = any.AreRecords idp_rules

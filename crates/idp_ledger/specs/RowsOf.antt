@@ -1,5 +1,5 @@
 -- What the records of an identity provider stand for: its rows.
-use Rattle.std.specs.Prelude.{ℕ, Bool, false, ◌||◌, List, [], ◌∷◌, ◌++◌, map, Option, None, Some}
+use Rattle.std.specs.Prelude.{ℕ, Bool, false, ◌||◌, List, [], ◌∷◌, ◌++◌, map, length, Option, None, Some}
 use Rattle.std.specs.List.{list_any}
 use Rattle.std.specs.Str.{bytes_eq}
 use Rattle.ledger_records.specs.declared.idp_record.Pending.{Pending}
@@ -177,3 +177,12 @@ rows_after rows (kinds.Left r) = record rows {
 }
 rows_after rows (kinds.Confirmed r) = record rows { lefts = confirmed_where (λ row. bytes_eq r.request row.request) rows.lefts }
 rows_after rows (kinds.Spoke r) = rows
+
+-- how many rows there are of a record's kind, where it has rows
+abbrev pub rows_of_kind : IdpRows → IdpRecord → Option ℕ
+rows_of_kind rows (kinds.Pending r) = Some (length rows.pendings)
+rows_of_kind rows (kinds.Issued r) = Some (length rows.issues)
+rows_of_kind rows (kinds.Ended r) = None
+rows_of_kind rows (kinds.Left r) = Some (length rows.lefts)
+rows_of_kind rows (kinds.Confirmed r) = None
+rows_of_kind rows (kinds.Spoke r) = None

@@ -9,8 +9,9 @@ use Rattle.idp_ledger.specs.declared.row.PendingRow.{PendingRow}
 use Rattle.idp_ledger.specs.declared.row.IssuedRow.{IssuedRow}
 use Rattle.idp_ledger.specs.declared.row.SessionRow.{SessionRow}
 use Rattle.idp_ledger.specs.declared.row.LeftRow.{LeftRow}
-use Rattle.idp_ledger.specs.RowsOf.{IdpRows, session_row, rows_after}
-use Rattle.idp_ledger.specs.Record.{drawn}
+use Rattle.record_ledger.specs.Rules.{RowRules}
+use Rattle.idp_ledger.specs.RowsOf.{IdpRows, session_row, rows_of, rows_after}
+use Rattle.idp_ledger.specs.Record.{drawn, next_of}
 
 -- for how many more rows of each kind there is memory
 pub record RowSpare : Type 0 where
@@ -131,3 +132,17 @@ session_begun (kinds.Spoke r) = None
 pub record IsAfter (old new : StandingView) (r : IdpRecord) : Type 0 where
   pub rows : new.rows ≡ rows_after old.rows r
   pub next : new.next ≡ max old.next (above (drawn r))
+
+-- These are the rows of these records, and the least number above all that they drew.
+pub record AreRowsOf (standing : StandingView) (records : List IdpRecord) : Type 0 where
+  pub rows : standing.rows ≡ rows_of records
+  pub next : standing.next ≡ next_of records
+
+-- What is said of these rows.
+abbrev pub idp_row_rules : RowRules IdpRecord StandingView
+idp_row_rules = record {
+  stands = AreRowsOf;
+  has_room = λ standing r. HasRoom standing.spare r;
+  keeps_room = λ old new. KeepsRoom old.spare new.spare;
+  is_ready = λ standing. Unit {0};
+}

@@ -1,5 +1,5 @@
 //! What makes a record one of the ledger, beside the rows that it names.
-ghost use Rattle.std.specs.Prelude.{◌≡◌, ◌+◌, ◌<◌, ◌^◌, ◌∷◌, [], ◌&&◌, nat_le, nat_lt};
+ghost use Rattle.std.specs.Prelude.{◌≡◌, ◌+◌, ◌<◌, ◌^◌, ◌∷◌, [], ◌&&◌, nat_le, nat_lt, ◌↔◌, All, IsTrue};
 ghost use Rattle.std.specs.List.{list_all, flat_map};
 ghost use Rattle.ledger_rules.specs.Numbers.{NUMBER_END, has_number, is_xml_text};
 ghost use Rattle.ledger_rules.specs.Numbers.{are_fresh as are_fresh_numbers};
@@ -16,7 +16,7 @@ use owned_values::{Attribute, Text};
 pub(crate) const LAST: u64 = 253_402_300_799_999;
 
 /// Numbers end below this one.
-pub(crate) const END_OF_NUMBERS: u64 = 1 << 63;
+const END_OF_NUMBERS: u64 = 1 << 63;
 
 /// Whether a number is this one or greater and below the end, and an ID begins with it.
 fn is_fresh(least: u64, number: u64, id: &Text) -> bool
@@ -53,6 +53,23 @@ pub(crate) fn are_fresh(least: u64, entry: &IdpRecord) -> bool
         IdpRecord::Left(r) => is_fresh(least, r.first, &r.request),
         IdpRecord::Confirmed(_) => true,
         IdpRecord::Spoke(r) => is_fresh(least, r.first, &r.message),
+    }
+}
+
+/// Whether the numbers that a record draws are below the end.
+pub(crate) fn are_before_end(entry: &IdpRecord) -> bool
+    ensures { IsTrue result ↔ All (λ d. d.number < NUMBER_END) (drawn entry.now) }
+{
+    match entry {
+        IdpRecord::Pending(r) => r.first < END_OF_NUMBERS,
+        IdpRecord::Issued(r) => match r.pending {
+            Some(_) => r.first < END_OF_NUMBERS - 3,
+            None => r.first < END_OF_NUMBERS - 1,
+        },
+        IdpRecord::Ended(r) => r.first < END_OF_NUMBERS,
+        IdpRecord::Left(r) => r.first < END_OF_NUMBERS,
+        IdpRecord::Confirmed(_) => true,
+        IdpRecord::Spoke(r) => r.first < END_OF_NUMBERS,
     }
 }
 

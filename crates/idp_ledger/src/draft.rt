@@ -2,31 +2,29 @@
 ghost use Rattle.std.specs.Prelude.{◌≡◌, IsSome, Some};
 ghost use Rattle.idp_ledger.specs.Draft.{first_id, second_id, issued_in, peer_in, partial_in};
 
-use crate::noted::Noted;
+use crate::standing::Standing;
 use ledger_records::IdpRecord;
 use ledger_records::idp_record::Issued;
-use owned_values::Blob;
+use record_ledger::Drafted;
 use saml_ids::Id;
 use std::marker::Model;
 
-/// A record that was drafted, its payload and the IDs of it that go out. Contracts see it as the record.
+/// A record that was drafted, and the IDs of it that go out. Contracts see it as the record.
 #[derive(Drop)]
 pub struct Draft {
-    pub(crate) noted: Noted,
-    pub(crate) payload: Blob,
+    pub(crate) drafted: Drafted<Standing>,
     pub(crate) ids: [Option<Id>; 2],
 }
 
 impl Model for Draft {
     ghost use Rattle.ledger_records.specs.declared.idp_record.IdpRecord.{IdpRecord};
-    ghost use Rattle.ledger_records.specs.IdpRecord.{IsIdpPayload};
     ghost use Rattle.idp_ledger.specs.Draft.{HoldsIds};
 
     ghost Value = { IdpRecord };
 
-    ghost view = { λ d. d.noted };
+    ghost view = { λ d. d.drafted };
 
-    ghost invariant = { λ d. IsIdpPayload d.payload d.noted × HoldsIds d.ids d.noted };
+    ghost invariant = { λ d. HoldsIds d.ids d.drafted };
 }
 
 impl Draft {
@@ -52,7 +50,7 @@ impl Draft {
         requires { IsSome (issued_in self.now) }
         ensures { Some result.now ≡ issued_in self.now }
     {
-        match &self.noted.entry {
+        match self.drafted.entry().entry() {
             IdpRecord::Issued(r) => r,
             _ => unreachable!(),
         }
@@ -63,7 +61,7 @@ impl Draft {
         requires { IsSome (peer_in self.now) }
         ensures { Some result.now ≡ peer_in self.now }
     {
-        match &self.noted.entry {
+        match self.drafted.entry().entry() {
             IdpRecord::Left(r) => r.peer.as_str(),
             _ => unreachable!(),
         }
@@ -74,7 +72,7 @@ impl Draft {
         requires { IsSome (partial_in self.now) }
         ensures { Some result ≡ partial_in self.now }
     {
-        match &self.noted.entry {
+        match self.drafted.entry().entry() {
             IdpRecord::Ended(r) => r.partial,
             _ => unreachable!(),
         }

@@ -44,12 +44,13 @@ impl IdpLedger {
         ensures spare { KeepsSpare self.old self.new }
     {
         let first = self.next_number();
-        let pending = id_of(&self.key, Kind::Pending, first);
+        let key = self.key();
+        let pending = id_of(key, Kind::Pending, first);
         let entry = IdpRecord::Pending(Pending {
             first,
             moment: now,
             until: now + LIFE,
-            pending: Text::of(self.alloc, pending.as_str())?,
+            pending: Text::of(self.ledger.allocator(), pending.as_str())?,
             request: ask.request.copy()?,
             peer: ask.peer.copy()?,
             consumer: ask.consumer.copy()?,
@@ -69,11 +70,12 @@ impl IdpLedger {
         ensures spare { KeepsSpare self.old self.new }
     {
         let first = self.next_number();
-        let message = id_of(&self.key, Kind::Message, first);
+        let key = self.key();
+        let message = id_of(key, Kind::Message, first);
         let entry = IdpRecord::Spoke(Spoke {
             first,
             moment: now,
-            message: Text::of(self.alloc, message.as_str())?,
+            message: Text::of(self.ledger.allocator(), message.as_str())?,
             request: ask.request.copy()?,
             peer: ask.peer.copy()?,
         });
@@ -88,12 +90,13 @@ impl IdpLedger {
         ensures same { SameLedger self.old self.new }
         ensures spare { KeepsSpare self.old self.new }
     {
+        self.holds_records();
         if !self.is_waiting(request, now) {
             return Ok(None);
         }
         let entry = IdpRecord::Confirmed(Confirmed {
             moment: now,
-            request: Text::of(self.alloc, request)?,
+            request: Text::of(self.ledger.allocator(), request)?,
         });
         Ok(Some(self.draft(entry, [None, None])?))
     }
@@ -109,18 +112,20 @@ impl IdpLedger {
         ensures same { SameLedger self.old self.new }
         ensures spare { KeepsSpare self.old self.new }
     {
-        let Some(peer) = self.standing.last_peer(cookie) else {
+        self.holds_records();
+        let Some(peer) = self.standing().last_peer(cookie) else {
             unreachable!();
         };
-        let peer = Text::of(self.alloc, peer)?;
+        let peer = Text::of(self.ledger.allocator(), peer)?;
         let first = self.next_number();
-        let request = id_of(&self.key, Kind::Request, first);
+        let key = self.key();
+        let request = id_of(key, Kind::Request, first);
         let entry = IdpRecord::Left(Left {
             first,
             moment: now,
             until: now + LIFE,
-            cookie: Text::of(self.alloc, cookie)?,
-            request: Text::of(self.alloc, request.as_str())?,
+            cookie: Text::of(self.ledger.allocator(), cookie)?,
+            request: Text::of(self.ledger.allocator(), request.as_str())?,
             peer,
         });
         self.draft(entry, [Some(request), None])
@@ -147,20 +152,22 @@ impl IdpLedger {
         ensures same { SameLedger self.old self.new }
         ensures spare { KeepsSpare self.old self.new }
     {
+        self.holds_records();
         let cookies = self.ending(now, peer, name, indexes)?;
         if cookies.is_empty() {
             return Ok(None);
         }
         let partial = self.is_partial(now, peer, name, indexes);
         let first = self.next_number();
-        let message = id_of(&self.key, Kind::Message, first);
+        let key = self.key();
+        let message = id_of(key, Kind::Message, first);
         let entry = IdpRecord::Ended(Ended {
             first,
             moment: now,
             cookies,
-            message: Text::of(self.alloc, message.as_str())?,
-            request: Text::of(self.alloc, request)?,
-            peer: Text::of(self.alloc, peer)?,
+            message: Text::of(self.ledger.allocator(), message.as_str())?,
+            request: Text::of(self.ledger.allocator(), request)?,
+            peer: Text::of(self.ledger.allocator(), peer)?,
             partial,
         });
         Ok(Some(self.draft(entry, [Some(message), None])?))
@@ -179,14 +186,14 @@ impl IdpLedger {
         if !is_named(&rows[place], now, horizon, name, indexes) {
             return false;
         }
-        self.standing.has_issued(place, peer, false)
+        self.standing().has_issued(place, peer, false)
     }
 
     /// The cookies of these sessions.
     fn ending(&self, now: u64, peer: &str, name: &str, indexes: &Texts) -> Result<Texts, NoMemory>
         ensures { IfOk result (λ cookies. cookies ≡ ending now self.now.held.header.horizon peer.now name.now indexes.now (rows_in self.now)) }
     {
-        let mut cookies = Texts::new(self.alloc);
+        let mut cookies = Texts::new(self.ledger.allocator());
         for (place, row) in self.sessions().iter().enumerate() {
             if self.is_ending(place, now, peer, name, indexes) {
                 cookies.push(row.cookie.copy()?)?;
@@ -212,9 +219,10 @@ impl IdpLedger {
     fn is_partial(&self, now: u64, peer: &str, name: &str, indexes: &Texts) -> bool
         ensures { result ≡ is_partial now self.now.held.header.horizon peer.now name.now indexes.now (rows_in self.now) }
     {
+        let standing = self.standing();
         for place in 0..self.sessions().len() {
             if self.is_ending(place, now, peer, name, indexes)
-                && self.standing.has_issued(place, peer, true)
+                && standing.has_issued(place, peer, true)
             {
                 return true;
             }

@@ -1,127 +1,169 @@
 //! An opened ledger.
-ghost use Rattle.std.specs.Prelude.{◌≡◌, true, false, OnOk, OnErr, option_copied};
+ghost use Rattle.std.specs.Prelude.{◌≡◌, true, false, None, IfErr, IfOk, IfSome, IsErrOf, OnOk, OnErr, option_copied};
+ghost use Rattle.owned_values.specs.Gives.{Gives};
 ghost use Rattle.crash_disk.specs.Counts.{CountsFaults};
+ghost use Rattle.crash_disk.specs.Disk.{image_of};
 ghost use Rattle.crash_disk.specs.Moments.{LeavesOnly};
+ghost use Rattle.gate_journal.specs.Opening.{open_fault_of, CausesFaults};
 ghost use Rattle.idp_ledger.specs.Finding.{is_waiting_now, pending_found, session_found};
 ghost use Rattle.idp_ledger.specs.Record.{AreRecords};
-ghost use Rattle.idp_ledger.specs.Standing.{AreFew};
-ghost use Rattle.idp_ledger.specs.Ledger.{CanCommit, IsOwn, IsWithOrWithout, held_with, next_number, rows_in};
+ghost use Rattle.idp_ledger.specs.RowsOf.{rows_of};
+ghost use Rattle.idp_ledger.specs.Ledger.{CanCommit, IsOwn, IsWithOrWithout, LeftByOpening, held_with, ledger_in, next_number, rows_in, taken};
+ghost use Rattle.idp_ledger.specs.Compacting.{Compacts, IsOldOrCompacted};
 
 use crate::draft::Draft;
 use crate::row::{IssuedRow, LeftRow, PendingRow, SessionRow};
 use crate::standing::Standing;
-use gate_journal::{Disk, Failed, Header, Journal};
+use gate_journal::{Disk, Failed, Header, OpenFault};
+use record_ledger::RecordLedger;
 use std::alloc::Global;
 use std::marker::Model;
 
-/// The records of a identity provider in a journal, and the rows that they stand for.
+/// The records of an identity provider in a journal, and the rows that they stand for.
 #[derive(Debug, Drop)]
 pub struct IdpLedger {
-    pub(crate) journal: Journal,
-    pub(crate) standing: Standing,
-    pub(crate) broken: bool,
-    pub(crate) key: [u8; 32],
-    pub(crate) alloc: Global,
+    pub(crate) ledger: RecordLedger<Standing>,
 }
 
 impl Model for IdpLedger {
-    ghost use Rattle.std.specs.Prelude.{◌≡◌, false};
     ghost use Rattle.idp_ledger.specs.Ledger.{Opened};
-    ghost use Rattle.idp_ledger.specs.Keeping.{opened_of, StandsFor};
 
     ghost Value = { Opened };
 
-    ghost view = { λ l. opened_of l.journal l.standing l.key l.broken };
-
-    ghost invariant = { λ l. StandsFor l.journal.kept.holds l.standing × (l.broken ≡ false → l.journal.broken ≡ false) };
+    ghost view = { λ l. l.ledger };
 }
 
 impl IdpLedger {
+    /// Opens the ledger of a disk: the records of its journal, or an empty journal where there is none yet. A journal of
+    /// version 1 is made anew in version 2. `key` is the key of the IDs that are drawn.
+    ///
+    /// It begins with a sync of both files. It answers [`OpenFault::Foreign`] exactly where the files are no journal, or a
+    /// payload is no record of an identity provider's ledger: then with the place of the length of the first such payload.
+    /// [`OpenFault::DiskFault`] comes only where the disk's count of faults rose.
+    pub fn start<D: Disk>(
+        alloc: Global,
+        disk: &mut D,
+        key: [u8; 32],
+    ) -> Result<IdpLedger, OpenFault>
+        ensures gives { IfSome (D.told disk.old) (λ d. Gives (λ l. l.held) open_fault_of result (taken (ledger_in (image_of d)))) }
+        ensures whole { IfOk result (λ l. (l.broken ≡ false) × (l.key ≡ key)) }
+        ensures own { IfOk result (λ l. IsOwn (D.told disk.new) l) }
+        // A crash at any moment of the call leaves what an image at its start stood for, or what is opened from that.
+        ensures moments { LeavesOnly D.moment D.left_since disk.old disk.new (LeftByOpening (D.told disk.old)) }
+        ensures faults { CausesFaults result (D.faults_of disk.old) (D.faults_of disk.new) }
+    {
+        Ok(IdpLedger {
+            ledger: RecordLedger::start(alloc, disk, key)?,
+        })
+    }
+
+    /// Opens the ledger again, as `start` does. At an error it is broken, and else as it was.
+    pub fn reopen<D: Disk>(&mut self, disk: &mut D) -> Result<(), OpenFault>
+        ensures gives { IfSome (D.told disk.old) (λ d. Gives (λ _. self.new.held) open_fault_of result (taken (ledger_in (image_of d)))) }
+        ensures whole { OnOk result (self.new.broken ≡ false) }
+        ensures own { OnOk result (IsOwn (D.told disk.new) self.new) }
+        ensures err { OnErr result ((self.new.held ≡ self.old.held) × (self.new.broken ≡ true)) }
+        ensures own_err { OnErr result (IsOwn (D.told disk.old) (record self.old { broken = true }) → IsOwn (D.told disk.new) self.new) }
+        ensures key { self.new.key ≡ self.old.key }
+        // A crash at any moment of the call leaves what an image at its start stood for, or what is opened from that.
+        ensures moments { LeavesOnly D.moment D.left_since disk.old disk.new (LeftByOpening (D.told disk.old)) }
+        ensures faults { CausesFaults result (D.faults_of disk.old) (D.faults_of disk.new) }
+    {
+        self.ledger.reopen(disk)
+    }
+
+    /// The rows.
+    pub(crate) fn standing(&self) -> &Standing
+        ensures { result.now.rows ≡ rows_in self.now }
+    {
+        self.ledger.standing()
+    }
+
     /// The logins that are pending, in the order of their records, used and past ones too.
     pub fn pendings(&self) -> &[PendingRow]
         ensures { result.now ≡ (rows_in self.now).pendings }
     {
-        self.standing.pendings()
+        self.standing().pendings()
     }
 
     /// The assertions that were issued, in the order of their records.
     pub fn issues(&self) -> &[IssuedRow]
         ensures { result.now ≡ (rows_in self.now).issues }
     {
-        self.standing.issues()
+        self.standing().issues()
     }
 
     /// The sessions, in the order of their records, ended and past ones too.
     pub fn sessions(&self) -> &[SessionRow]
         ensures { result.now ≡ (rows_in self.now).sessions }
     {
-        self.standing.sessions()
+        self.standing().sessions()
     }
 
     /// The logouts that were begun here, in the order of their records, confirmed and past ones too.
     pub fn lefts(&self) -> &[LeftRow]
         ensures { result.now ≡ (rows_in self.now).lefts }
     {
-        self.standing.lefts()
+        self.standing().lefts()
     }
 
     /// What the journal's header keeps.
     pub fn header(&self) -> Header
         ensures { result ≡ self.now.held.header }
     {
-        self.journal.header()
+        self.ledger.header()
     }
 
     /// Whether a call failed since the ledger was opened.
     pub fn is_broken(&self) -> bool
         ensures { result ≡ self.now.broken }
     {
-        self.broken
+        self.ledger.is_broken()
+    }
+
+    /// The key of the IDs that are drawn.
+    pub(crate) fn key(&self) -> &[u8; 32]
+        ensures { result.now ≡ self.now.key }
+    {
+        self.ledger.key()
     }
 
     /// The next number to be drawn: the larger of the header's and one more than the greatest that a record drew.
     pub(crate) fn next_number(&self) -> u64
         ensures { result ≡ next_number self.now.held }
     {
-        self.journal.header().next.max(self.standing.next())
-    }
-
-    /// That there are far fewer rows than 32 bits count, as each record takes room in the file. It does nothing.
-    pub(crate) fn has_few_rows(&self)
-        ensures { AreFew (rows_in self.now) }
-    {
-        self.journal.records_fit();
+        self.ledger.next_number()
     }
 
     /// That the records are those of a ledger, each behind those before it. It does nothing.
     pub fn holds_records(&self)
         ensures { AreRecords self.now.held.records }
     {
-        self.journal.records_fit();
+        self.ledger.holds_records();
     }
 
     /// The pending login of an ID: the first one that is not used and is visible; none where there is none.
     pub fn pending(&self, id: &str, now: u64) -> Option<&PendingRow>
         ensures { option_copied result ≡ pending_found (rows_in self.now).pendings id.now now self.now.held.header.horizon }
     {
-        let horizon = self.journal.header().horizon;
-        self.standing.pending(id, now, horizon)
+        let horizon = self.header().horizon;
+        self.standing().pending(id, now, horizon)
     }
 
     /// The live session of a cookie: the first one that is not ended and is visible; none where there is none.
     pub fn session(&self, cookie: &str, now: u64) -> Option<&SessionRow>
         ensures { option_copied result ≡ session_found (rows_in self.now).sessions cookie.now now self.now.held.header.horizon }
     {
-        let horizon = self.journal.header().horizon;
-        self.standing.session(cookie, now, horizon)
+        let horizon = self.header().horizon;
+        self.standing().session(cookie, now, horizon)
     }
 
     /// Whether the logout of a request is visible and not confirmed: one that `draft_confirm` would confirm.
     pub fn is_waiting(&self, request: &str, now: u64) -> bool
         ensures { result ≡ is_waiting_now (rows_in self.now).lefts request.now now self.now.held.header.horizon }
     {
-        let horizon = self.journal.header().horizon;
-        self.standing.is_waiting(request, now, horizon)
+        let horizon = self.header().horizon;
+        self.standing().is_waiting(request, now, horizon)
     }
 
     /// Adds the record of a draft. It takes no memory. At `Failed` the ledger is broken, and has to be opened again; the
@@ -138,12 +180,30 @@ impl IdpLedger {
         ensures moments { LeavesOnly D.moment D.left_since disk.old disk.new (IsWithOrWithout draft self.old.held) }
         ensures faults { CountsFaults result (D.faults_of disk.old) (D.faults_of disk.new) }
     {
-        self.has_few_rows();
-        let Draft { noted, payload, .. } = draft;
-        self.broken = true;
-        self.journal.append(disk, payload.as_slice())?;
-        self.standing.put(noted);
-        self.broken = false;
-        Ok(())
+        self.ledger.commit(disk, draft.drafted)
+    }
+
+    /// Leaves out each record that no one can ask for any more from the moment `now` on: a record is kept where a row of it is
+    /// visible, and with it each that it names and each that names it. The journal is made anew in its other file, with the
+    /// same next number, and with the larger of its horizon and `now`. No answer about visible rows changes from `now` on
+    /// ([`laws`](crate::laws)). A ledger of the last generation, 2^64 - 1, stays as it is.
+    ///
+    /// It answers [`OpenFault::NoMemory`] before it changes anything, and [`OpenFault::DiskFault`] only where the disk's count
+    /// of faults rose: then the ledger is broken, and the disk stands for it as before or as made anew. It never answers
+    /// [`OpenFault::Foreign`].
+    pub fn compact<D: Disk>(&mut self, disk: &mut D, now: u64) -> Result<(), OpenFault>
+        requires own { IsOwn (D.told disk.old) self.old }
+        requires whole { self.old.broken ≡ false }
+        ensures ok { OnOk result (Compacts now self.old.held self.new.held × (self.new.broken ≡ false)) }
+        ensures failed { IsErrOf result OpenFault.DiskFault → (self.new.held ≡ self.old.held) × (self.new.broken ≡ true) }
+        ensures no_memory { IsErrOf result OpenFault.NoMemory → (self.new ≡ self.old) × (disk.new ≡ disk.old) }
+        ensures not_foreign { IfErr result (λ e. open_fault_of e ≡ None) }
+        ensures key { self.new.key ≡ self.old.key }
+        ensures own { IsOwn (D.told disk.new) self.new }
+        // A crash at any moment of the call leaves the ledger from before it, or the one that is made anew.
+        ensures moments { LeavesOnly D.moment D.left_since disk.old disk.new (IsOldOrCompacted now self.old.held) }
+        ensures faults { CausesFaults result (D.faults_of disk.old) (D.faults_of disk.new) }
+    {
+        self.ledger.compact(disk, now)
     }
 }

@@ -21,7 +21,6 @@
 #![tactic(auto)]
 
 mod checks;
-mod compacting;
 mod draft;
 mod drafting;
 mod drafts;
@@ -31,18 +30,19 @@ pub mod laws;
 mod ledger;
 mod lefts;
 mod logins;
+mod naming;
 mod noted;
-mod opening;
 mod pendings;
 mod row;
+mod rules;
 mod sessions;
 mod standing;
 #[cfg(test)]
 mod tests;
 
 pub use draft::Draft;
-pub use drafting::MOST_ROWS;
 pub use gate_journal::{Disk, Failed, FileNo, Header, OpenFault};
 pub use ledger::IdpLedger;
 pub use ledger_rules::DraftFault;
+pub use record_ledger::MOST_ROWS;
 pub use row::{Ask, IssuedRow, LeftRow, PendingRow, SessionRow};

@@ -108,12 +108,22 @@ impl IdpLedger {
         ensures same { SameLedger self.old self.new }
         ensures spare { KeepsSpare self.old self.new }
     {
+        self.holds_records();
         let first = self.next_number();
-        let ids = login_ids(&self.key, first);
+        let key = self.key();
+        let ids = login_ids(key, first);
         let Some(row) = self.pending(pending, now) else {
             unreachable!();
         };
-        let entry = login_record(self.alloc, first, now, &ids, row, user, attributes)?;
+        let entry = login_record(
+            self.ledger.allocator(),
+            first,
+            now,
+            &ids,
+            row,
+            user,
+            attributes,
+        )?;
         self.draft(entry, [Some(ids.message), Some(ids.cookie)])
     }
 
@@ -129,12 +139,14 @@ impl IdpLedger {
         ensures same { SameLedger self.old self.new }
         ensures spare { KeepsSpare self.old self.new }
     {
+        self.holds_records();
         let first = self.next_number();
-        let ids = login_ids(&self.key, first);
+        let key = self.key();
+        let ids = login_ids(key, first);
         let Some(row) = self.session(cookie, now) else {
             unreachable!();
         };
-        let entry = issue_record(self.alloc, first, now, &ids, row, ask)?;
+        let entry = issue_record(self.ledger.allocator(), first, now, &ids, row, ask)?;
         self.draft(entry, [Some(ids.message), None])
     }
 }

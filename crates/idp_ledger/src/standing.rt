@@ -47,7 +47,7 @@ impl Model for Standing {
 
 impl Standing {
     /// What no records stand for. It takes no memory.
-    pub(crate) fn new(alloc: Global) -> Standing
+    pub(crate) fn empty(alloc: Global) -> Standing
         ensures rows { result.rows ≡ record { pendings = []; issues = []; sessions = []; lefts = [] } }
         ensures next { result.next ≡ 0 }
     {
@@ -88,7 +88,7 @@ impl Standing {
     }
 
     /// The least number above all that were drawn.
-    pub(crate) fn next(&self) -> u64
+    pub(crate) fn next_free(&self) -> u64
         ensures next { result ≡ self.now.next }
         ensures end { result ≤ 2 ^ 63 }
     {
@@ -157,7 +157,7 @@ impl Standing {
     }
 
     /// Whether a record may come behind those that stand here.
-    pub(crate) fn is_next(&self, entry: &IdpRecord) -> bool
+    pub(crate) fn comes_next(&self, entry: &IdpRecord) -> bool
         ensures { result ≡ is_next self.now.rows self.now.next entry.now }
     {
         self.is_free(entry)
@@ -167,7 +167,7 @@ impl Standing {
     }
 
     /// Makes room for the rows of a record, so that `put` takes no memory. It changes nothing else, and takes away no room.
-    pub(crate) fn reserve(&mut self, entry: &IdpRecord) -> Result<(), NoMemory>
+    pub(crate) fn make_room(&mut self, entry: &IdpRecord) -> Result<(), NoMemory>
         ensures rows { self.new.rows ≡ self.old.rows }
         ensures next { self.new.next ≡ self.old.next }
         ensures ok { OnOk result (HasRoom self.new.spare entry.now) }
@@ -182,7 +182,7 @@ impl Standing {
     }
 
     /// Puts a record behind those that stand here, where there is room for its rows. It takes no memory.
-    pub(crate) fn put(&mut self, noted: Noted)
+    pub(crate) fn put_entry(&mut self, noted: Noted)
         requires few { AreFew self.old.rows }
         requires is { is_next self.old.rows self.old.next noted ≡ true }
         requires room { HasRoom self.old.spare noted }

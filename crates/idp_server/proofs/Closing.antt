@@ -19,7 +19,7 @@ use Rattle.idp_ledger.specs.declared.row.SessionRow.{SessionRow}
 use Rattle.idp_ledger.specs.Finding.{is_empty, is_ending, session_found, visible}
 use Rattle.idp_ledger.specs.Ledger.{Held, held_with}
 use Rattle.idp_ledger.specs.RowsOf.{is_among, issued_rows, session_rows}
-use Rattle.idp_ledger.proofs.LawWords.{other_way, same_text, text_itself}
+use Rattle.record_ledger.proofs.Words.{other_way, same_text, text_itself}
 use Rattle.idp_ledger.proofs.RowLaws.{rows_of-push}
 use Rattle.idp_ledger.proofs.RowTexts.{any_there}
 use Rattle.idp_rules.specs.declared.config.IdpConfig.{IdpConfig}

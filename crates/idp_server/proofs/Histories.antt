@@ -16,7 +16,7 @@ use Rattle.idp_ledger.specs.Compacting.{Compacts}
 use Rattle.idp_ledger.specs.Drafts.{confirmed, issue, login, pending, spoke}
 use Rattle.idp_ledger.specs.Laws.{CompactionsChangeNoAnswer, ImagesHoldRecords}
 use Rattle.idp_ledger.specs.Ledger.{Held, Opened, IsOwn, LeftByOpening, held_with, ledger_in, migrated, next_number, taken}
-use Rattle.idp_ledger.specs.Linking.{as_list}
+use Rattle.record_ledger.specs.Linking.{as_list}
 use Rattle.idp_ledger.specs.Record.{drawn, is_record}
 use Rattle.idp_ledger.proofs.CauseLaws.{record_there}
 use Rattle.idp_rules.specs.declared.config.IdpConfig.{IdpConfig}

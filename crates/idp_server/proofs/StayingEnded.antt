@@ -13,12 +13,14 @@ use Rattle.idp_ledger.specs.Compacting.{Compacts as IsMade}
 use Rattle.idp_ledger.specs.Finding.{session_found, visible}
 use Rattle.idp_ledger.specs.Laws.{CompactionsChangeNoAnswer}
 use Rattle.idp_ledger.specs.Ledger.{Held, held_with, migrated, next_number}
-use Rattle.idp_ledger.specs.Record.{AreRecords, AreRecordsAfter, drawn, is_record, is_unended, next_of}
+use Rattle.idp_ledger.specs.Record.{AreRecords, AreRecordsAfter, drawn, idp_rules, is_record, is_unended, next_of}
 use Rattle.idp_ledger.specs.RowsOf.{IdpRows, ended_where, ends, if_pending, is_among, rows_after, rows_of, session_row, session_rows}
 use Rattle.idp_ledger.proofs.KeptRecords.{kept_are_records}
-use Rattle.idp_ledger.proofs.LawWords.{Each, IsFresh, all_fresh, next_cons, next_push, other_way, parts, same_text}
-use Rattle.idp_ledger.proofs.NumberOnce.{one_number}
-use Rattle.idp_ledger.proofs.RowLaws.{AreRecords-push, rows_of-push}
+use Rattle.record_ledger.proofs.Words.{other_way, same_text}
+use Rattle.record_ledger.proofs.Numbers.{IsFresh, all_fresh, one_number}
+use Rattle.record_ledger.proofs.Records.{AreRecords-push}
+use Rattle.idp_ledger.proofs.LawWords.{Each, next_cons, next_push, parts}
+use Rattle.idp_ledger.proofs.RowLaws.{rows_of-push}
 use Rattle.idp_server.specs.Histories.{Adds, AnEndedSessionStaysEnded, Another, Compacts, Event, Includes, IsDead, IsEnded, Leads, Nothing, Opens, This}
 
 -- ---- what events lead to are records
@@ -30,7 +32,7 @@ migrated_records false one other same are = are
 pub run_records : (start held : Held) (events : List Event) → AreRecords start.records → Leads start events held → AreRecords held.records
 run_records start held [] are leads = subst (λ (h : Held). AreRecords h.records) (sym leads) are
 run_records start held (Adds r ∷ past) are leads =
-    subst (λ (h : Held). AreRecords h.records) (sym leads.4) (AreRecords-push leads.0.records r (run_records start leads.0 past are leads.1) leads.2)
+    subst (λ (h : Held). AreRecords h.records) (sym leads.4) (AreRecords-push idp_rules leads.0.records r (run_records start leads.0 past are leads.1) leads.2)
 run_records start held (Compacts now ∷ past) are leads = made_records now leads.0 held leads.2 (run_records start leads.0 past are leads.1)
   where
     made_records : (now : ℕ) (before held : Held) → IsMade now before held → AreRecords before.records → AreRecords held.records
@@ -337,7 +339,7 @@ module _ (law : CompactionsChangeNoAnswer) (start : Held) (are : AreRecords star
             let before_are = run_records start before past are leads.1 in
             let is : is_record before.records r ≡ true = subst (λ (z : IdpRecord). is_record before.records z ≡ true) here leads.2 in
             subst (λ (h : Held). Never h cookie) (sym (leads.4 ∙ ap (λ (z : IdpRecord). held_with z before) here))
-            (at_start (held_with r before) cookie (AreRecords-push before.records r before_are is) (ends_it before r cookie is ending))
+            (at_start (held_with r before) cookie (AreRecords-push idp_rules before.records r before_are is) (ends_it before r cookie is ending))
         | inr there ↦ one_event law start are cookie (Adds x) past held (λ before led. once_ended past records before includes there led) leads
       ]
   once_ended (event ∷ past) records held (Another includes) has leads =

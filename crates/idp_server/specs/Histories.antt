@@ -17,7 +17,7 @@ use Rattle.ledger_rules.specs.Numbers.{Drawn}
 use Rattle.idp_ledger.specs.Compacting.{Compacts as IsMade}
 use Rattle.idp_ledger.specs.Finding.{session_found}
 use Rattle.idp_ledger.specs.Ledger.{Held, held_with, ledger_in, migrated, next_number}
-use Rattle.idp_ledger.specs.Linking.{as_list}
+use Rattle.record_ledger.specs.Linking.{as_list}
 use Rattle.idp_ledger.specs.Record.{AreRecords, drawn, is_record, is_unended}
 use Rattle.idp_ledger.specs.RowsOf.{ends, rows_of}
 use Rattle.idp_server.specs.Step.{Provider, Answers, OwnsDisk, Steps, StepLeaves}

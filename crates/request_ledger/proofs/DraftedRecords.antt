@@ -19,10 +19,11 @@ use Rattle.ledger_rules.specs.declared.fault.DraftFault.TheVariants.{LedgerFull,
 use Rattle.request_rows.specs.declared.row.NewSession.{NewSession}
 use Rattle.request_rows.specs.Rows.{asked_row, is_spent, session_row}
 use Rattle.request_ledger.specs.RowsOf.{asked_rows, opened_rows, left_rows}
-use Rattle.request_ledger.specs.Record.{drawn, LAST, of_option, of_attribute, is_asked, AreRecords}
+use Rattle.request_ledger.specs.Record.{drawn, LAST, of_option, of_attribute, is_asked, AreRecords, request_rules}
 use Rattle.request_ledger.specs.Ledger.{Held, Opened, next_number}
 use Rattle.request_ledger.specs.Drafts.{asked, opened, left, ended, confirmed, ending, is_waiting_now, AreSessionTexts, Drafts, IsDraftable}
-use Rattle.request_ledger.proofs.Draftable.{both, id_has_number, id_is_allowed, id_long, HasItsNumber, draftable, one_number, one_id}
+use Rattle.record_ledger.proofs.Draftable.{both, id_has_number, id_is_allowed, id_long, HasItsNumber, one_number, one_id}
+use Rattle.request_ledger.proofs.Draftable.{draftable}
 use Rattle.request_ledger.proofs.RowTexts.{tokens_allowed, requests_allowed, is_asked_now, live_is_open, live_is_allowed, waiting_is, waiting_is_allowed, ending_open, ending_allowed}
 
 -- ---- a request for a login
@@ -107,7 +108,7 @@ opened_draftable held key now new moment allowed some unspent =
     let rest = list_all is_xml_text (new.name ∷ of_option new.index ++ flat_map of_attribute new.attributes) in
     let with_token : (is_xml_text token && rest) ≡ true = both (is_xml_text token) rest (id_is_allowed key Cookie first) three.1 in
     let texts_of = both (is_xml_text new.request) _ one.0 (both (is_xml_text new.issuer) _ two.0 (both (is_xml_text new.assertion) _ three.0 with_token)) in
-    draftable held (opened key first now new) free (one_number held drawn_one (omega arith)) (one_id drawn_one (id_has_number key Cookie first)) texts_of moment
+    draftable held (opened key first now new) free (one_number request_rules held drawn_one (omega arith)) (one_id drawn_one (id_has_number key Cookie first)) texts_of moment
 
 -- ---- a logout that is begun
 
@@ -119,7 +120,7 @@ left_draftable held key now token moment are some =
     let drawn_one : Drawn = record { number = first; id = request } in
     let allowed = live_is_allowed (opened_rows held.records) token now held.header.horizon (tokens_allowed held.records are) some in
     draftable held (left key first now token) (live_is_open (opened_rows held.records) token now held.header.horizon some)
-    (one_number held drawn_one (omega arith)) (one_id drawn_one (id_has_number key Request first))
+    (one_number request_rules held drawn_one (omega arith)) (one_id drawn_one (id_has_number key Request first))
     (both (is_xml_text token) (is_xml_text request && true) allowed (both (is_xml_text request) true (id_is_allowed key Request first) refl)) moment
 
 -- ---- a logout that is answered
@@ -132,7 +133,7 @@ ended_draftable held key now issuer name indexes request moment asks are =
     let tokens = ending now held.header.horizon issuer name indexes (opened_rows held.records) in
     let drawn_one : Drawn = record { number = first; id = message } in
     draftable held (ended key first now tokens request) (ending_open now held.header.horizon issuer name indexes (opened_rows held.records))
-    (one_number held drawn_one (omega arith)) (one_id drawn_one (id_has_number key Message first))
+    (one_number request_rules held drawn_one (omega arith)) (one_id drawn_one (id_has_number key Message first))
     (both (is_xml_text message) (is_xml_text request && list_all is_xml_text tokens) (id_is_allowed key Message first)
     (both (is_xml_text request) (list_all is_xml_text tokens) asks (ending_allowed now held.header.horizon issuer name indexes (opened_rows held.records) (tokens_allowed held.records are)))) moment
 

@@ -8,15 +8,17 @@ use Rattle.request_rows.specs.declared.row.AskedRow.{AskedRow}
 use Rattle.request_rows.specs.declared.row.OpenedRow.{OpenedRow}
 use Rattle.request_rows.specs.declared.row.LeftRow.{LeftRow}
 use Rattle.request_rows.specs.Rows.{visible, asked_row, is_spent, is_seen, session_row}
+use Rattle.request_ledger.specs.Naming.{has_visible}
+use Rattle.record_ledger.proofs.Words.{each_weaker}
+use Rattle.record_ledger.proofs.KeptFlags.{are_marked}
 use Rattle.request_ledger.specs.RowsOf.{asked_rows, opened_rows, left_rows}
-use Rattle.request_ledger.specs.Record.{AreRecords}
+use Rattle.request_ledger.specs.Record.{AreRecords, request_rules}
 use Rattle.request_ledger.specs.Ledger.{Held}
 use Rattle.request_ledger.specs.Drafts.{is_listed, is_ending, ending, is_waiting_now}
-use Rattle.request_ledger.specs.Compacting.{has_visible, AreKept, IsCompacted}
+use Rattle.request_ledger.specs.Compacting.{AreKept, IsCompacted}
 use Rattle.request_ledger.specs.Laws.{CompactionsChangeNoAnswer}
-use Rattle.request_ledger.proofs.LawWords.{each_weaker, asked_any, spent_any}
+use Rattle.request_ledger.proofs.LawWords.{asked_any, spent_any}
 use Rattle.request_ledger.proofs.KeptMarks.{Marked}
-use Rattle.request_ledger.proofs.KeptFlags.{are_marked}
 use Rattle.request_ledger.proofs.KeptSpent.{spent_alike}
 use Rattle.request_ledger.proofs.KeptRows.{find_counted, any_counted, filter_counted, asked_seen, opened_seen, left_seen, asked_alike, opened_alike, left_alike}
 
@@ -47,7 +49,7 @@ record SameSeen (later horizon : ℕ) (records some : List SpRecord) : Type 0 wh
 
 same_seen : (now later horizon : ℕ) (records some : List SpRecord) → now ≤ later → AreKept now horizon records some → SameSeen later horizon records some
 same_seen now later horizon records some first are_kept =
-    let m = are_marked now horizon records some are_kept in
+    let m = are_marked request_rules now horizon records some are_kept in
     let keeps = each_weaker (λ (k : Marked). has_visible now horizon k.1 ≡ true → k.0 ≡ true) (λ (k : Marked). has_visible later horizon k.1 ≡ true → k.0 ≡ true)
     (λ k here seen. here (had_visible now later horizon k.1 first seen)) m.marks m.visible in
     record {

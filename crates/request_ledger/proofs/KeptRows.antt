@@ -10,10 +10,12 @@ use Rattle.request_rows.specs.declared.row.AskedRow.{AskedRow}
 use Rattle.request_rows.specs.declared.row.OpenedRow.{OpenedRow}
 use Rattle.request_rows.specs.declared.row.LeftRow.{LeftRow}
 use Rattle.request_rows.specs.Rows.{visible}
+use Rattle.request_ledger.specs.Naming.{has_visible, names}
+use Rattle.record_ledger.specs.Marks.{all, kept, KeepsAll}
+use Rattle.record_ledger.proofs.Words.{each_weaker, other_way}
+use Rattle.record_ledger.proofs.KeptMarks.{any_same}
 use Rattle.request_ledger.specs.RowsOf.{asked_rows, opened_rows, left_rows, asked_row, opened_row, left_row, closes, confirms}
-use Rattle.request_ledger.specs.Compacting.{has_visible, names}
-use Rattle.request_ledger.proofs.LawWords.{each_weaker, other_way}
-use Rattle.request_ledger.proofs.KeptMarks.{Marked, all, kept, NamersOf, AreLinked, KeepsAll, any_same}
+use Rattle.request_ledger.proofs.KeptMarks.{Marked, NamersOf, AreLinked}
 
 -- what a list answers where only those that pass a test count
 module _ {X : Type 0} (test counts : X → Bool) (only : (x : X) → test x ≡ true → counts x ≡ true) where

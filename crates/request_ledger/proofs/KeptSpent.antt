@@ -4,12 +4,16 @@ use Rattle.std.specs.List.{list_any}
 use Rattle.std.proofs.lemmas.Bool.{cases_Bool, false≢true, false_from_ne_true}
 use Rattle.ledger_records.specs.declared.sp_record.SpRecord.{SpRecord}
 use Rattle.ledger_records.specs.declared.sp_record.SpRecord.TheVariants as kinds
-use Rattle.request_ledger.specs.Record.{next_of, is_record, AreRecordsAfter, AreRecords}
-use Rattle.request_ledger.specs.Compacting.{names, names_asked, AreKept}
-use Rattle.request_ledger.proofs.LawWords.{opens, each_weaker, same_text, parts, opens_rightly, push_none}
+use Rattle.request_ledger.specs.Naming.{names, names_asked}
+use Rattle.record_ledger.specs.Marks.{all, kept, KeepsAll}
+use Rattle.record_ledger.proofs.Words.{each_weaker, same_text}
+use Rattle.record_ledger.proofs.KeptMarks.{any_same, none_kept}
+use Rattle.record_ledger.proofs.KeptFlags.{are_marked}
+use Rattle.request_ledger.specs.Record.{next_of, is_record, AreRecordsAfter, AreRecords, request_rules}
+use Rattle.request_ledger.specs.Compacting.{AreKept}
+use Rattle.request_ledger.proofs.LawWords.{opens, parts, opens_rightly, push_none}
 use Rattle.request_ledger.proofs.LawNumbers.{next_push, asked_as, not_asked_later}
-use Rattle.request_ledger.proofs.KeptMarks.{Marked, all, kept, NamersOf, AreLinked, KeepsAll, any_same, none_kept}
-use Rattle.request_ledger.proofs.KeptFlags.{are_marked}
+use Rattle.request_ledger.proofs.KeptMarks.{Marked, NamersOf, AreLinked}
 
 -- what opens a session for a request names the record that asked with it
 opener_names : (request : List ℕ) (x r : SpRecord) → names_asked request r ≡ true → opens request x ≡ true → names x r ≡ true
@@ -66,7 +70,7 @@ spent_kept request before ((false, r) ∷ marks) are none linked some =
 pub spent_alike : (now horizon : ℕ) (records some : List SpRecord) → AreRecords records → AreKept now horizon records some
     → (request : List ℕ) → list_any (names_asked request) some ≡ true → list_any (opens request) some ≡ list_any (opens request) records
 spent_alike now horizon records some are are_kept request there =
-    let m = are_marked now horizon records some are_kept in
+    let m = are_marked request_rules now horizon records some are_kept in
     let alike = spent_kept request [] m.marks (subst AreRecords (sym m.are_all) are) refl m.linked
     (subst (λ l. list_any (names_asked request) l ≡ true) (sym m.are_kept) there) in
     sym (ap (list_any (opens request)) m.are_kept) ∙ alike ∙ ap (list_any (opens request)) m.are_all
@@ -75,7 +79,7 @@ spent_alike now horizon records some are are_kept request there =
 pub found_among_all : (test : SpRecord → Bool) (now horizon : ℕ) (records some : List SpRecord) → AreKept now horizon records some
     → list_any test some ≡ true → list_any test records ≡ true
 found_among_all test now horizon records some are_kept there =
-    let m = are_marked now horizon records some are_kept in
+    let m = are_marked request_rules now horizon records some are_kept in
     elim (cases_Bool (list_any test records)) [
       | inl found ↦ found
       | inr none ↦

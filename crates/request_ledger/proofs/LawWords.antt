@@ -1,16 +1,17 @@
 -- Words for the laws, and facts of texts, tests and records one by one.
-use Rattle.std.proofs.Common.{◌≡◌, ℕ, zero, suc, ◌<◌, ◌⊎◌, Bool, true, false, ◌&&◌, ◌||◌, not, nat_le, List, [], ◌∷◌, ◌++◌, length, slice_index_or, bytes_eq, refl, sym, ap, ◌∙◌, subst, inl, inr, arith, append_assoc, append-nil}
+use Rattle.std.proofs.Common.{◌≡◌, ℕ, zero, suc, ◌<◌, ◌⊎◌, Bool, true, false, ◌&&◌, ◌||◌, not, nat_le, List, [], ◌∷◌, ◌++◌, length, slice_index_or, bytes_eq, refl, sym, ap, ◌∙◌, subst, inl, inr, arith}
 use Rattle.std.specs.List.{list_any, list_all}
+use Rattle.record_ledger.specs.Marks as any
+use Rattle.record_ledger.proofs.Words.{same_text}
 use Rattle.std.proofs.lemmas.Bool.{false≢true, and_parts, or_parts, or_from, or_cases, not-true}
-use Rattle.std.proofs.lemmas.Slice.Eq.{bytes_eq-Decides}
 use Rattle.std.proofs.lemmas.List.Folds.{list_any-append}
 use Rattle.ledger_records.specs.declared.sp_record.SpRecord.{SpRecord}
 use Rattle.ledger_records.specs.declared.sp_record.SpRecord.TheVariants as kinds
 use Rattle.ledger_rules.specs.Numbers.{are_fresh, is_xml_text}
 use Rattle.request_rows.specs.Rows.{is_spent}
 use Rattle.request_ledger.specs.RowsOf.{rows_of, asked_rows, opened_rows}
-use Rattle.request_ledger.specs.Record.{is_asked, is_free, drawn, texts, moment_of, LAST, next_of, is_record, AreRecordsAfter}
-use Rattle.request_ledger.specs.Compacting.{names_asked}
+use Rattle.request_ledger.specs.Record.{is_asked, is_free, drawn, texts, moment_of, LAST, next_of, is_record}
+use Rattle.request_ledger.specs.Naming.{names_asked}
 
 -- whether a record opens a session for this request
 abbrev pub opens : List ℕ → SpRecord → Bool
@@ -22,31 +23,12 @@ opens request (kinds.Confirmed r) = false
 
 -- what holds of each
 abbrev pub Each : {X : Type 0} → (X → Type 0) → List X → Type 0
-Each P [] = Unit {0}
-Each P (x ∷ xs) = P x × Each P xs
-
-pub each_weaker : {X : Type 0} (P Q : X → Type 0) → ((x : X) → P x → Q x) → (xs : List X) → Each P xs → Each Q xs
-each_weaker P Q gives [] each = tt
-each_weaker P Q gives (x ∷ xs) each = (gives x each.0, each_weaker P Q gives xs each.1)
-
-pub each_push : {X : Type 0} (P : X → Type 0) (xs : List X) (x : X) → Each P xs → P x → Each P (xs ++ x ∷ [])
-each_push P [] x each here = (here, tt)
-each_push P (y ∷ xs) x each here = (each.0, each_push P xs x each.1 here)
+Each = any.Each
 
 pub each_at : (P : List ℕ → Type 0) (texts : List (List ℕ)) → Each P texts → (k : ℕ) → k < length texts → P (slice_index_or texts k [])
 each_at P [] each k within = absurd (omega arith)
 each_at P (t ∷ texts) each zero within = each.0
 each_at P (t ∷ texts) each (suc k) within = each_at P texts each.1 k (omega arith)
-
--- texts that are alike
-pub same_text : (a b : List ℕ) → bytes_eq a b ≡ true → a ≡ b
-same_text a b = (bytes_eq-Decides a b).0
-
-pub text_itself : (a : List ℕ) → bytes_eq a a ≡ true
-text_itself a = (bytes_eq-Decides a a).1 refl
-
-pub other_way : (a b : List ℕ) → bytes_eq a b ≡ true → bytes_eq b a ≡ true
-other_way a b same = (bytes_eq-Decides b a).1 (sym (same_text a b same))
 
 -- the rows of requests and of sessions, by their records
 pub asked_any : (records : List SpRecord) (request : List ℕ) → is_asked (asked_rows records) request ≡ list_any (names_asked request) records
@@ -128,9 +110,3 @@ push_some test xs x some =
       | inl before ↦ inl before
       | inr here ↦ elim (or_cases (test x) false here) [ inl is ↦ inr is | inr wrong ↦ absurd (false≢true wrong) ]
     ]
-
--- one record more behind those of a ledger
-pub records_push : (before later : List SpRecord) (r : SpRecord) → AreRecordsAfter before later → is_record (before ++ later) r ≡ true → AreRecordsAfter before (later ++ r ∷ [])
-records_push before [] r are is = (subst (λ b. is_record b r ≡ true) (append-nil before) is, tt)
-records_push before (x ∷ later) r are is =
-    (are.0, records_push (before ++ x ∷ []) later r are.1 (subst (λ b. is_record b r ≡ true) (sym (append_assoc before (x ∷ []) later)) is))

@@ -1,18 +1,57 @@
 -- The record that another one names, which no other names.
-use Rattle.std.proofs.Common.{◌≡◌, ℕ, zero, suc, ◌<◌, inl, inr, Bool, true, false, ◌&&◌, ◌||◌, not, List, [], ◌∷◌, slice_get, Some, bytes_eq, refl, sym, ap, ◌∙◌, subst, arith}
+use Rattle.std.proofs.Common.{◌≡◌, ℕ, zero, suc, ◌<◌, inl, inr, Bool, true, false, ◌&&◌, not, List, [], ◌∷◌, slice_get, Some, bytes_eq, refl, sym, ◌∙◌, subst, arith}
 use Rattle.std.specs.List.{list_any, list_all}
-use Rattle.std.proofs.lemmas.Bool.{false≢true, and_parts, or_from, or_cases, or_left, not-true, false_from_ne_true}
+use Rattle.std.proofs.lemmas.Bool.{false≢true, and_parts, or_from, or_cases, not-true}
 use Rattle.ledger_records.specs.declared.sp_record.Opened.{Opened}
 use Rattle.ledger_records.specs.declared.sp_record.Left.{Left}
 use Rattle.ledger_records.specs.declared.sp_record.SpRecord.{SpRecord}
 use Rattle.ledger_records.specs.declared.sp_record.SpRecord.TheVariants as kinds
 use Rattle.request_rows.specs.Rows.{is_spent}
+use Rattle.record_ledger.proofs.Words.{other_way, same_text, text_itself}
 use Rattle.request_ledger.specs.RowsOf.{is_among, closes, confirms, asked_rows, opened_rows, left_rows}
-use Rattle.request_ledger.specs.Record.{is_asked, is_open, is_waiting, is_record, AreRecords}
-use Rattle.request_ledger.specs.Compacting.{names, names_asked}
-use Rattle.request_ledger.specs.Linking.{named, has_id, HasRow}
-use Rattle.request_ledger.proofs.LawWords.{opens, same_text, text_itself, asked_any, spent_any, parts}
-use Rattle.request_ledger.proofs.LinkRows.{other_not, among_one, among_itself, some_at, none_at, has_one, names_has, one_place}
+use Rattle.request_ledger.specs.Record.{is_asked, is_open, is_waiting, is_record, request_rules}
+use Rattle.record_ledger.specs.Linking.{has_id, FreeRow}
+use Rattle.request_ledger.specs.Naming.{names, names_asked, names_opened, names_left}
+use Rattle.request_ledger.specs.Linking.{named, request_links}
+use Rattle.request_ledger.proofs.LawWords.{opens, asked_any, spent_any, parts}
+use Rattle.record_ledger.proofs.LinkRows.{alone, other_not, among_one, among_itself, none_at}
+
+pub some_at : {X : Type 0} (test : X → Bool) (xs : List X) → list_any test xs ≡ true → (k : ℕ) × ((x : X) × (slice_get xs k ≡ Some x) × (test x ≡ true))
+some_at test [] some = absurd (false≢true some)
+some_at test (x ∷ xs) some =
+    elim (or_cases (test x) (list_any test xs) some) [
+      | inl here ↦ (0, (x, refl, here))
+      | inr there ↦ let rest = some_at test xs there in (suc rest.0, rest.1)
+    ]
+
+-- a record that is named has one of the IDs
+names_asked_has : (request : List ℕ) (x : SpRecord) → names_asked request x ≡ true → has_id request_rules request_links (request ∷ []) x ≡ true
+names_asked_has request (kinds.Asked a) is = alone (bytes_eq request a.request) (other_way a.request request is)
+names_asked_has request (kinds.Opened x) is = absurd (false≢true is)
+names_asked_has request (kinds.Left x) is = absurd (false≢true is)
+names_asked_has request (kinds.Ended x) is = absurd (false≢true is)
+names_asked_has request (kinds.Confirmed x) is = absurd (false≢true is)
+
+names_opened_has : (tokens : List (List ℕ)) (x : SpRecord) → names_opened tokens x ≡ true → has_id request_rules request_links tokens x ≡ true
+names_opened_has tokens (kinds.Asked x) is = absurd (false≢true is)
+names_opened_has tokens (kinds.Opened x) is = is
+names_opened_has tokens (kinds.Left x) is = absurd (false≢true is)
+names_opened_has tokens (kinds.Ended x) is = absurd (false≢true is)
+names_opened_has tokens (kinds.Confirmed x) is = absurd (false≢true is)
+
+names_left_has : (request : List ℕ) (x : SpRecord) → names_left request x ≡ true → has_id request_rules request_links (request ∷ []) x ≡ true
+names_left_has request (kinds.Asked x) is = absurd (false≢true is)
+names_left_has request (kinds.Opened x) is = absurd (false≢true is)
+names_left_has request (kinds.Left l) is = alone (bytes_eq request l.request) (other_way l.request request is)
+names_left_has request (kinds.Ended x) is = absurd (false≢true is)
+names_left_has request (kinds.Confirmed x) is = absurd (false≢true is)
+
+pub names_has : (r x : SpRecord) → names r x ≡ true → has_id request_rules request_links (named r) x ≡ true
+names_has (kinds.Asked r) x is = absurd (false≢true is)
+names_has (kinds.Opened r) x is = names_asked_has r.request x is
+names_has (kinds.Left r) x is = names_opened_has (r.token ∷ []) x is
+names_has (kinds.Ended r) x is = names_opened_has r.tokens x is
+names_has (kinds.Confirmed r) x is = names_left_has r.request x is
 
 -- the session of a token that is not closed, at its place
 record IsOpenHere (records : List SpRecord) (token : List ℕ) : Type 0 where
@@ -141,16 +180,7 @@ unanswered request (kinds.Left a) y asks none = absurd (false≢true asks)
 unanswered request (kinds.Ended a) y asks none = absurd (false≢true asks)
 unanswered request (kinds.Confirmed a) y asks none = absurd (false≢true asks)
 
--- the record of an ID that one more record names
-pub record FreeRow (before : List SpRecord) (r : SpRecord) (id : List ℕ) : Type 0 where
-  pub place : ℕ
-  pub row : SpRecord
-  pub there : slice_get before place ≡ Some row
-  pub has : has_id (id ∷ []) row ≡ true
-  pub named_is : names r row ≡ true
-  pub free : (l : ℕ) (y : SpRecord) → place < l → slice_get before l ≡ Some y → names y row ≡ false
-
-open_free : (before : List SpRecord) (r : SpRecord) (id : List ℕ) (o : IsOpenHere before id) → names r (kinds.Opened o.session) ≡ true → FreeRow before r id
+open_free : (before : List SpRecord) (r : SpRecord) (id : List ℕ) (o : IsOpenHere before id) → names r (kinds.Opened o.session) ≡ true → FreeRow request_rules request_links before r id
 open_free before r id o named = record {
   place = o.place;
   row = kinds.Opened o.session;
@@ -170,7 +200,7 @@ among_token rows (t ∷ tokens) id all among =
       | inr there ↦ among_token rows tokens id both.1 there
     ]
 
-pub free_row : (before : List SpRecord) (r : SpRecord) (id : List ℕ) → is_record before r ≡ true → is_among id (named r) ≡ true → FreeRow before r id
+pub free_row : (before : List SpRecord) (r : SpRecord) (id : List ℕ) → is_record before r ≡ true → is_among id (named r) ≡ true → FreeRow request_rules request_links before r id
 free_row before (kinds.Asked r) id is among = absurd (false≢true among)
 free_row before (kinds.Opened r) id is among =
     let same : id ≡ r.request = among_one r.request id among in
@@ -181,7 +211,7 @@ free_row before (kinds.Opened r) id is among =
       place = at.0;
       row = at.1.0;
       there = at.1.1;
-      has = subst (λ t. has_id (t ∷ []) at.1.0 ≡ true) (sym same) (names_has (kinds.Opened r) at.1.0 at.1.2);
+      has = subst (λ t. has_id request_rules request_links (t ∷ []) at.1.0 ≡ true) (sym same) (names_has (kinds.Opened r) at.1.0 at.1.2);
       named_is = at.1.2;
       free = λ l y less there. unanswered r.request at.1.0 y at.1.2 (none_at (opens r.request) before none l y there);
     }
@@ -203,27 +233,4 @@ free_row before (kinds.Confirmed r) id is among =
       has = subst (λ t. is_among t (id ∷ []) ≡ true) (sym o.request_is) (among_itself id);
       named_is = subst (λ t. bytes_eq t r.request ≡ true) (sym o.request_is) (subst (λ t. bytes_eq t r.request ≡ true) (sym same) (text_itself r.request));
       free = λ l y less there. unconfirmed o.logout y (o.free l y less there);
-    }
-
-pub has_row : (before : List SpRecord) (r : SpRecord) → is_record before r ≡ true → (id : List ℕ) → is_among id (named r) ≡ true → HasRow before id
-has_row before r is id among =
-    let f = free_row before r id is among in
-    record { place = f.place; row = f.row; there = f.there; has = f.has }
-
--- what a record with one of the IDs is: it is named, and no later one names it
-pub record IsNamed (before : List SpRecord) (r : SpRecord) (i : ℕ) (x : SpRecord) : Type 0 where
-  pub is : names r x ≡ true
-  pub once : (l : ℕ) (y : SpRecord) → i < l → slice_get before l ≡ Some y → names y x ≡ false
-
-pub is_named : (before : List SpRecord) (r : SpRecord) → AreRecords before → is_record before r ≡ true → (i : ℕ) (x : SpRecord) → slice_get before i ≡ Some x
-    → has_id (named r) x ≡ true → IsNamed before r i x
-is_named before r are is i x there has =
-    let one = has_one (named r) x has in
-    let f = free_row before r one.0 is one.1 in
-    let same = one_place [] before are one.0 f.place i f.row x f.there there f.has one.2 in
-    let at : slice_get before i ≡ Some f.row = subst (λ p. slice_get before p ≡ Some f.row) same f.there in
-    let row : f.row ≡ x = cc in
-    record {
-      is = subst (λ y. names r y ≡ true) row f.named_is;
-      once = λ l y less at_l. subst (λ z. names y z ≡ false) row (f.free l y (omega (arith, less, same)) at_l);
     }

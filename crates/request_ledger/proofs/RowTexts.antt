@@ -18,7 +18,7 @@ use Rattle.request_ledger.specs.RowsOf.{opened_rows, left_rows, rows_of, is_amon
 use Rattle.request_ledger.specs.Record.{drawn, texts, moment_of, LAST, is_asked, is_open, is_waiting, is_free, next_of, is_record, AreRecords, AreRecordsAfter}
 use Rattle.request_ledger.specs.Drafts.{is_empty, is_listed, is_ending, ending, is_waiting_now}
 use Rattle.request_ledger.proofs.RowLaws.{is_record-is}
-use Rattle.request_ledger.proofs.Draftable.{both}
+use Rattle.record_ledger.proofs.Draftable.{both}
 
 -- ---- tests
 

@@ -6,13 +6,17 @@ use Rattle.std.proofs.lemmas.List.Folds.{list_any-append}
 use Rattle.ledger_records.specs.declared.sp_record.SpRecord.{SpRecord}
 use Rattle.ledger_records.specs.declared.sp_record.SpRecord.TheVariants as kinds
 use Rattle.ledger_rules.specs.Numbers.{Drawn}
-use Rattle.request_ledger.specs.Record.{drawn, next_of, is_record, AreRecordsAfter, AreRecords}
+use Rattle.request_ledger.specs.Naming.{names_asked}
+use Rattle.record_ledger.proofs.Words.{each_weaker, text_itself}
+use Rattle.record_ledger.proofs.Records.{AreRecords-push}
+use Rattle.record_ledger.proofs.Numbers.{fresh_above}
+use Rattle.request_ledger.specs.Record.{drawn, next_of, is_record, AreRecordsAfter, AreRecords, request_rules}
 use Rattle.request_ledger.specs.Ledger.{Held, next_number, held_with, migrated}
-use Rattle.request_ledger.specs.Compacting.{names_asked, IsCompacted, Compacts as IsMade}
+use Rattle.request_ledger.specs.Compacting.{IsCompacted, Compacts as IsMade}
 use Rattle.request_ledger.specs.Runs.{Event, Adds, Compacts, Opens, Leads, AreDifferent, requests_opened, requests_of_run}
 use Rattle.request_ledger.specs.Laws.{NoRequestOpensTwiceInARun}
-use Rattle.request_ledger.proofs.LawWords.{opens, Each, each_weaker, text_itself, parts, opens_rightly, push_some, records_push}
-use Rattle.request_ledger.proofs.LawNumbers.{HasNumber, number_further, next_push, fresh_above, not_asked, asked_number}
+use Rattle.request_ledger.proofs.LawWords.{opens, Each, parts, opens_rightly, push_some}
+use Rattle.request_ledger.proofs.LawNumbers.{HasNumber, number_further, next_push, not_asked, asked_number}
 use Rattle.request_ledger.proofs.RunOnce.{one_more, no_request_opens_twice}
 use Rattle.request_ledger.proofs.KeptRecords.{kept_are_records}
 use Rattle.request_ledger.proofs.KeptSpent.{spent_alike, found_among_all}
@@ -128,7 +132,7 @@ added : (start held : Held) (past : List Event) (r : SpRecord) → is_record hel
     → IsGood start past held.records (next_number held)
     → IsGood start (Adds r ∷ past) (held.records ++ r ∷ []) (next_number (held_with r held))
 added start held past (kinds.Opened r) is fresh good = record {
-  are = records_push [] held.records (kinds.Opened r) good.are is;
+  are = AreRecords-push request_rules held.records (kinds.Opened r) good.are is;
   least = omega arith;
   each = (
     now_opened held (kinds.Opened r) is fresh r.request good.are (text_itself r.request),
@@ -137,25 +141,25 @@ added start held past (kinds.Opened r) is fresh good = record {
   different = one_opened held (kinds.Opened r) is fresh r.request (requests_of_run start past) (text_itself r.request) good.each good.different;
 }
 added start held past (kinds.Asked r) is fresh good = record {
-  are = records_push [] held.records (kinds.Asked r) good.are is;
+  are = AreRecords-push request_rules held.records (kinds.Asked r) good.are is;
   least = omega arith;
   each = all_still_opened held (kinds.Asked r) is fresh (requests_of_run start past) good.each;
   different = good.different;
 }
 added start held past (kinds.Left r) is fresh good = record {
-  are = records_push [] held.records (kinds.Left r) good.are is;
+  are = AreRecords-push request_rules held.records (kinds.Left r) good.are is;
   least = omega arith;
   each = all_still_opened held (kinds.Left r) is fresh (requests_of_run start past) good.each;
   different = good.different;
 }
 added start held past (kinds.Ended r) is fresh good = record {
-  are = records_push [] held.records (kinds.Ended r) good.are is;
+  are = AreRecords-push request_rules held.records (kinds.Ended r) good.are is;
   least = omega arith;
   each = all_still_opened held (kinds.Ended r) is fresh (requests_of_run start past) good.each;
   different = good.different;
 }
 added start held past (kinds.Confirmed r) is fresh good = record {
-  are = records_push [] held.records (kinds.Confirmed r) good.are is;
+  are = AreRecords-push request_rules held.records (kinds.Confirmed r) good.are is;
   least = omega arith;
   each = all_still_opened held (kinds.Confirmed r) is fresh (requests_of_run start past) good.each;
   different = good.different;

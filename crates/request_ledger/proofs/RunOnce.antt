@@ -4,10 +4,11 @@ use Rattle.std.specs.List.{list_any}
 use Rattle.std.proofs.lemmas.Bool.{false≢true}
 use Rattle.ledger_records.specs.declared.sp_record.SpRecord.{SpRecord}
 use Rattle.ledger_records.specs.declared.sp_record.SpRecord.TheVariants as kinds
+use Rattle.record_ledger.proofs.Words.{each_weaker, text_itself}
 use Rattle.request_ledger.specs.Record.{AreRecordsAfter}
 use Rattle.request_ledger.specs.Runs.{AreDifferent, requests_opened}
 use Rattle.request_ledger.specs.Laws.{NoRequestOpensTwice}
-use Rattle.request_ledger.proofs.LawWords.{opens, Each, each_weaker, each_at, text_itself, opens_rightly, none_push}
+use Rattle.request_ledger.proofs.LawWords.{opens, Each, each_at, opens_rightly, none_push}
 
 pub none_different : AreDifferent []
 none_different i j less within = absurd (omega arith)

@@ -17,7 +17,7 @@ use Rattle.request_rows.specs.Rows.{is_spent}
 use Rattle.request_ledger.specs.RowsOf.{SpRows, asked_row, opened_row, is_among, closed_where}
 use Rattle.request_ledger.specs.Record.{is_asked, is_next}
 use Rattle.request_ledger.specs.Standing.{HaveNumbers, IsAskedAt, AreMarks, AreSpent, id_at}
-use Rattle.request_ledger.proofs.LawNumbers.{one_number}
+use Rattle.record_ledger.proofs.Numbers.{one_number}
 use Rattle.request_ledger.proofs.StandingRows.{free_of_next}
 
 -- what any row has is what any of their IDs is
@@ -148,9 +148,17 @@ spent_opened spent rows r place is m =
     subst (AreMarks (set spent place true) asked) (sym (map_push (λ (row : OpenedRow). row.request) rows.opened (opened_row false r)))
     (marks_opened spent asked opened r.request place m (omega (arith, size, is.within)) is.request_is (λ k within. is.only k (omega (arith, size, within))))
 
+-- a request whose row is at a place was asked
+pub asked_there_is : (rows : SpRows) (request : List ℕ) (place : ℕ) → IsAskedAt rows.asked request place → is_asked rows.asked request ≡ true
+asked_there_is rows request place is =
+    let asked = map (λ (row : AskedRow). row.request) rows.asked in
+    let size = length-map rows.asked (λ (row : AskedRow). row.request) in
+    sym (any_mapped (λ (row : AskedRow). row.request) request rows.asked)
+    ∙ list_any_at (λ i. bytes_eq i request) asked place [] (omega (arith, size, is.within)) ((bytes_eq-Decides (id_at asked place) request).1 is.request_is)
+
 -- what the mark of a request says
 pub marked : (spent : List Bool) (rows : SpRows) (request : List ℕ) (place : ℕ) → IsAskedAt rows.asked request place → AreSpent spent rows
-    → (place < length spent) × (slice_index_or spent place false ≡ is_spent rows.opened request) × (is_asked rows.asked request ≡ true)
+    → (place < length spent) × (slice_index_or spent place false ≡ is_spent rows.opened request)
 marked spent rows request place is m =
     let asked = map (λ (row : AskedRow). row.request) rows.asked in
     let opened = map (λ (row : OpenedRow). row.request) rows.opened in
@@ -158,8 +166,6 @@ marked spent rows request place is m =
     let inside : place < length asked = omega (arith, size, is.within) in (
       omega (arith, m.long, inside),
       m.each place inside ∙ ap (λ i. is_among i opened) is.request_is ∙ any_mapped (λ (row : OpenedRow). row.request) request rows.opened,
-      sym (any_mapped (λ (row : AskedRow). row.request) request rows.asked)
-          ∙ list_any_at (λ i. bytes_eq i request) asked place [] inside ((bytes_eq-Decides (id_at asked place) request).1 is.request_is),
     )
 
 -- the row of a request is found by its number

@@ -1,25 +1,24 @@
 -- The records that are drafted, and why one is refused.
-use Rattle.std.specs.Prelude.{◌≡◌, ℕ, ◌+◌, ◌≤◌, ◌<◌, ◌==◌, if◌then◌else◌, Bool, true, false, ◌&&◌, not, nat_le, List, [], ◌∷◌, ◌++◌, map, filter, length, All, Option, None, Some, Result, Ok, Err}
+use Rattle.std.specs.Prelude.{◌≡◌, ℕ, ◌+◌, ◌==◌, if◌then◌else◌, Bool, true, false, ◌&&◌, not, List, [], ◌∷◌, ◌++◌, map, filter, Option, None, Some, Result}
 use Rattle.std.specs.List.{flat_map, list_all, list_any}
 use Rattle.std.specs.Str.{bytes_eq}
 use Rattle.ledger_records.specs.declared.key_number.KeyNumber.{KeyNumber}
 use Rattle.ledger_records.specs.declared.key_number.KeyNumber.TheVariants.{First, Second}
 use Rattle.ledger_records.specs.declared.sp_record.SpRecord.{SpRecord}
 use Rattle.ledger_records.specs.declared.sp_record.SpRecord.TheVariants as kinds
-use Rattle.ledger_records.specs.SpRecord.{sp_bytes}
-use Rattle.ledger_records.specs.Writing.{capped}
 use Rattle.ledger_rules.specs.declared.fault.DraftFault.{DraftFault}
-use Rattle.ledger_rules.specs.declared.fault.DraftFault.TheVariants.{LedgerFull, JournalFull, NoMemory}
 use Rattle.request_rows.specs.declared.row.NewSession.{NewSession}
 use Rattle.request_rows.specs.declared.row.OpenedRow.{OpenedRow}
 use Rattle.request_rows.specs.declared.row.LeftRow.{LeftRow}
-use Rattle.ledger_rules.specs.Numbers.{Drawn, NUMBER_END, is_xml_text}
-use Rattle.request_ledger.specs.Record.{drawn, of_option, of_attribute, is_record}
+use Rattle.ledger_rules.specs.Numbers.{is_xml_text}
+use Rattle.record_ledger.specs.Drafts as any
+use Rattle.request_ledger.specs.Record.{of_option, of_attribute, request_rules}
 use Rattle.request_rows.specs.Rows.{visible}
 use Rattle.saml_ids.specs.IdText.{id_text}
 use Rattle.saml_ids.specs.declared.Kind.TheVariants.{Request, Relay, Cookie, Message}
-use Rattle.request_ledger.specs.RowsOf.{SpRows, is_among}
-use Rattle.request_ledger.specs.Ledger.{Held, Opened, rows_in, next_number, room_left, IsFitting, CanCommit}
+use Rattle.request_ledger.specs.RowsOf.{SpRows, is_among, rows_of_kind}
+use Rattle.request_ledger.specs.Standing.{request_row_rules}
+use Rattle.request_ledger.specs.Ledger.{Held, Opened}
 
 -- how long a request or a logout may be answered, in milliseconds
 abbrev pub LIFE : ℕ
@@ -105,63 +104,31 @@ abbrev pub is_waiting_now : List LeftRow → (request : List ℕ) (now horizon :
 is_waiting_now left request now horizon =
     list_any (λ row. bytes_eq row.request request && not row.confirmed && visible row.until now horizon) left
 
--- how many rows of one kind may be kept
-abbrev pub MOST_ROWS : ℕ
-MOST_ROWS = 65536
-
--- how many rows there are of a record's kind, where it has rows
-abbrev pub rows_of_kind : SpRows → SpRecord → Option ℕ
-rows_of_kind rows (kinds.Asked r) = Some (length rows.asked)
-rows_of_kind rows (kinds.Opened r) = Some (length rows.opened)
-rows_of_kind rows (kinds.Left r) = Some (length rows.left)
-rows_of_kind rows (kinds.Ended r) = None
-rows_of_kind rows (kinds.Confirmed r) = None
-
+-- whether there are as many rows of a record's kind as there may be, or more
 abbrev pub is_full : SpRows → SpRecord → Bool
-is_full rows r = is_most (rows_of_kind rows r)
-  where
-    is_most : Option ℕ → Bool
-    is_most None = false
-    is_most (Some n) = nat_le MOST_ROWS n
+is_full rows r = any.is_most (rows_of_kind rows r)
 
 -- Why a record is not drafted, the first of these that holds: as many rows of its kind are kept as there may be; it does not
 -- fit. Want of memory may come in place of each.
 abbrev pub IsCause : Opened → SpRecord → DraftFault → Type 0
-IsCause ledger r (LedgerFull kept) = (is_full (rows_in ledger) r ≡ true) × (rows_of_kind (rows_in ledger) r ≡ Some kept)
-IsCause ledger r (JournalFull long room next) =
-    (is_full (rows_in ledger) r ≡ false) × ¬ (IsFitting ledger.held r)
-    × (long ≡ capped (length (sp_bytes 2 r))) × (room ≡ room_left ledger.held) × (next ≡ next_number ledger.held)
-IsCause ledger r NoMemory = Unit {0}
+IsCause = any.IsCause request_rules
 
 -- a draft of this record, for which nothing but memory was missing, and which can be committed now
-pub record IsDraftOf (old new : Opened) (r drafted : SpRecord) : Type 0 where
-  pub is : drafted ≡ r
-  pub few : is_full (rows_in old) r ≡ false
-  pub can : CanCommit new r
+abbrev pub IsDraftOf : Opened → Opened → SpRecord → SpRecord → Type 0
+IsDraftOf = any.IsDraftOf request_rules request_row_rules
 
 -- what a draft call answers: a draft of this record, or the cause of the refusal
 abbrev pub Drafts : Opened → Opened → SpRecord → Result SpRecord DraftFault → Type 0
-Drafts old new r (Ok drafted) = IsDraftOf old new r drafted
-Drafts old new r (Err fault) = IsCause old r fault
+Drafts = any.Drafts request_rules request_row_rules
 
 -- the same where there may be nothing to record: none exactly there
 abbrev pub DraftsSome : Opened → Opened → (nothing : Bool) → SpRecord → Result (Option SpRecord) DraftFault → Type 0
-DraftsSome old new nothing r (Ok None) = nothing ≡ true
-DraftsSome old new nothing r (Ok (Some drafted)) = (nothing ≡ false) × IsDraftOf old new r drafted
-DraftsSome old new nothing r (Err fault) = IsCauseOf nothing old r fault
-  where
-    IsCauseOf : Bool → Opened → SpRecord → DraftFault → Type 0
-    IsCauseOf nothing old r NoMemory = Unit {0}
-    IsCauseOf nothing old r (LedgerFull kept) = (nothing ≡ false) × IsCause old r (LedgerFull kept)
-    IsCauseOf nothing old r (JournalFull long room next) = (nothing ≡ false) × IsCause old r (JournalFull long room next)
+DraftsSome = any.DraftsSome request_rules request_row_rules
 
 -- a draft call changes nothing but the memory that is ready
-pub record SameLedger (old new : Opened) : Type 0 where
-  pub held : new.held ≡ old.held
-  pub key : new.key ≡ old.key
-  pub broken : new.broken ≡ old.broken
+abbrev pub SameLedger : Opened → Opened → Type 0
+SameLedger = any.SameLedger
 
 -- A record that may be drafted: one of the ledger where its numbers are below the end, and these were not drawn before.
-pub record IsDraftable (held : Held) (r : SpRecord) : Type 0 where
-  pub numbers : All (λ (d : Drawn). next_number held ≤ d.number) (drawn r)
-  pub is : All (λ (d : Drawn). d.number < NUMBER_END) (drawn r) → is_record held.records r ≡ true
+abbrev pub IsDraftable : Held → SpRecord → Type 0
+IsDraftable = any.IsDraftable request_rules

@@ -1,13 +1,13 @@
 -- The laws of a ledger.
-use Rattle.std.specs.Prelude.{◌≡◌, ℕ, ◌≤◌, Bool, List, Option, Some, IsSome, Result, Ok}
-use Rattle.crash_disk.specs.Disk.{Image}
+use Rattle.std.specs.Prelude.{◌≡◌, ℕ, ◌≤◌, List, IsSome}
 use Rattle.ledger_records.specs.declared.sp_record.SpRecord.{SpRecord}
 use Rattle.request_rows.specs.Rows.{asked_row, is_spent, is_seen, session_row}
+use Rattle.record_ledger.specs.Laws as any
 use Rattle.request_ledger.specs.RowsOf.{rows_of}
-use Rattle.request_ledger.specs.Record.{AreRecords}
-use Rattle.request_ledger.specs.Ledger.{Held, ledger_in}
+use Rattle.request_ledger.specs.Record.{AreRecords, request_rules}
+use Rattle.request_ledger.specs.Ledger.{Held}
 use Rattle.request_ledger.specs.Drafts.{ending, is_waiting_now}
-use Rattle.request_ledger.specs.Compacting.{IsCompacted, AreKept}
+use Rattle.request_ledger.specs.Compacting.{IsCompacted}
 use Rattle.request_ledger.specs.Runs.{Event, Leads, AreDifferent, requests_opened, requests_of_run}
 
 -- At a moment the two rows with their horizons answer all that is asked of them alike: which request was asked, whether it is
@@ -22,11 +22,11 @@ pub record AnswerAlike (now : ℕ) (one other : Held) : Type 0 where
 
 -- what an image stands for has records of the ledger, each behind those before it
 abbrev pub ImagesHoldRecords : Type 0
-ImagesHoldRecords = (image : Image) (held : Held) → ledger_in image ≡ Ok (Some held) → AreRecords held.records
+ImagesHoldRecords = any.ImagesHoldRecords request_rules
 
 -- what is kept of records of a ledger are records of a ledger
 abbrev pub KeptAreRecords : Type 0
-KeptAreRecords = (now horizon : ℕ) (records kept : List SpRecord) → AreRecords records → AreKept now horizon records kept → AreRecords kept
+KeptAreRecords = any.KeptAreRecords request_rules
 
 -- from the moment of a compaction on it changes no answer
 abbrev pub CompactionsChangeNoAnswer : Type 0

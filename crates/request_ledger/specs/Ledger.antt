@@ -1,130 +1,85 @@
 -- What a service provider's ledger is, and what the images of its disk stand for.
-use Rattle.std.specs.Prelude.{◌≡◌, ◌⊎◌, ℕ, ◌+◌, ◌-◌, ◌≤◌, ◌<◌, ◌^◌, ◌==◌, max, Bool, true, MatchBool, List, [], ◌∷◌, ◌++◌, length, map, take, All, Option, None, Some, IfSome, IsSomeAnd, IsOk, Result, Ok, Err, if◌then◌else◌}
-use Rattle.crash_disk.specs.declared.file_no.FileNo.{FileNo}
-use Rattle.crash_disk.specs.declared.file_no.FileNo.TheVariants.{Zero}
-use Rattle.crash_disk.specs.Disk.{Image, DiskState, MayLeave, IsSettled, image_of}
-use Rattle.crash_disk.specs.Torn.{other_file}
-use Rattle.gate_journal.specs.declared.header.Header.{Header}
-use Rattle.gate_journal.specs.Format.{Kept, Fault, journal, end_of}
+use Rattle.std.specs.Prelude.{ℕ, Option, Result}
+use Rattle.crash_disk.specs.Disk.{Image, DiskState}
+use Rattle.gate_journal.specs.Format.{Kept, Fault}
 use Rattle.ledger_records.specs.declared.sp_record.SpRecord.{SpRecord}
-use Rattle.ledger_records.specs.SpRecord.{sp_bytes}
-use Rattle.ledger_rules.specs.Numbers.{Drawn, NUMBER_END}
+use Rattle.record_ledger.specs.Ledger as any
 use Rattle.request_ledger.specs.RowsOf.{SpRows, rows_of}
-use Rattle.request_ledger.specs.Record.{drawn, next_of, records_of, is_record}
-use Rattle.request_ledger.specs.Standing.{RowSpare, HasRoom, KeepsRoom}
+use Rattle.request_ledger.specs.Record.{request_rules}
+use Rattle.request_ledger.specs.Standing.{StandingView, request_row_rules}
 
 -- a journal whose payloads are records of the ledger
-pub record Held : Type 0 where
-  pub file : FileNo
-  pub version : ℕ
-  pub header : Header
-  pub records : List SpRecord
+abbrev pub Held : Type 0
+Held = any.Held SpRecord
 
 -- What a journal holds, or the file and the place of the length of the first payload that is no record of the ledger.
-abbrev pub with_records : Kept → Result (List SpRecord) ℕ → Result Held Fault
-with_records kept (Ok records) = Ok (record { file = kept.file; version = kept.holds.version; header = kept.holds.header; records = records })
-with_records kept (Err n) = Err (record { file = kept.file; place = end_of (take n kept.holds.payloads) })
-
 abbrev pub held_of : Kept → Result Held Fault
-held_of kept = with_records kept (records_of kept.holds.version kept.holds.payloads)
+held_of = any.held_of request_rules
 
 -- What an image stands for: a ledger, no journal yet, or a fault.
-abbrev pub some_held : Result Held Fault → Result (Option Held) Fault
-some_held (Ok held) = Ok (Some held)
-some_held (Err fault) = Err fault
-
-abbrev pub of_journal : Result (Option Kept) Fault → Result (Option Held) Fault
-of_journal (Ok None) = Ok None
-of_journal (Ok (Some kept)) = some_held (held_of kept)
-of_journal (Err fault) = Err fault
-
 abbrev pub ledger_in : Image → Result (Option Held) Fault
-ledger_in image = of_journal (journal image)
+ledger_in = any.ledger_in request_rules
 
 -- What a ledger is opened as: what stands there, an empty ledger where there is no journal yet. A journal of version 1 is
 -- made anew in version 2: in the other file, with the next generation.
 abbrev pub empty_ledger : Held
-empty_ledger = record { file = Zero; version = 2; header = record { generation = 1; horizon = 0; next = 1 }; records = [] }
+empty_ledger = any.empty_ledger
 
 abbrev pub migrated : Held → Held
-migrated held =
-    if held.version == 1
-    then record held { file = other_file held.file; version = 2; header = record (held.header) { generation = held.header.generation + 1 } }
-    else held
+migrated = any.migrated
 
 abbrev pub taken : Result (Option Held) Fault → Result Held Fault
-taken (Ok None) = Ok empty_ledger
-taken (Ok (Some held)) = Ok (migrated held)
-taken (Err fault) = Err fault
+taken = any.taken
 
 -- an opened ledger
-pub record Opened : Type 0 where
-  pub held : Held
-  -- the key of its IDs
-  pub key : List ℕ
-  -- whether a call failed since it was opened
-  pub broken : Bool
-  -- how long a payload may be for which there is memory, and for how many rows more there is
-  pub payload_spare : Option ℕ
-  pub spare : RowSpare
+abbrev pub Opened : Type 0
+Opened = any.Opened SpRecord StandingView
 
 abbrev pub rows_in : Opened → SpRows
 rows_in ledger = rows_of ledger.held.records
 
 -- The next number to be drawn: the larger of the header's and one more than the greatest number that a record drew.
 abbrev pub next_number : Held → ℕ
-next_number held = max held.header.next (next_of held.records)
+next_number = any.next_number request_rules
 
 -- how many bytes are left in the file for bodies
 abbrev pub room_left : Held → ℕ
-room_left held = 134217728 - end_of (map (sp_bytes 2) held.records)
+room_left = any.room_left request_rules
 
 -- A record fits: its payload is not too long, there is room for it and the 5 bytes around it, and its numbers are below the
 -- end.
-pub record IsFitting (held : Held) (r : SpRecord) : Type 0 where
-  pub payload : length (sp_bytes 2 r) ≤ 1048576
-  pub room : length (sp_bytes 2 r) + 5 ≤ room_left held
-  pub numbers : All (λ (d : Drawn). d.number < NUMBER_END) (drawn r)
+abbrev pub IsFitting : Held → SpRecord → Type 0
+IsFitting = any.IsFitting request_rules
 
 -- A record can be committed: it is one of the ledger, its numbers were not drawn before, it fits, and there is memory.
-pub record CanCommit (ledger : Opened) (r : SpRecord) : Type 0 where
-  pub is : is_record ledger.held.records r ≡ true
-  pub numbers : All (λ (d : Drawn). next_number ledger.held ≤ d.number) (drawn r)
-  pub fits : IsFitting ledger.held r
-  pub payload : IsSomeAnd ledger.payload_spare (λ n. length (sp_bytes 2 r) ≤ n)
-  pub room : HasRoom ledger.spare r
+abbrev pub CanCommit : Opened → SpRecord → Type 0
+CanCommit = any.CanCommit request_rules request_row_rules
 
 -- No memory that was made ready is given up.
-pub record KeepsSpare (old new : Opened) : Type 0 where
-  pub payload : IfSome old.payload_spare (λ n. IsSomeAnd new.payload_spare (λ m. n ≤ m))
-  pub rows : KeepsRoom old.spare new.spare
+abbrev pub KeepsSpare : Opened → Opened → Type 0
+KeepsSpare = any.KeepsSpare request_row_rules
 
 -- a ledger with one record more
 abbrev pub held_with : SpRecord → Held → Held
-held_with r held = record held { records = held.records ++ r ∷ [] }
+held_with = any.held_with
 
 -- The journal that the code writes for a ledger.
 abbrev pub kept_of : Held → Kept
-kept_of held = record { file = held.file; holds = record { version = held.version; header = held.header; payloads = map (sp_bytes 2) held.records } }
+kept_of = any.kept_of request_rules
 
 -- The disk is the ledger's own. While it is not broken, a crash leaves what a read gives, which stands for the ledger and is
 -- the journal that the code writes for it. While it is broken, each image that a crash may leave stands for some ledger.
 abbrev pub IsOwn : Option DiskState → Opened → Type 0
-IsOwn told ledger =
-    IfSome told (λ disk. MatchBool ledger.broken
-    ((image : Image) → MayLeave disk image → IsOk (ledger_in image))
-    (IsSettled disk × (ledger_in (image_of disk) ≡ Ok (Some ledger.held)) × (journal (image_of disk) ≡ Ok (Some (kept_of ledger.held)))))
+IsOwn = any.IsOwn request_rules
 
 -- The image stands for this ledger, or for it with the one record more.
 abbrev pub IsWithOrWithout : SpRecord → Held → Image → Type 0
-IsWithOrWithout r held image = (ledger_in image ≡ Ok (Some held)) ⊎ (ledger_in image ≡ Ok (Some (held_with r held)))
+IsWithOrWithout = any.IsWithOrWithout request_rules
 
 -- The image stands for what an image of the disk at the start stood for, or for the ledger that is opened from that.
 abbrev pub IsOpenedFrom : DiskState → Image → Type 0
-IsOpenedFrom disk image =
-    (start : Image) × MayLeave disk start
-    × ((ledger_in image ≡ ledger_in start) ⊎ ((held : Held) × (taken (ledger_in start) ≡ Ok held) × (ledger_in image ≡ Ok (Some held))))
+IsOpenedFrom = any.IsOpenedFrom request_rules
 
 -- The same as far as the disk tells: of one that does not tell nothing is said.
 abbrev pub LeftByOpening : Option DiskState → Image → Type 0
-LeftByOpening told image = IfSome told (λ disk. IsOpenedFrom disk image)
+LeftByOpening = any.LeftByOpening request_rules

@@ -1,9 +1,8 @@
 pub mod RowsOf
+pub mod Naming
 pub mod Record
 pub mod Standing
 pub mod Ledger
-pub mod Keeping
-pub mod Loading
 pub mod Draft
 pub mod Drafts
 pub mod Compacting

@@ -1,5 +1,5 @@
 -- Which payloads are records of a service provider's ledger.
-use Rattle.std.specs.Prelude.{◌≡◌, ℕ, ◌+◌, ◌<◌, ◌≤◌, ◌^◌, max, nat_le, Bool, true, false, ◌&&◌, not, List, [], ◌∷◌, ◌++◌, length, map, Option, None, Some, Result, Ok, Err, if◌then◌else◌}
+use Rattle.std.specs.Prelude.{ℕ, ◌+◌, nat_le, Bool, true, ◌&&◌, not, List, [], ◌∷◌, ◌++◌, Option, None, Some, Result}
 use Rattle.std.specs.List.{flat_map, list_all, list_any}
 use Rattle.std.specs.Str.{bytes_eq}
 use Rattle.owned_values.specs.declared.attributes.Attribute.{Attribute}
@@ -11,7 +11,11 @@ use Rattle.request_rows.specs.declared.row.AskedRow.{AskedRow}
 use Rattle.request_rows.specs.declared.row.OpenedRow.{OpenedRow}
 use Rattle.request_rows.specs.declared.row.LeftRow.{LeftRow}
 use Rattle.request_rows.specs.Rows.{is_spent}
-use Rattle.request_ledger.specs.RowsOf.{SpRows, rows_of}
+use Rattle.ledger_records.specs.SpRecord.{sp_bytes}
+use Rattle.record_ledger.specs.Rules.{RecordRules}
+use Rattle.record_ledger.specs.Rules as any
+use Rattle.request_ledger.specs.RowsOf.{SpRows, rows_of, rows_of_kind}
+use Rattle.request_ledger.specs.Naming.{has_visible, names}
 
 -- whether there is a row of this request
 abbrev pub is_asked : List AskedRow → List ℕ → Bool
@@ -84,24 +88,25 @@ next_of records = above (flat_map drawn records)
 unfoldable pub is_record : List SpRecord → SpRecord → Bool
 is_record before r = is_next (rows_of before) (next_of before) r
 
--- The records that the payloads of a journal of this version are, behind these, or the number of the first payload that is
--- none.
-abbrev pub with_next : List SpRecord → Option SpRecord → (SpRecord → Result (List SpRecord) ℕ) → Result (List SpRecord) ℕ
-with_next before None go_on = Err (length before)
-with_next before (Some r) go_on = if is_record before r then go_on r else Err (length before)
+-- What is said of these records.
+abbrev pub request_rules : RecordRules SpRecord
+request_rules = record {
+  bytes = sp_bytes;
+  found = sp_record;
+  is_record = is_record;
+  drawn = drawn;
+  rows_of_kind = λ records r. rows_of_kind (rows_of records) r;
+  has_visible = has_visible;
+  names = names;
+}
 
-unfoldable pub records_from : ℕ → List SpRecord → List (List ℕ) → Result (List SpRecord) ℕ
-records_from version before [] = Ok before
-records_from version before (payload ∷ payloads) =
-    with_next before (sp_record version payload) (λ r. records_from version (before ++ r ∷ []) payloads)
-
+-- The records that the payloads of a journal of this version are, or the number of the first payload that is none.
 abbrev pub records_of : ℕ → List (List ℕ) → Result (List SpRecord) ℕ
-records_of version payloads = records_from version [] payloads
+records_of = any.records_of request_rules
 
 -- each is a record of the ledger behind those before it
 abbrev pub AreRecordsAfter : List SpRecord → List SpRecord → Type 0
-AreRecordsAfter before [] = Unit {0}
-AreRecordsAfter before (r ∷ later) = (is_record before r ≡ true) × AreRecordsAfter (before ++ r ∷ []) later
+AreRecordsAfter = any.AreRecordsAfter request_rules
 
 abbrev pub AreRecords : List SpRecord → Type 0
-AreRecords records = AreRecordsAfter [] records
+AreRecords = any.AreRecords request_rules

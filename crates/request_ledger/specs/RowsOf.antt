@@ -1,5 +1,5 @@
 -- What the records of a service provider stand for: its rows.
-use Rattle.std.specs.Prelude.{◌≡◌, ℕ, Bool, true, false, ◌&&◌, ◌||◌, not, List, [], ◌∷◌, ◌++◌, map}
+use Rattle.std.specs.Prelude.{ℕ, Bool, false, ◌||◌, List, [], ◌∷◌, ◌++◌, map, length, Option, None, Some}
 use Rattle.std.specs.List.{list_any}
 use Rattle.std.specs.Str.{bytes_eq}
 use Rattle.ledger_records.specs.declared.sp_record.Asked.{Asked}
@@ -110,3 +110,11 @@ rows_after rows (kinds.Left r) =
     record rows { opened = closed_where (λ row. bytes_eq r.token row.token) rows.opened; left = rows.left ++ left_row false r ∷ [] }
 rows_after rows (kinds.Ended r) = record rows { opened = closed_where (λ row. is_among row.token r.tokens) rows.opened }
 rows_after rows (kinds.Confirmed r) = record rows { left = confirmed_where (λ row. bytes_eq r.request row.request) rows.left }
+
+-- how many rows there are of a record's kind, where it has rows
+abbrev pub rows_of_kind : SpRows → SpRecord → Option ℕ
+rows_of_kind rows (kinds.Asked r) = Some (length rows.asked)
+rows_of_kind rows (kinds.Opened r) = Some (length rows.opened)
+rows_of_kind rows (kinds.Left r) = Some (length rows.left)
+rows_of_kind rows (kinds.Ended r) = None
+rows_of_kind rows (kinds.Confirmed r) = None

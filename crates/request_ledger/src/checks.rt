@@ -1,5 +1,5 @@
 //! What makes a record one of the ledger, beside the rows that it names.
-ghost use Rattle.std.specs.Prelude.{◌≡◌, ◌&&◌, nat_le, nat_lt};
+ghost use Rattle.std.specs.Prelude.{◌≡◌, ◌<◌, ◌↔◌, ◌&&◌, All, IsTrue, nat_le, nat_lt};
 ghost use Rattle.std.specs.List.{list_all, flat_map};
 ghost use Rattle.ledger_rules.specs.Numbers.{NUMBER_END, has_number, is_xml_text};
 ghost use Rattle.ledger_rules.specs.Numbers.{are_fresh as are_fresh_numbers};
@@ -13,7 +13,7 @@ use ledger_rules::{has_number, is_xml_text};
 use owned_values::{Attribute, Text};
 
 /// Numbers end below this one.
-pub(crate) const END_OF_NUMBERS: u64 = 1 << 63;
+const END_OF_NUMBERS: u64 = 1 << 63;
 
 /// Whether a number is this one or greater and below the end, and an ID begins with it.
 fn is_fresh(least: u64, number: u64, id: &Text) -> bool
@@ -33,6 +33,19 @@ pub(crate) fn are_fresh(least: u64, entry: &SpRecord) -> bool
         SpRecord::Opened(r) => is_fresh(least, r.first, &r.token),
         SpRecord::Left(r) => is_fresh(least, r.first, &r.request),
         SpRecord::Ended(r) => is_fresh(least, r.first, &r.message),
+        SpRecord::Confirmed(_) => true,
+    }
+}
+
+/// Whether the numbers that a record draws are below the end.
+pub(crate) fn are_before_end(entry: &SpRecord) -> bool
+    ensures { IsTrue result ↔ All (λ d. d.number < NUMBER_END) (drawn entry.now) }
+{
+    match entry {
+        SpRecord::Asked(r) => r.first < END_OF_NUMBERS - 1,
+        SpRecord::Opened(r) => r.first < END_OF_NUMBERS,
+        SpRecord::Left(r) => r.first < END_OF_NUMBERS,
+        SpRecord::Ended(r) => r.first < END_OF_NUMBERS,
         SpRecord::Confirmed(_) => true,
     }
 }

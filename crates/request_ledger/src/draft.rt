@@ -2,29 +2,27 @@
 ghost use Rattle.std.specs.Prelude.{◌≡◌, Some};
 ghost use Rattle.request_ledger.specs.Draft.{IsDrawn, drawn_id};
 
-use ledger_records::SpRecord;
-use owned_values::Blob;
+use crate::marked::Marked;
+use record_ledger::Drafted;
 use saml_ids::Id;
 use std::marker::Model;
 
-/// A record that was drafted, its payload and the IDs that it draws. Contracts see it as the record.
+/// A record that was drafted, and the IDs that it draws. Contracts see it as the record.
 #[derive(Drop)]
 pub struct Draft {
-    pub(crate) entry: SpRecord,
-    pub(crate) payload: Blob,
+    pub(crate) drafted: Drafted<Marked>,
     pub(crate) ids: [Option<Id>; 2],
 }
 
 impl Model for Draft {
     ghost use Rattle.ledger_records.specs.declared.sp_record.SpRecord.{SpRecord};
-    ghost use Rattle.ledger_records.specs.SpRecord.{IsSpPayload};
     ghost use Rattle.request_ledger.specs.Draft.{HoldsIds};
 
     ghost Value = { SpRecord };
 
-    ghost view = { λ d. d.entry };
+    ghost view = { λ d. d.drafted };
 
-    ghost invariant = { λ d. IsSpPayload 2 d.payload d.entry × HoldsIds d.ids d.entry };
+    ghost invariant = { λ d. HoldsIds d.ids d.drafted };
 }
 
 impl Draft {

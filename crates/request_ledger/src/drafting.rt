@@ -1,18 +1,14 @@
 //! How records are drafted.
-ghost use Rattle.std.specs.Prelude.{◌≡◌, ◌≤◌, ◌<◌, ◌⊎◌, ◌↔◌, ◌&&◌, true, false, not, length, All, IsSome, IsSomeAnd, IsTrue, IfOk, IfSome, IfNone, OnOk, Some};
+ghost use Rattle.std.specs.Prelude.{◌≡◌, ◌≤◌, ◌⊎◌, ◌&&◌, true, false, not, IsSome, IfOk};
 ghost use Rattle.std.specs.Str.{bytes_eq};
-ghost use Rattle.ledger_records.specs.SpRecord.{sp_bytes};
-ghost use Rattle.ledger_records.specs.Writing.{capped};
-ghost use Rattle.ledger_rules.specs.Numbers.{NUMBER_END, is_xml_text};
+ghost use Rattle.ledger_rules.specs.Numbers.{is_xml_text};
 ghost use Rattle.request_rows.specs.Rows.{asked_row, is_spent, session_row, visible};
 ghost use Rattle.request_ledger.specs.RowsOf.{is_among};
-ghost use Rattle.request_ledger.specs.Record.{LAST, drawn};
-ghost use Rattle.request_ledger.specs.Standing.{HasRoom};
-ghost use Rattle.request_ledger.specs.Ledger.{KeepsSpare, IsFitting, next_number, rows_in};
+ghost use Rattle.request_ledger.specs.Record.{LAST};
+ghost use Rattle.request_ledger.specs.Ledger.{KeepsSpare, next_number, rows_in};
 ghost use Rattle.request_ledger.specs.Draft.{HoldsIds};
-ghost use Rattle.request_ledger.specs.Drafts.{asked, opened, opened_with, left, ended, confirmed, is_empty, is_listed, is_ending, ending, is_waiting_now, AreSessionTexts, rows_of_kind, is_full, IsCause, Drafts, DraftsSome, IsDraftable, SameLedger};
+ghost use Rattle.request_ledger.specs.Drafts.{asked, opened, opened_with, left, ended, confirmed, is_empty, is_listed, is_ending, ending, is_waiting_now, AreSessionTexts, Drafts, DraftsSome, IsDraftable, SameLedger};
 
-use crate::checks::END_OF_NUMBERS;
 use crate::draft::Draft;
 use crate::ledger::Ledger;
 use ledger_records::sp_record::{Asked, Confirmed, Ended, Left, Opened};
@@ -23,88 +19,16 @@ use request_rows::{LeftRow, NewSession, OpenedRow};
 use saml_ids::{Id, Kind, id_of};
 use std::alloc::Global;
 
-/// How many rows of one kind may be kept.
-pub const MOST_ROWS: usize = 65_536;
-
 /// How long a request or a logout may be answered, in milliseconds.
 const LIFE: u64 = 600_000;
 
-/// The greatest length of a payload, and what a body has beside it.
-const LONGEST_PAYLOAD: u64 = 1_048_576;
-
-const AROUND: u64 = 5;
-
 impl Ledger {
-    /// How many rows there are of a record's kind, where it has rows.
-    fn rows_of_kind(&self, entry: &SpRecord) -> Option<usize>
-        ensures { result ≡ rows_of_kind (rows_in self.now) entry.now }
-    {
-        let rows = self.rows();
-        match entry {
-            SpRecord::Asked(_) => Some(rows.asked().len()),
-            SpRecord::Opened(_) => Some(rows.opened().len()),
-            SpRecord::Left(_) => Some(rows.left().len()),
-            SpRecord::Ended(_) | SpRecord::Confirmed(_) => None,
-        }
-    }
-
-    /// How many rows there are of a record's kind, where there are as many as there may be, or more.
-    fn full_rows(&self, entry: &SpRecord) -> Option<u32>
-        ensures some { IfSome result (λ kept. (is_full (rows_in self.now) entry.now ≡ true) × (rows_of_kind (rows_in self.now) entry.now ≡ Some kept)) }
-        ensures none { IfNone result (is_full (rows_in self.now) entry.now ≡ false) }
-    {
-        self.has_few_rows();
-        let kept = self.rows_of_kind(entry)?;
-        if kept < MOST_ROWS {
-            return None;
-        }
-        Some(kept as u32)
-    }
-
-    /// Whether a record whose payload has this length fits.
-    fn is_fitting(&self, entry: &SpRecord, len: u64) -> bool
-        requires { len ≡ capped (length (sp_bytes 2 entry.now)) }
-        ensures { IsTrue result ↔ IsFitting self.now.held entry.now }
-    {
-        len <= LONGEST_PAYLOAD && len + AROUND <= self.journal.room() && are_before_end(entry)
-    }
-
-    /// Why a record is not drafted, beside want of memory; none where it can be.
-    fn refusal(&self, entry: &SpRecord) -> Option<DraftFault>
-        ensures some { IfSome result (IsCause self.now entry.now) }
-        ensures none { IfNone result ((is_full (rows_in self.now) entry.now ≡ false) × IsFitting self.now.held entry.now) }
-    {
-        if let Some(kept) = self.full_rows(entry) {
-            return Some(DraftFault::LedgerFull { kept });
-        }
-        let length = entry.payload_len();
-        if self.is_fitting(entry, length) {
-            return None;
-        }
-        Some(DraftFault::JournalFull {
-            length,
-            room: self.journal.room(),
-            next: self.next_number(),
-        })
-    }
-
-    /// Makes room for all that `commit` fills with a record whose payload has this length.
-    fn make_room(&mut self, entry: &SpRecord, len: usize) -> Result<(), NoMemory>
-        ensures same { SameLedger self.old self.new }
-        ensures spare { KeepsSpare self.old self.new }
-        ensures payload { OnOk result (IsSomeAnd self.new.payload_spare (λ n. len ≤ n)) }
-        ensures row { OnOk result (HasRoom self.new.spare entry.now) }
-    {
-        self.journal.reserve(len)?;
-        self.standing.reserve(entry)
-    }
-
     /// The tokens of the live sessions of an issuer and a name whose index is listed, or of all of them.
     fn ending(&self, now: u64, issuer: &str, name: &str, indexes: &Texts) -> Result<Texts, NoMemory>
         ensures { IfOk result (λ tokens. tokens ≡ ending now self.now.held.header.horizon issuer.now name.now indexes.now (rows_in self.now).opened) }
     {
-        let horizon = self.journal.header().horizon;
-        let mut tokens = Texts::new(self.alloc);
+        let horizon = self.header().horizon;
+        let mut tokens = Texts::new(self.ledger.allocator());
         for row in self.rows().opened() {
             if is_ending(row, now, horizon, issuer, name, indexes) {
                 tokens.push(row.token.copy()?)?;
@@ -117,7 +41,7 @@ impl Ledger {
     fn is_waiting(&self, request: &str, now: u64) -> bool
         ensures { result ≡ is_waiting_now (rows_in self.now).left request.now now self.now.held.header.horizon }
     {
-        let horizon = self.journal.header().horizon;
+        let horizon = self.header().horizon;
         self.rows()
             .left()
             .iter()
@@ -132,16 +56,8 @@ impl Ledger {
         ensures same { SameLedger self.old self.new }
         ensures spare { KeepsSpare self.old self.new }
     {
-        if let Some(fault) = self.refusal(&entry) {
-            return Err(fault);
-        }
-        let payload = entry.payload(self.alloc)?;
-        self.make_room(&entry, payload.len())?;
-        Ok(Draft {
-            entry,
-            payload,
-            ids,
-        })
+        let drafted = self.ledger.draft(entry)?;
+        Ok(Draft { drafted, ids })
     }
 
     /// Drafts a request for a login, after which the user goes to the path `target`. The request may be answered for 600,000
@@ -157,15 +73,16 @@ impl Ledger {
         ensures spare { KeepsSpare self.old self.new }
     {
         let first = self.next_number();
-        let request = id_of(&self.key, Kind::Request, first);
-        let relay = id_of(&self.key, Kind::Relay, first.wrapping_add(1));
+        let key = self.key();
+        let request = id_of(key, Kind::Request, first);
+        let relay = id_of(key, Kind::Relay, first.wrapping_add(1));
         let entry = SpRecord::Asked(Asked {
             first,
             moment: now,
             until: now + LIFE,
-            target: Text::of(self.alloc, target)?,
-            request: Text::of(self.alloc, request.as_str())?,
-            relay: Text::of(self.alloc, relay.as_str())?,
+            target: Text::of(self.ledger.allocator(), target)?,
+            request: Text::of(self.ledger.allocator(), request.as_str())?,
+            relay: Text::of(self.ledger.allocator(), relay.as_str())?,
         });
         self.draft(entry, [Some(request), Some(relay)])
     }
@@ -184,8 +101,9 @@ impl Ledger {
         ensures spare { KeepsSpare self.old self.new }
     {
         let first = self.next_number();
-        let token = id_of(&self.key, Kind::Cookie, first);
-        let entry = session_record(self.alloc, first, now, &token, new)?;
+        let key = self.key();
+        let token = id_of(key, Kind::Cookie, first);
+        let entry = session_record(self.ledger.allocator(), first, now, &token, new)?;
         self.draft(entry, [Some(token), None])
     }
 
@@ -199,14 +117,16 @@ impl Ledger {
         ensures same { SameLedger self.old self.new }
         ensures spare { KeepsSpare self.old self.new }
     {
+        self.holds_records();
         let first = self.next_number();
-        let request = id_of(&self.key, Kind::Request, first);
+        let key = self.key();
+        let request = id_of(key, Kind::Request, first);
         let entry = SpRecord::Left(Left {
             first,
             moment: now,
             until: now + LIFE,
-            token: Text::of(self.alloc, token)?,
-            request: Text::of(self.alloc, request.as_str())?,
+            token: Text::of(self.ledger.allocator(), token)?,
+            request: Text::of(self.ledger.allocator(), request.as_str())?,
         });
         self.draft(entry, [Some(request), None])
     }
@@ -229,18 +149,20 @@ impl Ledger {
         ensures same { SameLedger self.old self.new }
         ensures spare { KeepsSpare self.old self.new }
     {
+        self.holds_records();
         let tokens = self.ending(now, issuer, name, indexes)?;
         if tokens.is_empty() {
             return Ok(None);
         }
         let first = self.next_number();
-        let message = id_of(&self.key, Kind::Message, first);
+        let key = self.key();
+        let message = id_of(key, Kind::Message, first);
         let entry = SpRecord::Ended(Ended {
             first,
             moment: now,
             tokens,
-            message: Text::of(self.alloc, message.as_str())?,
-            request: Text::of(self.alloc, request)?,
+            message: Text::of(self.ledger.allocator(), message.as_str())?,
+            request: Text::of(self.ledger.allocator(), request)?,
         });
         Ok(Some(self.draft(entry, [Some(message), None])?))
     }
@@ -253,12 +175,13 @@ impl Ledger {
         ensures same { SameLedger self.old self.new }
         ensures spare { KeepsSpare self.old self.new }
     {
+        self.holds_records();
         if !self.is_waiting(request, now) {
             return Ok(None);
         }
         let entry = SpRecord::Confirmed(Confirmed {
             moment: now,
-            request: Text::of(self.alloc, request)?,
+            request: Text::of(self.ledger.allocator(), request)?,
         });
         Ok(Some(self.draft(entry, [None, None])?))
     }
@@ -309,19 +232,6 @@ fn is_listed(indexes: &Texts, index: &Option<Text>) -> bool
     match index {
         Some(index) => is_among(index, indexes),
         None => false,
-    }
-}
-
-/// Whether the numbers that a record draws are below the end.
-fn are_before_end(entry: &SpRecord) -> bool
-    ensures { IsTrue result ↔ All (λ d. d.number < NUMBER_END) (drawn entry.now) }
-{
-    match entry {
-        SpRecord::Asked(r) => r.first < END_OF_NUMBERS - 1,
-        SpRecord::Opened(r) => r.first < END_OF_NUMBERS,
-        SpRecord::Left(r) => r.first < END_OF_NUMBERS,
-        SpRecord::Ended(r) => r.first < END_OF_NUMBERS,
-        SpRecord::Confirmed(_) => true,
     }
 }
 

@@ -1,16 +1,21 @@
 //! An opened ledger.
-ghost use Rattle.std.specs.Prelude.{◌≡◌, ◌≤◌, ◌^◌, true, false, OnOk, OnErr, option_copied};
+ghost use Rattle.std.specs.Prelude.{◌≡◌, true, false, None, IfErr, IfOk, IfSome, IsErrOf, OnOk, OnErr, option_copied};
+ghost use Rattle.owned_values.specs.Gives.{Gives};
 ghost use Rattle.crash_disk.specs.Counts.{CountsFaults};
+ghost use Rattle.crash_disk.specs.Disk.{image_of};
 ghost use Rattle.crash_disk.specs.Moments.{LeavesOnly};
+ghost use Rattle.gate_journal.specs.Opening.{open_fault_of, CausesFaults};
 ghost use Rattle.request_rows.specs.Rows.{session_row};
 ghost use Rattle.request_ledger.specs.RowsOf.{rows_of};
 ghost use Rattle.request_ledger.specs.Record.{AreRecords};
-ghost use Rattle.request_ledger.specs.Standing.{AreFew, rows_in as standing_rows};
-ghost use Rattle.request_ledger.specs.Ledger.{CanCommit, IsOwn, IsWithOrWithout, held_with, next_number, rows_in};
+ghost use Rattle.request_ledger.specs.Standing.{rows_in as standing_rows};
+ghost use Rattle.request_ledger.specs.Ledger.{CanCommit, IsOwn, IsWithOrWithout, LeftByOpening, held_with, ledger_in, next_number, rows_in, taken};
+ghost use Rattle.request_ledger.specs.Compacting.{Compacts, IsOldOrCompacted};
 
 use crate::draft::Draft;
-use crate::standing::Standing;
-use gate_journal::{Disk, Failed, Header, Journal};
+use crate::marked::Marked;
+use gate_journal::{Disk, Failed, Header, OpenFault};
+use record_ledger::RecordLedger;
 use request_rows::{OpenedRow, Rows};
 use std::alloc::Global;
 use std::marker::Model;
@@ -18,74 +23,100 @@ use std::marker::Model;
 /// The records of a service provider in a journal, and the rows that they stand for.
 #[derive(Debug, Drop)]
 pub struct Ledger {
-    pub(crate) journal: Journal,
-    pub(crate) standing: Standing,
-    pub(crate) broken: bool,
-    pub(crate) key: [u8; 32],
-    pub(crate) alloc: Global,
+    pub(crate) ledger: RecordLedger<Marked>,
 }
 
 impl Model for Ledger {
-    ghost use Rattle.std.specs.Prelude.{◌≡◌, true, false};
     ghost use Rattle.request_ledger.specs.Ledger.{Opened};
-    ghost use Rattle.request_ledger.specs.Keeping.{opened_of, StandsFor};
 
     ghost Value = { Opened };
 
-    ghost view = { λ l. opened_of l.journal l.standing l.key l.broken };
-
-    ghost invariant = { λ l. StandsFor l.journal.kept.holds l.standing × (l.broken ≡ false → l.journal.broken ≡ false) × (l.standing.is_indexed ≡ true) };
+    ghost view = { λ l. l.ledger };
 }
 
 impl Ledger {
+    /// Opens the ledger of a disk: the records of its journal, or an empty journal where there is none yet. A journal of
+    /// version 1 is made anew in version 2. `key` is the key of the IDs that are drawn.
+    ///
+    /// It begins with a sync of both files. It answers [`OpenFault::Foreign`] exactly where the files are no journal, or a
+    /// payload is no record of a service provider's ledger: then with the place of the length of the first such payload.
+    /// [`OpenFault::DiskFault`] comes only where the disk's count of faults rose.
+    pub fn start<D: Disk>(alloc: Global, disk: &mut D, key: [u8; 32]) -> Result<Ledger, OpenFault>
+        ensures gives { IfSome (D.told disk.old) (λ d. Gives (λ l. l.held) open_fault_of result (taken (ledger_in (image_of d)))) }
+        ensures whole { IfOk result (λ l. (l.broken ≡ false) × (l.key ≡ key)) }
+        ensures own { IfOk result (λ l. IsOwn (D.told disk.new) l) }
+        // A crash at any moment of the call leaves what an image at its start stood for, or what is opened from that.
+        ensures moments { LeavesOnly D.moment D.left_since disk.old disk.new (LeftByOpening (D.told disk.old)) }
+        ensures faults { CausesFaults result (D.faults_of disk.old) (D.faults_of disk.new) }
+    {
+        Ok(Ledger {
+            ledger: RecordLedger::start(alloc, disk, key)?,
+        })
+    }
+
+    /// Opens the ledger again, as `start` does. At an error it is broken, and else as it was.
+    pub fn reopen<D: Disk>(&mut self, disk: &mut D) -> Result<(), OpenFault>
+        ensures gives { IfSome (D.told disk.old) (λ d. Gives (λ _. self.new.held) open_fault_of result (taken (ledger_in (image_of d)))) }
+        ensures whole { OnOk result (self.new.broken ≡ false) }
+        ensures own { OnOk result (IsOwn (D.told disk.new) self.new) }
+        ensures err { OnErr result ((self.new.held ≡ self.old.held) × (self.new.broken ≡ true)) }
+        ensures own_err { OnErr result (IsOwn (D.told disk.old) (record self.old { broken = true }) → IsOwn (D.told disk.new) self.new) }
+        ensures key { self.new.key ≡ self.old.key }
+        // A crash at any moment of the call leaves what an image at its start stood for, or what is opened from that.
+        ensures moments { LeavesOnly D.moment D.left_since disk.old disk.new (LeftByOpening (D.told disk.old)) }
+        ensures faults { CausesFaults result (D.faults_of disk.old) (D.faults_of disk.new) }
+    {
+        self.ledger.reopen(disk)
+    }
+
     /// The rows.
     pub fn rows(&self) -> &Rows
         ensures { standing_rows result.now ≡ rows_of self.now.held.records }
     {
-        self.standing.rows()
+        self.ledger.standing().rows()
     }
 
     /// What the journal's header keeps.
     pub fn header(&self) -> Header
         ensures { result ≡ self.now.held.header }
     {
-        self.journal.header()
+        self.ledger.header()
     }
 
     /// Whether a call failed since the ledger was opened.
     pub fn is_broken(&self) -> bool
         ensures { result ≡ self.now.broken }
     {
-        self.broken
+        self.ledger.is_broken()
+    }
+
+    /// The key of the IDs that are drawn.
+    pub(crate) fn key(&self) -> &[u8; 32]
+        ensures { result.now ≡ self.now.key }
+    {
+        self.ledger.key()
     }
 
     /// The next number to be drawn: the larger of the header's and one more than the greatest that a record drew.
     pub(crate) fn next_number(&self) -> u64
         ensures { result ≡ next_number self.now.held }
     {
-        self.journal.header().next.max(self.standing.next())
-    }
-
-    /// That there are far fewer rows than 32 bits count, as each record takes room in the file. It does nothing.
-    pub(crate) fn has_few_rows(&self)
-        ensures { AreFew (rows_in self.now) }
-    {
-        self.journal.records_fit();
+        self.ledger.next_number()
     }
 
     /// That the records are records of a ledger, each behind those before it. It does nothing.
     pub fn holds_records(&self)
         ensures { AreRecords self.now.held.records }
     {
-        self.journal.records_fit();
+        self.ledger.holds_records();
     }
 
     /// The live session of a token: the first one that is not closed and is visible; none where there is none.
     pub fn session(&self, token: &str, now: u64) -> Option<&OpenedRow>
         ensures { option_copied result ≡ session_row (rows_in self.now).opened token.now now self.now.held.header.horizon }
     {
-        let horizon = self.journal.header().horizon;
-        self.standing.rows().session_row(token, now, horizon)
+        let horizon = self.header().horizon;
+        self.rows().session_row(token, now, horizon)
     }
 
     /// Adds the record of a draft. It takes no memory. At `Failed` the ledger is broken, and has to be opened again; the
@@ -102,12 +133,30 @@ impl Ledger {
         ensures moments { LeavesOnly D.moment D.left_since disk.old disk.new (IsWithOrWithout draft self.old.held) }
         ensures faults { CountsFaults result (D.faults_of disk.old) (D.faults_of disk.new) }
     {
-        self.has_few_rows();
-        let Draft { entry, payload, .. } = draft;
-        self.broken = true;
-        self.journal.append(disk, payload.as_slice())?;
-        self.standing.put(entry);
-        self.broken = false;
-        Ok(())
+        self.ledger.commit(disk, draft.drafted)
+    }
+
+    /// Leaves out each record that no one can ask for any more from the moment `now` on: a record is kept where a row of it is
+    /// visible, and with it each that it names and each that names it. The journal is made anew in its other file, with the
+    /// same next number, and with the larger of its horizon and `now`. No answer about visible rows changes from `now` on
+    /// ([`laws`](crate::laws)). A ledger of the last generation, 2^64 - 1, stays as it is.
+    ///
+    /// It answers [`OpenFault::NoMemory`] before it changes anything, and [`OpenFault::DiskFault`] only where the disk's count
+    /// of faults rose: then the ledger is broken, and the disk stands for it as before or as made anew. It never answers
+    /// [`OpenFault::Foreign`].
+    pub fn compact<D: Disk>(&mut self, disk: &mut D, now: u64) -> Result<(), OpenFault>
+        requires own { IsOwn (D.told disk.old) self.old }
+        requires whole { self.old.broken ≡ false }
+        ensures ok { OnOk result (Compacts now self.old.held self.new.held × (self.new.broken ≡ false)) }
+        ensures failed { IsErrOf result OpenFault.DiskFault → (self.new.held ≡ self.old.held) × (self.new.broken ≡ true) }
+        ensures no_memory { IsErrOf result OpenFault.NoMemory → (self.new ≡ self.old) × (disk.new ≡ disk.old) }
+        ensures not_foreign { IfErr result (λ e. open_fault_of e ≡ None) }
+        ensures key { self.new.key ≡ self.old.key }
+        ensures own { IsOwn (D.told disk.new) self.new }
+        // A crash at any moment of the call leaves the ledger from before it, or the one that is made anew.
+        ensures moments { LeavesOnly D.moment D.left_since disk.old disk.new (IsOldOrCompacted now self.old.held) }
+        ensures faults { CausesFaults result (D.faults_of disk.old) (D.faults_of disk.new) }
+    {
+        self.ledger.compact(disk, now)
     }
 }

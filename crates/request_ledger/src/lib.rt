@@ -21,18 +21,19 @@
 #![tactic(auto)]
 
 mod checks;
-mod compacting;
 mod draft;
 mod drafting;
 pub mod laws;
 mod ledger;
-mod opening;
+mod marked;
+mod naming;
+mod rules;
 mod standing;
 #[cfg(test)]
 mod tests;
 
 pub use draft::Draft;
-pub use drafting::MOST_ROWS;
 pub use gate_journal::{Disk, Failed, FileNo, Header, OpenFault};
 pub use ledger::Ledger;
 pub use ledger_rules::DraftFault;
+pub use record_ledger::MOST_ROWS;

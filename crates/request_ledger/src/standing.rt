@@ -1,12 +1,13 @@
 //! What the records of a service provider stand for.
-ghost use Rattle.std.specs.Prelude.{◌≡◌, ◌≤◌, ◌^◌, true, false, ◌&&◌, not, [], OnOk, IfOk, IfSome, IfNone};
+ghost use Rattle.std.specs.Prelude.{◌≡◌, ◌≤◌, ◌<◌, ◌^◌, ◌++◌, ◌∷◌, true, false, ◌&&◌, not, [], OnOk, IfOk, IfSome, IfNone};
 ghost use Rattle.std.specs.List.{list_all};
 ghost use Rattle.ledger_records.specs.declared.sp_record.SpRecord.TheVariants as kinds;
 ghost use Rattle.std.specs.Str.{bytes_eq};
-ghost use Rattle.request_ledger.specs.RowsOf.{is_among, closed_where, rows_after};
+ghost use Rattle.request_ledger.specs.RowsOf.{is_among, closed_where, rows_after, rows_of_kind};
 ghost use Rattle.request_rows.specs.Rows.{is_spent};
+ghost use Rattle.request_rows.specs.Indexed.{room};
 ghost use Rattle.request_ledger.specs.Record.{is_asked, is_open, is_waiting, is_free, is_next};
-ghost use Rattle.request_ledger.specs.Standing.{rows_in, HasRoom, KeepsRoom, AreFew, AreSpent, IsAfter, IsAskedAt, IsOpenAt, IsWaitingAt};
+ghost use Rattle.request_ledger.specs.Standing.{rows_in, HasMarkRoom, HasRoom, KeepsRoom, KnowsSpent, AreFew, AreSpent, IsAfter, IsAskedAt, IsOpenAt, IsWaitingAt};
 
 use crate::checks::{are_fresh, are_xml_texts, moment_of};
 use ledger_records::SpRecord;
@@ -53,9 +54,20 @@ impl Model for Standing {
         × (s.next ≤ 2 ^ 63) × AreCounted s.rows.rows };
 }
 
+/// Puts the mark of a request that is not spent behind the others, where there is room. It takes no memory.
+fn put_mark(spent: &mut Vec<bool>)
+    requires { 0 < room spent.old }
+    ensures { spent.new.items ≡ spent.old.items ++ false ∷ [] }
+{
+    match spent.push(false) {
+        Ok(()) => {}
+        Err(_) => unreachable!(),
+    }
+}
+
 impl Standing {
     /// What no records stand for. It takes no memory.
-    pub(crate) fn new(alloc: Global) -> Standing
+    pub(crate) fn empty(alloc: Global) -> Standing
         ensures rows { result.rows ≡ record { asked = []; opened = []; left = [] } }
         ensures next { result.next ≡ 0 }
     {
@@ -93,7 +105,7 @@ impl Standing {
     }
 
     /// The least number above all that were drawn.
-    pub(crate) fn next(&self) -> u64
+    pub(crate) fn next_free(&self) -> u64
         ensures next { result ≡ self.now.next }
         ensures end { result ≤ 2 ^ 63 }
     {
@@ -141,25 +153,37 @@ impl Standing {
         }
     }
 
+    /// Whether a request is spent whose row is at a place: by its mark while rows are gathered, and by their index from then on.
+    fn is_spent_at(&self, place: usize, request: &str, marks: &Option<Vec<bool>>) -> bool
+        requires at { IsAskedAt self.now.rows.asked request.now place }
+        requires knows { KnowsSpent self.now marks.now }
+        ensures { result ≡ is_spent self.now.rows.opened request.now }
+    {
+        match marks {
+            Some(spent) => spent[place],
+            None => self.rows.rows().is_spent(request),
+        }
+    }
+
     /// Whether this request was asked and is not spent.
-    fn is_unspent(&self, request: &str, spent: &[bool]) -> bool
-        requires { AreSpent spent.now self.now.rows }
+    fn is_unspent(&self, request: &str, marks: &Option<Vec<bool>>) -> bool
+        requires { KnowsSpent self.now marks.now }
         ensures { result ≡ (is_asked self.now.rows.asked request.now && not (is_spent self.now.rows.opened request.now)) }
     {
         match self.asked_place(request) {
-            Some(place) => !spent[place],
+            Some(place) => !self.is_spent_at(place, request, marks),
             None => false,
         }
     }
 
     /// Whether each row that a record names is there, and free for it.
-    fn is_free(&self, entry: &SpRecord, spent: &[bool]) -> bool
-        requires { AreSpent spent.now self.now.rows }
+    fn is_free(&self, entry: &SpRecord, marks: &Option<Vec<bool>>) -> bool
+        requires { KnowsSpent self.now marks.now }
         ensures { result ≡ is_free self.now.rows entry.now }
     {
         match entry {
             SpRecord::Asked(_) => true,
-            SpRecord::Opened(r) => self.is_unspent(r.request.as_str(), spent),
+            SpRecord::Opened(r) => self.is_unspent(r.request.as_str(), marks),
             SpRecord::Left(r) => self.is_open(r.token.as_str()),
             SpRecord::Ended(r) => self.are_open(r.tokens.as_slice()),
             SpRecord::Confirmed(r) => self.is_waiting(r.request.as_str()),
@@ -187,12 +211,12 @@ impl Standing {
         self.waiting_place(request).is_some()
     }
 
-    /// Whether a record may come behind those that stand here, where the marks say which requests are spent.
-    pub(crate) fn is_next(&self, entry: &SpRecord, spent: &[bool]) -> bool
-        requires { AreSpent spent.now self.now.rows }
+    /// Whether a record may come behind those that stand here.
+    pub(crate) fn comes_next(&self, entry: &SpRecord, marks: &Option<Vec<bool>>) -> bool
+        requires { KnowsSpent self.now marks.now }
         ensures { result ≡ is_next self.now.rows self.now.next entry.now }
     {
-        self.is_free(entry, spent)
+        self.is_free(entry, marks)
             && are_fresh(self.next, entry)
             && are_xml_texts(entry)
             && moment_of(entry) <= LAST
@@ -209,30 +233,38 @@ impl Standing {
         }
     }
 
-    /// Makes the marks of spent requests those behind a record that may come next.
-    pub(crate) fn mark(&self, entry: &SpRecord, spent: &mut Vec<bool>) -> Result<(), NoMemory>
+    /// Makes the marks of spent requests those behind a record that may come next, where there is room for one more. It takes
+    /// no memory.
+    pub(crate) fn mark(&self, entry: &SpRecord, spent: &mut Vec<bool>)
         requires is { is_next self.now.rows self.now.next entry.now ≡ true }
+        requires room { HasMarkRoom (room spent.old) entry.now }
         requires spent { AreSpent spent.old.items self.now.rows }
-        ensures { OnOk result (AreSpent spent.new.items (rows_after self.now.rows entry.now)) }
+        ensures { AreSpent spent.new.items (rows_after self.now.rows entry.now) }
     {
         let _next = self.next;
         match entry {
-            SpRecord::Asked(_) => {
-                spent.push(false)?;
-                Ok(())
-            }
-            SpRecord::Opened(r) => {
-                self.mark_spent(r, spent);
-                Ok(())
-            }
-            SpRecord::Left(_) => Ok(()),
-            SpRecord::Ended(_) => Ok(()),
-            SpRecord::Confirmed(_) => Ok(()),
+            SpRecord::Asked(_) => put_mark(spent),
+            SpRecord::Opened(r) => self.mark_spent(r, spent),
+            SpRecord::Left(_) => {}
+            SpRecord::Ended(_) => {}
+            SpRecord::Confirmed(_) => {}
+        }
+    }
+
+    /// How many rows there are of a record's kind, where it has rows.
+    pub(crate) fn kept_of_kind(&self, entry: &SpRecord) -> Option<usize>
+        ensures { result ≡ rows_of_kind self.now.rows entry.now }
+    {
+        match entry {
+            SpRecord::Asked(_) => Some(self.rows.asked().len()),
+            SpRecord::Opened(_) => Some(self.rows.opened().len()),
+            SpRecord::Left(_) => Some(self.rows.left().len()),
+            SpRecord::Ended(_) | SpRecord::Confirmed(_) => None,
         }
     }
 
     /// Makes room for the row of a record, so that `put` takes no memory. It changes nothing else, and takes away no room.
-    pub(crate) fn reserve(&mut self, entry: &SpRecord) -> Result<(), NoMemory>
+    pub(crate) fn make_room(&mut self, entry: &SpRecord) -> Result<(), NoMemory>
         ensures rows { self.new.rows ≡ self.old.rows }
         ensures indexed { self.new.is_indexed ≡ self.old.is_indexed }
         ensures next { self.new.next ≡ self.old.next }
@@ -257,7 +289,7 @@ impl Standing {
     }
 
     /// Puts a record behind those that stand here, where there is room for its row. It takes no memory.
-    pub(crate) fn put(&mut self, entry: SpRecord)
+    pub(crate) fn put_entry(&mut self, entry: SpRecord)
         requires few { AreFew self.old.rows }
         requires is { is_next self.old.rows self.old.next entry ≡ true }
         requires room { HasRoom self.old.spare entry }

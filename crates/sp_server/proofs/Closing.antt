@@ -20,7 +20,7 @@ use Rattle.request_ledger.specs.Drafts.{is_empty, is_ending}
 use Rattle.request_ledger.specs.Ledger.{Held, held_with}
 use Rattle.request_ledger.specs.Record.{is_open}
 use Rattle.request_ledger.specs.RowsOf.{SpRows, closed_where, is_among, rows_of}
-use Rattle.request_ledger.proofs.LawWords.{other_way, same_text}
+use Rattle.record_ledger.proofs.Words.{other_way, same_text}
 use Rattle.request_ledger.proofs.RowLaws.{rows_of-push}
 use Rattle.request_ledger.proofs.RowTexts.{found, any_more}
 use Rattle.logout_profile.specs.declared.logout.Logout.{Logout}

@@ -13,7 +13,7 @@ use Rattle.request_rows.specs.declared.row.AskedRow.{AskedRow}
 use Rattle.request_rows.specs.declared.row.OpenedRow.{OpenedRow}
 use Rattle.request_ledger.specs.RowsOf.{rows_of}
 use Rattle.request_ledger.specs.Ledger.{Held, LeftByOpening, ledger_in, taken, migrated, next_number, held_with}
-use Rattle.request_ledger.specs.Record.{LAST, drawn, is_record, AreRecords}
+use Rattle.request_ledger.specs.Record.{LAST, drawn, is_record, request_rules, AreRecords}
 use Rattle.request_ledger.specs.Drafts.{IsDraftable, AreSessionTexts, asked, opened, confirmed}
 use Rattle.request_ledger.specs.Compacting.{Compacts}
 use Rattle.request_ledger.specs.Linking.{as_list}
@@ -22,7 +22,7 @@ use Rattle.request_ledger.specs.Runs as events
 use Rattle.request_ledger.proofs.Draftable.{text_is_allowed}
 use Rattle.request_ledger.proofs.DraftedRecords.{asked_draftable, opened_draftable, left_draftable, ended_draftable, confirmed_draftable}
 use Rattle.request_ledger.proofs.KeptRecords.{kept_are_records}
-use Rattle.request_ledger.proofs.RowLaws.{AreRecords-push}
+use Rattle.record_ledger.proofs.Records.{AreRecords-push}
 use Rattle.protocol_messages.specs.declared.logout.LogoutRequest.{LogoutRequest}
 use Rattle.logout_profile.specs.declared.logout.Logout.TheVariants as logouts
 use Rattle.xml_spec.specs.Characters.{IsText}
@@ -73,7 +73,7 @@ migrated_records false one other same are = are
 pub run_records : (start held : Held) (events : List Event) → AreRecords start.records → Leads start events held → AreRecords held.records
 run_records start held [] are leads = subst (λ (h : Held). AreRecords h.records) (sym leads) are
 run_records start held (Adds r ∷ past) are leads =
-    subst (λ (h : Held). AreRecords h.records) (sym leads.4) (AreRecords-push leads.0.records r (run_records start leads.0 past are leads.1) leads.2)
+    subst (λ (h : Held). AreRecords h.records) (sym leads.4) (AreRecords-push request_rules leads.0.records r (run_records start leads.0 past are leads.1) leads.2)
 run_records start held (events.Compacts now ∷ past) are leads = made_records now leads.0 held leads.2 (run_records start leads.0 past are leads.1)
   where
     made_records : (now : ℕ) (before held : Held) → Compacts now before held → AreRecords before.records → AreRecords held.records

@@ -14,7 +14,7 @@ use Rattle.request_rows.specs.Rows.{session_row}
 use Rattle.request_ledger.specs.RowsOf.{opened_rows, rows_of}
 use Rattle.request_ledger.specs.Record.{of_option, AreRecords, AreRecordsAfter}
 use Rattle.request_ledger.specs.Ledger.{Held}
-use Rattle.request_ledger.proofs.Draftable.{both}
+use Rattle.record_ledger.proofs.Draftable.{both}
 use Rattle.request_ledger.proofs.LawWords.{parts}
 use Rattle.http_wire.specs.Cookies.{cookie_value}
 use Rattle.http_wire.specs.Requests.{Request}

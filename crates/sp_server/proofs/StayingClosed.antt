@@ -16,8 +16,10 @@ use Rattle.request_ledger.specs.Ledger.{Held, held_with, migrated, next_number}
 use Rattle.request_ledger.specs.Record.{drawn, is_open, is_record, next_of, AreRecords, AreRecordsAfter}
 use Rattle.request_ledger.specs.RowsOf.{SpRows, closed_where, is_among, opened_rows, opened_row, rows_of, rows_after}
 use Rattle.request_ledger.specs.Runs.{Event, Adds, Compacts, Opens, Leads}
-use Rattle.request_ledger.proofs.LawNumbers.{HasNumber, all_fresh, next_cons, next_push, number_further, one_number}
-use Rattle.request_ledger.proofs.LawWords.{parts, same_text}
+use Rattle.record_ledger.proofs.Words.{same_text}
+use Rattle.record_ledger.proofs.Numbers.{all_fresh, one_number}
+use Rattle.request_ledger.proofs.LawNumbers.{HasNumber, next_cons, next_push, number_further}
+use Rattle.request_ledger.proofs.LawWords.{parts}
 use Rattle.request_ledger.proofs.RowLaws.{rows_of-push}
 use Rattle.sp_server.specs.Logouts.{IsClosed, AClosedSessionStaysClosed}
 use Rattle.sp_server.proofs.Histories.{run_records}

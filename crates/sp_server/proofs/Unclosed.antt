@@ -14,7 +14,7 @@ use Rattle.request_ledger.specs.Laws.{CompactionsChangeNoAnswer}
 use Rattle.request_ledger.specs.Ledger.{Held, held_with}
 use Rattle.request_ledger.specs.Record.{AreRecords}
 use Rattle.request_ledger.specs.RowsOf.{SpRows, closed_if, closed_where, closes, is_among, opened_row, rows_of, rows_after}
-use Rattle.request_ledger.proofs.LawWords.{same_text}
+use Rattle.record_ledger.proofs.Words.{same_text}
 use Rattle.request_ledger.proofs.RowLaws.{rows_of-push}
 use Rattle.sp_server.specs.Step as steps
 use Rattle.sp_server.specs.Step.{Setup, Provider, Answers, IsWhole, Serves}

@@ -1,8 +1,6 @@
 use Rattle.std.proofs.Common.{◌≡◌, ◌∙◌, sym, ap, subst}
 use Rattle.idp_ledger.specs.Record.{AreRecords}
-use Rattle.idp_ledger.specs.Ledger.{Opened}
 use Rattle.idp_ledger.specs.Drafts.{confirmed, IsDraftable}
-use Rattle.idp_ledger.proofs.Committing.{stand_are}
 use Rattle.idp_ledger.proofs.DraftedRecords.{confirmed_draftable}
 use Rattle.idp_ledger.proofs.ledger.IdpLedger.draft_confirm.Goals as goal
 
@@ -10,6 +8,6 @@ pub draft-requires-clause-is : goal.draft-requires-clause-is
 draft-requires-clause-is c =
     let held = c.args.self.now.held in
     let request = c.args.request.now in
-    let are : AreRecords held.records = subst AreRecords (ap (λ (l : Opened). l.held.records) c.self.view_is) (stand_are c.self.inside.journal.kept.holds c.self.inside.standing c.self.invariant.0) in
+    let are : AreRecords held.records = c.holds_records.ensures in
     let same : confirmed c.args.now c.in_ok-of.field-0 ≡ confirmed c.args.now request = ap (confirmed c.args.now) c.in_ok-of.ensures in
     subst (IsDraftable held) (sym same) (confirmed_draftable held c.args.now request c.requires.moment are (sym c.is_waiting.ensures ∙ c.if-not-is_waiting.false))

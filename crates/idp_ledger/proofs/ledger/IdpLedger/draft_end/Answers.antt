@@ -7,9 +7,7 @@ use Rattle.ledger_records.specs.declared.idp_record.IdpRecord.TheVariants as kin
 use Rattle.idp_ledger.specs.RowsOf.{rows_of}
 use Rattle.idp_ledger.specs.Finding.{ending, is_partial}
 use Rattle.idp_ledger.specs.Record.{AreRecords}
-use Rattle.idp_ledger.specs.Ledger.{Opened}
 use Rattle.idp_ledger.specs.Drafts.{ended, IsDraftable, IsDraftOf}
-use Rattle.idp_ledger.proofs.Committing.{stand_are}
 use Rattle.idp_ledger.proofs.DraftedRecords.{ended_draftable}
 use Rattle.idp_ledger.proofs.RowTexts.{some_texts}
 use Rattle.idp_ledger.proofs.ledger.IdpLedger.draft_end.Goals as goal
@@ -17,13 +15,13 @@ use Rattle.idp_ledger.proofs.ledger.IdpLedger.draft_end.Goals as goal
 pub draft-requires-clause-is : goal.draft-requires-clause-is
 draft-requires-clause-is c =
     let held = c.args.self.now.held in
-    let key = c.self.inside.key in
+    let key = c.key-key.result.now in
     let first = c.next_number-first.result in
     let now = c.args.now in
     let asker = c.args.peer.now in
     let ends = ending now held.header.horizon asker c.args.name.now c.args.indexes.now (rows_of held.records) in
     let some = is_partial now held.header.horizon asker c.args.name.now c.args.indexes.now (rows_of held.records) in
-    let are : AreRecords held.records = subst AreRecords (ap (λ (l : Opened). l.held.records) c.self.view_is) (stand_are c.self.inside.journal.kept.holds c.self.inside.standing c.self.invariant.0) in
+    let are : AreRecords held.records = c.holds_records.ensures in
     let cookies : c.cookies.inside.items.items ≡ ends = c.cookies.view_is ∙ c.in_ok-cookies.ensures in
     let message = c.in_ok-of.ensures ∙ c.as_str.ensures.value ∙ c.id_of-message.ensures in
     let request = c.in_ok-of-2.ensures in
@@ -38,7 +36,7 @@ pub returns-clause-drafts : goal.returns-clause-drafts
 returns-clause-drafts c =
     let held = c.args.self.now.held in
     let key = c.args.self.now.key in
-    let same_key = ap (λ (l : Opened). l.key) c.self.view_is in
+    let same_key = c.key-key.ensures in
     let first = c.next_number-first.result in
     let now = c.args.now in
     let asker = c.args.peer.now in

@@ -4,11 +4,9 @@ use Rattle.ledger_records.specs.declared.idp_record.IdpRecord.{IdpRecord}
 use Rattle.ledger_records.specs.declared.idp_record.IdpRecord.TheVariants as kinds
 use Rattle.idp_ledger.specs.RowsOf.{IdpRows, issued_rows, session_rows, rows_of}
 use Rattle.idp_ledger.specs.Record.{AreRecords}
-use Rattle.idp_ledger.specs.Ledger.{Opened}
 use Rattle.std.proofs.lemmas.Bool.{true≢false}
 use Rattle.idp_ledger.specs.Finding.{last_peer, session_found}
 use Rattle.idp_ledger.specs.Drafts.{left, IsDraftable}
-use Rattle.idp_ledger.proofs.Committing.{stand_are, standing_rows}
 use Rattle.idp_ledger.proofs.RowTexts.{some_found, found_session, sessions_allowed}
 use Rattle.idp_ledger.proofs.DraftedRecords.{left_draftable}
 use Rattle.idp_ledger.proofs.ledger.IdpLedger.draft_leave.Goals as goal
@@ -17,10 +15,8 @@ pub unreachable-requires : goal.unreachable-requires
 unreachable-requires c =
     let held = c.args.self.now.held in
     let cookie = c.args.cookie.now in
-    let stands = c.self.invariant.0 in
-    let holds = c.self.inside.journal.kept.holds in
-    let are : AreRecords held.records = subst AreRecords (ap (λ (l : Opened). l.held.records) c.self.view_is) (stand_are holds c.self.inside.standing stands) in
-    let rows : c.self.inside.standing.rows ≡ rows_of held.records = standing_rows holds c.self.inside.standing stands ∙ ap (λ (l : Opened). rows_of l.held.records) c.self.view_is in
+    let are : AreRecords held.records = c.holds_records.ensures in
+    let rows : c.standing.result.now.rows ≡ rows_of held.records = c.standing.ensures in
     let row = some_found (session_found (session_rows held.records) cookie c.args.now held.header.horizon) c.requires.live in
     let there = (found_session (session_rows held.records) cookie c.args.now held.header.horizon row.0 row.1 (sessions_allowed held.records are)).there in
     let none = subst (λ (r : IdpRows). Rattle.std.specs.List.list_any (λ s. Rattle.std.specs.Str.bytes_eq s.cookie cookie) r.sessions ≡ Rattle.std.proofs.Common.false) rows c.in_default.ensures.none in
@@ -29,13 +25,11 @@ unreachable-requires c =
 pub draft-requires-clause-is : goal.draft-requires-clause-is
 draft-requires-clause-is c =
     let held = c.args.self.now.held in
-    let key = c.self.inside.key in
+    let key = c.key-key.result.now in
     let cookie = c.args.cookie.now in
     let first = c.next_number-first.result in
-    let stands = c.self.invariant.0 in
-    let holds = c.self.inside.journal.kept.holds in
-    let are : AreRecords held.records = subst AreRecords (ap (λ (l : Opened). l.held.records) c.self.view_is) (stand_are holds c.self.inside.standing stands) in
-    let rows : c.self.inside.standing.rows ≡ rows_of held.records = standing_rows holds c.self.inside.standing stands ∙ ap (λ (l : Opened). rows_of l.held.records) c.self.view_is in
+    let are : AreRecords held.records = c.holds_records.ensures in
+    let rows : c.standing.result.now.rows ≡ rows_of held.records = c.standing.ensures in
     let row = some_found (session_found (session_rows held.records) cookie c.args.now held.header.horizon) c.requires.live in
     let to : c.in_ok-peer.peer ≡ last_peer (issued_rows held.records) cookie = c.in_ok-peer.ensures ∙ c.in-Some.ensures.some ∙ ap (λ (r : IdpRows). last_peer r.issues cookie) rows in
     let its = c.in_ok-of.ensures in

@@ -8,7 +8,7 @@ use Rattle.idp_ledger.proofs.ledger.IdpLedger.draft_pending.Goals as goal
 pub draft-requires-clause-is : goal.draft-requires-clause-is
 draft-requires-clause-is c =
     let held = c.args.self.now.held in
-    let key = c.self.inside.key in
+    let key = c.key-key.result.now in
     let first = c.next_number-first.result in
     let ask = c.args.ask.now in
     let id = c.in_ok-of.ensures ∙ c.as_str.ensures.value ∙ c.id_of-pending.ensures in

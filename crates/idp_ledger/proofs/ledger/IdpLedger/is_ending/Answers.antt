@@ -5,8 +5,7 @@ use Rattle.gate_journal.specs.declared.header.Header.{Header}
 use Rattle.idp_ledger.specs.declared.row.SessionRow.{SessionRow}
 use Rattle.idp_ledger.specs.RowsOf.{IdpRows, rows_of}
 use Rattle.idp_ledger.specs.Finding.{visible, is_listed, has_issued}
-use Rattle.idp_ledger.specs.Ledger.{Opened, rows_in}
-use Rattle.idp_ledger.proofs.Committing.{standing_rows}
+use Rattle.idp_ledger.specs.Ledger.{rows_in}
 use Rattle.idp_ledger.proofs.ledger.IdpLedger.is_ending.Goals as goal
 
 pub returns : goal.returns
@@ -15,8 +14,7 @@ returns c = λ row at.
     let place = c.args.place in
     let peer = c.args.peer.now in
     let found = c.index-rows-place.result in
-    let rows : c.self.inside.standing.rows ≡ rows_of self.held.records =
-    standing_rows c.self.inside.journal.kept.holds c.self.inside.standing c.self.invariant.0 ∙ ap (λ (l : Opened). rows_of l.held.records) c.self.view_is in
+    let rows : c.standing.result.now.rows ≡ rows_of self.held.records = c.standing.ensures in
     let here : found ≡ row = c.index-rows-place.is ∙ ap (λ rs. get_or rs place found) c.sessions-rows.ensures ∙ get_or_from_slice_get (rows_in self).sessions place row found at in
     let is_its : SessionRow → Header → Bool = λ r h. not r.ended && visible r.until c.args.now h.horizon && bytes_eq r.user c.args.name.now && is_listed c.args.indexes.now r.index in
     let named : c.is_named.result ≡ is_its row self.held.header = c.is_named.ensures ∙ (λ k. is_its (here k) (c.header-horizon.ensures k)) in

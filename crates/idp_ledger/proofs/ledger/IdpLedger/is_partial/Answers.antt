@@ -4,9 +4,8 @@ use Rattle.std.proofs.lemmas.List.{take_all}
 use Rattle.idp_ledger.specs.declared.row.SessionRow.{SessionRow}
 use Rattle.idp_ledger.specs.RowsOf.{IdpRows, rows_of}
 use Rattle.idp_ledger.specs.Finding.{is_ending, has_issued}
-use Rattle.idp_ledger.specs.Ledger.{Opened, rows_in}
-use Rattle.idp_ledger.proofs.Committing.{standing_rows}
-use Rattle.idp_ledger.proofs.Draftable.{both}
+use Rattle.idp_ledger.specs.Ledger.{rows_in}
+use Rattle.record_ledger.proofs.Draftable.{both}
 use Rattle.idp_ledger.proofs.RowTexts.{row_there, any_there, none_more}
 use Rattle.idp_ledger.proofs.ledger.IdpLedger.is_partial.Goals as goal
 use Rattle.idp_ledger.proofs.ledger.IdpLedger.is_partial.Goals.{else-is_ending-via-then-is_ending+else-has_issued, else-is_ending-via-else-is_ending}
@@ -16,8 +15,7 @@ returns-then-has_issued c =
     let self = c.args.self.now in
     let place = c.loop-place.place in
     let peer = c.args.peer.now in
-    let rows : c.self.inside.standing.rows ≡ rows_of self.held.records =
-    standing_rows c.self.inside.journal.kept.holds c.self.inside.standing c.self.invariant.0 ∙ ap (λ (l : Opened). rows_of l.held.records) c.self.view_is in
+    let rows : c.standing-standing.result.now.rows ≡ rows_of self.held.records = c.standing-standing.ensures in
     let sessions = (rows_in self).sessions in
     let ends : SessionRow → Bool = is_ending c.args.now self.held.header.horizon peer c.args.name.now c.args.indexes.now (rows_in self).issues in
     let beside : SessionRow → Bool = λ row. has_issued true (rows_in self).issues row.cookie peer in
@@ -31,8 +29,7 @@ loop-place-preserved c =
     let self = c.args.self.now in
     let place = c.loop-place.place in
     let peer = c.args.peer.now in
-    let rows : c.self.inside.standing.rows ≡ rows_of self.held.records =
-    standing_rows c.self.inside.journal.kept.holds c.self.inside.standing c.self.invariant.0 ∙ ap (λ (l : Opened). rows_of l.held.records) c.self.view_is in
+    let rows : c.standing-standing.result.now.rows ≡ rows_of self.held.records = c.standing-standing.ensures in
     let sessions = (rows_in self).sessions in
     let ends : SessionRow → Bool = is_ending c.args.now self.held.header.horizon peer c.args.name.now c.args.indexes.now (rows_in self).issues in
     let beside : SessionRow → Bool = λ row. has_issued true (rows_in self).issues row.cookie peer in

@@ -1,15 +1,13 @@
 use Rattle.std.proofs.Common.{◌≡◌, ◌∙◌, sym, ap, subst}
 use Rattle.request_ledger.specs.Record.{AreRecords}
-use Rattle.request_ledger.specs.Ledger.{Opened}
 use Rattle.request_ledger.specs.Drafts.{confirmed, IsDraftable}
-use Rattle.request_ledger.proofs.Committing.{stand_are}
 use Rattle.request_ledger.proofs.DraftedRecords.{confirmed_draftable}
 use Rattle.request_ledger.proofs.ledger.Ledger.draft_confirm.Goals as goal
 
 pub draft-requires-clause-is : goal.draft-requires-clause-is
 draft-requires-clause-is c =
     let held = c.args.self.now.held in
-    let are : AreRecords held.records = subst AreRecords (ap (λ (l : Opened). l.held.records) c.self.view_is) (stand_are c.self.inside.journal.kept.holds c.self.inside.standing c.self.invariant.0) in
+    let are : AreRecords held.records = c.holds_records.ensures in
     let same : confirmed c.args.now c.in_ok-of.field-0 ≡ confirmed c.args.now c.args.request.now = ap (confirmed c.args.now) c.in_ok-of.ensures in
     let waits = sym c.is_waiting.ensures ∙ c.if-not-is_waiting.false in
     subst (IsDraftable held) (sym same) (confirmed_draftable held c.args.now c.args.request.now c.requires.moment are waits)

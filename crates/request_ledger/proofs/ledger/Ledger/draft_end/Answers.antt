@@ -6,9 +6,7 @@ use Rattle.ledger_records.specs.declared.sp_record.SpRecord.{SpRecord}
 use Rattle.ledger_records.specs.declared.sp_record.SpRecord.TheVariants as kinds
 use Rattle.request_ledger.specs.RowsOf.{opened_rows}
 use Rattle.request_ledger.specs.Record.{AreRecords}
-use Rattle.request_ledger.specs.Ledger.{Opened}
 use Rattle.request_ledger.specs.Drafts.{ended, ending, IsDraftable, IsDraftOf}
-use Rattle.request_ledger.proofs.Committing.{stand_are}
 use Rattle.request_ledger.proofs.DraftedRecords.{ended_draftable}
 use Rattle.request_ledger.proofs.RowTexts.{some_texts}
 use Rattle.request_ledger.proofs.ledger.Ledger.draft_end.Goals as goal
@@ -16,11 +14,11 @@ use Rattle.request_ledger.proofs.ledger.Ledger.draft_end.Goals as goal
 pub draft-requires-clause-is : goal.draft-requires-clause-is
 draft-requires-clause-is c =
     let held = c.args.self.now.held in
-    let key = c.self.inside.key in
+    let key = c.key-key.result.now in
     let first = c.next_number-first.result in
     let now = c.args.now in
     let ends = ending now held.header.horizon c.args.issuer.now c.args.name.now c.args.indexes.now (opened_rows held.records) in
-    let are : AreRecords held.records = subst AreRecords (ap (λ (l : Opened). l.held.records) c.self.view_is) (stand_are c.self.inside.journal.kept.holds c.self.inside.standing c.self.invariant.0) in
+    let are : AreRecords held.records = c.holds_records.ensures in
     let tokens : c.tokens.inside.items.items ≡ ends = c.tokens.view_is ∙ c.in_ok-tokens.ensures in
     let message = c.in_ok-of.ensures ∙ c.as_str.ensures.value ∙ c.id_of-message.ensures in
     let request = c.in_ok-of-2.ensures in
@@ -33,7 +31,7 @@ pub returns-clause-drafts : goal.returns-clause-drafts
 returns-clause-drafts c =
     let held = c.args.self.now.held in
     let key = c.args.self.now.key in
-    let same_key = ap (λ (l : Opened). l.key) c.self.view_is in
+    let same_key = c.key-key.ensures in
     let first = c.next_number-first.result in
     let now = c.args.now in
     let ends = ending now held.header.horizon c.args.issuer.now c.args.name.now c.args.indexes.now (opened_rows held.records) in

@@ -2,18 +2,16 @@ use Rattle.std.proofs.Common.{◌≡◌, ◌∙◌, ◌+◌, sym, ap, subst}
 use Rattle.ledger_records.specs.declared.sp_record.SpRecord.{SpRecord}
 use Rattle.ledger_records.specs.declared.sp_record.SpRecord.TheVariants as kinds
 use Rattle.request_ledger.specs.Record.{AreRecords}
-use Rattle.request_ledger.specs.Ledger.{Opened}
 use Rattle.request_ledger.specs.Drafts.{left, IsDraftable}
-use Rattle.request_ledger.proofs.Committing.{stand_are}
 use Rattle.request_ledger.proofs.DraftedRecords.{left_draftable}
 use Rattle.request_ledger.proofs.ledger.Ledger.draft_leave.Goals as goal
 
 pub draft-requires-clause-is : goal.draft-requires-clause-is
 draft-requires-clause-is c =
     let held = c.args.self.now.held in
-    let key = c.self.inside.key in
+    let key = c.key-key.result.now in
     let first = c.next_number-first.result in
-    let are : AreRecords held.records = subst AreRecords (ap (λ (l : Opened). l.held.records) c.self.view_is) (stand_are c.self.inside.journal.kept.holds c.self.inside.standing c.self.invariant.0) in
+    let are : AreRecords held.records = c.holds_records.ensures in
     let token = c.in_ok-of.ensures in
     let request = c.in_ok-of-2.ensures ∙ c.as_str.ensures.value ∙ c.id_of-request.ensures in
     let made : SpRecord = kinds.Left (record { first = first; moment = c.args.now; until = c.args.now + 600000; token = c.in_ok-of.field-0; request = c.in_ok-of-2.field-0 }) in

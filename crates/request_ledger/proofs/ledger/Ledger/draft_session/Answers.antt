@@ -7,7 +7,7 @@ use Rattle.request_ledger.proofs.ledger.Ledger.draft_session.Goals as goal
 pub draft-requires-clause-is : goal.draft-requires-clause-is
 draft-requires-clause-is c =
     let held = c.args.self.now.held in
-    let key = c.self.inside.key in
+    let key = c.key-key.result.now in
     let new = c.args.new.now in
     let is : c.in_ok-entry.entry ≡ opened key (next_number held) c.args.now new =
     c.in_ok-entry.ensures ∙ ap (λ t. opened_with c.next_number-first.result c.args.now t new) c.id_of-token.ensures

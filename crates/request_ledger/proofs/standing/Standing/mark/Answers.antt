@@ -3,15 +3,19 @@ use Rattle.std.specs.Str.{bytes_eq}
 use Rattle.ledger_records.specs.declared.sp_record.SpRecord.{SpRecord}
 use Rattle.ledger_records.specs.declared.sp_record.SpRecord.TheVariants as kinds
 use Rattle.request_rows.specs.declared.row.AskedRow.{AskedRow}
+use Rattle.request_rows.specs.Indexed.{room}
 use Rattle.request_ledger.specs.RowsOf.{is_among, rows_after}
 use Rattle.request_ledger.specs.Record.{is_next}
-use Rattle.request_ledger.specs.Standing.{StandingView, HaveNumbers, AreSpent}
+use Rattle.request_ledger.specs.Standing.{StandingView, HasMarkRoom, HaveNumbers, AreSpent}
 use Rattle.request_ledger.proofs.StandingRows.{fresh_request}
 use Rattle.request_ledger.proofs.SpentMarks.{spent_asked, spent_closed}
 use Rattle.request_ledger.proofs.standing.Standing.mark.Goals as goal
 
-pub returns-in_ok-push-in-Asked : goal.returns-in_ok-push-in-Asked
-returns-in_ok-push-in-Asked c =
+pub put_mark-requires : goal.put_mark-requires
+put_mark-requires c = subst (HasMarkRoom (room c.args.spent.now)) c.in-Asked.is c.requires.room
+
+pub returns-in-Asked : goal.returns-in-Asked
+returns-in-Asked c =
     let now = c.args.self.now in
     let r = c.in-Asked.field-0 in
     let listed = c.self.inside.asked.listed in
@@ -19,8 +23,8 @@ returns-in_ok-push-in-Asked c =
     subst (λ (v : StandingView). HaveNumbers v.next listed (map (λ (row : AskedRow). row.request) v.rows.asked)) c.self.view_is c.self.invariant.0 in
     let first = fresh_request now.rows now.next r (subst (λ (e : SpRecord). is_next now.rows now.next e ≡ true) c.in-Asked.is c.requires.is) in
     let more = spent_asked now.next listed c.args.spent.now.items now.rows r have first.least_is first.below first.has c.requires.spent in
-    subst (λ (e : SpRecord). AreSpent c.push.new.self.items (rows_after now.rows e)) (sym c.in-Asked.is)
-    (subst (λ marks. AreSpent marks (rows_after now.rows (kinds.Asked r))) (sym c.in_ok-push-in-Asked.ensures.items) more)
+    subst (λ (e : SpRecord). AreSpent c.put_mark.new.spent.items (rows_after now.rows e)) (sym c.in-Asked.is)
+    (subst (λ marks. AreSpent marks (rows_after now.rows (kinds.Asked r))) (sym c.put_mark.ensures) more)
 
 pub returns-in-Left : goal.returns-in-Left
 returns-in-Left c =

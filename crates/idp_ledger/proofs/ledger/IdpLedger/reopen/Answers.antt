@@ -1,5 +1,0 @@
-use Rattle.idp_ledger.proofs.OpenLaws.{own_broken, broken_own}
-use Rattle.idp_ledger.proofs.ledger.IdpLedger.reopen.Goals as goal
-
-pub returns-in-Err-clause-own_err : goal.returns-in-Err-clause-own_err
-returns-in-Err-clause-own_err g c own = own_broken (g.D.Disk.told c.open_both.new.disk) (c.in-Err.ensures.err (broken_own (g.D.Disk.told c.args.disk.now) own))

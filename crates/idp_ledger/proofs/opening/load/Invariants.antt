@@ -1,6 +1,0 @@
-use Rattle.std.proofs.Common.{take}
-use Rattle.idp_ledger.specs.Loading.{IsLoaded}
-use Rattle.idp_ledger.proofs.opening.load.Given as goal
-
-abbrev pub invariant-loop-i : goal.invariant-loop-i
-invariant-loop-i l = IsLoaded l.version (take l.i l.payload-items) l.loaded

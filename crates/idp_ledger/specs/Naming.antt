@@ -1,0 +1,63 @@
+-- Which record names which, and which has a visible row.
+use Rattle.std.specs.Prelude.{ℕ, Bool, false, ◌||◌, List, [], ◌∷◌, Option, None, Some}
+use Rattle.std.specs.Str.{bytes_eq}
+use Rattle.ledger_records.specs.declared.idp_record.IdpRecord.{IdpRecord}
+use Rattle.ledger_records.specs.declared.idp_record.IdpRecord.TheVariants as kinds
+use Rattle.idp_ledger.specs.Finding.{visible}
+use Rattle.idp_ledger.specs.RowsOf.{is_among}
+
+-- whether a row of a record is visible: the pending login, the assertion or the session that began with it, the logout
+abbrev pub has_session_visible : (now horizon : ℕ) → Option (List ℕ) → (session_end : ℕ) → Bool
+has_session_visible now horizon None session_end = false
+has_session_visible now horizon (Some pending) session_end = visible session_end now horizon
+
+abbrev pub has_visible : (now horizon : ℕ) → IdpRecord → Bool
+has_visible now horizon (kinds.Pending r) = visible r.until now horizon
+has_visible now horizon (kinds.Issued r) = visible r.until now horizon || has_session_visible now horizon r.pending r.session_end
+has_visible now horizon (kinds.Ended r) = false
+has_visible now horizon (kinds.Left r) = visible r.until now horizon
+has_visible now horizon (kinds.Confirmed r) = false
+has_visible now horizon (kinds.Spoke r) = false
+
+-- whether a record has the pending row of an ID, the session of one of these cookies, or the logout of a request
+abbrev pub has_pending : List ℕ → IdpRecord → Bool
+has_pending pending (kinds.Pending r) = bytes_eq r.pending pending
+has_pending pending (kinds.Issued r) = false
+has_pending pending (kinds.Ended r) = false
+has_pending pending (kinds.Left r) = false
+has_pending pending (kinds.Confirmed r) = false
+has_pending pending (kinds.Spoke r) = false
+
+abbrev pub has_cookie : List (List ℕ) → Option (List ℕ) → List ℕ → Bool
+has_cookie cookies None cookie = false
+has_cookie cookies (Some pending) cookie = is_among cookie cookies
+
+abbrev pub has_session : List (List ℕ) → IdpRecord → Bool
+has_session cookies (kinds.Pending r) = false
+has_session cookies (kinds.Issued r) = has_cookie cookies r.pending r.cookie
+has_session cookies (kinds.Ended r) = false
+has_session cookies (kinds.Left r) = false
+has_session cookies (kinds.Confirmed r) = false
+has_session cookies (kinds.Spoke r) = false
+
+abbrev pub has_logout : List ℕ → IdpRecord → Bool
+has_logout request (kinds.Pending r) = false
+has_logout request (kinds.Issued r) = false
+has_logout request (kinds.Ended r) = false
+has_logout request (kinds.Left r) = bytes_eq r.request request
+has_logout request (kinds.Confirmed r) = false
+has_logout request (kinds.Spoke r) = false
+
+-- Whether the first record names a row of the second: an Issued the login that was pending or the session that the user
+-- had, a Left and an Ended the sessions that they end, a Confirmed its logout.
+abbrev pub issue_names : Option (List ℕ) → List ℕ → IdpRecord → Bool
+issue_names None cookie earlier = has_session (cookie ∷ []) earlier
+issue_names (Some pending) cookie earlier = has_pending pending earlier
+
+abbrev pub names : IdpRecord → IdpRecord → Bool
+names (kinds.Pending r) earlier = false
+names (kinds.Issued r) earlier = issue_names r.pending r.cookie earlier
+names (kinds.Ended r) earlier = has_session r.cookies earlier
+names (kinds.Left r) earlier = has_session (r.cookie ∷ []) earlier
+names (kinds.Confirmed r) earlier = has_logout r.request earlier
+names (kinds.Spoke r) earlier = false

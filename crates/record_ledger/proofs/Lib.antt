@@ -1,0 +1,15 @@
+pub mod Words
+pub mod Numbers
+pub mod Records
+pub mod Committing
+pub mod LoadLaws
+pub mod OpenLaws
+pub mod LinkRows
+pub mod LinkSteps
+pub mod KeptMarks
+pub mod KeptFlags
+pub mod KeptRecords
+pub mod Images
+pub mod CompactLaws
+pub mod CompactSteps
+pub mod Draftable

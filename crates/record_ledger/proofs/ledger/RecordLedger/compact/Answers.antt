@@ -1,0 +1,120 @@
+use Rattle.std.proofs.Common.{◌≡◌, ◌∙◌, ℕ, List, None, false, true, max, inr, refl, sym, ap, subst, arith}
+use Rattle.crash_disk.specs.Disk.{Image}
+use Rattle.crash_disk.specs.Steps.{weaker}
+use Rattle.gate_journal.specs.declared.header.Header.{Header}
+use Rattle.gate_journal.specs.Journal.{Opened as OpenedJournal, Fits, IsOldOrNew, made_anew}
+use Rattle.gate_journal.proofs.Owning.{left_now_stands}
+use Rattle.record_ledger.specs.Ledger.{Held, Opened, next_number}
+use Rattle.record_ledger.specs.Keeping.{held_in, opened_of, StandsFor}
+use Rattle.record_ledger.specs.Compacting.{IsCompacted, IsOldOrCompacted}
+use Rattle.record_ledger.proofs.Committing.{ledgers_own, journals_own, own_broken}
+use Rattle.record_ledger.proofs.KeptRecords.{kept_are_records}
+use Rattle.record_ledger.proofs.CompactSteps.{its_read, stands_anew, compacted, leads, old_or_compacted_ok}
+use Rattle.record_ledger.specs.Rules.{StandReady}
+use Rattle.record_ledger.proofs.ledger.RecordLedger.compact.Goals as goal
+
+pub choose-requires : goal.choose-requires
+choose-requires g c = its_read g.S.Standing.rules (StandReady g.S.Standing.row_rules) (kept_are_records g.S.Standing.rules c.laws_hold.ensures.kept) c.self.inside.journal.kept c.self.inside.standing c.self.invariant.0
+
+pub compact-requires-clause-own : goal.compact-requires-clause-own
+compact-requires-clause-own g c =
+    let held = ap (λ (l : Opened g.row.S-Record.Denot g.row.S.Denot). l.held) c.self.view_is in
+    let broken = ap (λ (l : Opened g.row.S-Record.Denot g.row.S.Denot). l.broken) c.self.view_is ∙ c.requires.whole in
+    ledgers_own g.S.Standing.rules (StandReady g.S.Standing.row_rules) (g.D.Disk.told c.args.disk.now) c.self.inside.journal c.self.inside.standing c.args.self.now c.self.invariant.0 held (c.self.invariant.1 broken) c.requires.whole c.requires.own
+
+pub compact-requires-clause-fits : goal.compact-requires-clause-fits
+compact-requires-clause-fits g c = subst Fits (sym c.deref.ensures.value) c.in_ok-payloads.ensures.fits
+
+pub invariant_of-self : goal.invariant_of-self
+invariant_of-self g c =
+    let kept = c.self.inside.journal.kept in
+    let chosen = c.in_ok-payloads.field-0 in
+    let horizon = c.max-horizon.result in
+    let next = c.next_number-next.result in
+    let anew = c.in-Ok.ensures.ok ∙ ap (λ (ps : List (List ℕ)). record { kept = made_anew ps horizon next kept; spare = None; broken = false }) c.deref.ensures.value in (
+      subst (λ (j : OpenedJournal). StandsFor g.S.Standing.rules (StandReady g.S.Standing.row_rules) j.kept.holds chosen.standing) (sym anew)
+          (stands_anew g.S.Standing.rules (StandReady g.S.Standing.row_rules) (kept_are_records g.S.Standing.rules c.laws_hold.ensures.kept) c.args.now kept c.self.inside.standing c.self.invariant.0 chosen.payloads.items chosen.standing c.in_ok-payloads.ensures horizon next),
+      λ whole. ap (λ (j : OpenedJournal). j.broken) anew,
+    )
+
+pub returns-in-Ok-clause-ok : goal.returns-in-Ok-clause-ok
+returns-in-Ok-clause-ok g c =
+    let kept = c.self.inside.journal.kept in
+    let chosen = c.in_ok-payloads.field-0 in
+    let horizon = c.max-horizon.result in
+    let next = c.next_number-next.result in
+    let anew = c.in-Ok.ensures.ok ∙ ap (λ (ps : List (List ℕ)). record { kept = made_anew ps horizon next kept; spare = None; broken = false }) c.deref.ensures.value in
+    let held : held_in g.S.Standing.rules kept ≡ c.args.self.now.held = ap (λ (l : Opened g.row.S-Record.Denot g.row.S.Denot). l.held) c.self.view_is in
+    let at : horizon ≡ max kept.holds.header.horizon c.args.now = c.max-horizon.ensures ∙ ap (λ (h : Header). max h.horizon c.args.now) c.header-header.ensures in
+    let is = compacted g.S.Standing.rules (StandReady g.S.Standing.row_rules) (kept_are_records g.S.Standing.rules c.laws_hold.ensures.kept) c.args.now kept c.self.inside.standing c.self.invariant.0 chosen.payloads.items chosen.standing c.in_ok-payloads.ensures horizon next at (c.next_number-next.ensures ∙ sym (ap (next_number g.S.Standing.rules) held)) in (
+      inr (
+        omega (arith, c.if-header.false, ap (λ (h : Held g.row.S-Record.Denot). h.header.generation) held, ap (λ (h : Header). h.generation) c.header-header.ensures),
+        subst (λ (h : Held g.row.S-Record.Denot). IsCompacted g.S.Standing.rules c.args.now h (held_in g.S.Standing.rules c.compact.new.self.kept)) held
+            (subst (λ (j : OpenedJournal). IsCompacted g.S.Standing.rules c.args.now (held_in g.S.Standing.rules kept) (held_in g.S.Standing.rules j.kept)) (sym anew) is),
+      ),
+      ap (λ (l : Opened g.row.S-Record.Denot g.row.S.Denot). l.broken) c.self.view_is ∙ c.requires.whole,
+    )
+
+pub returns-in-Ok-clause-own : goal.returns-in-Ok-clause-own
+returns-in-Ok-clause-own g c =
+    let kept = c.self.inside.journal.kept in
+    let chosen = c.in_ok-payloads.field-0 in
+    let horizon = c.max-horizon.result in
+    let next = c.next_number-next.result in
+    let anew = c.in-Ok.ensures.ok ∙ ap (λ (ps : List (List ℕ)). record { kept = made_anew ps horizon next kept; spare = None; broken = false }) c.deref.ensures.value in
+    let stands = subst (λ (j : OpenedJournal). StandsFor g.S.Standing.rules (StandReady g.S.Standing.row_rules) j.kept.holds chosen.standing) (sym anew)
+    (stands_anew g.S.Standing.rules (StandReady g.S.Standing.row_rules) (kept_are_records g.S.Standing.rules c.laws_hold.ensures.kept) c.args.now kept c.self.inside.standing c.self.invariant.0 chosen.payloads.items chosen.standing c.in_ok-payloads.ensures horizon next) in
+    journals_own g.S.Standing.rules (StandReady g.S.Standing.row_rules) (g.D.Disk.told c.compact.new.disk) c.compact.new.self chosen.standing (opened_of g.S.Standing.rules c.compact.new.self chosen.standing c.self.inside.key c.self.inside.broken) stands refl
+    (ap (λ (j : OpenedJournal). j.broken) anew) (ap (λ (l : Opened g.row.S-Record.Denot g.row.S.Denot). l.broken) c.self.view_is ∙ c.requires.whole) c.compact.ensures.own
+
+pub returns-in-Ok-clause-moments : goal.returns-in-Ok-clause-moments
+returns-in-Ok-clause-moments g c =
+    let kept = c.self.inside.journal.kept in
+    let held : held_in g.S.Standing.rules kept ≡ c.args.self.now.held = ap (λ (l : Opened g.row.S-Record.Denot g.row.S.Denot). l.held) c.self.view_is in
+    let horizon = c.max-horizon.result in
+    let next = c.next_number-next.result in
+    weaker g.D.Disk.moment g.D.Disk.left_since c.args.disk.now c.compact.new.disk (IsOldOrNew kept (made_anew c.deref.result.now horizon next kept))
+    (IsOldOrCompacted g.S.Standing.rules c.args.now c.args.self.now.held) c.compact.ensures.moments
+    (leads g.S.Standing.rules (StandReady g.S.Standing.row_rules) (kept_are_records g.S.Standing.rules c.laws_hold.ensures.kept) c.args.now kept c.self.inside.standing c.self.invariant.0 c.in_ok-payloads.field-0.payloads.items c.in_ok-payloads.field-0.standing c.in_ok-payloads.ensures horizon next
+    (c.max-horizon.ensures ∙ ap (λ (h : Header). max h.horizon c.args.now) c.header-header.ensures) (c.next_number-next.ensures ∙ sym (ap (next_number g.S.Standing.rules) held)) (omega (arith, c.if-header.false, ap (λ (h : Header). h.generation) c.header-header.ensures))
+    c.args.self.now.held (ap (λ (l : Opened g.row.S-Record.Denot g.row.S.Denot). l.held) c.self.view_is) c.deref.result.now c.deref.ensures.value)
+
+pub returns-in-Err-NoMemory-clause-moments : goal.returns-in-Err-NoMemory-clause-moments
+returns-in-Err-NoMemory-clause-moments g c =
+    let kept = c.self.inside.journal.kept in
+    let held : held_in g.S.Standing.rules kept ≡ c.args.self.now.held = ap (λ (l : Opened g.row.S-Record.Denot g.row.S.Denot). l.held) c.self.view_is in
+    let horizon = c.max-horizon.result in
+    let next = c.next_number-next.result in
+    weaker g.D.Disk.moment g.D.Disk.left_since c.args.disk.now c.compact.new.disk (IsOldOrNew kept (made_anew c.deref.result.now horizon next kept))
+    (IsOldOrCompacted g.S.Standing.rules c.args.now c.args.self.now.held) c.compact.ensures.moments
+    (leads g.S.Standing.rules (StandReady g.S.Standing.row_rules) (kept_are_records g.S.Standing.rules c.laws_hold.ensures.kept) c.args.now kept c.self.inside.standing c.self.invariant.0 c.in_ok-payloads.field-0.payloads.items c.in_ok-payloads.field-0.standing c.in_ok-payloads.ensures horizon next
+    (c.max-horizon.ensures ∙ ap (λ (h : Header). max h.horizon c.args.now) c.header-header.ensures) (c.next_number-next.ensures ∙ sym (ap (next_number g.S.Standing.rules) held)) (omega (arith, c.if-header.false, ap (λ (h : Header). h.generation) c.header-header.ensures))
+    c.args.self.now.held (ap (λ (l : Opened g.row.S-Record.Denot g.row.S.Denot). l.held) c.self.view_is) c.deref.result.now c.deref.ensures.value)
+
+pub returns-in-Err-DiskFault-clause-own : goal.returns-in-Err-DiskFault-clause-own
+returns-in-Err-DiskFault-clause-own g c =
+    let kept = c.self.inside.journal.kept in
+    let horizon = c.max-horizon.result in
+    let next = c.next_number-next.result in
+    let held : held_in g.S.Standing.rules kept ≡ c.args.self.now.held = ap (λ (l : Opened g.row.S-Record.Denot g.row.S.Denot). l.held) c.self.view_is in
+    let Q : Image → Type 0 = IsOldOrCompacted g.S.Standing.rules c.args.now c.args.self.now.held in
+    let so = weaker g.D.Disk.moment g.D.Disk.left_since c.args.disk.now c.compact.new.disk (IsOldOrNew kept (made_anew c.deref.result.now horizon next kept))
+    Q c.compact.ensures.moments
+    (leads g.S.Standing.rules (StandReady g.S.Standing.row_rules) (kept_are_records g.S.Standing.rules c.laws_hold.ensures.kept) c.args.now kept c.self.inside.standing c.self.invariant.0 c.in_ok-payloads.field-0.payloads.items c.in_ok-payloads.field-0.standing c.in_ok-payloads.ensures horizon next
+    (c.max-horizon.ensures ∙ ap (λ (h : Header). max h.horizon c.args.now) c.header-header.ensures) (c.next_number-next.ensures ∙ sym (ap (next_number g.S.Standing.rules) held)) (omega (arith, c.if-header.false, ap (λ (h : Header). h.generation) c.header-header.ensures))
+    c.args.self.now.held held c.deref.result.now c.deref.ensures.value) in
+    own_broken g.S.Standing.rules (StandReady g.S.Standing.row_rules) (g.D.Disk.told c.compact.new.disk) (opened_of g.S.Standing.rules c.compact.new.self c.self.inside.standing c.self.inside.key true) refl (λ image left.
+    old_or_compacted_ok g.S.Standing.rules (StandReady g.S.Standing.row_rules) (kept_are_records g.S.Standing.rules c.laws_hold.ensures.kept) c.args.now c.args.self.now.held image
+    (left_now_stands g.D.Disk.moment g.D.Disk.left_since g.D.Disk.told c.args.disk.now c.compact.new.disk Q g.met.D.Disk.counts_now so image left))
+
+pub returns-in-Err-DiskFault-clause-moments : goal.returns-in-Err-DiskFault-clause-moments
+returns-in-Err-DiskFault-clause-moments g c =
+    let kept = c.self.inside.journal.kept in
+    let horizon = c.max-horizon.result in
+    let next = c.next_number-next.result in
+    let held : held_in g.S.Standing.rules kept ≡ c.args.self.now.held = ap (λ (l : Opened g.row.S-Record.Denot g.row.S.Denot). l.held) c.self.view_is in
+    weaker g.D.Disk.moment g.D.Disk.left_since c.args.disk.now c.compact.new.disk (IsOldOrNew kept (made_anew c.deref.result.now horizon next kept))
+    (IsOldOrCompacted g.S.Standing.rules c.args.now c.args.self.now.held) c.compact.ensures.moments
+    (leads g.S.Standing.rules (StandReady g.S.Standing.row_rules) (kept_are_records g.S.Standing.rules c.laws_hold.ensures.kept) c.args.now kept c.self.inside.standing c.self.invariant.0 c.in_ok-payloads.field-0.payloads.items c.in_ok-payloads.field-0.standing c.in_ok-payloads.ensures horizon next
+    (c.max-horizon.ensures ∙ ap (λ (h : Header). max h.horizon c.args.now) c.header-header.ensures) (c.next_number-next.ensures ∙ sym (ap (next_number g.S.Standing.rules) held)) (omega (arith, c.if-header.false, ap (λ (h : Header). h.generation) c.header-header.ensures))
+    c.args.self.now.held held c.deref.result.now c.deref.ensures.value)

@@ -1,0 +1,6 @@
+use Rattle.record_ledger.proofs.OpenLaws.{own_broken, broken_own}
+use Rattle.record_ledger.proofs.ledger.RecordLedger.reopen.Goals as goal
+
+pub returns-in-Err-clause-own_err : goal.returns-in-Err-clause-own_err
+returns-in-Err-clause-own_err g c own =
+    own_broken g.S.Standing.rules (g.D.Disk.told c.open_both.new.disk) (c.in-Err.ensures.err (broken_own g.S.Standing.rules (g.D.Disk.told c.args.disk.now) own))

@@ -1,0 +1,10 @@
+pub mod Rules
+pub mod Ledger
+pub mod Keeping
+pub mod Loading
+pub mod Drafts
+pub mod Compacting
+pub mod Choosing
+pub mod Linking
+pub mod Marks
+pub mod Laws

@@ -1,0 +1,36 @@
+//! A ledger of records of any kind: a list of records in a journal that a crash at any moment leaves as it was or with the
+//! change, and the rows that these records stand for.
+//!
+//! ```
+//! let mut ledger: RecordLedger<Rows> = RecordLedger::start(alloc, &mut disk, key)?;   // the records of the disk's journal
+//! let draft = ledger.draft(record)?;                                 // takes all the memory that is needed
+//! ledger.commit(&mut disk, draft)?;                                  // in every image that a crash may leave from now on
+//! ledger.standing();                                                 // the rows of the records
+//! ledger.compact(&mut disk, now)?;                                   // leaves out what no one can ask for any more
+//! ```
+//!
+//! What records there are, how they are spelled, which may follow which, what rows they have and which rows they name, says
+//! the caller by a type of rows that implements [`Standing`]: in three values, `RecordRules`, `RowRules` and `LinkRules`, and
+//! the laws that hold of them. All else is said here once, of any such values: what two files stand for
+//! (`specs/Ledger.antt`), why a record is not drafted (`specs/Drafts.antt`), and what a compaction keeps
+//! (`specs/Compacting.antt`).
+//!
+//! A contract sees a ledger as its records, the header of its journal, the key of its IDs, whether a call failed, and the
+//! memory that is ready. A record is drafted first, which takes all the memory that it needs and is refused by name
+//! ([`DraftFault`]); to commit it takes none, and only the disk can refuse it ([`Failed`]). After that the ledger is broken,
+//! and is opened again by `reopen`.
+#![tactic(auto)]
+
+mod compacting;
+mod drafting;
+pub mod laws;
+mod ledger;
+mod links;
+mod opening;
+mod standing;
+
+pub use drafting::{Drafted, MOST_ROWS};
+pub use gate_journal::{Disk, Failed, FileNo, Header, OpenFault};
+pub use ledger::RecordLedger;
+pub use ledger_rules::DraftFault;
+pub use standing::Standing;

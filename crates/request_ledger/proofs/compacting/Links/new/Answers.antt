@@ -1,6 +1,0 @@
-use Rattle.std.proofs.Common.{◌≡◌, ◌∙◌, refl, ap, length}
-use Rattle.request_ledger.proofs.LinkSteps.{none_linked}
-use Rattle.request_ledger.proofs.compacting.Links.new.Goals as goal
-
-pub returns : goal.returns
-returns c = none_linked _ c.new.ensures.items c.new-2.ensures c.new-3.ensures.items
