@@ -168,6 +168,11 @@ module _ (items : List (Bor (List ℕ))) (place : ℕ) (x : Bor (List ℕ)) (is 
       (never_among x.now (texts items)
       (λ k h e. not_equal k (omega (arith, as_many)) (ap (λ y. byte_order y x.now) (sym (at_text items k x (omega (arith, as_many)))) ∙ e))))
 
+  pub put_absent : is_among x.now (texts items) ≡ false
+  put_absent =
+      never_among x.now (texts items)
+      (λ k h e. not_equal k (omega (arith, as_many)) (ap (λ y. byte_order y x.now) (sym (at_text items k x (omega (arith, as_many)))) ∙ e))
+
   pub put_among : (new : List (Bor (List ℕ))) → new ≡ insert items place x → (q : List ℕ) →
       is_among q (texts new) ≡ (is_among q (texts items) || bytes_eq q x.now)
   put_among new put q = ap (is_among q) (ap texts put ∙ put_in_place) ∙ among_inserted q x.now (texts items)

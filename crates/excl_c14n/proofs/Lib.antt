@@ -10,10 +10,12 @@ pub mod Nesting
 pub mod Nodes
 pub mod Opening
 pub mod Ordered
+pub mod Pairs
 pub mod Parts
 pub mod Placing
 pub mod Scopes
 pub mod Sorting
+pub mod Speaking
 pub mod Tables
 pub mod Tags
 pub mod Walking

@@ -1,15 +1,15 @@
 -- The prefixes that are wanted: found one by one, they are those of the definition.
-use Rattle.std.proofs.Common.{◌≡◌, ℕ, suc, ◌+◌, ◌<◌, ◌≤◌, Bool, true, false, not, cond, eqb, ltb, ◌||◌, ◌&&◌, codes, List, [], ◌∷◌, ◌++◌, length, map, filter, take, get_or, Option, Some, None, IsSome, IfSome, Bor, refl, sym, ap, ◌∙◌, subst, arith}
+use Rattle.std.proofs.Common.{◌≡◌, ℕ, suc, ◌+◌, ◌<◌, ◌≤◌, Bool, true, false, not, cond, ltb, ◌||◌, ◌&&◌, codes, List, [], ◌∷◌, ◌++◌, length, map, filter, take, get_or, Option, Some, None, IsSome, IfSome, Bor, refl, sym, ap, ◌∙◌, subst, arith}
 use Rattle.std.specs.List.{slice_get}
 use Rattle.std.specs.Option.{option_map, option_and_then, is_some, unwrap_or}
 use Rattle.std.specs.Str.{bytes_eq}
-use Rattle.std.proofs.lemmas.List.{map-append, append-nil, append_assoc, take_more, take_all, get_or-map, length-map}
+use Rattle.std.proofs.lemmas.List.{map-append, append-nil, append_assoc, take_more, take_all}
 use Rattle.std.proofs.lemmas.List.Elements.{filter-append}
 use Rattle.std.proofs.lemmas.List.Folds.{list_any-append}
 use Rattle.std.proofs.lemmas.List.Sums.{sum_by-cons}
 use Rattle.std.proofs.lemmas.Cmp.{nat_list_eq_equiv}
 use Rattle.std.proofs.lemmas.Slice.Eq.{bytes_eq-Decides}
-use Rattle.std.proofs.lemmas.Bool.{and_right, lt-ltb, ne_eqb}
+use Rattle.std.proofs.lemmas.Bool.{lt-ltb}
 use Rattle.xml_spec.specs.Bytes.{is_empty}
 use Rattle.xml_spec.specs.Characters.{prefix_of, local_of}
 use Rattle.xml_spec.specs.Tree.{Attribute, Nodes}
@@ -21,7 +21,6 @@ use Rattle.xml_spec.proofs.Declared.{declarations_ascend, declared_as_needed}
 use Rattle.saml_tree.specs.Documents.{attributes_of}
 use Rattle.saml_tree.specs.NodeNames.{attribute_at}
 use Rattle.saml_tree.specs.Elements.{attributes_in}
-use Rattle.excl_c14n.specs.Texts.{texts}
 use Rattle.excl_c14n.specs.Levels.{is_among, binding_in, AreListedRendered}
 use Rattle.excl_c14n.specs.NodeByNode.{wanted_prefixes, IsWanted}
 use Rattle.excl_c14n.proofs.Ascending.{same_ascending}
@@ -223,20 +222,6 @@ wanted_among listed scope rendered name attributes q =
     one_or_none false = refl
 
 -- Of the listed prefixes only those can be wanted that were declared since the last start tag.
-among_filtered : (test : List ℕ → Bool) (q : List ℕ) (ps : List (List ℕ)) → is_among q (filter test ps) ≡ (is_among q ps && test q)
-among_filtered test q [] = refl
-among_filtered test q (p ∷ ps) = which (bytes_eq q p) refl (test p) refl (among_filtered test q ps)
-  where
-    which : (same : Bool) → bytes_eq q p ≡ same → (passes : Bool) → test p ≡ passes → is_among q (filter test ps) ≡ (is_among q ps && test q) →
-        is_among q (cond passes (p ∷ filter test ps) (filter test ps)) ≡ ((same || is_among q ps) && test q)
-    which true e true t later =
-        ap (λ b. b || is_among q (filter test ps)) e ∙ sym (ap test ((bytes_eq-Decides q p).0 e) ∙ t)
-    which true e false t later =
-        let never : test q ≡ false = ap test ((bytes_eq-Decides q p).0 e) ∙ t in
-        later ∙ and_right (is_among q ps) (test q) never ∙ sym never
-    which false e true t later = ap (λ b. b || is_among q (filter test ps)) e ∙ later
-    which false e false t later = later
-
 not_anew : (scope rendered : Scope) (q : List ℕ) → (bytes_eq q (codes "xml") ≡ false → namespace_of scope q ≡ namespace_of rendered q) →
     is_rendered_anew scope rendered q ≡ false
 not_anew scope rendered q same = which (bytes_eq q (codes "xml")) refl
@@ -247,79 +232,44 @@ not_anew scope rendered q same = which (bytes_eq q (codes "xml")) refl
         ap not (ap (λ x. bytes_eq x (namespace_of rendered q)) (same e) ∙ (bytes_eq-Decides (namespace_of rendered q) (namespace_of rendered q)).1 refl)
 
 pub all_wanted : (listed : List (List ℕ)) (scope rendered : Scope) (name : List ℕ) (attributes : List Attribute) (declared wanted : List (List ℕ)) →
-    AreListedRendered listed declared scope rendered →
-    IsWanted scope rendered (used_prefixes name attributes ++ filter (λ p. is_among p (map listed_prefix listed)) declared) wanted →
-    wanted ≡ wanted_prefixes listed scope rendered name attributes
-all_wanted listed scope rendered name attributes declared wanted kept found =
+    ((q : List ℕ) → is_among q declared ≡ true → is_among q (map listed_prefix listed) ≡ true) → AreListedRendered listed declared scope rendered →
+    IsWanted scope rendered (used_prefixes name attributes ++ declared) wanted → wanted ≡ wanted_prefixes listed scope rendered name attributes
+all_wanted listed scope rendered name attributes declared wanted among kept found =
     same_ascending wanted (wanted_prefixes listed scope rendered name attributes) found.ascending (wanted_ascend listed scope rendered name attributes)
     (λ q. found.among q
-    ∙ ap (λ b. b && is_rendered_anew scope rendered q) (list_any-append (bytes_eq q) (used_prefixes name attributes)
-    (filter (λ p. is_among p (map listed_prefix listed)) declared)
-    ∙ ap (λ b. is_among q (used_prefixes name attributes) || b) (among_filtered (λ p. is_among p (map listed_prefix listed)) q declared))
+    ∙ ap (λ b. b && is_rendered_anew scope rendered q) (list_any-append (bytes_eq q) (used_prefixes name attributes) declared)
     ∙ which q (is_among q (used_prefixes name attributes)) (is_among q declared) refl (is_among q (map listed_prefix listed)) refl
     ∙ ap (λ b. b && is_rendered_anew scope rendered q) (sym (list_any-append (bytes_eq q) (used_prefixes name attributes) (map listed_prefix listed)))
     ∙ sym (wanted_among listed scope rendered name attributes q))
   where
     which : (q : List ℕ) (u d : Bool) → is_among q declared ≡ d → (l : Bool) → is_among q (map listed_prefix listed) ≡ l →
-        ((u || (d && l)) && is_rendered_anew scope rendered q) ≡ ((u || l) && is_rendered_anew scope rendered q)
-    which q true d is l listed = refl
-    which q false true is l listed = refl
-    which q false false is false listed = refl
-    which q false false is true listed = sym (not_anew scope rendered q (λ other. kept q listed other is))
+        ((u || d) && is_rendered_anew scope rendered q) ≡ ((u || l) && is_rendered_anew scope rendered q)
+    which q true d is l too = refl
+    which q false true is true too = refl
+    which q false true is false too = absurd (let clash : true ≡ false = sym (among q is) ∙ too in cc)
+    which q false false is false too = refl
+    which q false false is true too = sym (not_anew scope rendered q (λ other. kept q too other is))
 
 -- one of the declared prefixes was looked at
-abbrev pub is_listed : List (List ℕ) → List ℕ → Bool
-is_listed listed p = is_among p (map listed_prefix listed)
-
-abbrev pub candidates_at : List (List ℕ) → List (List ℕ) → List (Bor (List ℕ)) → ℕ → List (List ℕ)
-candidates_at listed used declared i = used ++ filter (is_listed listed) (take i (texts declared))
-
-candidates_next : (listed used : List (List ℕ)) (declared : List (Bor (List ℕ))) (i : ℕ) (d : Bor (List ℕ)) → i < length declared →
-    candidates_at listed used declared (i + 1)
-    ≡ candidates_at listed used declared i ++ cond (is_listed listed (get_or declared i d).now) ((get_or declared i d).now ∷ []) []
-candidates_next listed used declared i d h =
-    let p : List ℕ = (get_or declared i d).now in
-    ap (λ xs. used ++ filter (is_listed listed) xs)
-    (take_more (texts declared) i d.now (omega (arith, length-map declared (λ (t : Bor (List ℕ)). t.now)))
-    ∙ ap (λ x. take i (texts declared) ++ x ∷ []) (get_or-map (λ (t : Bor (List ℕ)). t.now) declared i d d.now h))
-    ∙ ap (λ xs. used ++ xs) (filter-append (is_listed listed) (take i (texts declared)) (p ∷ []))
-    ∙ sym (append_assoc used (filter (is_listed listed) (take i (texts declared))) (filter (is_listed listed) (p ∷ [])))
-
-pub listed_wanted : (scope rendered : Scope) (listed used : List (List ℕ)) (declared : List (Bor (List ℕ))) (i : ℕ) (d : Bor (List ℕ)) (has : Bool)
-    (wanted new : List (List ℕ)) → i < length declared → has ≡ is_listed listed (get_or declared i d).now → has ≡ true →
-    IsWanted scope rendered (candidates_at listed used declared i) wanted → IsAscending byte_order new →
-    ((q : List ℕ) → is_among q new ≡ (is_among q wanted || (bytes_eq q (get_or declared i d).now && is_rendered_anew scope rendered q))) →
-    IsWanted scope rendered (candidates_at listed used declared (i + 1)) new
-listed_wanted scope rendered listed used declared i d has wanted new h is found so_far up among =
+pub declared_wanted : (scope rendered : Scope) (used declared : List (List ℕ)) (i : ℕ) (p : List ℕ) (wanted new : List (List ℕ)) → i < length declared →
+    p ≡ get_or declared i [] → IsWanted scope rendered (used ++ take i declared) wanted → IsAscending byte_order new →
+    ((q : List ℕ) → is_among q new ≡ (is_among q wanted || (bytes_eq q p && is_rendered_anew scope rendered q))) →
+    IsWanted scope rendered (used ++ take (i + 1) declared) new
+declared_wanted scope rendered used declared i p wanted new h is so_far up among =
     subst (λ (candidates : List (List ℕ)). IsWanted scope rendered candidates new)
-    (sym (candidates_next listed used declared i d h
-    ∙ ap (λ b. candidates_at listed used declared i ++ cond b ((get_or declared i d).now ∷ []) []) (sym is ∙ found)))
-    (one_more_wanted scope rendered (candidates_at listed used declared i) wanted new (get_or declared i d).now so_far up among)
+    (sym (ap (λ xs. used ++ xs) (take_more declared i [] h ∙ ap (λ x. take i declared ++ x ∷ []) (sym is))
+    ∙ sym (append_assoc used (take i declared) (p ∷ []))))
+    (one_more_wanted scope rendered (used ++ take i declared) wanted new p so_far up among)
 
-pub listed_passed : (scope rendered : Scope) (listed used : List (List ℕ)) (declared : List (Bor (List ℕ))) (i : ℕ) (d : Bor (List ℕ)) (has : Bool)
-    (wanted : List (List ℕ)) → i < length declared → has ≡ is_listed listed (get_or declared i d).now → has ≡ false →
-    IsWanted scope rendered (candidates_at listed used declared i) wanted →
-    IsWanted scope rendered (candidates_at listed used declared (i + 1)) wanted
-listed_passed scope rendered listed used declared i d has wanted h is missed so_far =
-    subst (λ (candidates : List (List ℕ)). IsWanted scope rendered candidates wanted)
-    (sym (candidates_next listed used declared i d h
-    ∙ ap (λ b. candidates_at listed used declared i ++ cond b ((get_or declared i d).now ∷ []) []) (sym is ∙ missed)
-    ∙ append-nil (candidates_at listed used declared i)))
-    so_far
-
-pub none_looked_at : (scope rendered : Scope) (listed used : List (List ℕ)) (declared : List (Bor (List ℕ))) (wanted : List (List ℕ)) →
-    IsWanted scope rendered used wanted → IsWanted scope rendered (candidates_at listed used declared 0) wanted
-none_looked_at scope rendered listed used declared wanted found =
+pub none_looked_at : (scope rendered : Scope) (used declared : List (List ℕ)) (wanted : List (List ℕ)) →
+    IsWanted scope rendered used wanted → IsWanted scope rendered (used ++ take 0 declared) wanted
+none_looked_at scope rendered used declared wanted found =
     subst (λ (candidates : List (List ℕ)). IsWanted scope rendered candidates wanted) (sym (append-nil used)) found
 
-pub all_looked_at : (scope rendered : Scope) (listed : List (List ℕ)) (name : List ℕ) (attributes : List Attribute) (declared : List (Bor (List ℕ))) (i : ℕ)
-    (wanted : List (List ℕ)) → length declared ≤ i → AreListedRendered listed (texts declared) scope rendered →
-    IsWanted scope rendered (candidates_at listed (used_prefixes name attributes) declared i) wanted →
-    wanted ≡ wanted_prefixes listed scope rendered name attributes
-all_looked_at scope rendered listed name attributes declared i wanted end kept found =
-    all_wanted listed scope rendered name attributes (texts declared) wanted kept
-    (subst (λ (ps : List (List ℕ)). IsWanted scope rendered (used_prefixes name attributes ++ filter (is_listed listed) ps) wanted)
-    (take_all i (texts declared) (omega (arith, length-map declared (λ (t : Bor (List ℕ)). t.now)))) found)
+pub all_looked_at : (scope rendered : Scope) (used declared : List (List ℕ)) (i : ℕ) (wanted : List (List ℕ)) → length declared ≤ i →
+    IsWanted scope rendered (used ++ take i declared) wanted → IsWanted scope rendered (used ++ declared) wanted
+all_looked_at scope rendered used declared i wanted end found =
+    subst (λ (ps : List (List ℕ)). IsWanted scope rendered (used ++ ps) wanted) (take_all i declared end) found
 
 -- all attributes were looked at
 pub all_used : (scope rendered : Scope) (tree : Nodes) (n i : ℕ) (name : List ℕ) (wanted : List (List ℕ)) →
@@ -329,7 +279,3 @@ pub all_used : (scope rendered : Scope) (tree : Nodes) (n i : ℕ) (name : List 
 all_used scope rendered tree n i name wanted end found =
     subst (λ (attributes : List Attribute). IsWanted scope rendered (used_prefixes name attributes) wanted)
     (take_all i (attributes_in (from_node tree n)) end) found
-
-pub empty_by_length : (p : List ℕ) → eqb (length p) 0 ≡ is_empty p
-empty_by_length [] = refl
-empty_by_length (b ∷ bytes) = ne_eqb (length (b ∷ bytes)) 0 (λ e. omega arith)

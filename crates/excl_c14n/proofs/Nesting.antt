@@ -1,16 +1,15 @@
 -- Levels of bindings: what is in force after more bindings, and that the listed prefixes stay rendered.
-use Rattle.std.proofs.Common.{◌≡◌, ℕ, zero, suc, ◌+◌, ◌<◌, Bool, true, false, not, cond, ◌||◌, ◌&&◌, List, [], ◌∷◌, ◌++◌, length, map, drop, Some, None, refl, sym, ap, ◌∙◌, subst, arith}
-use Rattle.std.specs.List.{slice_get}
-use Rattle.std.specs.Option.{option_map, unwrap_or}
+use Rattle.std.proofs.Common.{◌≡◌, ℕ, ◌+◌, ◌<◌, Bool, true, false, not, cond, ◌||◌, ◌&&◌, List, [], ◌∷◌, ◌++◌, length, map, drop, Some, refl, sym, ap, ◌∙◌, arith}
+use Rattle.std.specs.Option.{unwrap_or}
 use Rattle.std.specs.Str.{bytes_eq}
 use Rattle.std.proofs.lemmas.Bool.{or_parts, not-false}
 use Rattle.std.proofs.lemmas.Cmp.{nat_list_eq_equiv}
 use Rattle.std.proofs.lemmas.List.Folds.{list_any-append}
 use Rattle.std.proofs.lemmas.Slice.Eq.{bytes_eq-Decides}
 use Rattle.xml_spec.specs.Tree.{Attribute}
-use Rattle.xml_spec.specs.Names.{Binding, Scope, bound, namespace_of, declared_prefix, binding_of, declarations}
+use Rattle.xml_spec.specs.Names.{Binding, Scope, bound, namespace_of}
 use Rattle.xml_spec.specs.Canonical.{used_prefixes, listed_prefix, is_rendered_anew, written_declarations}
-use Rattle.excl_c14n.specs.Levels.{Levels, BindingsView, in_force, with_binding, with_bindings, binding_in, is_among, AreListedRendered}
+use Rattle.excl_c14n.specs.Levels.{Levels, in_force, with_binding, with_bindings, binding_in, is_among, AreListedRendered}
 use Rattle.excl_c14n.specs.NodeByNode.{wanted_prefixes}
 use Rattle.excl_c14n.proofs.Needed.{wanted_among}
 
@@ -41,21 +40,12 @@ rest-with_bindings [] levels = refl
 rest-with_bindings (b ∷ bs) levels = rest-with_binding b (with_bindings bs levels) ∙ rest-with_bindings bs levels
 
 -- a prefix that more bindings do not have is bound as before
-not_bound : (bs : List Binding) (scope : Scope) (q : List ℕ) → is_among q (map (λ (b : Binding). b.prefix) bs) ≡ false →
+pub not_bound : (bs : List Binding) (scope : Scope) (q : List ℕ) → is_among q (map (λ (b : Binding). b.prefix) bs) ≡ false →
     bound (bs ++ scope) q ≡ bound scope q
 not_bound [] scope q new = refl
 not_bound (b ∷ bs) scope q new =
     let parts = or_parts (bytes_eq q b.prefix) (is_among q (map (λ (b : Binding). b.prefix) bs)) new in
     ap (λ t. cond t (Some b.namespace) (bound (bs ++ scope) q)) (nat_list_eq_equiv.symm b.prefix q ∙ parts.0) ∙ not_bound bs scope q parts.1
-
--- after declarations
-pub kept_declaring : (listed declared new : List (List ℕ)) (bs : List Binding) (scope inner rendered : Scope) →
-    AreListedRendered listed declared scope rendered → inner ≡ bs ++ scope →
-    ((q : List ℕ) → is_among q new ≡ (is_among q declared || is_among q (map (λ (b : Binding). b.prefix) bs))) →
-    AreListedRendered listed new inner rendered
-kept_declaring listed declared new bs scope inner rendered kept is among q listed_too other absent =
-    let parts = or_parts (is_among q declared) (is_among q (map (λ (b : Binding). b.prefix) bs)) (sym (among q) ∙ absent) in
-    ap (λ s. namespace_of s q) is ∙ ap (λ o. unwrap_or o []) (not_bound bs scope q parts.1) ∙ kept q listed_too other parts.0
 
 -- what is rendered of a prefix after these were rendered
 rendered_now : (scope rendered : Scope) (ps : List (List ℕ)) (q : List ℕ) →
@@ -98,49 +88,3 @@ kept_below listed scope inner rendered below name attributes none one shown q li
         (not-false (bytes_eq (namespace_of scope q) (namespace_of rendered q))
         (ap (λ b. not b && not (bytes_eq (namespace_of scope q) (namespace_of rendered q))) (sym other) ∙ e))
         ∙ ap (λ b. cond b (namespace_of scope q) (namespace_of rendered q)) (sym e)
-
--- what one more attribute declares
-pub declared_next : (attributes : List Attribute) (i next : ℕ) (a : Attribute) (prefix : List ℕ) → slice_get attributes i ≡ Some a → next ≡ i + 1 →
-    Some prefix ≡ declared_prefix a.name →
-    declarations (drop i attributes) ≡ record { prefix = prefix; namespace = a.value } ∷ declarations (drop next attributes)
-declared_next [] i next a prefix there on is = absurd (let clash : None ≡ Some a = there in cc)
-declared_next (b ∷ attributes) zero next a prefix there on is =
-    let same : b ≡ a = cc in
-    let one : next ≡ suc 0 = omega arith in
-    let found : binding_of b ≡ Some (record { prefix = prefix; namespace = a.value }) =
-    ap binding_of same ∙ ap (option_map (λ p. record { prefix = p; namespace = a.value })) (sym is) in
-    rw (found, one) refl
-declared_next (b ∷ attributes) (suc i) next a prefix there on is =
-    let one : next ≡ suc (i + 1) = omega arith in
-    declared_next attributes i (i + 1) a prefix there refl is
-    ∙ ap (λ k. record { prefix = prefix; namespace = a.value } ∷ declarations (drop k (b ∷ attributes))) (sym one)
-
-pub passed_next : (attributes : List Attribute) (i next : ℕ) (a : Attribute) → slice_get attributes i ≡ Some a → next ≡ i + 1 →
-    None ≡ declared_prefix a.name → declarations (drop i attributes) ≡ declarations (drop next attributes)
-passed_next [] i next a there on is = absurd (let clash : None ≡ Some a = there in cc)
-passed_next (b ∷ attributes) zero next a there on is =
-    let same : b ≡ a = cc in
-    let one : next ≡ suc 0 = omega arith in
-    let found : binding_of b ≡ None = ap binding_of same ∙ ap (option_map (λ p. record { prefix = p; namespace = a.value })) (sym is) in
-    rw (found, one) refl
-passed_next (b ∷ attributes) (suc i) next a there on is =
-    let one : next ≡ suc (i + 1) = omega arith in
-    passed_next attributes i (i + 1) a there refl is ∙ ap (λ k. declarations (drop k (b ∷ attributes))) (sym one)
-
--- after an element's declarations
-pub bound_now : (start now : BindingsView) (bs : List Binding) → now ≡ record { scope = with_bindings bs start.scope; rendered = start.rendered } →
-    0 < length start.scope → in_force now.scope ≡ bs ++ in_force start.scope
-bound_now start now bs is h = ap (λ (v : BindingsView). in_force v.scope) is ∙ in_force-with_bindings bs start.scope h
-
-pub bound_level : (start now : BindingsView) (bs : List Binding) → now ≡ record { scope = with_bindings bs start.scope; rendered = start.rendered } →
-    0 < length start.scope → 0 < length now.scope
-bound_level start now bs is h = omega (arith, ap (λ (v : BindingsView). length v.scope) is, length-with_bindings bs start.scope)
-
-pub bound_kept : (listed declared new : List (List ℕ)) (start now : BindingsView) (bs : List Binding) →
-    now ≡ record { scope = with_bindings bs start.scope; rendered = start.rendered } → 0 < length start.scope →
-    ((q : List ℕ) → is_among q new ≡ (is_among q declared || is_among q (map (λ (b : Binding). b.prefix) bs))) →
-    AreListedRendered listed declared (in_force start.scope) (in_force start.rendered) →
-    AreListedRendered listed new (in_force now.scope) (in_force now.rendered)
-bound_kept listed declared new start now bs is h among kept =
-    subst (AreListedRendered listed new (in_force now.scope)) (sym (ap (λ (v : BindingsView). in_force v.rendered) is))
-    (kept_declaring listed declared new bs (in_force start.scope) (in_force now.scope) (in_force start.rendered) kept (bound_now start now bs is h) among)

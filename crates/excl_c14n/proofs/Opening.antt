@@ -1,92 +1,64 @@
--- An element begins: what is bound, what is written and what is rendered then.
-use Rattle.std.proofs.Common.{◌≡◌, ℕ, ◌<◌, ◌||◌, List, [], ◌∷◌, ◌++◌, map, length, drop, sym, ap, ◌∙◌, subst, arith}
-use Rattle.xml_spec.specs.Tree.{Attribute}
-use Rattle.xml_spec.specs.Names.{Binding, Scope, inner_scope, declarations}
-use Rattle.xml_spec.specs.Canonical.{print_start, written_attributes}
-use Rattle.excl_c14n.specs.Levels.{BindingsView, in_force, with_bindings, binding_in, is_among, AreListedRendered}
-use Rattle.excl_c14n.specs.NodeByNode.{wanted_prefixes, written_in, start_in}
-use Rattle.excl_c14n.proofs.Nesting.{bound_kept, in_force-with_bindings, length-with_bindings, rest-with_bindings}
+-- An element begins and ends: what is written and what is rendered then.
+use Rattle.std.proofs.Common.{◌≡◌, ℕ, ◌<◌, List, [], ◌∷◌, ◌++◌, map, length, drop, ap, ◌∙◌, arith}
+use Rattle.xml_spec.specs.Tree.{Nodes}
+use Rattle.xml_spec.specs.Numbering.{from_node}
+use Rattle.xml_spec.specs.Names.{Binding, outermost}
+use Rattle.xml_spec.specs.Canonical.{scope_at, print_start, written_attributes}
+use Rattle.saml_tree.specs.Elements.{name_in, attributes_in}
+use Rattle.excl_c14n.specs.Levels.{RenderedView, in_force, with_bindings, binding_in}
+use Rattle.excl_c14n.specs.Pairs.{Pair, prefixes_in, binding_placed, ArePlaced}
+use Rattle.excl_c14n.specs.NodeByNode.{scope_inside, wanted_prefixes, written_in, start_in}
+use Rattle.excl_c14n.proofs.Nesting.{in_force-with_bindings, length-with_bindings, rest-with_bindings}
+use Rattle.excl_c14n.proofs.Pairs.{bindings_are}
 
--- a level more of each
-abbrev pub entered : BindingsView → BindingsView
-entered v = record { scope = [] ∷ v.scope; rendered = [] ∷ v.rendered }
+-- a level more
+abbrev pub entered : RenderedView → RenderedView
+entered v = record v { levels = [] ∷ v.levels }
 
 -- and then these declarations
-abbrev pub entered_with : List Binding → BindingsView → BindingsView
-entered_with bs v = record { scope = with_bindings bs ([] ∷ v.scope); rendered = [] ∷ v.rendered }
+abbrev pub begun : List Binding → RenderedView → RenderedView
+begun shown v = record v { levels = with_bindings shown ([] ∷ v.levels) }
 
-pub bound_in : (before inside now : BindingsView) (bs : List Binding) → inside ≡ entered before →
-    now ≡ record { scope = with_bindings bs inside.scope; rendered = inside.rendered } → now ≡ entered_with bs before
-bound_in before inside now bs enter bind =
-    bind ∙ ap (λ (v : BindingsView). record { scope = with_bindings bs v.scope; rendered = v.rendered }) enter
+pub level_in : (before inside : RenderedView) → inside ≡ entered before → 0 < length inside.levels
+level_in before inside enter = omega (arith, ap (λ (v : RenderedView). length v.levels) enter)
 
-pub level_in : (before inside : BindingsView) → inside ≡ entered before → 0 < length inside.scope
-level_in before inside enter = omega (arith, ap (λ (v : BindingsView). length v.scope) enter)
+pub rendered_in : (before inside : RenderedView) → inside ≡ entered before → in_force inside.levels ≡ in_force before.levels
+rendered_in before inside enter = ap (λ (v : RenderedView). in_force v.levels) enter
 
-pub rendered_level_in : (before now : BindingsView) (bs : List Binding) → now ≡ entered_with bs before → 0 < length now.rendered
-rendered_level_in before now bs is = omega (arith, ap (λ (v : BindingsView). length v.rendered) is)
+module _ (listed : List (List ℕ)) (tree : Nodes) (n : ℕ) (before inside : RenderedView) (wanted : List Pair) (enter : inside ≡ entered before)
+    (found : prefixes_in wanted ≡ wanted_prefixes listed (scope_inside tree n) (in_force inside.levels) (name_in (from_node tree n)) (attributes_in (from_node tree n)))
+    (placed : ArePlaced tree (scope_inside tree n) wanted) where
+  abbrev pub shown : List Binding
+  shown = written_in listed (scope_at outermost tree n) (in_force before.levels) (name_in (from_node tree n)) (attributes_in (from_node tree n))
 
-scope_in : (before now : BindingsView) (bs : List Binding) → now ≡ entered_with bs before → in_force now.scope ≡ bs ++ in_force before.scope
-scope_in before now bs is = ap (λ (v : BindingsView). in_force v.scope) is ∙ in_force-with_bindings bs ([] ∷ before.scope) (omega arith)
-
-rendered_in : (before now : BindingsView) (bs : List Binding) → now ≡ entered_with bs before → in_force now.rendered ≡ in_force before.rendered
-rendered_in before now bs is = ap (λ (v : BindingsView). in_force v.rendered) is
-
-pub kept_in : (listed declared new : List (List ℕ)) (before inside now : BindingsView) (bs : List Binding) → inside ≡ entered before →
-    now ≡ record { scope = with_bindings bs inside.scope; rendered = inside.rendered } →
-    ((q : List ℕ) → is_among q new ≡ (is_among q declared || is_among q (map (λ (b : Binding). b.prefix) bs))) →
-    AreListedRendered listed declared (in_force before.scope) (in_force before.rendered) →
-    AreListedRendered listed new (in_force now.scope) (in_force now.rendered)
-kept_in listed declared new before inside now bs enter bind among kept =
-    bound_kept listed declared new inside now bs bind (level_in before inside enter) among
-    (subst (λ (v : BindingsView). AreListedRendered listed declared (in_force v.scope) (in_force v.rendered)) (sym enter) kept)
-
-module _ (listed : List (List ℕ)) (before now : BindingsView) (name : List ℕ) (attributes : List Attribute) (wanted : List (List ℕ))
-    (is : now ≡ entered_with (declarations attributes) before)
-    (found : wanted ≡ wanted_prefixes listed (in_force now.scope) (in_force now.rendered) name attributes) where
-  bindings_wanted : map (binding_in (in_force now.scope)) wanted ≡ written_in listed (in_force before.scope) (in_force before.rendered) name attributes
+  bindings_wanted : map (binding_placed tree) wanted ≡ shown
   bindings_wanted =
-      ap (map (binding_in (in_force now.scope))) found
-      ∙ (λ i. map (binding_in (scope_in before now (declarations attributes) is i))
-      (wanted_prefixes listed (scope_in before now (declarations attributes) is i) (rendered_in before now (declarations attributes) is i) name attributes))
+      bindings_are tree (scope_inside tree n) wanted placed ∙ ap (map (binding_in (scope_inside tree n))) found
+      ∙ (λ i. map (binding_in (scope_inside tree n))
+      (wanted_prefixes listed (scope_inside tree n) (rendered_in before inside enter i) (name_in (from_node tree n)) (attributes_in (from_node tree n))))
 
-  pub start_is : (inside : Scope) → inside ≡ inner_scope attributes (in_force before.scope) →
-      print_start name (map (binding_in (in_force now.scope)) wanted) (written_attributes inside attributes)
-      ≡ start_in listed (in_force before.scope) (in_force before.rendered) name attributes
-  start_is inside same = λ i. print_start name (bindings_wanted i) (written_attributes (same i) attributes)
+  pub start_is : print_start (name_in (from_node tree n)) (map (binding_placed tree) wanted) (written_attributes (scope_inside tree n) (attributes_in (from_node tree n)))
+      ≡ start_in listed (scope_at outermost tree n) (in_force before.levels) (name_in (from_node tree n)) (attributes_in (from_node tree n))
+  start_is = λ i. print_start (name_in (from_node tree n)) (bindings_wanted i) (written_attributes (scope_inside tree n) (attributes_in (from_node tree n)))
 
-  pub all_rendered : (new : BindingsView) →
-      new ≡ record { scope = now.scope; rendered = with_bindings (map (binding_in (in_force now.scope)) wanted) now.rendered } →
-      new ≡ record {
-        scope = with_bindings (declarations attributes) ([] ∷ before.scope);
-        rendered = with_bindings (written_in listed (in_force before.scope) (in_force before.rendered) name attributes) ([] ∷ before.rendered);
-      }
-  all_rendered new put = put ∙ (λ i. record { scope = (is i).scope; rendered = with_bindings (bindings_wanted i) (is i).rendered })
+  pub all_rendered : (new : RenderedView) → inside.tree ≡ tree →
+      new ≡ record { tree = inside.tree; levels = with_bindings (map (binding_placed inside.tree) wanted) inside.levels } → new ≡ begun shown before
+  all_rendered new same put =
+      put ∙ (λ i. record { tree = inside.tree; levels = with_bindings (map (binding_placed (same i)) wanted) inside.levels })
+      ∙ (λ i. record { tree = (enter i).tree; levels = with_bindings (bindings_wanted i) (enter i).levels })
 
 -- an element that began, seen from below
-abbrev pub begun : List Binding → List Binding → BindingsView → BindingsView
-begun bs shown v = record { scope = with_bindings bs ([] ∷ v.scope); rendered = with_bindings shown ([] ∷ v.rendered) }
+pub rendered_below : (before now : RenderedView) (shown : List Binding) → now ≡ begun shown before → in_force now.levels ≡ shown ++ in_force before.levels
+rendered_below before now shown is =
+    ap (λ (v : RenderedView). in_force v.levels) is ∙ in_force-with_bindings shown ([] ∷ before.levels) (omega arith)
 
-pub scope_below : (before now : BindingsView) (bs shown : List Binding) → now ≡ begun bs shown before → in_force now.scope ≡ bs ++ in_force before.scope
-scope_below before now bs shown is =
-    ap (λ (v : BindingsView). in_force v.scope) is ∙ in_force-with_bindings bs ([] ∷ before.scope) (omega arith)
-
-pub rendered_below : (before now : BindingsView) (bs shown : List Binding) → now ≡ begun bs shown before →
-    in_force now.rendered ≡ shown ++ in_force before.rendered
-rendered_below before now bs shown is =
-    ap (λ (v : BindingsView). in_force v.rendered) is ∙ in_force-with_bindings shown ([] ∷ before.rendered) (omega arith)
-
-pub scope_level_below : (before now : BindingsView) (bs shown : List Binding) → now ≡ begun bs shown before → 0 < length now.scope
-scope_level_below before now bs shown is =
-    omega (arith, ap (λ (v : BindingsView). length v.scope) is, length-with_bindings bs ([] ∷ before.scope))
-
-pub rendered_level_below : (before now : BindingsView) (bs shown : List Binding) → now ≡ begun bs shown before → 0 < length now.rendered
-rendered_level_below before now bs shown is =
-    omega (arith, ap (λ (v : BindingsView). length v.rendered) is, length-with_bindings shown ([] ∷ before.rendered))
+pub level_below : (before now : RenderedView) (shown : List Binding) → now ≡ begun shown before → 0 < length now.levels
+level_below before now shown is =
+    omega (arith, ap (λ (v : RenderedView). length v.levels) is, length-with_bindings shown ([] ∷ before.levels))
 
 -- and when it ends all is as before
-pub ended : (before now after : BindingsView) (bs shown : List Binding) → now ≡ begun bs shown before →
-    after ≡ record { scope = drop 1 now.scope; rendered = drop 1 now.rendered } → after ≡ before
-ended before now after bs shown is end =
-    end ∙ ap (λ (v : BindingsView). record { scope = drop 1 v.scope; rendered = drop 1 v.rendered }) is
-    ∙ (λ i. record { scope = rest-with_bindings bs ([] ∷ before.scope) i; rendered = rest-with_bindings shown ([] ∷ before.rendered) i })
+pub ended : (before now after : RenderedView) (shown : List Binding) → now ≡ begun shown before →
+    after ≡ record { tree = now.tree; levels = drop 1 now.levels } → after ≡ before
+ended before now after shown is end =
+    end ∙ ap (λ (v : RenderedView). record { tree = v.tree; levels = drop 1 v.levels }) is
+    ∙ (λ i. record { tree = before.tree; levels = rest-with_bindings shown ([] ∷ before.levels) i })

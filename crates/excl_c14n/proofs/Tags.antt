@@ -1,16 +1,17 @@
 -- Start tags, put piece by piece.
-use Rattle.std.proofs.Common.{◌≡◌, ℕ, ◌+◌, ◌<◌, ◌≤◌, List, [], ◌++◌, length, map, drop, get_or, Option, Some, None, IsSome, IfSome, Bor, sym, ap, ◌∙◌, subst, arith}
+use Rattle.std.proofs.Common.{◌≡◌, ℕ, ◌+◌, ◌<◌, ◌≤◌, List, [], ◌++◌, length, map, drop, get_or, Option, Some, None, IsSome, IfSome, sym, ap, ◌∙◌, subst, arith}
 use Rattle.std.specs.List.{flat_map}
-use Rattle.std.specs.Option.{is_some}
+use Rattle.std.specs.Option.{is_some, unwrap_or}
 use Rattle.std.proofs.lemmas.List.{length-map, get_or-map, drop_more, drop_all}
 use Rattle.canon_octets.specs.Places.{IsAppending, AppendsPart}
 use Rattle.canon_octets.proofs.Underway.{IsUnderway, further, complete, broken_off}
-use Rattle.xml_spec.specs.Tree.{Attribute}
-use Rattle.xml_spec.specs.Names.{Scope}
+use Rattle.xml_spec.specs.Tree.{Attribute, Nodes}
 use Rattle.xml_spec.specs.Canonical.{print_attribute, print_binding}
-use Rattle.excl_c14n.specs.Texts.{texts}
+use Rattle.saml_tree.specs.NodeNames.{namespace_at}
+use Rattle.saml_tree.specs.declared.node.NameAt.{NameAt}
+use Rattle.excl_c14n.specs.Levels.{RenderedView, with_binding, with_bindings}
+use Rattle.excl_c14n.specs.Pairs.{Pair, space_at, binding_placed}
 use Rattle.excl_c14n.proofs.Nesting.{length-with_bindings}
-use Rattle.excl_c14n.specs.Levels.{BindingsView, with_binding, with_bindings, binding_in}
 
 abbrev pub print_of : Attribute → List ℕ
 print_of a = print_attribute a.name a.value
@@ -59,59 +60,62 @@ module _ (at : ℕ → Option Attribute) (order : List ℕ) (attributes : List A
         (ap (flat_map print_of) (drop_all k attributes (omega (arith, as_many)))) so_far
 
 -- the declarations of these prefixes
-abbrev pub declared_in : Scope → List (Bor (List ℕ)) → List ℕ
-declared_in scope wanted = flat_map print_binding (map (binding_in scope) (texts wanted))
+abbrev pub declared_in : Nodes → List Pair → List ℕ
+declared_in tree wanted = flat_map print_binding (map (binding_placed tree) wanted)
 
-module _ (scope : Scope) (wanted : List (Bor (List ℕ))) (k : ℕ) (d : Bor (List ℕ)) (namespace : List ℕ) (h : k < length wanted)
-    (is : namespace ≡ (binding_in scope (get_or wanted k d).now).namespace) where
-  next_declared : declared_in scope (drop k wanted)
-      ≡ print_binding (record { prefix = (get_or wanted k d).now; namespace = namespace }) ++ declared_in scope (drop (k + 1) wanted)
+module _ (tree : Nodes) (wanted : List Pair) (k : ℕ) (prefix : List ℕ) (place : NameAt) (namespace : List ℕ) (h : k < length wanted)
+    (is : (d : Pair) → prefix ≡ (get_or wanted k d).0) (at : (d : Pair) → place ≡ (get_or wanted k d).1) (found : namespace_at tree place ≡ Some namespace) where
+  next_declared : declared_in tree (drop k wanted)
+      ≡ print_binding (record { prefix = prefix; namespace = namespace }) ++ declared_in tree (drop (k + 1) wanted)
   next_declared =
-      ap (declared_in scope) (drop_more wanted k d h)
-      ∙ ap (λ ns. print_binding (record { prefix = (get_or wanted k d).now; namespace = ns }) ++ declared_in scope (drop (k + 1) wanted)) (sym is)
+      let d : Pair = (prefix, place) in
+      ap (declared_in tree) (drop_more wanted k d h)
+      ∙ (λ i. print_binding (record { prefix = sym (is d) i; namespace = space_at tree (sym (at d) i) }) ++ declared_in tree (drop (k + 1) wanted))
+      ∙ ap (λ o. print_binding (record { prefix = prefix; namespace = unwrap_or o [] }) ++ declared_in tree (drop (k + 1) wanted)) found
 
   module _ {S : Type 0} {R : S → S → List ℕ → Type 0} (law : IsAppending R) (start now next : S)
-      (so_far : IsUnderway R start now (declared_in scope (drop k wanted)) (declared_in scope wanted)) where
-    pub one_more_declared : R now next (print_binding (record { prefix = (get_or wanted k d).now; namespace = namespace })) →
-        IsUnderway R start next (declared_in scope (drop (k + 1) wanted)) (declared_in scope wanted)
-    one_more_declared put = further law start now next _ (declared_in scope (drop (k + 1) wanted)) _ _ next_declared so_far put
+      (so_far : IsUnderway R start now (declared_in tree (drop k wanted)) (declared_in tree wanted)) where
+    pub one_more_declared : R now next (print_binding (record { prefix = prefix; namespace = namespace })) →
+        IsUnderway R start next (declared_in tree (drop (k + 1) wanted)) (declared_in tree wanted)
+    one_more_declared put = further law start now next _ (declared_in tree (drop (k + 1) wanted)) _ _ next_declared so_far put
 
-    pub one_declared_partly : AppendsPart R now next (print_binding (record { prefix = (get_or wanted k d).now; namespace = namespace })) →
-        AppendsPart R start next (declared_in scope wanted)
-    one_declared_partly put = broken_off law start now next _ (declared_in scope (drop (k + 1) wanted)) _ _ next_declared so_far put
+    pub one_declared_partly : AppendsPart R now next (print_binding (record { prefix = prefix; namespace = namespace })) →
+        AppendsPart R start next (declared_in tree wanted)
+    one_declared_partly put = broken_off law start now next _ (declared_in tree (drop (k + 1) wanted)) _ _ next_declared so_far put
 
-pub all_declared : {S : Type 0} {R : S → S → List ℕ → Type 0} (law : IsAppending R) (scope : Scope) (wanted : List (Bor (List ℕ))) (k : ℕ) (start now : S) →
-    length wanted ≤ k → IsUnderway R start now (declared_in scope (drop k wanted)) (declared_in scope wanted) → R start now (declared_in scope wanted)
-all_declared law scope wanted k start now end so_far =
-    complete law start now (declared_in scope (drop k wanted)) (declared_in scope wanted) (ap (declared_in scope) (drop_all k wanted end)) so_far
+pub all_declared : {S : Type 0} {R : S → S → List ℕ → Type 0} (law : IsAppending R) (tree : Nodes) (wanted : List Pair) (k : ℕ) (start now : S) →
+    length wanted ≤ k → IsUnderway R start now (declared_in tree (drop k wanted)) (declared_in tree wanted) → R start now (declared_in tree wanted)
+all_declared law tree wanted k start now end so_far =
+    complete law start now (declared_in tree (drop k wanted)) (declared_in tree wanted) (ap (declared_in tree) (drop_all k wanted end)) so_far
 
--- the bindings where the prefixes from number k on were rendered
-abbrev pub rendered_from : BindingsView → Scope → List (Bor (List ℕ)) → ℕ → BindingsView
-rendered_from start scope wanted k =
-    record { scope = start.scope; rendered = with_bindings (map (binding_in scope) (texts (drop k wanted))) start.rendered }
+-- what is rendered where the prefixes from number k on are
+abbrev pub rendered_from : RenderedView → List Pair → ℕ → RenderedView
+rendered_from start wanted k =
+    record { tree = start.tree; levels = with_bindings (map (binding_placed start.tree) (drop k wanted)) start.levels }
 
-pub none_rendered : (start : BindingsView) (scope : Scope) (wanted : List (Bor (List ℕ))) (k : ℕ) → k ≡ length wanted →
-    start ≡ rendered_from start scope wanted k
-none_rendered start scope wanted k end =
-    ap (λ xs. record { scope = start.scope; rendered = with_bindings (map (binding_in scope) (texts xs)) start.rendered })
+pub none_rendered : (start : RenderedView) (wanted : List Pair) (k : ℕ) → k ≡ length wanted → start ≡ rendered_from start wanted k
+none_rendered start wanted k end =
+    ap (λ xs. record { tree = start.tree; levels = with_bindings (map (binding_placed start.tree) xs) start.levels })
     (sym (drop_all k wanted (omega arith)))
 
-pub one_more_rendered : (start now new : BindingsView) (scope : Scope) (wanted : List (Bor (List ℕ))) (k next : ℕ) (d : Bor (List ℕ)) →
-    k < length wanted → next ≡ k + 1 → now ≡ rendered_from start scope wanted next →
-    new ≡ record { scope = now.scope; rendered = with_binding (binding_in scope (get_or wanted k d).now) now.rendered } →
-    new ≡ rendered_from start scope wanted k
-one_more_rendered start now new scope wanted k next d h on so_far put =
-    put ∙ ap (λ (v : BindingsView). record { scope = v.scope; rendered = with_binding (binding_in scope (get_or wanted k d).now) v.rendered }) so_far
-    ∙ ap (λ j. record {
-      scope = start.scope;
-      rendered = with_binding (binding_in scope (get_or wanted k d).now) (with_bindings (map (binding_in scope) (texts (drop j wanted))) start.rendered);
-    }) on
-    ∙ ap (λ xs. record { scope = start.scope; rendered = with_bindings (map (binding_in scope) (texts xs)) start.rendered }) (sym (drop_more wanted k d h))
+pub one_more_rendered : (start now new : RenderedView) (wanted : List Pair) (k next : ℕ) (prefix : List ℕ) (place : NameAt) → k < length wanted →
+    next ≡ k + 1 → ((d : Pair) → prefix ≡ (get_or wanted k d).0) → ((d : Pair) → place ≡ (get_or wanted k d).1) →
+    now ≡ rendered_from start wanted next →
+    new ≡ record { tree = now.tree; levels = with_binding (binding_placed now.tree (prefix, place)) now.levels } →
+    new ≡ rendered_from start wanted k
+one_more_rendered start now new wanted k next prefix place h on is at so_far put =
+    let d : Pair = (prefix, place) in
+    put ∙ ap (λ (v : RenderedView). record { tree = v.tree; levels = with_binding (binding_placed v.tree (prefix, place)) v.levels }) so_far
+    ∙ (λ i. record {
+      tree = start.tree;
+      levels = with_binding (binding_placed start.tree (is d i, at d i)) (with_bindings (map (binding_placed start.tree) (drop (on i) wanted)) start.levels);
+    })
+    ∙ ap (λ xs. record { tree = start.tree; levels = with_bindings (map (binding_placed start.tree) xs) start.levels }) (sym (drop_more wanted k d h))
 
-pub rendered_level : (start now : BindingsView) (scope : Scope) (wanted : List (Bor (List ℕ))) (k : ℕ) → now ≡ rendered_from start scope wanted k →
-    0 < length start.rendered → 0 < length now.rendered
-rendered_level start now scope wanted k so_far h =
-    omega (arith, ap (λ (v : BindingsView). length v.rendered) so_far, length-with_bindings (map (binding_in scope) (texts (drop k wanted))) start.rendered)
+pub rendered_level : (start now : RenderedView) (wanted : List Pair) (k : ℕ) → now ≡ rendered_from start wanted k →
+    0 < length start.levels → 0 < length now.levels
+rendered_level start now wanted k so_far h =
+    omega (arith, ap (λ (v : RenderedView). length v.levels) so_far, length-with_bindings (map (binding_placed start.tree) (drop k wanted)) start.levels)
 
 pub leads_to : (at : ℕ → Option Attribute) (seen order : List ℕ) (attributes : List Attribute) → seen ≡ order → map at order ≡ map Some attributes →
     LeadTo at seen attributes

@@ -2,6 +2,10 @@
 use Rattle.std.specs.Prelude.{◌≡◌, ℕ, Bool, true, false, List, [], ◌∷◌, ◌++◌, map, codes}
 use Rattle.std.specs.List.{list_any}
 use Rattle.std.specs.Str.{bytes_eq}
+use mathlib.Core.Path.{refl}
+use Rattle.std.specs.Coded.{Coded, code_by, coded×, coded_list}
+use Rattle.xml_spec.specs.Codes.{coded_bytes, coded_nodes}
+use Rattle.xml_spec.specs.Tree.{Nodes}
 use Rattle.xml_spec.specs.Names.{Binding, Scope, namespace_of}
 use Rattle.xml_spec.specs.Canonical.{listed_prefix}
 
@@ -23,10 +27,21 @@ abbrev pub with_bindings : List Binding → Levels → Levels
 with_bindings [] levels = levels
 with_bindings (binding ∷ bindings) levels = with_binding binding (with_bindings bindings levels)
 
--- the bindings in scope, and those that the elements around have rendered
-pub record BindingsView : Type 0 where
-  pub scope : Levels
-  pub rendered : Levels
+-- a document, and the bindings that the elements around a place of it have rendered
+pub record RenderedView : Type 0 where
+  pub tree : Nodes
+  pub levels : Levels
+
+-- its document and its levels tell it from others
+abbrev pub coded_binding : Coded Binding
+coded_binding =
+    code_by (List ℕ × List ℕ) (coded× coded_bytes coded_bytes) (λ b. (b.prefix, b.namespace))
+    (λ p. record { prefix = p.0; namespace = p.1 }) (λ _. refl)
+
+abbrev pub coded_rendered : Coded RenderedView
+coded_rendered =
+    code_by (Nodes × Levels) (coded× coded_nodes (coded_list (coded_list coded_binding))) (λ v. (v.tree, v.levels))
+    (λ p. record { tree = p.0; levels = p.1 }) (λ _. refl)
 
 -- a prefix with the namespace that a scope binds it to
 abbrev pub binding_in : Scope → List ℕ → Binding

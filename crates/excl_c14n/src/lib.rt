@@ -10,11 +10,12 @@
 //! what it comes from in the document.
 #![tactic(auto)]
 
-mod bindings;
 mod laws;
 mod listed;
 mod names;
 mod order;
+mod placed;
+mod rendered;
 #[cfg(test)]
 mod tests;
 mod walk;

@@ -1,9 +1,9 @@
 //! The prefixes of a PrefixList.
-ghost use Rattle.std.specs.Prelude.{◌≡◌, map, codes, IfOk, if◌then◌else◌};
+ghost use Rattle.std.specs.Prelude.{◌≡◌, ◌==◌, length, map, codes, IfOk, if◌then◌else◌};
 ghost use Rattle.xml_spec.specs.Canonical.{listed_prefix};
 ghost use Rattle.excl_c14n.specs.Levels.{is_among};
 
-use crate::bindings::kept;
+use crate::rendered::kept;
 use namespace_scope::Scope;
 use owned_values::{NoMemory, Texts};
 use std::alloc::Global;
@@ -46,6 +46,13 @@ impl<'d> Listed<'d> {
             kept(prefixes.declare(prefix_of_token(tokens.at(i).as_str()), 0))?;
         }
         Ok(Listed { tokens, prefixes })
+    }
+
+    /// Whether the list has no token.
+    pub(crate) fn is_empty(&self) -> bool
+        ensures { result ≡ (length self.now == 0) }
+    {
+        self.tokens.is_empty()
     }
 
     /// Whether a token of the list stands for this prefix.

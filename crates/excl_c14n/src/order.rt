@@ -1,5 +1,5 @@
 //! The order in which attributes are written.
-ghost use Rattle.std.specs.Prelude.{◌≡◌, ℕ, ◌<◌, ◌≤◌, map, length, slice_index_or, true, false, Some, None, IsSome, IfSome, IfOk};
+ghost use Rattle.std.specs.Prelude.{◌≡◌, ℕ, ◌<◌, ◌≤◌, map, length, slice_index_or, true, false, Some, None, IsSome, IfSome, OnOk};
 ghost use Rattle.std.specs.Ordering.{is_le};
 ghost use Rattle.xml_spec.specs.Names.{HasNames, declared_prefix, attribute_name};
 ghost use Rattle.xml_spec.specs.Numbering.{from_node};
@@ -79,28 +79,46 @@ fn place_of(name: Expanded<'_>, names: &[Expanded<'_>]) -> usize
     low
 }
 
-/// The numbers of an element's attributes that declare nothing, in the order of their expanded names. Each name
-/// is taken once, and kept while the others are put in order.
-pub(crate) fn attribute_order<'d>(
-    alloc: Global,
+/// Room for the order of one element's attributes after the other's. What was put into it for one says nothing of the next.
+#[derive(Drop)]
+pub(crate) struct Order<'d> {
+    /// The numbers of the attributes, in order.
+    pub(crate) numbers: Vec<usize>,
+    names: Vec<Expanded<'d>>,
+}
+
+impl<'d> Order<'d> {
+    /// Room without an attribute. It takes no memory.
+    pub(crate) fn new(alloc: Global) -> Order<'d> {
+        Order {
+            numbers: Vec::new(alloc),
+            names: Vec::new(alloc),
+        }
+    }
+}
+
+/// Puts the numbers of an element's attributes that declare nothing in the order of their expanded names. Each name is
+/// taken once, and kept while the others are put in order.
+pub(crate) fn put_in_order<'d>(
     doc: &'d Doc<'_>,
     n: NodeNo,
-) -> Result<Vec<usize>, NoMemory>
+    order: &mut Order<'d>,
+) -> Result<(), NoMemory>
     requires element { IsElement doc.now.tree n.0 }
     requires names { HasNames doc.now.tree }
-    ensures { IfOk result (λ order. map (attribute_at doc.now.tree n.0) order.items
+    ensures { OnOk result (map (attribute_at doc.now.tree n.0) order.new.numbers.items
         ≡ map Some (written_attributes (scope_inside doc.now.tree n.0) (attributes_in (from_node doc.now.tree n.0)))) }
 {
-    let mut order = Vec::new(alloc);
-    let mut names = Vec::new(alloc);
+    order.numbers.clear();
+    order.names.clear();
     for i in (0..doc.attr_count(n)).rev() {
         if declared(doc, n, i).is_some() {
             continue;
         }
         let name = name_of_attribute(doc, n, i);
-        let place = place_of(name, names.as_slice());
-        names.insert(place, name)?;
-        order.insert(place, i)?;
+        let place = place_of(name, order.names.as_slice());
+        order.names.insert(place, name)?;
+        order.numbers.insert(place, i)?;
     }
-    Ok(order)
+    Ok(())
 }

@@ -78,7 +78,7 @@ fn first_element(doc: &Doc<'_>) -> Result<NodeNo, Fail>
 }
 
 /// Documents, a token of a prefix list, and the canonical forms of the roots' first kids, which are elements.
-const KIDS: [(&str, &str, &str); 5] = [
+const KIDS: [(&str, &str, &str); 7] = [
     (
         "<a xmlns:p=\"urn:p\"><b/></a>",
         "p",
@@ -98,6 +98,16 @@ const KIDS: [(&str, &str, &str); 5] = [
         "<a><b><c xmlns:p=\"urn:u\"><d/></c></b></a>",
         "p",
         "<b><c xmlns:p=\"urn:u\"><d></d></c></b>",
+    ),
+    (
+        "<a xmlns:p=\"urn:o\"><b xmlns:p=\"urn:i\"><p:c/></b></a>",
+        "p",
+        "<b xmlns:p=\"urn:i\"><p:c></p:c></b>",
+    ),
+    (
+        "<a xmlns=\"urn:u\"><b xmlns=\"\"><c xmlns=\"urn:u\"/></b></a>",
+        "#default",
+        "<b><c xmlns=\"urn:u\"></c></b>",
     ),
     (
         "<a><b xml:lang=\"en\"/></a>",

@@ -1,8 +1,8 @@
 //! The canonical form of an element, node by node in document order.
-ghost use Rattle.std.specs.Prelude.{◌≡◌, ℕ, ◌<◌, [], ◌∷◌, ◌||◌, List, map, length, Some, IsSome, IfSome, OnOk, OnErr};
+ghost use Rattle.std.specs.Prelude.{◌≡◌, ℕ, ◌<◌, [], ◌∷◌, ◌||◌, List, map, length, Some, IsSome, IfSome, IfOk, OnOk, OnErr};
 ghost use Rattle.std.specs.List.{flat_map};
 ghost use Rattle.std.specs.Option.{option_map};
-ghost use Rattle.xml_spec.specs.Names.{HasNames, outermost, declarations};
+ghost use Rattle.xml_spec.specs.Names.{Scope, HasNames, outermost};
 ghost use Rattle.xml_spec.specs.Numbering.{size, from_node};
 ghost use Rattle.xml_spec.specs.Canonical.{scope_at, escape_text, canonical, print_attribute, print_binding, print_start, print_instruction, print_end, written_attributes};
 ghost use Rattle.canon_octets.specs.Places.{AppendsPart};
@@ -10,50 +10,58 @@ ghost use Rattle.saml_tree.specs.Documents.{kind_of, text_of};
 ghost use Rattle.saml_tree.specs.declared.node.NodeKind.TheVariants as kinds;
 ghost use Rattle.saml_tree.specs.NodeNames.{attribute_at};
 ghost use Rattle.saml_tree.specs.Elements.{IsElement, name_in, attributes_in};
-ghost use Rattle.excl_c14n.specs.Texts.{texts};
-ghost use Rattle.excl_c14n.specs.Levels.{in_force, with_bindings, binding_in, is_among, AreListedRendered};
-ghost use Rattle.excl_c14n.specs.NodeByNode.{scope_inside, written_in, start_in, is_skipped, node_form};
+ghost use Rattle.excl_c14n.specs.Levels.{in_force, with_bindings, is_among, AreListedRendered};
+ghost use Rattle.excl_c14n.specs.Pairs.{prefixes_in, binding_placed, ArePlaced, AreThere, AreDeclared, is_declared_in, IsBoundAs};
+ghost use Rattle.excl_c14n.specs.NodeByNode.{scope_inside, wanted_prefixes, written_in, start_in, is_skipped, node_form};
 
-use crate::bindings::Bindings;
 use crate::listed::Listed;
 use crate::names::{attribute_name, declared, node_name};
-use crate::order::attribute_order;
-use crate::wanted::wanted_at;
+use crate::order::{Order, put_in_order};
+use crate::placed::Placed;
+use crate::rendered::Rendered;
+use crate::wanted::{want, want_used};
 use canon_octets::{
     Octets, escape_text, put_attribute, put_declaration, put_end, put_instruction, put_start,
 };
 use owned_values::{NoMemory, Texts};
-use saml_tree::{Doc, NodeKind, NodeNo};
+use saml_tree::{Doc, NameAt, NodeKind, NodeNo};
 use std::alloc::Global;
 
 /// Appends the declarations of these prefixes.
 fn put_declarations<O: Octets>(
-    wanted: &[&str],
-    bindings: &Bindings<'_>,
+    doc: &Doc<'_>,
+    wanted: &Placed<'_>,
     out: &mut O,
 ) -> Result<(), NoMemory>
-    ensures ok { OnOk result (O.appends out.old out.new
-        (flat_map print_binding (map (binding_in (in_force bindings.now.scope)) (texts wanted.now)))) }
-    ensures err { OnErr result (AppendsPart O.appends out.old out.new
-        (flat_map print_binding (map (binding_in (in_force bindings.now.scope)) (texts wanted.now)))) }
+    requires { AreThere doc.now.tree wanted.now }
+    ensures ok { OnOk result (O.appends out.old out.new (flat_map print_binding (map (binding_placed doc.now.tree) wanted.now))) }
+    ensures err { OnErr result (AppendsPart O.appends out.old out.new (flat_map print_binding (map (binding_placed doc.now.tree) wanted.now))) }
 {
-    for prefix in wanted {
-        put_declaration(prefix, bindings.namespace(prefix), out)?;
+    for i in 0..wanted.len() {
+        put_declaration(wanted.prefix(i), doc.namespace_at(wanted.place(i)), out)?;
     }
     Ok(())
 }
 
 /// Notes that the innermost element renders these prefixes.
-fn render_all<'d>(wanted: &[&'d str], bindings: &mut Bindings<'d>) -> Result<(), NoMemory>
-    requires { 0 < length bindings.old.rendered }
-    ensures { OnOk result (bindings.new ≡ record bindings.old {
-      rendered = with_bindings (map (binding_in (in_force bindings.old.scope)) (texts wanted.now)) bindings.old.rendered;
+fn render_all<'d>(wanted: &Placed<'d>, rendered: &mut Rendered<'d, '_>) -> Result<(), NoMemory>
+    requires level { 0 < length rendered.old.levels }
+    requires there { AreThere rendered.old.tree wanted.now }
+    ensures { OnOk result (rendered.new ≡ record rendered.old {
+      levels = with_bindings (map (binding_placed rendered.old.tree) wanted.now) rendered.old.levels;
     }) }
 {
     for i in (0..wanted.len()).rev() {
-        bindings.render(wanted[i])?;
+        rendered.render(wanted.prefix(i), wanted.place(i))?;
     }
     Ok(())
+}
+
+/// Room for one value or one element after the other. What was put into it for one says nothing of the next.
+#[derive(Drop)]
+struct Room<'d> {
+    text: String,
+    order: Order<'d>,
 }
 
 /// A document whose nodes are written, all but one that is left out.
@@ -66,58 +74,81 @@ struct Walk<'d, 'a> {
 }
 
 impl<'d, 'a> Walk<'d, 'a> {
-    /// Binds what element n declares, its last attribute first, and adds the prefixes to `declared`.
-    fn declare(
-        &self,
-        n: NodeNo,
-        bindings: &mut Bindings<'d>,
-        prefixes: &mut Vec<&'d str>,
-    ) -> Result<(), NoMemory>
+    /// Adds the listed prefixes that element n declares, but for those that are there.
+    fn add_declared(&self, n: NodeNo, found: &mut Placed<'d>) -> Result<(), NoMemory>
         requires element { IsElement self.now.doc.now.tree n.0 }
         requires names { HasNames self.now.doc.now.tree }
-        requires level { 0 < length bindings.old.scope }
-        ensures bound { OnOk result (bindings.new ≡ record bindings.old {
-          scope = with_bindings (declarations (attributes_in (from_node self.now.doc.now.tree n.0))) bindings.old.scope;
-        }) }
-        ensures declared { OnOk result ((q : List ℕ) → is_among q (texts prefixes.new.items)
-            ≡ (is_among q (texts prefixes.old.items)
-            || is_among q (map (λ b. b.prefix) (declarations (attributes_in (from_node self.now.doc.now.tree n.0)))))) }
+        ensures among { OnOk result ((q : List ℕ) → is_among q (prefixes_in found.new)
+            ≡ (is_among q (prefixes_in found.old) || is_declared_in self.now.listed (attributes_in (from_node self.now.doc.now.tree n.0)) q)) }
+        ensures placed { OnOk result ((scope : Scope) → ArePlaced self.now.doc.now.tree scope found.old →
+            IsBoundAs self.now.listed (attributes_in (from_node self.now.doc.now.tree n.0)) (prefixes_in found.old) scope →
+            ArePlaced self.now.doc.now.tree scope found.new) }
     {
-        for i in (0..self.doc.attr_count(n)).rev() {
+        if self.listed.is_empty() {
+            return Ok(());
+        }
+        for i in 0..self.doc.attr_count(n) {
             let Some(prefix) = declared(self.doc, n, i) else {
                 continue;
             };
-            let mut namespace = String::new(self.alloc);
-            self.doc.put_attr(n, i, &mut namespace)?;
-            bindings.bind(prefix, namespace)?;
-            prefixes.push(prefix)?;
+            if self.listed.has(prefix) {
+                found.add(prefix, NameAt::Declaration(n, i))?;
+            }
         }
         Ok(())
     }
 
-    /// Binds what the elements around node n declare, the outermost first. A document's elements stand at most 64 deep,
-    /// and so deep are the calls.
-    fn declare_outside(
-        &self,
-        n: NodeNo,
-        bindings: &mut Bindings<'d>,
-        prefixes: &mut Vec<&'d str>,
-    ) -> Result<(), NoMemory>
+    /// The listed prefixes that a node declares.
+    fn declared_at(&self, n: NodeNo) -> Result<Placed<'d>, NoMemory>
         requires there { n.0 < size self.now.doc.now.tree }
         requires names { HasNames self.now.doc.now.tree }
-        requires level { 0 < length bindings.old.scope }
-        requires outermost { in_force bindings.old.scope ≡ outermost }
-        requires rendered { AreListedRendered self.now.listed (texts prefixes.old.items) (in_force bindings.old.scope) (in_force bindings.old.rendered) }
-        ensures level { OnOk result (0 < length bindings.new.scope) }
-        ensures scope { OnOk result (in_force bindings.new.scope ≡ scope_at outermost self.now.doc.now.tree n.0) }
-        ensures same { OnOk result (bindings.new.rendered ≡ bindings.old.rendered) }
-        ensures rendered { OnOk result (AreListedRendered self.now.listed (texts prefixes.new.items) (in_force bindings.new.scope) (in_force bindings.new.rendered)) }
+        ensures { IfOk result (λ found. (rendered : Scope) → AreListedRendered self.now.listed [] (scope_at outermost self.now.doc.now.tree n.0) rendered →
+            AreDeclared self.now.listed self.now.doc.now.tree n.0 rendered found) }
     {
-        if let Some(element) = self.doc.parent(n) {
-            self.declare_outside(element, bindings, prefixes)?;
-            self.declare(element, bindings, prefixes)?;
+        let mut found = Placed::new(self.alloc);
+        if self.doc.kind(n) == NodeKind::Element {
+            self.add_declared(n, &mut found)?;
         }
-        Ok(())
+        Ok(found)
+    }
+
+    /// The listed prefixes that element n and those around it declare, each as the innermost of them does.
+    fn declared_around(&self, n: NodeNo) -> Result<Placed<'d>, NoMemory>
+        requires element { IsElement self.now.doc.now.tree n.0 }
+        requires names { HasNames self.now.doc.now.tree }
+        ensures { IfOk result (AreDeclared self.now.listed self.now.doc.now.tree n.0 []) }
+    {
+        let mut found = Placed::new(self.alloc);
+        let mut next = Some(n);
+        while let Some(element) = next {
+            self.add_declared(element, &mut found)?;
+            next = self.doc.parent(element);
+        }
+        Ok(found)
+    }
+
+    /// The prefixes that are declared in the start tag of element n, in order. Of the listed ones only those can be among
+    /// them that were declared since the last start tag was written.
+    fn wanted_at(
+        &self,
+        n: NodeNo,
+        declared: &Placed<'d>,
+        rendered: &Rendered<'d, 'a>,
+    ) -> Result<Placed<'d>, NoMemory>
+        requires element { IsElement self.now.doc.now.tree n.0 }
+        requires names { HasNames self.now.doc.now.tree }
+        requires tree { rendered.now.tree ≡ self.now.doc.now.tree }
+        requires declared { AreDeclared self.now.listed self.now.doc.now.tree n.0 (in_force rendered.now.levels) declared.now }
+        ensures prefixes { IfOk result (λ wanted. prefixes_in wanted
+            ≡ wanted_prefixes self.now.listed (scope_inside self.now.doc.now.tree n.0) (in_force rendered.now.levels)
+            (name_in (from_node self.now.doc.now.tree n.0)) (attributes_in (from_node self.now.doc.now.tree n.0))) }
+        ensures placed { IfOk result (λ wanted. ArePlaced self.now.doc.now.tree (scope_inside self.now.doc.now.tree n.0) wanted) }
+    {
+        let mut wanted = want_used(self.alloc, self.doc, rendered, n)?;
+        for i in 0..declared.len() {
+            want(rendered, declared.prefix(i), declared.place(i), &mut wanted)?;
+        }
+        Ok(wanted)
     }
 
     /// Appends attribute i of node n. `room` takes its value.
@@ -141,11 +172,11 @@ impl<'d, 'a> Walk<'d, 'a> {
         put_attribute(name, room.as_str(), out)
     }
 
-    /// Appends the attributes of an element that declare nothing, in order. `room` takes their values.
+    /// Appends the attributes of an element that declare nothing, in order.
     fn put_attributes<O: Octets>(
         &self,
         n: NodeNo,
-        room: &mut String,
+        room: &mut Room<'d>,
         out: &mut O,
     ) -> Result<(), NoMemory>
         requires element { IsElement self.now.doc.now.tree n.0 }
@@ -155,9 +186,9 @@ impl<'d, 'a> Walk<'d, 'a> {
         ensures err { OnErr result (AppendsPart O.appends out.old out.new (flat_map (λ a. print_attribute a.name a.value)
             (written_attributes (scope_inside self.now.doc.now.tree n.0) (attributes_in (from_node self.now.doc.now.tree n.0))))) }
     {
-        let order = attribute_order(self.alloc, self.doc, n)?;
-        for i in &order {
-            self.put_attribute(n, *i, room, out)?;
+        put_in_order(self.doc, n, &mut room.order)?;
+        for i in &room.order.numbers {
+            self.put_attribute(n, *i, &mut room.text, out)?;
         }
         Ok(())
     }
@@ -166,65 +197,56 @@ impl<'d, 'a> Walk<'d, 'a> {
     fn put_start<O: Octets>(
         &self,
         n: NodeNo,
-        wanted: &[&'d str],
-        bindings: &Bindings<'d>,
-        room: &mut String,
+        wanted: &Placed<'d>,
+        room: &mut Room<'d>,
         out: &mut O,
     ) -> Result<(), NoMemory>
         requires element { IsElement self.now.doc.now.tree n.0 }
         requires names { HasNames self.now.doc.now.tree }
+        requires there { AreThere self.now.doc.now.tree wanted.now }
         ensures ok { OnOk result (O.appends out.old out.new (print_start (name_in (from_node self.now.doc.now.tree n.0))
-            (map (binding_in (in_force bindings.now.scope)) (texts wanted.now))
+            (map (binding_placed self.now.doc.now.tree) wanted.now)
             (written_attributes (scope_inside self.now.doc.now.tree n.0) (attributes_in (from_node self.now.doc.now.tree n.0))))) }
         ensures err { OnErr result (AppendsPart O.appends out.old out.new (print_start (name_in (from_node self.now.doc.now.tree n.0))
-            (map (binding_in (in_force bindings.now.scope)) (texts wanted.now))
+            (map (binding_placed self.now.doc.now.tree) wanted.now)
             (written_attributes (scope_inside self.now.doc.now.tree n.0) (attributes_in (from_node self.now.doc.now.tree n.0))))) }
     {
         let name = node_name(self.doc, n);
         put_start(name, out)?;
-        put_declarations(wanted, bindings, out)?;
+        put_declarations(self.doc, wanted, out)?;
         self.put_attributes(n, room, out)?;
         out.put(b">")
     }
 
-    /// Begins an element: binds what it declares, appends its start tag, and notes what that renders. `prefixes` are
-    /// those that were declared since the last start tag was written.
+    /// Begins an element: appends its start tag, and notes what that renders. `declared` are the listed prefixes that were
+    /// declared since the last start tag was written.
     fn begin<O: Octets>(
         &self,
         n: NodeNo,
-        mut prefixes: Vec<&'d str>,
-        bindings: &mut Bindings<'d>,
-        room: &mut String,
+        declared: &Placed<'d>,
+        rendered: &mut Rendered<'d, 'a>,
+        room: &mut Room<'d>,
         out: &mut O,
     ) -> Result<(), NoMemory>
         requires element { IsElement self.now.doc.now.tree n.0 }
         requires names { HasNames self.now.doc.now.tree }
-        requires scope { in_force bindings.old.scope ≡ scope_at outermost self.now.doc.now.tree n.0 }
-        requires rendered { AreListedRendered self.now.listed (texts prefixes.items) (in_force bindings.old.scope) (in_force bindings.old.rendered) }
+        requires tree { rendered.old.tree ≡ self.now.doc.now.tree }
+        requires declared { AreDeclared self.now.listed self.now.doc.now.tree n.0 (in_force rendered.old.levels) declared.now }
         ensures start { OnOk result (O.appends out.old out.new
-            (start_in self.now.listed (in_force bindings.old.scope) (in_force bindings.old.rendered)
+            (start_in self.now.listed (scope_at outermost self.now.doc.now.tree n.0) (in_force rendered.old.levels)
             (name_in (from_node self.now.doc.now.tree n.0)) (attributes_in (from_node self.now.doc.now.tree n.0)))) }
         ensures err { OnErr result (AppendsPart O.appends out.old out.new
-            (start_in self.now.listed (in_force bindings.old.scope) (in_force bindings.old.rendered)
+            (start_in self.now.listed (scope_at outermost self.now.doc.now.tree n.0) (in_force rendered.old.levels)
             (name_in (from_node self.now.doc.now.tree n.0)) (attributes_in (from_node self.now.doc.now.tree n.0)))) }
-        ensures bound { OnOk result (bindings.new ≡ record {
-          scope = with_bindings (declarations (attributes_in (from_node self.now.doc.now.tree n.0))) ([] ∷ bindings.old.scope);
-          rendered = with_bindings (written_in self.now.listed (in_force bindings.old.scope) (in_force bindings.old.rendered)
-              (name_in (from_node self.now.doc.now.tree n.0)) (attributes_in (from_node self.now.doc.now.tree n.0))) ([] ∷ bindings.old.rendered);
+        ensures shown { OnOk result (rendered.new ≡ record rendered.old {
+          levels = with_bindings (written_in self.now.listed (scope_at outermost self.now.doc.now.tree n.0) (in_force rendered.old.levels)
+              (name_in (from_node self.now.doc.now.tree n.0)) (attributes_in (from_node self.now.doc.now.tree n.0))) ([] ∷ rendered.old.levels);
         }) }
     {
-        bindings.enter()?;
-        self.declare(n, bindings, &mut prefixes)?;
-        let wanted = wanted_at(
-            self.alloc,
-            self.doc,
-            &self.listed,
-            bindings,
-            n,
-            prefixes.as_slice(),
-        )?;
-        self.put_start(n, wanted.as_slice(), bindings, room, out)?;
-        render_all(wanted.as_slice(), bindings)
+        rendered.enter()?;
+        let wanted = self.wanted_at(n, declared, rendered)?;
+        self.put_start(n, &wanted, room, out)?;
+        render_all(&wanted, rendered)
     }
 
     /// Appends the end tag of an element.
@@ -276,45 +298,46 @@ impl<'d, 'a> Walk<'d, 'a> {
         self.skip == Some(n)
     }
 
-    /// Appends a node with all that is below it, and leaves the bindings as they were. `prefixes` are those that were
-    /// declared since the last start tag was written, and `room` takes a value at a time. A document's elements stand at
-    /// most 64 deep, and so deep are the calls.
+    /// Appends a node with all that is below it, and leaves what was rendered as it was. `declared` are the listed prefixes
+    /// that were declared since the last start tag was written. A document's elements
+    /// stand at most 64 deep, and so deep are the calls.
     fn put_node<O: Octets>(
         &self,
         n: NodeNo,
-        prefixes: Vec<&'d str>,
-        bindings: &mut Bindings<'d>,
-        room: &mut String,
+        declared: &Placed<'d>,
+        rendered: &mut Rendered<'d, 'a>,
+        room: &mut Room<'d>,
         out: &mut O,
     ) -> Result<(), NoMemory>
         requires there { n.0 < size self.now.doc.now.tree }
         requires names { HasNames self.now.doc.now.tree }
-        requires scope { in_force bindings.old.scope ≡ scope_at outermost self.now.doc.now.tree n.0 }
-        requires rendered { AreListedRendered self.now.listed (texts prefixes.items) (in_force bindings.old.scope) (in_force bindings.old.rendered) }
+        requires tree { rendered.old.tree ≡ self.now.doc.now.tree }
+        requires declared { AreDeclared self.now.listed self.now.doc.now.tree n.0 (in_force rendered.old.levels) declared.now }
         ensures form { OnOk result (O.appends out.old out.new
-            (node_form self.now.listed (option_map (λ s. s.0) self.now.skip) n.0 (in_force bindings.old.scope) (in_force bindings.old.rendered)
-            (from_node self.now.doc.now.tree n.0))) }
+            (node_form self.now.listed (option_map (λ s. s.0) self.now.skip) n.0 (scope_at outermost self.now.doc.now.tree n.0)
+            (in_force rendered.old.levels) (from_node self.now.doc.now.tree n.0))) }
         ensures err { OnErr result (AppendsPart O.appends out.old out.new
-            (node_form self.now.listed (option_map (λ s. s.0) self.now.skip) n.0 (in_force bindings.old.scope) (in_force bindings.old.rendered)
-            (from_node self.now.doc.now.tree n.0))) }
-        ensures same { OnOk result (bindings.new ≡ bindings.old) }
+            (node_form self.now.listed (option_map (λ s. s.0) self.now.skip) n.0 (scope_at outermost self.now.doc.now.tree n.0)
+            (in_force rendered.old.levels) (from_node self.now.doc.now.tree n.0))) }
+        ensures same { OnOk result (rendered.new ≡ rendered.old) }
     {
         if self.skips(n) {
             return Ok(());
         }
         match self.doc.kind(n) {
-            NodeKind::Text => return self.put_text(n, room, out),
+            NodeKind::Text => return self.put_text(n, &mut room.text, out),
             NodeKind::Comment => return Ok(()),
-            NodeKind::Instruction => return self.put_instruction(n, room, out),
+            NodeKind::Instruction => return self.put_instruction(n, &mut room.text, out),
             NodeKind::Element => {}
         }
-        self.begin(n, prefixes, bindings, room, out)?;
+        self.begin(n, declared, rendered, room, out)?;
         let mut next = self.doc.first_kid(n);
         while let Some(kid) = next {
-            self.put_node(kid, Vec::new(self.alloc), bindings, room, out)?;
+            let own = self.declared_at(kid)?;
+            self.put_node(kid, &own, rendered, room, out)?;
             next = self.doc.next(kid);
         }
-        bindings.leave();
+        rendered.leave();
         self.put_end(n, out)
     }
 }
@@ -347,9 +370,11 @@ pub fn canon_into<O: Octets>(
         skip,
         listed,
     };
-    let mut bindings = Bindings::new(alloc)?;
-    let mut declared = Vec::new(alloc);
-    walk.declare_outside(node, &mut bindings, &mut declared)?;
-    let mut room = String::new(alloc);
-    walk.put_node(node, declared, &mut bindings, &mut room, out)
+    let declared = walk.declared_around(node)?;
+    let mut rendered = Rendered::new(alloc, doc);
+    let mut room = Room {
+        text: String::new(alloc),
+        order: Order::new(alloc),
+    };
+    walk.put_node(node, &declared, &mut rendered, &mut room, out)
 }

@@ -2,96 +2,69 @@
 ghost use Rattle.std.specs.Prelude.{◌≡◌, ℕ, List, ◌||◌, ◌&&◌, OnOk, IfOk};
 ghost use Rattle.std.specs.Str.{bytes_eq};
 ghost use Rattle.xml_spec.specs.Laws.{IsAscending};
-ghost use Rattle.xml_spec.specs.Names.{HasNames};
+ghost use Rattle.xml_spec.specs.Names.{Scope, HasNames, namespace_of};
 ghost use Rattle.xml_spec.specs.Numbering.{from_node};
 ghost use Rattle.xml_spec.specs.Canonical.{byte_order, used_prefixes, is_rendered_anew};
+ghost use Rattle.saml_tree.specs.NodeNames.{IsNameAt};
 ghost use Rattle.saml_tree.specs.Elements.{IsElement, name_in, attributes_in};
-ghost use Rattle.excl_c14n.specs.Texts.{texts};
-ghost use Rattle.excl_c14n.specs.Levels.{in_force, is_among, AreListedRendered};
-ghost use Rattle.excl_c14n.specs.NodeByNode.{wanted_prefixes, IsWanted};
+ghost use Rattle.excl_c14n.specs.Levels.{in_force, is_among};
+ghost use Rattle.excl_c14n.specs.Pairs.{prefixes_in, space_at, ArePlaced};
+ghost use Rattle.excl_c14n.specs.NodeByNode.{scope_inside, IsWanted};
 
-use crate::bindings::Bindings;
-use crate::listed::Listed;
 use crate::names::{attribute_parts, declared, element_prefix};
+use crate::placed::Placed;
+use crate::rendered::Rendered;
 use owned_values::NoMemory;
-use saml_tree::{Doc, NodeNo};
+use saml_tree::{Doc, NameAt, NodeNo};
 use std::alloc::Global;
 
-/// Puts a prefix among others that are in ascending order, unless it is one of them.
-fn add<'d>(prefix: &'d str, prefixes: &mut Vec<&'d str>) -> Result<(), NoMemory>
-    requires { IsAscending byte_order (texts prefixes.old.items) }
-    ensures ascending { OnOk result (IsAscending byte_order (texts prefixes.new.items)) }
-    ensures among { OnOk result ((q : List ℕ) →
-        is_among q (texts prefixes.new.items) ≡ (is_among q (texts prefixes.old.items) || bytes_eq q prefix.now)) }
-{
-    if let Err(place) = prefixes.as_slice().binary_search(&prefix) {
-        prefixes.insert(place, prefix)?;
-    }
-    Ok(())
-}
-
-/// Puts a prefix among those that are wanted, where it is to be declared.
-fn want<'d>(
-    bindings: &Bindings<'_>,
+/// Puts a prefix among those that are wanted, where it is to be declared. The place speaks of its namespace.
+pub(crate) fn want<'d>(
+    rendered: &Rendered<'_, '_>,
     prefix: &'d str,
-    wanted: &mut Vec<&'d str>,
+    place: NameAt,
+    wanted: &mut Placed<'d>,
 ) -> Result<(), NoMemory>
-    requires { IsAscending byte_order (texts wanted.old.items) }
-    ensures ascending { OnOk result (IsAscending byte_order (texts wanted.new.items)) }
-    ensures among { OnOk result ((q : List ℕ) → is_among q (texts wanted.new.items)
-        ≡ (is_among q (texts wanted.old.items)
-        || (bytes_eq q prefix.now && is_rendered_anew (in_force bindings.now.scope) (in_force bindings.now.rendered) q))) }
+    requires place { IsNameAt rendered.now.tree place }
+    requires ascending { IsAscending byte_order (prefixes_in wanted.old) }
+    ensures ascending { OnOk result (IsAscending byte_order (prefixes_in wanted.new)) }
+    ensures among { OnOk result ((scope : Scope) → space_at rendered.now.tree place ≡ namespace_of scope prefix.now →
+        (q : List ℕ) → is_among q (prefixes_in wanted.new) ≡ (is_among q (prefixes_in wanted.old)
+        || (bytes_eq q prefix.now && is_rendered_anew scope (in_force rendered.now.levels) q))) }
+    ensures placed { OnOk result ((scope : Scope) → space_at rendered.now.tree place ≡ namespace_of scope prefix.now →
+        ArePlaced rendered.now.tree scope wanted.old → ArePlaced rendered.now.tree scope wanted.new) }
 {
-    if bindings.is_anew(prefix) {
-        add(prefix, wanted)?;
+    if rendered.is_anew(prefix, place) {
+        wanted.add(prefix, place)?;
     }
     Ok(())
 }
 
 /// Those of the prefixes that element n uses that are to be declared (Exclusive C14N 1.0, 2).
-fn want_used<'d>(
+pub(crate) fn want_used<'d>(
     alloc: Global,
     doc: &'d Doc<'_>,
-    bindings: &Bindings<'_>,
+    rendered: &Rendered<'_, '_>,
     n: NodeNo,
-) -> Result<Vec<&'d str>, NoMemory>
+) -> Result<Placed<'d>, NoMemory>
     requires element { IsElement doc.now.tree n.0 }
     requires names { HasNames doc.now.tree }
-    ensures { IfOk result (λ wanted. IsWanted (in_force bindings.now.scope) (in_force bindings.now.rendered)
-        (used_prefixes (name_in (from_node doc.now.tree n.0)) (attributes_in (from_node doc.now.tree n.0))) (texts wanted.items)) }
+    requires tree { rendered.now.tree ≡ doc.now.tree }
+    ensures wanted { IfOk result (λ wanted. IsWanted (scope_inside doc.now.tree n.0) (in_force rendered.now.levels)
+        (used_prefixes (name_in (from_node doc.now.tree n.0)) (attributes_in (from_node doc.now.tree n.0))) (prefixes_in wanted)) }
+    ensures placed { IfOk result (λ wanted. ArePlaced doc.now.tree (scope_inside doc.now.tree n.0) wanted) }
 {
-    let mut wanted = Vec::new(alloc);
-    want(bindings, element_prefix(doc, n), &mut wanted)?;
+    let mut wanted = Placed::new(alloc);
+    want(
+        rendered,
+        element_prefix(doc, n),
+        NameAt::Element(n),
+        &mut wanted,
+    )?;
     for i in 0..doc.attr_count(n) {
         let (prefix, _) = attribute_parts(doc, n, i);
         if declared(doc, n, i).is_none() && !prefix.is_empty() {
-            want(bindings, prefix, &mut wanted)?;
-        }
-    }
-    Ok(wanted)
-}
-
-/// The prefixes that are declared in the start tag of element n, in order. Of the listed ones only those can be among
-/// them that were declared since the last start tag was written.
-pub(crate) fn wanted_at<'d>(
-    alloc: Global,
-    doc: &'d Doc<'_>,
-    listed: &Listed<'_>,
-    bindings: &Bindings<'_>,
-    n: NodeNo,
-    declared: &[&'d str],
-) -> Result<Vec<&'d str>, NoMemory>
-    requires element { IsElement doc.now.tree n.0 }
-    requires names { HasNames doc.now.tree }
-    requires rendered { AreListedRendered listed.now (texts declared.now) (in_force bindings.now.scope) (in_force bindings.now.rendered) }
-    ensures { IfOk result (λ wanted. texts wanted.items
-        ≡ wanted_prefixes listed.now (in_force bindings.now.scope) (in_force bindings.now.rendered)
-        (name_in (from_node doc.now.tree n.0)) (attributes_in (from_node doc.now.tree n.0))) }
-{
-    let mut wanted = want_used(alloc, doc, bindings, n)?;
-    for prefix in declared {
-        if listed.has(prefix) {
-            want(bindings, prefix, &mut wanted)?;
+            want(rendered, prefix, NameAt::Attribute(n, i), &mut wanted)?;
         }
     }
     Ok(wanted)

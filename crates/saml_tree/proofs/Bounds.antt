@@ -5,8 +5,8 @@ use Rattle.xml_spec.specs.Tree as tree
 use Rattle.xml_spec.specs.Tree.{Attribute, Nodes, NoNodes, Element, Text, Comment, Instruction, IsWithinLimits, most_attributes}
 use Rattle.xml_spec.proofs.Tests.{both_true, and_true}
 use Rattle.xml_spec.specs.declared.TheConstants.{MAX_DEPTH, MAX_ATTRIBUTES}
-use Rattle.saml_tree.specs.Rows.{Shape, ElementShape, TextShape, CommentShape, InstructionShape, Row, nodes_at}
-use Rattle.saml_tree.specs.Kept.{IsShaped}
+use Rattle.tree_rows.specs.Rows.{Shape, ElementShape, TextShape, CommentShape, InstructionShape, Row, nodes_at}
+use Rattle.tree_rows.specs.Shaped.{IsShaped}
 use Rattle.saml_tree.specs.RowTests.{is_small}
 use Rattle.saml_tree.proofs.Elements.{EachElement, HoldsOf, EachRow, rows_to_tree, tree_to_rows}
 

@@ -4,8 +4,8 @@ use Rattle.std.specs.List.{list_all}
 use Rattle.xml_spec.specs.Syntax.{is_white, Tag, Item, Characters, Refers, Section, CommentItem, ProcessingInstruction, EmptyTag, Token, Alone, StartTag, EndTag, print_token, print_tokens, Content, NoContent, Then, Pair, tokens_of}
 use Rattle.xml_spec.specs.Document.{is_epilog, is_document}
 use Rattle.xml_spec.proofs.Tests.{both_true}
-use Rattle.saml_tree.specs.Rows.{Row}
-use Rattle.saml_tree.specs.Run.{State, text_rows, all_rows, part_of, part_rows, part_text, with_part, with_item, is_some, ended, end_at, closed, step, run, first_state}
+use Rattle.tree_rows.specs.Rows.{Row, ended, end_at}
+use Rattle.saml_tree.specs.Run.{State, text_rows, all_rows, part_of, part_rows, part_text, with_part, with_item, is_some, closed, step, run, first_state}
 use Rattle.saml_tree.proofs.Contents.{element_row, item_end, start_length, content_length, end_length, pair_end, rows_of}
 
 -- the state with these rows and no text, this stack of open elements, and this place

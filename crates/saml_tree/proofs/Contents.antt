@@ -5,7 +5,7 @@ use Rattle.std.specs.List.{AllByRecursion}
 use Rattle.xml_spec.specs.Tree.{Nodes, NoNodes, Element, Text, Comment, Instruction, with_text, begins_with_text}
 use Rattle.xml_spec.specs.Syntax.{Tag, Item, Characters, Refers, Section, CommentItem, ProcessingInstruction, EmptyTag, print_item, StartTag, EndTag, print_token, print_tokens, Content, NoContent, Then, Pair, tokens_of}
 use Rattle.xml_spec.specs.Meaning.{attributes_of, with_item, nodes_of}
-use Rattle.saml_tree.specs.Rows.{Shape, TextShape, Row, node, nodes_at}
+use Rattle.tree_rows.specs.Rows.{Shape, TextShape, Row, node, nodes_at}
 use Rattle.saml_tree.specs.Run.{text_rows, Part, TextPart, NodePart, part_of, part_rows, part_text, shape_of}
 
 abbrev pub shape_row : ℕ → ℕ → ℕ → Shape → Row

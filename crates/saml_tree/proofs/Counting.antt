@@ -6,9 +6,9 @@ use Rattle.std.proofs.lemmas.List.Folds.{list_all-append}
 use Rattle.xml_spec.specs.Syntax.{Item, Characters, Refers, Section, CommentItem, ProcessingInstruction, EmptyTag, print_item, Token, Alone, StartTag, EndTag, print_token, IsToken}
 use Rattle.xml_spec.specs.Document.{is_misc}
 use Rattle.xml_spec.proofs.Tokens.{token_is_not_empty}
-use Rattle.saml_tree.specs.Rows.{Shape, Row}
+use Rattle.tree_rows.specs.Rows.{Shape, Row, end_at}
 use Rattle.saml_tree.specs.RowTests.{is_small, is_small_token}
-use Rattle.saml_tree.specs.Run.{State, text_rows, all_rows, Part, TextPart, NodePart, part_of, part_rows, part_text, with_part, with_part_inside, shape_of, with_item, is_some, opened, end_at, closed, step}
+use Rattle.saml_tree.specs.Run.{State, text_rows, all_rows, Part, TextPart, NodePart, part_of, part_rows, part_text, with_part, with_part_inside, shape_of, with_item, is_some, opened, closed, step}
 use Rattle.saml_tree.specs.Outlines.{Outline, item_outside, named_end, next_outline}
 use Rattle.saml_tree.proofs.Contents.{shape_row}
 

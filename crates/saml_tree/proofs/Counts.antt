@@ -2,8 +2,9 @@
 use Rattle.std.proofs.Common.{◌≡◌, ℕ, zero, suc, ◌+◌, ◌-◌, ◌<◌, ◌≤◌, cond, List, [], ◌∷◌, take, refl, ap, ◌∙◌, subst, inl, inr, arith}
 use Rattle.std.proofs.lemmas.Bool.{cases_lt, cases_order}
 use Rattle.xml_spec.specs.Numbering.{size, elements, elements_before}
-use Rattle.saml_tree.specs.Rows.{Shape, ElementShape, TextShape, CommentShape, InstructionShape, Row, nodes_at}
-use Rattle.saml_tree.specs.Kept.{is_element, elements_in}
+use Rattle.tree_rows.specs.Rows.{Shape, ElementShape, TextShape, CommentShape, InstructionShape, Row, nodes_at}
+use Rattle.tree_rows.specs.Shaped.{is_element}
+use Rattle.saml_tree.specs.Kept.{elements_in}
 use Rattle.saml_tree.specs.Links.{depths_of}
 use Rattle.saml_tree.proofs.Within.{within, within_out, within_in}
 use Rattle.saml_tree.proofs.Nodes.{counted, elements_of_node, before_zero, before_kid, before_rest}

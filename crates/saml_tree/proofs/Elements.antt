@@ -4,8 +4,8 @@ use Rattle.std.specs.Bool.{⊤}
 use Rattle.std.specs.List.{AllByRecursion}
 use Rattle.std.proofs.lemmas.Bool.{cases_order}
 use Rattle.xml_spec.specs.Tree.{Attribute, Nodes, NoNodes, Element, Text, Comment, Instruction}
-use Rattle.saml_tree.specs.Rows.{Shape, ElementShape, TextShape, CommentShape, InstructionShape, Row, node, nodes_at}
-use Rattle.saml_tree.specs.Kept.{is_element, AreBelow, IsShaped}
+use Rattle.tree_rows.specs.Rows.{Shape, ElementShape, TextShape, CommentShape, InstructionShape, Row, node, nodes_at}
+use Rattle.tree_rows.specs.Shaped.{is_element, AreBelow, IsShaped}
 use Rattle.saml_tree.proofs.Contents.{at_depth}
 use Rattle.saml_tree.proofs.Places.{nodes_deeper}
 

@@ -10,7 +10,7 @@ use Rattle.xml_tokens.specs.Markup.{NoTokens}
 use Rattle.xml_tokens.specs.Heads.{HasHead}
 use Rattle.xml_tokens.specs.declared.token.TokenFault.{TokenFault}
 use Rattle.xml_tokens.specs.declared.token.TokenFault.TheVariants as tokens
-use Rattle.saml_tree.specs.Rows.{nodes_at}
+use Rattle.tree_rows.specs.Rows.{Row, nodes_at}
 use Rattle.saml_tree.specs.RowTests.{is_small_token}
 use Rattle.saml_tree.specs.Run.{State, step, first_state, is_some}
 use Rattle.saml_tree.specs.Outlines as outlines
@@ -18,7 +18,10 @@ use Rattle.saml_tree.specs.Outlines.{is_complete}
 use Rattle.saml_tree.specs.Kept.{IsRead}
 use Rattle.saml_tree.specs.Documents.{IsRefused}
 use Rattle.saml_tree.specs.Reads.{fault_of, IsNotKept, IsFaultBeyond}
-use Rattle.saml_tree.specs.Views.{row_views, builder_view}
+use Rattle.saml_tree.specs.Links.{depths_of, AreLinkedSoFar}
+use Rattle.saml_tree.specs.Views.{builder_view, IsLinking}
+use Rattle.tree_rows.specs.Views.{RowsView}
+use Rattle.tree_rows.specs.declared.node.Link.{Link}
 use Rattle.saml_tree.specs.declared.build.Builder.{Builder}
 use Rattle.saml_tree.specs.declared.node.TreeFault.{TreeFault}
 use Rattle.saml_tree.specs.declared.node.TreeFault.TheVariants as faults
@@ -104,11 +107,11 @@ module _ (text rest left : List ℕ) (ts : List Token) (o : outlines.Outline) (p
   whole = subst (λ z. Progress text rest z ts o) ended p
 
   pub rows_read : (builder : Builder) → Follows builder (after text rest ts) → HasHead text rest → IsText text →
-      IsRead text (row_views builder.rows.items)
+      IsRead text builder.rows.rows
   rows_read builder f head characters =
       subst (IsRead text) (ap (λ (s : State). s.rows) (sym f.view)) (read_whole text rest ts o head whole complete characters)
 
-  pub rows_within : (builder : Builder) → Follows builder (after text rest ts) → IsWithinLimits (nodes_at 0 (row_views builder.rows.items))
+  pub rows_within : (builder : Builder) → Follows builder (after text rest ts) → IsWithinLimits (nodes_at 0 builder.rows.rows)
   rows_within builder f =
       subst (λ rows. IsWithinLimits (nodes_at 0 rows)) (ap (λ (s : State). s.rows) (sym f.view))
       ((small_is_within (after text rest ts).rows (whole_shaped text rest ts o whole complete)).0 f.small)
@@ -143,3 +146,10 @@ refused_of text faults.XmlLimit characters h = let found = h characters in (node
 refused_of text faults.BadNames characters h = absurd h
 refused_of text faults.DuplicateId characters h = absurd h
 refused_of text faults.NoMemory characters h = tt
+
+-- the rows and their links are as before
+pub still_linked : (b : Builder) (now : RowsView) → now.rows ≡ b.rows.rows → now.links ≡ b.rows.links → IsLinking b →
+    AreLinkedSoFar (depths_of now.rows) now.links b.open_elements.items
+still_linked b now rows links h =
+    subst (λ (ls : List Link). AreLinkedSoFar (depths_of now.rows) ls b.open_elements.items) (sym links)
+    (subst (λ (rs : List Row). AreLinkedSoFar (depths_of rs) b.rows.links b.open_elements.items) (sym rows) h)

@@ -11,6 +11,7 @@ pub mod Building
 pub mod Counting
 pub mod Results
 pub mod Showing
+mod Stepping
 pub mod Within
 pub mod Nodes
 pub mod Places
@@ -22,17 +23,13 @@ pub mod LinkedRows
 pub mod Bounds
 pub mod Elements
 pub mod Walking
-pub mod Bindings
 pub mod Lists
-pub mod NamedElements
 pub mod Scopes
 pub mod Walks
+pub mod Declared
 pub mod ShownNames
-pub mod Differing
-pub mod NameKeys
 pub mod SameNames
 pub mod Indexing
 pub mod OwnIds
 pub mod RowIds
 pub mod ElementsFound
-pub mod TableIndexing

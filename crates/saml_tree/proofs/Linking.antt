@@ -2,10 +2,10 @@
 use Rattle.std.proofs.Common.{◌≡◌, ℕ, zero, suc, ◌+◌, ◌-◌, ◌<◌, ◌≤◌, ◌⊎◌, List, [], ◌∷◌, ◌++◌, length, get_or, set, sym, ap, ◌∙◌, refl, subst, inl, inr, arith}
 use Rattle.std.proofs.lemmas.List.{get_or_append_left, get_or_push, get_or_default, length_push, length-set, get_or-set_same, get_or-set_other}
 use Rattle.std.proofs.lemmas.Bool.{cases_lt, cases_eq}
-use Rattle.saml_tree.specs.Rows.{Row}
-use Rattle.saml_tree.specs.Kept.{AreBelow, IsShaped}
+use Rattle.tree_rows.specs.Rows.{Row}
+use Rattle.tree_rows.specs.Shaped.{AreBelow, IsShaped}
 use Rattle.saml_tree.specs.Links.{depths_of, IsParent, IsOpen, IsClosed, AreLinkedSoFar, AreLinked}
-use Rattle.saml_tree.specs.declared.row.Link.{Link}
+use Rattle.tree_rows.specs.declared.node.Link.{Link}
 
 below_deep : (before : Row) (rows : List Row) (k : ℕ) → AreBelow before rows → k < length rows → 1 ≤ get_or (depths_of rows) k 0
 below_deep before [] k h in_rows = absurd (omega arith)

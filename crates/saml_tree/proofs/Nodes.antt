@@ -6,8 +6,8 @@ use Rattle.xml_spec.specs.Tree.{Nodes, NoNodes, Element, Text, Comment, Instruct
 use Rattle.xml_spec.specs.Numbering.{size, from_node, elements, elements_before, kids_of, rest_of, number_if_any, parent_of}
 use Rattle.saml_tree.specs.Documents.{kind_of, name_of, attributes_of, text_of}
 use Rattle.saml_tree.specs.declared.node.NodeKind.TheVariants as kinds
-use Rattle.saml_tree.specs.Rows.{Shape, ElementShape, TextShape, CommentShape, InstructionShape, node}
-use Rattle.saml_tree.specs.Kept.{is_element}
+use Rattle.tree_rows.specs.Rows.{Shape, ElementShape, TextShape, CommentShape, InstructionShape, node}
+use Rattle.tree_rows.specs.Shaped.{is_element}
 
 -- a text has no kids
 abbrev pub HasRoom : Shape → Nodes → Type 0

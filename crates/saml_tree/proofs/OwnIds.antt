@@ -26,24 +26,24 @@ taken_more k attributes i a h read =
     ∙ ap (λ (x : Attribute). ids_of k (take i attributes) ++ cons_option (identifier_at k (attribute_view x)) []) (sym read)
 
 taken_id : (k : ℕ) (attributes : List Attribute) (i : ℕ) (a : Attribute) → i < length attributes → a ≡ get_or attributes i a →
-    bytes_eq a.name.now (codes "ID") ≡ true →
+    bytes_eq a.name (codes "ID") ≡ true →
     ids_of k (take (i + 1) attributes) ≡ ids_of k (take i attributes) ++ record { value = (attribute_view a).value; node = k } ∷ []
 taken_id k attributes i a h read named =
     taken_more k attributes i a h read
     ∙ ap (λ o. ids_of k (take i attributes) ++ cons_option o [])
-    (cond-true (bytes_eq a.name.now (codes "ID")) (Some (record { value = (attribute_view a).value; node = k })) None named)
+    (cond-true (bytes_eq a.name (codes "ID")) (Some (record { value = (attribute_view a).value; node = k })) None named)
 
 pub taken_other : (k : ℕ) (attributes : List Attribute) (i : ℕ) (a : Attribute) → i < length attributes → a ≡ get_or attributes i a →
-    bytes_eq a.name.now (codes "ID") ≡ false → ids_of k (take (i + 1) attributes) ≡ ids_of k (take i attributes)
+    bytes_eq a.name (codes "ID") ≡ false → ids_of k (take (i + 1) attributes) ≡ ids_of k (take i attributes)
 taken_other k attributes i a h read named =
     taken_more k attributes i a h read
     ∙ ap (λ o. ids_of k (take i attributes) ++ cons_option o [])
-    (cond-false (bytes_eq a.name.now (codes "ID")) (Some (record { value = (attribute_view a).value; node = k })) None named)
+    (cond-false (bytes_eq a.name (codes "ID")) (Some (record { value = (attribute_view a).value; node = k })) None named)
     ∙ append-nil (ids_of k (take i attributes))
 
 -- an attribute named ID is one more
 pub one_id : (before : List Identifier) (k : ℕ) (attributes : List Attribute) (i : ℕ) (a : Attribute) (value : List ℕ) →
-    i < length attributes → a ≡ get_or attributes i a → bytes_eq a.name.now (codes "ID") ≡ true → value ≡ (attribute_view a).value →
+    i < length attributes → a ≡ get_or attributes i a → bytes_eq a.name (codes "ID") ≡ true → value ≡ (attribute_view a).value →
     before ++ ids_of k (take (i + 1) attributes) ≡ (before ++ ids_of k (take i attributes)) ++ record { value = value; node = k } ∷ []
 one_id before k attributes i a value h read named same =
     ap (λ ids. before ++ ids) (taken_id k attributes i a h read named)

@@ -4,8 +4,8 @@ use Rattle.std.specs.Bool.{⊤}
 use Rattle.std.proofs.lemmas.Bool.{cases_lt, cases_order, cond-true, cond-false, eq-eqb, ne_eqb, lt-ltb, le-ltb}
 use Rattle.xml_spec.specs.Tree.{Nodes, NoNodes}
 use Rattle.xml_spec.specs.Numbering.{size, from_node, parent_of}
-use Rattle.saml_tree.specs.Rows.{Shape, ElementShape, TextShape, CommentShape, InstructionShape, Row, node, nodes_at}
-use Rattle.saml_tree.specs.Kept.{is_element, AreBelow, IsShaped}
+use Rattle.tree_rows.specs.Rows.{Shape, ElementShape, TextShape, CommentShape, InstructionShape, Row, node, nodes_at}
+use Rattle.tree_rows.specs.Shaped.{is_element, AreBelow, IsShaped}
 use Rattle.saml_tree.specs.Links.{depths_of}
 use Rattle.saml_tree.proofs.Within.{within, within_out, within_in, within_deep}
 use Rattle.saml_tree.proofs.Nodes.{HasRoom, size_of_node, node_at_zero, node_at_kid, node_at_rest, parent_zero, parent_rest}

@@ -13,7 +13,8 @@ use Rattle.xml_spec.proofs.Tokens.{is_run_byte, same_token, token_is_not_empty}
 use Rattle.xml_spec.proofs.Sequences.{head_is_whole}
 use Rattle.xml_tokens.specs.Markup.{NoTokens}
 use Rattle.xml_tokens.specs.Heads.{HasHead}
-use Rattle.saml_tree.specs.Kept.{IsShaped, IsRead}
+use Rattle.tree_rows.specs.Shaped.{IsShaped}
+use Rattle.saml_tree.specs.Kept.{IsRead}
 use Rattle.saml_tree.specs.Reads.{Reads}
 use Rattle.saml_tree.specs.Run.{State, step, run, first_state}
 use Rattle.saml_tree.specs.Outlines.{Outline, next_outline, outline_of, first_outline, is_complete}

@@ -8,9 +8,10 @@ use Rattle.xml_spec.specs.Syntax.{is_white, Characters, Refers, Section, Comment
 use Rattle.xml_spec.specs.Meaning.{attributes_of}
 use Rattle.xml_spec.specs.Document.{is_epilog, is_document, root_of, Document, print_head, Writes, Span, spans_of}
 use Rattle.xml_spec.proofs.Tests.{both_true}
-use Rattle.saml_tree.specs.Rows.{TextShape, Row, nodes_at}
+use Rattle.tree_rows.specs.Rows.{TextShape, Row, nodes_at}
 use Rattle.saml_tree.specs.Run.{text_rows, Part, TextPart, NodePart, part_of, part_rows, part_text}
-use Rattle.saml_tree.specs.Kept.{is_element, AreBelow, IsShaped, elements_in, HaveRanges}
+use Rattle.tree_rows.specs.Shaped.{is_element, AreBelow, IsShaped}
+use Rattle.saml_tree.specs.Kept.{elements_in, HaveRanges}
 use Rattle.saml_tree.proofs.Contents.{shape_row, element_row, item_end, start_length, pair_end, rows_of, at_depth, content_deep, deep_passed, rows_are_nodes, four_joined}
 use Rattle.saml_tree.proofs.Completing.{root_rows}
 

@@ -1,22 +1,23 @@
 -- The IDs of a tree are those of its rows, in order.
-use Rattle.std.proofs.Common.{◌≡◌, ℕ, suc, ◌+◌, ◌<◌, ◌≤◌, if◌then◌else◌, ltb, List, [], ◌∷◌, ◌++◌, length, map, get_or, take, drop, refl, sym, ap, ◌∙◌, subst, append_assoc, add-one, take-append-drop, Vec, Global, Bor, inl, inr, arith}
+use Rattle.std.proofs.Common.{◌≡◌, ℕ, suc, ◌+◌, ◌<◌, ◌≤◌, if◌then◌else◌, ltb, List, [], ◌∷◌, ◌++◌, length, map, take, drop, refl, sym, ap, ◌∙◌, subst, append_assoc, add-one, take-append-drop, Bor, inl, inr, arith}
 use Rattle.std.proofs.Math.Seq.{take-suc}
 use Rattle.std.proofs.lemmas.Bool.{cases_order, cond-true, cond-false, lt-ltb, le-ltb}
-use Rattle.std.proofs.lemmas.List.{map-append, length-map, length-take-le, append-nil, take_all}
+use Rattle.std.proofs.lemmas.List.{length-take-le, append-nil, take_all}
 use Rattle.std.specs.List.{filter_map}
 use Rattle.xml_spec.specs.Tree.{Nodes, NoNodes}
 use Rattle.xml_spec.specs.Numbering.{size}
 use Rattle.xml_spec.specs.Identifiers.{Identifier, identifier_at, identifiers_from, identifiers, IsSingle}
-use Rattle.saml_tree.specs.Rows.{Shape, ElementShape, TextShape, CommentShape, InstructionShape, Row, node, nodes_at}
-use Rattle.saml_tree.specs.Kept.{IsShaped}
+use Rattle.tree_rows.specs.Rows.{Shape, ElementShape, TextShape, CommentShape, InstructionShape, Row, node, nodes_at, no_row, row_at}
+use Rattle.tree_rows.specs.Shaped.{IsShaped}
 use Rattle.saml_tree.specs.Index.{AreOnce, own_identifiers, row_identifiers}
 use Rattle.saml_tree.specs.Links.{depths_of}
-use Rattle.saml_tree.specs.Views.{shape_view, row_view, row_views}
 use Rattle.xml_tokens.specs.Views.{attribute_view}
 use Rattle.xml_tokens.specs.declared.token.Attribute.{Attribute}
-use Rattle.saml_tree.specs.declared.row.Shape as kept_shapes
-use Rattle.saml_tree.specs.declared.row.Shape.TheVariants as shapes
-use Rattle.saml_tree.specs.declared.row.Row as kept
+use Rattle.tree_rows.specs.Views.{leaf_shape, shown_shape}
+use Rattle.tree_rows.specs.declared.node.Leaf.{Leaf}
+use Rattle.tree_rows.specs.declared.node.Leaf.TheVariants as leaves
+use Rattle.tree_rows.specs.declared.node.Shape as kept
+use Rattle.tree_rows.specs.declared.node.Shape.TheVariants as shapes
 use Rattle.saml_tree.proofs.Within.{within, within_out, within_in}
 use Rattle.saml_tree.proofs.Nodes.{HasRoom}
 use Rattle.saml_tree.proofs.Places.{limit, Steps, steps_of, limit_most, nodes_same, nodes_deeper, nodes_less, within_past, room_of, none_twice_deeper, kids_sized}
@@ -143,59 +144,52 @@ ids_append k (row ∷ front) back =
     ∙ sym (append_assoc (own_identifiers k row.shape) (row_identifiers (suc k) front) (row_identifiers (suc k + length front) back))
     ∙ ap (λ n. (own_identifiers k row.shape ++ row_identifiers (suc k) front) ++ row_identifiers n back) number
 
--- the IDs of the first rows as they are kept
-abbrev pub ids_before : List kept.Row → ℕ → List Identifier
-ids_before items k = row_identifiers 0 (row_views (take k items))
+-- the IDs of the first rows
+abbrev pub ids_before : List Row → ℕ → List Identifier
+ids_before rows k = row_identifiers 0 (take k rows)
 
-row_more : (items : List kept.Row) (k : ℕ) (row : kept.Row) → k < length items → row ≡ get_or items k row →
-    ids_before items (k + 1) ≡ ids_before items k ++ own_identifiers k (shape_view row.shape)
-row_more items k row h read =
-    let counted : 0 + length (row_views (take k items)) ≡ k = omega (arith, length-map (take k items) row_view, length-take-le k items (omega arith)) in
-    ap (ids_before items) (add-one k)
-    ∙ ap (λ list. row_identifiers 0 (row_views list)) (take-suc items k row h)
-    ∙ ap (row_identifiers 0) (map-append row_view (take k items) (get_or items k row ∷ []))
-    ∙ ids_append 0 (row_views (take k items)) (row_view (get_or items k row) ∷ [])
-    ∙ ap (λ n. ids_before items k ++ row_identifiers n (row_view (get_or items k row) ∷ [])) counted
-    ∙ ap (λ ids. ids_before items k ++ ids) (append-nil (own_identifiers k (shape_view (get_or items k row).shape)))
-    ∙ ap (λ (r : kept.Row). ids_before items k ++ own_identifiers k (shape_view r.shape)) (sym read)
+row_more : (rows : List Row) (k : ℕ) → k < length rows → ids_before rows (k + 1) ≡ ids_before rows k ++ own_identifiers k (row_at rows k).shape
+row_more rows k h =
+    let counted : 0 + length (take k rows) ≡ k = omega (arith, length-take-le k rows (omega arith)) in
+    ap (ids_before rows) (add-one k)
+    ∙ ap (row_identifiers 0) (take-suc rows k no_row h)
+    ∙ ids_append 0 (take k rows) (row_at rows k ∷ [])
+    ∙ ap (λ n. ids_before rows k ++ row_identifiers n (row_at rows k ∷ [])) counted
+    ∙ ap (λ ids. ids_before rows k ++ ids) (append-nil (own_identifiers k (row_at rows k).shape))
 
 -- an element has the IDs among its attributes
-pub element_more : (items : List kept.Row) (k : ℕ) (row : kept.Row) (name : Bor (List ℕ)) (attributes : Vec Attribute Global) (read : List Attribute) →
-    k < length items → row ≡ get_or items k row → row.shape ≡ shapes.Element name attributes → read ≡ attributes.items →
-    ids_before items (k + 1) ≡ ids_before items k ++ filter_map (identifier_at k) (map attribute_view read)
-element_more items k row name attributes read h here is all =
-    row_more items k row h here
-    ∙ ap (λ shape. ids_before items k ++ own_identifiers k (shape_view shape)) is
-    ∙ ap (λ list. ids_before items k ++ filter_map (identifier_at k) (map attribute_view list)) (sym all)
+pub element_more : (rows : List Row) (k : ℕ) (shape : kept.Shape) (name : Bor (List ℕ)) (attributes : Bor (List Attribute)) → k < length rows →
+    shown_shape shape ≡ (row_at rows k).shape → shape ≡ shapes.Element name attributes →
+    ids_before rows (k + 1) ≡ ids_before rows k ++ filter_map (identifier_at k) (map attribute_view attributes.now)
+element_more rows k shape name attributes h seen is =
+    row_more rows k h ∙ ap (λ s. ids_before rows k ++ own_identifiers k s) (sym seen ∙ ap shown_shape is)
+
+leaf_ids : (k : ℕ) (leaf : Leaf) → own_identifiers k (leaf_shape leaf) ≡ []
+leaf_ids k (leaves.Text text) = refl
+leaf_ids k (leaves.Comment text) = refl
+leaf_ids k (leaves.Instruction target value) = refl
 
 -- what is no element has none
-no_own_ids : (k : ℕ) (shape : kept_shapes.Shape) →
-    ((name : Bor (List ℕ)) (attributes : Vec Attribute Global) → shape ≡ shapes.Element name attributes → ⊥) → own_identifiers k (shape_view shape) ≡ []
+no_own_ids : (k : ℕ) (shape : kept.Shape) →
+    ((name : Bor (List ℕ)) (attributes : Bor (List Attribute)) → shape ≡ shapes.Element name attributes → ⊥) → own_identifiers k (shown_shape shape) ≡ []
 no_own_ids k (shapes.Element name attributes) other = absurd (other name attributes refl)
-no_own_ids k (shapes.Text text) other = refl
-no_own_ids k (shapes.Comment text) other = refl
-no_own_ids k (shapes.Instruction target value) other = refl
+no_own_ids k (shapes.Leaf leaf) other = leaf_ids k leaf.now
 
-pub other_more : (items : List kept.Row) (k : ℕ) (row : kept.Row) → k < length items → row ≡ get_or items k row →
-    ((name : Bor (List ℕ)) (attributes : Vec Attribute Global) → row.shape ≡ shapes.Element name attributes → ⊥) →
-    ids_before items (k + 1) ≡ ids_before items k
-other_more items k row h here other =
-    row_more items k row h here
-    ∙ ap (λ ids. ids_before items k ++ ids) (no_own_ids k row.shape other)
-    ∙ append-nil (ids_before items k)
+pub other_more : (rows : List Row) (k : ℕ) (shape : kept.Shape) → k < length rows → shown_shape shape ≡ (row_at rows k).shape →
+    ((name : Bor (List ℕ)) (attributes : Bor (List Attribute)) → shape ≡ shapes.Element name attributes → ⊥) → ids_before rows (k + 1) ≡ ids_before rows k
+other_more rows k shape h seen other =
+    row_more rows k h
+    ∙ ap (λ s. ids_before rows k ++ own_identifiers k s) (sym seen)
+    ∙ ap (λ ids. ids_before rows k ++ ids) (no_own_ids k shape other)
+    ∙ append-nil (ids_before rows k)
 
 -- where no value stands twice in the tree, none does among the first rows
-pub once_rows : (items : List kept.Row) (k : ℕ) → IsShaped (row_views items) → IsSingle (nodes_at 0 (row_views items)) → AreOnce (ids_before items k)
-once_rows items k shaped single =
-    let split : identifiers (nodes_at 0 (row_views items)) ≡ ids_before items k ++ row_identifiers (0 + length (row_views (take k items))) (row_views (drop k items)) =
-    tree_ids (row_views items) shaped
-    ∙ ap (λ list. row_identifiers 0 (row_views list)) (sym (take-append-drop k items))
-    ∙ ap (row_identifiers 0) (map-append row_view (take k items) (drop k items))
-    ∙ ids_append 0 (row_views (take k items)) (row_views (drop k items)) in
-    once_front (ids_before items k) (row_identifiers (0 + length (row_views (take k items))) (row_views (drop k items)))
-    (subst AreOnce split single.once)
+pub once_rows : (rows : List Row) (k : ℕ) → IsShaped rows → IsSingle (nodes_at 0 rows) → AreOnce (ids_before rows k)
+once_rows rows k shaped single =
+    let split : identifiers (nodes_at 0 rows) ≡ ids_before rows k ++ row_identifiers (0 + length (take k rows)) (drop k rows) =
+    tree_ids rows shaped ∙ ap (row_identifiers 0) (sym (take-append-drop k rows)) ∙ ids_append 0 (take k rows) (drop k rows) in
+    once_front (ids_before rows k) (row_identifiers (0 + length (take k rows)) (drop k rows)) (subst AreOnce split single.once)
 
 -- all rows are those of the tree
-pub all_rows : (items : List kept.Row) (k : ℕ) → length items ≤ k → IsShaped (row_views items) →
-    ids_before items k ≡ identifiers (nodes_at 0 (row_views items))
-all_rows items k h shaped = ap (λ list. row_identifiers 0 (row_views list)) (take_all k items h) ∙ sym (tree_ids (row_views items) shaped)
+pub all_rows : (rows : List Row) (k : ℕ) → length rows ≤ k → IsShaped rows → ids_before rows k ≡ identifiers (nodes_at 0 rows)
+all_rows rows k h shaped = ap (row_identifiers 0) (take_all k rows h) ∙ sym (tree_ids rows shaped)

@@ -6,16 +6,14 @@ use Rattle.std.proofs.lemmas.List.{drop-map, drop-drop, drop_all, length-map, le
 use Rattle.std.proofs.lemmas.Bool.{cases_lt}
 use Rattle.xml_spec.specs.Tree.{NoNodes}
 use Rattle.xml_spec.specs.Numbering.{size, from_node, elements_before, kids_of, rest_of, number_if_any, first_kid_of, next_of, parent_of}
-use Rattle.saml_tree.specs.Rows.{TextShape, Row, nodes_at}
-use Rattle.saml_tree.specs.Kept.{IsShaped, elements_in}
+use Rattle.tree_rows.specs.Rows.{Row, nodes_at, no_row}
+use Rattle.tree_rows.specs.Shaped.{IsShaped}
+use Rattle.saml_tree.specs.Kept.{elements_in}
 use Rattle.saml_tree.specs.Links.{depths_of, IsParent, IsEnd}
 use Rattle.saml_tree.proofs.Within.{within, within_out, within_in, within_all, within_is, within_most}
 use Rattle.saml_tree.proofs.Nodes.{kids_of_node, rest_of_node, number_of_node, parent_is}
 use Rattle.saml_tree.proofs.Places.{limit, Steps, steps_of, limit_most, own, nodes_same, nodes_deeper, nodes_less, within_past, room_of, sized, kids_sized, place, found, has_no_parent}
 use Rattle.saml_tree.proofs.Counts.{before_is}
-
-abbrev pub no_row : Row
-no_row = record { depth = 0; start = 0; end = 0; shape = TextShape [] }
 
 pub depth_at : (rows : List Row) (k : ℕ) → get_or (depths_of rows) k 0 ≡ (get_or rows k no_row).depth
 depth_at rows k = get_or-map (λ (row : Row). row.depth) rows k no_row

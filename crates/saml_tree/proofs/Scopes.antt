@@ -6,9 +6,9 @@ use Rattle.xml_spec.specs.Tree.{Attribute, Nodes, NoNodes}
 use Rattle.xml_spec.specs.Numbering.{size}
 use Rattle.xml_spec.specs.Names.{Scope, outermost, inner_scope, AreNamed, HasNames}
 use Rattle.xml_spec.specs.Canonical.{scope_at}
-use Rattle.saml_tree.specs.Rows.{Shape, ElementShape, TextShape, CommentShape, InstructionShape, Row, node, nodes_at}
-use Rattle.saml_tree.specs.Kept.{is_element, IsShaped}
-use Rattle.saml_tree.specs.Resolved.{IsNamedShape, no_row}
+use Rattle.tree_rows.specs.Rows.{Shape, ElementShape, TextShape, CommentShape, InstructionShape, Row, node, nodes_at, no_row}
+use Rattle.tree_rows.specs.Shaped.{is_element, IsShaped}
+use Rattle.saml_tree.specs.Resolved.{IsNamedShape}
 use Rattle.saml_tree.proofs.Nodes.{HasRoom}
 use Rattle.saml_tree.proofs.Rows.{size_is}
 use Rattle.saml_tree.proofs.Places.{limit, Steps, steps_of, nodes_same, nodes_deeper, nodes_less, room_of, rows_of_kid, rows_of_rest, place, place_here, place_deeper, size_here}

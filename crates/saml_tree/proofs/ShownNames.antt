@@ -1,22 +1,26 @@
 -- The names that are shown of a node, by the namespaces that are kept.
-use Rattle.std.proofs.Common.{◌≡◌, ℕ, zero, suc, ◌<◌, true, false, List, [], ◌∷◌, length, get_or, map, drop, Option, Some, None, is_some, IsSome, refl, sym, ap, ◌∙◌, subst, arith}
+use Rattle.std.proofs.Common.{◌≡◌, ℕ, zero, suc, ◌+◌, ◌<◌, true, false, cond, List, [], ◌∷◌, length, get_or, map, take, drop, Option, Some, None, is_some, IsSome, refl, sym, ap, ◌∙◌, subst, arith}
 use Rattle.std.specs.List.{slice_get}
-use Rattle.std.specs.Option.{option_map, option_and_then}
-use Rattle.std.proofs.lemmas.Option.{slice_get-map}
+use Rattle.std.specs.Option.{option_map, option_map_or, option_and_then, unwrap_or}
+use Rattle.std.proofs.lemmas.Option.{slice_get-map, slice_get_within}
 use Rattle.xml_spec.specs.Tree.{Attribute, Nodes, NoNodes, Element, Text, Comment, Instruction}
 use Rattle.xml_spec.specs.Numbering.{from_node, size}
-use Rattle.xml_spec.specs.Names.{Scope, outermost, inner_scope, element_name}
+use Rattle.xml_spec.specs.Names.{Scope, outermost, inner_scope, element_name, attribute_name, namespace_of, declared_prefix, is_declaration, xmlns_namespace, HasNames}
 use Rattle.xml_spec.specs.Canonical.{scope_at}
 use Rattle.saml_tree.specs.Documents.{kind_of, attributes_of}
+use Rattle.saml_tree.specs.Elements.{attributes_in}
 use Rattle.saml_tree.specs.NodeNames.{ShownName, shown, shown_name, name_at, attribute_at, shown_attribute_name, attribute_name_at}
-use Rattle.saml_tree.specs.Rows.{Shape, ElementShape, TextShape, CommentShape, InstructionShape, Row, node, nodes_at}
-use Rattle.saml_tree.specs.Kept.{IsShaped}
-use Rattle.saml_tree.specs.Resolved.{attribute_namespace, IsResolvedShape, AreResolved, no_row, kept_namespace, kept_attribute_namespace}
+use Rattle.tree_rows.specs.Rows.{Shape, ElementShape, TextShape, CommentShape, InstructionShape, Row, node, nodes_at, no_row}
+use Rattle.tree_rows.specs.Shaped.{IsShaped}
+use Rattle.element_names.specs.Named.{kept_namespace, numbers_from}
+use Rattle.saml_tree.specs.Resolved.{IsNamedShape, IsResolvedShape, AreResolved, kept_of_element, kept_of_attribute}
 use Rattle.saml_tree.specs.declared.node.NodeKind.TheVariants as kinds
-use Rattle.saml_tree.specs.declared.names.RowNames.{RowNames}
+use Rattle.element_names.specs.declared.names.RowNames.{RowNames}
 use Rattle.saml_tree.specs.declared.names.Names.{Names}
 use Rattle.saml_tree.proofs.Nodes.{in_tree, in_tree_by_attributes}
 use Rattle.saml_tree.proofs.Rows.{size_is, node_is}
+use Rattle.saml_tree.proofs.Scopes.{row_has_names}
+use Rattle.saml_tree.proofs.Declared.{AreOnce}
 
 abbrev space_of : ShownName → List ℕ
 space_of name = name.namespace
@@ -28,30 +32,57 @@ there (x ∷ xs) zero h = (x, refl, λ d. refl)
 there (x ∷ xs) (suc k) h = there xs k (omega arith)
 
 -- what is kept of a row that is an element
-shape_namespace : (table : List (List ℕ)) (scope : Scope) (shape : Shape) (kids rest : Nodes) (names : RowNames) →
-    kind_of (node shape kids rest) ≡ Some kinds.Element → IsResolvedShape table scope shape names →
+shape_namespace : (table : List (List ℕ)) (numbers : List ℕ) (scope : Scope) (shape : Shape) (kids rest : Nodes) (names : RowNames) →
+    kind_of (node shape kids rest) ≡ Some kinds.Element → IsResolvedShape table numbers scope shape names →
     slice_get table names.element ≡ option_map space_of (shown_name scope (node shape kids rest))
-shape_namespace table scope (ElementShape name attributes) kids rest names e h = h.element
-shape_namespace table scope (TextShape text) kids rest names e h = absurd (let clash : Some kinds.Text ≡ Some kinds.Element = e in cc)
-shape_namespace table scope (CommentShape text) kids rest names e h = absurd (let clash : Some kinds.Comment ≡ Some kinds.Element = e in cc)
-shape_namespace table scope (InstructionShape target value) kids rest names e h = absurd (let clash : Some kinds.Instruction ≡ Some kinds.Element = e in cc)
+shape_namespace table numbers scope (ElementShape name attributes) kids rest names e h = h.element
+shape_namespace table numbers scope (TextShape text) kids rest names e h = absurd (let clash : Some kinds.Text ≡ Some kinds.Element = e in cc)
+shape_namespace table numbers scope (CommentShape text) kids rest names e h = absurd (let clash : Some kinds.Comment ≡ Some kinds.Element = e in cc)
+shape_namespace table numbers scope (InstructionShape target value) kids rest names e h = absurd (let clash : Some kinds.Instruction ≡ Some kinds.Element = e in cc)
 
 joined : (o : Option ℕ) (f : ℕ → Option (List ℕ)) (y : List ℕ) → option_map f o ≡ Some (Some y) → option_and_then f o ≡ Some y
 joined None f y h = absurd (let clash : None ≡ Some (Some y) = h in cc)
 joined (Some n) f y h = (let pair : Some (f n) ≡ Some (Some y) = h in cc)
 
-found_attribute : (table : List (List ℕ)) (f : Attribute → List ℕ) (attributes : List Attribute) (numbers : List ℕ) (i : ℕ) (o : Option Attribute) →
-    slice_get attributes i ≡ o → IsSome o → map (slice_get table) numbers ≡ map (λ a. Some (f a)) attributes →
-    option_and_then (slice_get table) (slice_get numbers i) ≡ option_map f o
-found_attribute table f attributes numbers i None e some h = absurd (let clash : false ≡ true = some in cc)
-found_attribute table f attributes numbers i (Some a) e some h =
-    joined (slice_get numbers i) (slice_get table) (f a)
-    (sym (slice_get-map (slice_get table) numbers i) ∙ ap (λ list. slice_get list i) h ∙ slice_get-map (λ x. Some (f x)) attributes i ∙ ap (option_map (λ x. Some (f x))) e)
+number_found : (from count i : ℕ) (numbers : List ℕ) → i < count → slice_get (numbers_from numbers from count) i ≡ slice_get numbers (from + i)
+number_found zero count i numbers h = let same : i ≡ 0 + i = omega arith in taken_found count i numbers h ∙ ap (slice_get numbers) same
+  where
+    taken_found : (count i : ℕ) (numbers : List ℕ) → i < count → slice_get (take count numbers) i ≡ slice_get numbers i
+    taken_found zero i numbers h = absurd (omega arith)
+    taken_found (suc count) i [] h = refl
+    taken_found (suc count) zero (n ∷ numbers) h = refl
+    taken_found (suc count) (suc i) (n ∷ numbers) h = taken_found count i numbers (omega arith)
+number_found (suc from) zero i [] h = absurd (omega arith)
+number_found (suc from) (suc count) i [] h = refl
+number_found (suc from) count i (n ∷ numbers) h =
+    let same : suc (from + i) ≡ suc from + i = omega arith in number_found from count i numbers h ∙ ap (slice_get (n ∷ numbers)) same
 
-attribute_space : (scope : Scope) (o : Option Attribute) →
-    option_map (attribute_namespace scope) o ≡ option_map space_of (option_map (shown_attribute_name scope) o)
-attribute_space scope None = refl
-attribute_space scope (Some a) = refl
+found_attribute : (table : List (List ℕ)) (f : Attribute → List ℕ) (attributes : List Attribute) (numbers : List ℕ) (from i : ℕ) (o : Option Attribute) →
+    slice_get attributes i ≡ o → IsSome o → map (slice_get table) (numbers_from numbers from (length attributes)) ≡ map (λ a. Some (f a)) attributes →
+    option_and_then (slice_get table) (slice_get numbers (from + i)) ≡ option_map f o
+found_attribute table f attributes numbers from i None e some h = absurd (let clash : false ≡ true = some in cc)
+found_attribute table f attributes numbers from i (Some a) e some h =
+    let own : List ℕ = numbers_from numbers from (length attributes) in
+    ap (option_and_then (slice_get table)) (sym (number_found from (length attributes) i numbers (slice_get_within attributes i a e)))
+    ∙ joined (slice_get own i) (slice_get table) (f a)
+    (sym (slice_get-map (slice_get table) own i) ∙ ap (λ list. slice_get list i) h ∙ slice_get-map (λ x. Some (f x)) attributes i ∙ ap (option_map (λ x. Some (f x))) e)
+
+-- what is kept of an attribute that declares nothing is the namespace of its name
+pub proper_kept : (scope : Scope) (o : Option Attribute) → option_map_or is_declaration o false ≡ false →
+    option_map (kept_namespace scope) o ≡ option_map space_of (option_map (shown_attribute_name scope) o)
+proper_kept scope None h = refl
+proper_kept scope (Some a) h = by_case (declared_prefix a.name) h
+  where
+    by_case : (p : Option (List ℕ)) → is_some p ≡ false →
+        Some (option_map_or (namespace_of scope) p (attribute_name scope a.name).namespace) ≡ Some (cond (is_some p) xmlns_namespace (attribute_name scope a.name).namespace)
+    by_case None e = refl
+    by_case (Some p) e = absurd (let clash : true ≡ false = e in cc)
+
+-- the name of a declaration is in the namespace of xmlns
+pub declaration_named : (scope : Scope) (o : Option Attribute) → option_map_or is_declaration o false ≡ true →
+    Some xmlns_namespace ≡ option_map space_of (option_map (shown_attribute_name scope) o)
+declaration_named scope None h = absurd (let clash : false ≡ true = h in cc)
+declaration_named scope (Some a) h = ap (λ b. Some (cond b xmlns_namespace (attribute_name scope a.name).namespace)) (sym h)
 
 abbrev attribute_in : Nodes → ℕ → Option Attribute
 attribute_in nodes i = option_and_then (λ attributes. slice_get attributes i) (attributes_of nodes)
@@ -60,15 +91,26 @@ abbrev attribute_name_in : Scope → Nodes → ℕ → Option ShownName
 attribute_name_in scope nodes i =
     option_and_then (λ attributes. option_map (shown_attribute_name (inner_scope attributes scope)) (slice_get attributes i)) (attributes_of nodes)
 
-shape_attribute_namespace : (table : List (List ℕ)) (scope : Scope) (shape : Shape) (kids rest : Nodes) (names : RowNames) (i : ℕ) →
-    IsSome (attribute_in (node shape kids rest) i) → IsResolvedShape table scope shape names →
-    option_and_then (slice_get table) (slice_get names.attributes.items i) ≡ option_map space_of (attribute_name_in scope (node shape kids rest) i)
-shape_attribute_namespace table scope (ElementShape name attributes) kids rest names i some h =
-    found_attribute table (attribute_namespace (inner_scope attributes scope)) attributes names.attributes.items i (slice_get attributes i) refl some h.each_attribute
-    ∙ attribute_space (inner_scope attributes scope) (slice_get attributes i)
-shape_attribute_namespace table scope (TextShape text) kids rest names i some h = absurd (let clash : false ≡ true = some in cc)
-shape_attribute_namespace table scope (CommentShape text) kids rest names i some h = absurd (let clash : false ≡ true = some in cc)
-shape_attribute_namespace table scope (InstructionShape target value) kids rest names i some h = absurd (let clash : false ≡ true = some in cc)
+shape_attribute_namespace : (table : List (List ℕ)) (numbers : List ℕ) (scope : Scope) (shape : Shape) (kids rest : Nodes) (names : RowNames) (i : ℕ) →
+    IsSome (attribute_in (node shape kids rest) i) → IsResolvedShape table numbers scope shape names →
+    option_and_then (slice_get table) (slice_get numbers (names.from + i))
+    ≡ option_map (kept_namespace (inner_scope (attributes_in (node shape kids rest)) scope)) (attribute_in (node shape kids rest) i)
+shape_attribute_namespace table numbers scope (ElementShape name attributes) kids rest names i some h =
+    found_attribute table (kept_namespace (inner_scope attributes scope)) attributes numbers names.from i (slice_get attributes i) refl some h.each_attribute
+shape_attribute_namespace table numbers scope (TextShape text) kids rest names i some h = absurd (let clash : false ≡ true = some in cc)
+shape_attribute_namespace table numbers scope (CommentShape text) kids rest names i some h = absurd (let clash : false ≡ true = some in cc)
+shape_attribute_namespace table numbers scope (InstructionShape target value) kids rest names i some h = absurd (let clash : false ≡ true = some in cc)
+
+-- the names of a row that keep the rules declare no prefix twice
+shape_once : (scope : Scope) (shape : Shape) (kids rest : Nodes) → IsNamedShape scope shape → AreOnce (attributes_in (node shape kids rest))
+shape_once scope (ElementShape name attributes) kids rest h = h.prefixes_once
+shape_once scope (TextShape text) kids rest h = tt
+shape_once scope (CommentShape text) kids rest h = tt
+shape_once scope (InstructionShape target value) kids rest h = tt
+
+-- the scope inside a node, with its own declarations
+abbrev pub inside : Nodes → ℕ → Scope
+inside tree k = inner_scope (attributes_in (from_node tree k)) (scope_at outermost tree k)
 
 module _ (rows : List Row) (names : Names) (tree : Nodes) (shaped : IsShaped rows) (resolved : AreResolved rows names) (is : nodes_at 0 rows ≡ tree) where
   in_rows : (k : ℕ) → k < size tree → k < length rows
@@ -79,12 +121,12 @@ module _ (rows : List Row) (names : Names) (tree : Nodes) (shaped : IsShaped row
   row_node k less = ap (λ t. from_node t k) (sym is) ∙ node_is rows shaped k less
 
   row_resolved : (k : ℕ) (found : RowNames) → ((d : RowNames) → get_or names.rows.items k d ≡ found) → k < length rows →
-      IsResolvedShape names.table (scope_at outermost tree k) (get_or rows k no_row).shape found
+      IsResolvedShape names.table names.attributes.items (scope_at outermost tree k) (get_or rows k no_row).shape found
   row_resolved k found at less =
-      subst (λ t. IsResolvedShape names.table (scope_at outermost t k) (get_or rows k no_row).shape found) is
-      (subst (IsResolvedShape names.table (scope_at outermost (nodes_at 0 rows) k) (get_or rows k no_row).shape) (at found) (resolved.each k found less).leads)
+      subst (λ t. IsResolvedShape names.table names.attributes.items (scope_at outermost t k) (get_or rows k no_row).shape found) is
+      (subst (IsResolvedShape names.table names.attributes.items (scope_at outermost (nodes_at 0 rows) k) (get_or rows k no_row).shape) (at found) (resolved.each k found less).leads)
 
-  pub namespace_kept : (k : ℕ) → kind_of (from_node tree k) ≡ Some kinds.Element → kept_namespace names k ≡ option_map space_of (name_at tree k)
+  pub namespace_kept : (k : ℕ) → kind_of (from_node tree k) ≡ Some kinds.Element → kept_of_element names k ≡ option_map space_of (name_at tree k)
   namespace_kept k e =
       let less = in_rows k (in_tree tree k (ap is_some e)) in
       let found = there names.rows.items k (omega (arith, resolved.count)) in
@@ -94,12 +136,12 @@ module _ (rows : List Row) (names : Names) (tree : Nodes) (shaped : IsShaped row
       let rest = nodes_at row.depth (drop (suc k) rows) in
       let here = row_node k less in
       ap (option_and_then (λ (r : RowNames). slice_get names.table r.element)) found.1
-      ∙ shape_namespace names.table scope row.shape kids rest found.0 (sym (ap kind_of here) ∙ e)
+      ∙ shape_namespace names.table names.attributes.items scope row.shape kids rest found.0 (sym (ap kind_of here) ∙ e)
       (row_resolved k found.0 found.2 less)
       ∙ ap (λ nodes. option_map space_of (shown_name scope nodes)) (sym here)
 
   pub attribute_namespace_kept : (k i : ℕ) → IsSome (attribute_at tree k i) →
-      kept_attribute_namespace names k i ≡ option_map space_of (attribute_name_at tree k i)
+      kept_of_attribute names k i ≡ option_map (kept_namespace (inside tree k)) (attribute_at tree k i)
   attribute_namespace_kept k i some =
       let less = in_rows k (in_tree_by_attributes tree k (some_attributes (attributes_of (from_node tree k)) some)) in
       let found = there names.rows.items k (omega (arith, resolved.count)) in
@@ -108,14 +150,39 @@ module _ (rows : List Row) (names : Names) (tree : Nodes) (shaped : IsShaped row
       let kids = nodes_at (suc row.depth) (drop (suc k) rows) in
       let rest = nodes_at row.depth (drop (suc k) rows) in
       let here = row_node k less in
-      ap (option_and_then (λ (r : RowNames). option_and_then (slice_get names.table) (slice_get r.attributes.items i))) found.1
-      ∙ shape_attribute_namespace names.table scope row.shape kids rest found.0 i
+      ap (option_and_then (λ (r : RowNames). option_and_then (slice_get names.table) (slice_get names.attributes.items (r.from + i)))) found.1
+      ∙ shape_attribute_namespace names.table names.attributes.items scope row.shape kids rest found.0 i
       (subst (λ nodes. IsSome (attribute_in nodes i)) here some) (row_resolved k found.0 found.2 less)
-      ∙ ap (λ nodes. option_map space_of (attribute_name_in scope nodes i)) (sym here)
+      ∙ ap (λ nodes. option_map (kept_namespace (inner_scope (attributes_in nodes) scope)) (attribute_in nodes i)) (sym here)
     where
       some_attributes : (o : Option (List Attribute)) → IsSome (option_and_then (λ attributes. slice_get attributes i) o) → IsSome o
       some_attributes None h = h
       some_attributes (Some attributes) h = refl
+
+  pub declared_once : (k : ℕ) → HasNames tree → k < size tree → AreOnce (attributes_in (from_node tree k))
+  declared_once k named there =
+      let less = in_rows k there in
+      subst (λ nodes. AreOnce (attributes_in nodes)) (sym (row_node k less))
+      (shape_once _ (get_or rows k no_row).shape _ _ (row_has_names rows k shaped (subst HasNames (sym is) named) less))
+
+-- the name of an attribute, by the attributes of its node
+pub attribute_name_is : (tree : Nodes) (k i : ℕ) →
+    attribute_name_at tree k i ≡ option_map (shown_attribute_name (inside tree k)) (attribute_at tree k i)
+attribute_name_is tree k i = by_case (attributes_of (from_node tree k))
+  where
+    by_case : (o : Option (List Attribute)) →
+        option_and_then (λ attributes. option_map (shown_attribute_name (inner_scope attributes (scope_at outermost tree k))) (slice_get attributes i)) o
+        ≡ option_map (shown_attribute_name (inner_scope (unwrap_or o []) (scope_at outermost tree k))) (option_and_then (λ attributes. slice_get attributes i) o)
+    by_case None = refl
+    by_case (Some attributes) = refl
+
+-- an attribute stands among those of its node
+pub attribute_is : (tree : Nodes) (k i : ℕ) → slice_get (attributes_in (from_node tree k)) i ≡ attribute_at tree k i
+attribute_is tree k i = by_case (attributes_of (from_node tree k))
+  where
+    by_case : (o : Option (List Attribute)) → slice_get (unwrap_or o []) i ≡ option_and_then (λ attributes. slice_get attributes i) o
+    by_case None = refl
+    by_case (Some attributes) = refl
 
 -- a name with the namespace that was found
 some_name : (name space : List ℕ) (o : Option ShownName) (x : List ℕ) → o ≡ Some (shown name x) → option_map space_of o ≡ Some space → o ≡ Some (shown name space)

@@ -1,22 +1,23 @@
 -- The walk over the rows of a tree, with the namespaces in force.
-use Rattle.std.proofs.Common.{◌≡◌, ℕ, zero, suc, ◌-◌, ◌<◌, ◌≤◌, cond, List, [], ◌∷◌, ◌++◌, length, get_or, drop, map, Some, refl, sym, ap, ◌∙◌, subst, inl, inr, arith}
+use Rattle.std.proofs.Common.{◌≡◌, ℕ, zero, suc, ◌-◌, ◌<◌, ◌≤◌, cond, List, [], ◌∷◌, ◌++◌, length, get_or, take, drop, map, Some, refl, sym, ap, ◌∙◌, subst, inl, inr, arith}
 use Rattle.std.specs.Bool.{⊤}
 use Rattle.std.specs.List.{slice_get}
 use Rattle.std.proofs.Math.Seq.{drop-cons}
 use Rattle.std.proofs.lemmas.Bool.{cases_lt}
-use Rattle.std.proofs.lemmas.List.{append-nil, get_or_append_left, get_or_push, length_push, length-drop}
+use Rattle.std.proofs.lemmas.List.{append-nil, get_or_append_left, get_or_push, length_push, length-drop, length-map}
 use Rattle.namespace_scope.specs.Levels.{Level}
 use Rattle.xml_spec.specs.Tree.{Attribute}
 use Rattle.xml_spec.specs.Names.{Scope, outermost, declarations, inner_scope, element_name, HasNames}
-use Rattle.saml_tree.specs.Rows.{Shape, ElementShape, TextShape, CommentShape, InstructionShape, Row, nodes_at}
-use Rattle.saml_tree.specs.Kept.{is_element, IsShaped}
-use Rattle.saml_tree.specs.Spaces.{bindings_of, scope_of, AreNumbered, IsReady, Grows, Enters}
-use Rattle.saml_tree.specs.Resolved.{attribute_namespace, IsNamedShape, IsResolvedElement, IsResolvedShape, Moves, AreResolved, no_row}
-use Rattle.saml_tree.specs.declared.spaces.Spaces.{Spaces}
-use Rattle.saml_tree.specs.declared.names.RowNames.{RowNames}
+use Rattle.tree_rows.specs.Rows.{Shape, ElementShape, TextShape, CommentShape, InstructionShape, Row, nodes_at, no_row}
+use Rattle.tree_rows.specs.Shaped.{is_element, IsShaped}
+use Rattle.element_names.specs.Spaces.{bindings_of, scope_of, AreNumbered, IsReady, Grows, Enters}
+use Rattle.element_names.specs.Named.{kept_namespace, numbers_from, IsResolvedElement}
+use Rattle.saml_tree.specs.Resolved.{IsNamedShape, IsResolvedShape, Moves, AreResolved}
+use Rattle.element_names.specs.declared.spaces.Spaces.{Spaces}
+use Rattle.element_names.specs.declared.names.RowNames.{RowNames}
 use Rattle.saml_tree.specs.declared.names.Names.{Names}
-use Rattle.saml_tree.proofs.TableIndexing.{found_still}
-use Rattle.saml_tree.proofs.Bindings.{same_bindings}
+use Rattle.element_names.proofs.TableIndexing.{found_still}
+use Rattle.element_names.proofs.Bindings.{same_bindings}
 use Rattle.saml_tree.proofs.Places.{Steps, steps_of}
 use Rattle.saml_tree.proofs.Scopes.{Scopes, behind_shape, behind_kids, behind_other, scopes_from, scope_of_row, first_scopes, scopes_step, scope_is, names_of_rows, row_has_names}
 
@@ -66,24 +67,45 @@ lead_still table more f (n ∷ numbers) (a ∷ attributes) h =
     let others : map (slice_get table) numbers ≡ map (λ x. Some (f x)) attributes = cc in
     (λ i. found_still table more n (f a) here i ∷ lead_still table more f numbers attributes others i)
 
-element_still : (table more : List (List ℕ)) (scope : Scope) (name : List ℕ) (attributes : List Attribute) (names : RowNames) →
-    IsResolvedElement table scope name attributes names → IsResolvedElement (table ++ more) scope name attributes names
-element_still table more scope name attributes names h = record {
-  element = found_still table more names.element (element_name scope name).namespace h.element;
-  each_attribute = lead_still table more (attribute_namespace scope) names.attributes.items attributes h.each_attribute;
-}
+-- numbers stay where more come behind them
+taken_still : (count : ℕ) (numbers others : List ℕ) → length (take count numbers) ≡ count → take count (numbers ++ others) ≡ take count numbers
+taken_still zero numbers others h = refl
+taken_still (suc count) [] others h = absurd (omega arith)
+taken_still (suc count) (n ∷ numbers) others h = ap (λ ns. n ∷ ns) (taken_still count numbers others (omega arith))
 
-shape_still : (table more : List (List ℕ)) (scope : Scope) (shape : Shape) (names : RowNames) →
-    IsResolvedShape table scope shape names → IsResolvedShape (table ++ more) scope shape names
-shape_still table more scope (ElementShape name attributes) names h = element_still table more (inner_scope attributes scope) name attributes names h
-shape_still table more scope (TextShape text) names h = tt
-shape_still table more scope (CommentShape text) names h = tt
-shape_still table more scope (InstructionShape target value) names h = tt
+numbers_still : (from count : ℕ) (numbers others : List ℕ) → length (numbers_from numbers from count) ≡ count →
+    numbers_from (numbers ++ others) from count ≡ numbers_from numbers from count
+numbers_still zero count numbers others h = taken_still count numbers others h
+numbers_still (suc from) zero [] others h = refl
+numbers_still (suc from) (suc count) [] others h = absurd (omega arith)
+numbers_still (suc from) count (n ∷ numbers) others h = numbers_still from count numbers others h
 
-grown_still : (before after : List (List ℕ)) (scope : Scope) (shape : Shape) (names : RowNames) → Grows before after →
-    IsResolvedShape before scope shape names → IsResolvedShape after scope shape names
-grown_still before after scope shape names g h =
-    subst (λ table. IsResolvedShape table scope shape names) (sym g.1) (shape_still before g.0 scope shape names h)
+element_still : (table more : List (List ℕ)) (numbers others : List ℕ) (scope : Scope) (name : List ℕ) (attributes : List Attribute) (names : RowNames) →
+    IsResolvedElement table numbers scope name attributes names → IsResolvedElement (table ++ more) (numbers ++ others) scope name attributes names
+element_still table more numbers others scope name attributes names h =
+    let own : List ℕ = numbers_from numbers names.from (length attributes) in
+    let count : length own ≡ length attributes =
+    omega (arith, ap length h.each_attribute, length-map own (slice_get table), length-map attributes (λ (a : Attribute). Some (kept_namespace scope a))) in
+    record {
+      element = found_still table more names.element (element_name scope name).namespace h.element;
+      each_attribute =
+          ap (map (slice_get (table ++ more))) (numbers_still names.from (length attributes) numbers others count)
+          ∙ lead_still table more (kept_namespace scope) own attributes h.each_attribute;
+    }
+
+shape_still : (table more : List (List ℕ)) (numbers others : List ℕ) (scope : Scope) (shape : Shape) (names : RowNames) →
+    IsResolvedShape table numbers scope shape names → IsResolvedShape (table ++ more) (numbers ++ others) scope shape names
+shape_still table more numbers others scope (ElementShape name attributes) names h =
+    element_still table more numbers others (inner_scope attributes scope) name attributes names h
+shape_still table more numbers others scope (TextShape text) names h = tt
+shape_still table more numbers others scope (CommentShape text) names h = tt
+shape_still table more numbers others scope (InstructionShape target value) names h = tt
+
+grown_still : (before after : List (List ℕ)) (earlier later : List ℕ) (scope : Scope) (shape : Shape) (names : RowNames) → Grows before after →
+    Grows earlier later → IsResolvedShape before earlier scope shape names → IsResolvedShape after later scope shape names
+grown_still before after earlier later scope shape names g n h =
+    subst (λ table. IsResolvedShape table later scope shape names) (sym g.1)
+    (subst (λ numbers. IsResolvedShape (before ++ g.0) numbers scope shape names) (sym n.1) (shape_still before g.0 earlier n.0 scope shape names h))
 
 -- the levels of a row's depth, after the deeper ones ended
 pub record Leaves (before after : Spaces) (depth : ℕ) : Type 0 where
@@ -146,18 +168,18 @@ moved scopes before after depth (CommentShape text) ready count f h = unmoved sc
 moved scopes before after depth (InstructionShape target value) ready count f h = unmoved scopes before after depth ready count f h
 
 -- in front of row k: the names so far keep the rules, and what is kept of them leads to their namespaces
-pub record Walk (rows : List Row) (k : ℕ) (spaces : Spaces) (named : List RowNames) : Type 0 where
+pub record Walk (rows : List Row) (k : ℕ) (spaces : Spaces) (numbers : List ℕ) (named : List RowNames) : Type 0 where
   pub ready : IsReady spaces
   pub fits : Fits spaces.table (scopes_from first_scopes rows k) spaces.scope
   pub steps : Steps (length spaces.scope - 1) (drop k rows)
   pub count : length named ≡ k
   pub keeps : (j : ℕ) → j < k → IsNamedShape (scope_of_row first_scopes rows j) (get_or rows j no_row).shape
   pub leads : (j : ℕ) (d : RowNames) → j < k →
-      IsResolvedShape spaces.table (scope_of_row first_scopes rows j) (get_or rows j no_row).shape (get_or named j d)
+      IsResolvedShape spaces.table numbers (scope_of_row first_scopes rows j) (get_or rows j no_row).shape (get_or named j d)
 
-pub walk_first : (rows : List Row) (spaces : Spaces) → IsShaped rows → IsReady spaces → length spaces.scope ≡ 1 → scope_of spaces ≡ outermost →
-    Walk rows 0 spaces []
-walk_first rows spaces shaped ready one scope =
+pub walk_first : (rows : List Row) (spaces : Spaces) (numbers : List ℕ) → IsShaped rows → IsReady spaces → length spaces.scope ≡ 1 →
+    scope_of spaces ≡ outermost → Walk rows 0 spaces numbers []
+walk_first rows spaces numbers shaped ready one scope =
     let top : 0 ≡ length spaces.scope - 1 = omega arith in
     record {
       ready = ready;
@@ -168,49 +190,49 @@ walk_first rows spaces shaped ready one scope =
       leads = λ j d less. absurd (omega arith);
     }
 
-walk_steps : (rows : List Row) (k : ℕ) (spaces : Spaces) (named : List RowNames) → Walk rows k spaces named → k < length rows →
+walk_steps : (rows : List Row) (k : ℕ) (spaces : Spaces) (numbers : List ℕ) (named : List RowNames) → Walk rows k spaces numbers named → k < length rows →
     Steps (length spaces.scope - 1) (get_or rows k no_row ∷ drop (suc k) rows)
-walk_steps rows k spaces named w less = subst (Steps (length spaces.scope - 1)) (drop-cons rows k no_row less) w.steps
+walk_steps rows k spaces numbers named w less = subst (Steps (length spaces.scope - 1)) (drop-cons rows k no_row less) w.steps
 
-pub walk_deep : (rows : List Row) (k : ℕ) (spaces : Spaces) (named : List RowNames) (row : Row) → Walk rows k spaces named → k < length rows →
+pub walk_deep : (rows : List Row) (k : ℕ) (spaces : Spaces) (numbers : List ℕ) (named : List RowNames) (row : Row) → Walk rows k spaces numbers named → k < length rows →
     get_or rows k no_row ≡ row → row.depth < length spaces.scope
-walk_deep rows k spaces named row w less is =
+walk_deep rows k spaces numbers named row w less is =
     let some = w.ready.some in
-    let low = (walk_steps rows k spaces named w less).0 in
+    let low = (walk_steps rows k spaces numbers named w less).0 in
     omega (arith, ap (λ (r : Row). r.depth) is)
 
 -- the scope of row k
-walk_scope : (rows : List Row) (k : ℕ) (spaces left : Spaces) (named : List RowNames) → Walk rows k spaces named →
+walk_scope : (rows : List Row) (k : ℕ) (spaces left : Spaces) (numbers : List ℕ) (named : List RowNames) → Walk rows k spaces numbers named →
     Leaves spaces left (get_or rows k no_row).depth → scope_of left ≡ scope_of_row first_scopes rows k
-walk_scope rows k spaces left named w h =
+walk_scope rows k spaces left numbers named w h =
     let scopes = scopes_from first_scopes rows k in
     let depth = (get_or rows k no_row).depth in
     fits_top left.table scopes left.scope depth (fits_left scopes spaces left depth h w.fits) h.count
 
-pub walk_refused : (rows : List Row) (k : ℕ) (spaces left : Spaces) (named : List RowNames) (row : Row) → Walk rows k spaces named →
+pub walk_refused : (rows : List Row) (k : ℕ) (spaces left : Spaces) (numbers : List ℕ) (named : List RowNames) (row : Row) → Walk rows k spaces numbers named →
     k < length rows → get_or rows k no_row ≡ row → IsShaped rows → Leaves spaces left row.depth → HasNames (nodes_at 0 rows) →
     IsNamedShape (scope_of left) row.shape
-walk_refused rows k spaces left named row w less is shaped =
+walk_refused rows k spaces left numbers named row w less is shaped =
     subst (λ (r : Row). Leaves spaces left r.depth → HasNames (nodes_at 0 rows) → IsNamedShape (scope_of left) r.shape) is
-    (λ h names. subst (λ (s : Scope). IsNamedShape s (get_or rows k no_row).shape) (sym (walk_scope rows k spaces left named w h))
+    (λ h names. subst (λ (s : Scope). IsNamedShape s (get_or rows k no_row).shape) (sym (walk_scope rows k spaces left numbers named w h))
     (row_has_names rows k shaped names less))
 
-walk_more : (rows : List Row) (k : ℕ) (spaces left after : Spaces) (named : List RowNames) (names : RowNames) → Walk rows k spaces named →
+walk_more : (rows : List Row) (k : ℕ) (spaces left after : Spaces) (numbers later : List ℕ) (named : List RowNames) (names : RowNames) → Walk rows k spaces numbers named → Grows numbers later →
     k < length rows → Leaves spaces left (get_or rows k no_row).depth → IsNamedShape (scope_of left) (get_or rows k no_row).shape →
-    IsResolvedShape after.table (scope_of left) (get_or rows k no_row).shape names →
-    Moves left after (get_or rows k no_row).shape → Walk rows (suc k) after (named ++ names ∷ [])
-walk_more rows k spaces left after named names w less h keeps leads moves =
+    IsResolvedShape after.table later (scope_of left) (get_or rows k no_row).shape names →
+    Moves left after (get_or rows k no_row).shape → Walk rows (suc k) after later (named ++ names ∷ [])
+walk_more rows k spaces left after numbers later named names w more less h keeps leads moves =
     let scopes = scopes_from first_scopes rows k in
     let row = get_or rows k no_row in
     let m = moved scopes left after row.depth row.shape h.ready h.count (fits_left scopes spaces left row.depth h w.fits) moves in
-    let scope = walk_scope rows k spaces left named w h in
+    let scope = walk_scope rows k spaces left numbers named w h in
     let grows : Grows spaces.table after.table =
     (m.grows.0, m.grows.1 ∙ ap (λ t. t ++ m.grows.0) (same_table spaces left row.depth h)) in
     let count = w.count in
     record {
       ready = m.ready;
       fits = subst (λ (s : Scopes). Fits after.table s after.scope) (sym (scopes_step first_scopes rows k less)) m.fits;
-      steps = subst (λ n. Steps n (drop (suc k) rows)) (sym m.top_is) (walk_steps rows k spaces named w less).1;
+      steps = subst (λ n. Steps n (drop (suc k) rows)) (sym m.top_is) (walk_steps rows k spaces numbers named w less).1;
       count = omega (arith, length_push named names);
       keeps = λ j low. elim (cases_lt j k) [
         | inl before ↦ w.keeps j before
@@ -221,42 +243,43 @@ walk_more rows k spaces left after named names w less h keeps leads moves =
       ];
       leads = λ j d low. elim (cases_lt j k) [
         | inl before ↦
-            subst (IsResolvedShape after.table (scope_of_row first_scopes rows j) (get_or rows j no_row).shape)
+            subst (IsResolvedShape after.table later (scope_of_row first_scopes rows j) (get_or rows j no_row).shape)
             (sym (get_or_append_left named (names ∷ []) d j (omega arith)))
-            (grown_still spaces.table after.table (scope_of_row first_scopes rows j) (get_or rows j no_row).shape (get_or named j d) grows
+            (grown_still spaces.table after.table numbers later (scope_of_row first_scopes rows j) (get_or rows j no_row).shape (get_or named j d) grows more
             (w.leads j d before))
         | inr other ↦
             let here : k ≡ j = omega arith in
-            subst (IsResolvedShape after.table (scope_of_row first_scopes rows j) (get_or rows j no_row).shape)
+            subst (IsResolvedShape after.table later (scope_of_row first_scopes rows j) (get_or rows j no_row).shape)
             (sym (get_or_push named names d j (count ∙ here)))
-            (subst (λ (i : ℕ). IsResolvedShape after.table (scope_of_row first_scopes rows i) (get_or rows i no_row).shape names) here
-            (subst (λ (s : Scope). IsResolvedShape after.table s row.shape names) scope leads))
+            (subst (λ (i : ℕ). IsResolvedShape after.table later (scope_of_row first_scopes rows i) (get_or rows i no_row).shape names) here
+            (subst (λ (s : Scope). IsResolvedShape after.table later s row.shape names) scope leads))
       ];
     }
 
-pub walk_on : (rows : List Row) (k : ℕ) (spaces left after : Spaces) (named : List RowNames) (names : RowNames) (row : Row) → Walk rows k spaces named →
+pub walk_on : (rows : List Row) (k : ℕ) (spaces left after : Spaces) (numbers later : List ℕ) (named : List RowNames) (names : RowNames) (row : Row) → Walk rows k spaces numbers named → Grows numbers later →
     k < length rows → get_or rows k no_row ≡ row → Leaves spaces left row.depth → IsNamedShape (scope_of left) row.shape →
-    IsResolvedShape after.table (scope_of left) row.shape names → Moves left after row.shape →
-    Walk rows (suc k) after (named ++ names ∷ [])
-walk_on rows k spaces left after named names row w less is =
+    IsResolvedShape after.table later (scope_of left) row.shape names → Moves left after row.shape →
+    Walk rows (suc k) after later (named ++ names ∷ [])
+walk_on rows k spaces left after numbers later named names row w more less is =
     subst (λ (r : Row). Leaves spaces left r.depth → IsNamedShape (scope_of left) r.shape →
-    IsResolvedShape after.table (scope_of left) r.shape names → Moves left after r.shape →
-    Walk rows (suc k) after (named ++ names ∷ [])) is
-    (walk_more rows k spaces left after named names w less)
+    IsResolvedShape after.table later (scope_of left) r.shape names → Moves left after r.shape →
+    Walk rows (suc k) after later (named ++ names ∷ [])) is
+    (walk_more rows k spaces left after numbers later named names w more less)
 
-pub walked_names : (rows : List Row) (k : ℕ) (spaces : Spaces) (named : List RowNames) → Walk rows k spaces named → length rows ≤ k →
+pub walked_names : (rows : List Row) (k : ℕ) (spaces : Spaces) (numbers : List ℕ) (named : List RowNames) → Walk rows k spaces numbers named → length rows ≤ k →
     HasNames (nodes_at 0 rows)
-walked_names rows k spaces named w all = names_of_rows rows (λ j less. w.keeps j (omega arith))
+walked_names rows k spaces numbers named w all = names_of_rows rows (λ j less. w.keeps j (omega arith))
 
-pub walked : (rows : List Row) (spaces : Spaces) (names : Names) → IsShaped rows → Walk rows (length rows) spaces names.rows.items →
-    names.table ≡ spaces.table → AreResolved rows names
+pub walked : (rows : List Row) (spaces : Spaces) (names : Names) → IsShaped rows →
+    Walk rows (length rows) spaces names.attributes.items names.rows.items → names.table ≡ spaces.table → AreResolved rows names
 walked rows spaces names shaped w table = record {
   count = w.count;
+  xmlns = ap (λ t. slice_get t 2) table ∙ w.ready.xmlns;
   each = λ j d less. record {
     leads =
-        subst (λ (s : Scope). IsResolvedShape names.table s (get_or rows j no_row).shape (get_or names.rows.items j d))
+        subst (λ (s : Scope). IsResolvedShape names.table names.attributes.items s (get_or rows j no_row).shape (get_or names.rows.items j d))
         (sym (scope_is rows j shaped less))
-        (subst (λ table. IsResolvedShape table (scope_of_row first_scopes rows j) (get_or rows j no_row).shape (get_or names.rows.items j d)) (sym table)
+        (subst (λ table. IsResolvedShape table names.attributes.items (scope_of_row first_scopes rows j) (get_or rows j no_row).shape (get_or names.rows.items j d)) (sym table)
         (w.leads j d less));
   };
 }

@@ -4,7 +4,7 @@ use Rattle.std.specs.List.{filter_map}
 use Rattle.std.specs.BTreeMap.{get_by_text}
 use Rattle.xml_spec.specs.Names.{AreDistinct}
 use Rattle.xml_spec.specs.Identifiers.{Identifier, identifier_at, node_with}
-use Rattle.saml_tree.specs.Rows.{Shape, ElementShape, TextShape, CommentShape, InstructionShape, Row}
+use Rattle.tree_rows.specs.Rows.{Shape, ElementShape, TextShape, CommentShape, InstructionShape, Row}
 use Rattle.saml_tree.specs.declared.ids.Ids.{Ids}
 
 -- for every value, the index finds the element that has it as an ID

@@ -1,4 +1,3 @@
-pub mod Rows
 pub mod Run
 pub mod Outlines
 pub mod Documents
@@ -9,8 +8,6 @@ pub mod Index
 pub mod Links
 pub mod Reads
 pub mod NodeNames
-pub mod Spaces
 pub mod Resolved
-pub mod Tables
 pub mod Elements
 pub mod NamePlaces

@@ -1,13 +1,14 @@
 -- How the rows of a document are linked, and what a document keeps.
 use Rattle.std.specs.Prelude.{◌≡◌, ℕ, suc, ◌^◌, ◌<◌, ◌≤◌, ◌⊎◌, List, length, map, slice_index, slice_index_or}
 use Rattle.xml_spec.specs.Identifiers.{identifiers}
-use Rattle.saml_tree.specs.Rows.{Row, nodes_at}
+use Rattle.tree_rows.specs.Rows.{Row, nodes_at}
 use Rattle.saml_tree.specs.Documents.{IsSpelled}
-use Rattle.saml_tree.specs.Kept.{IsShaped, HaveRanges}
+use Rattle.tree_rows.specs.Shaped.{IsShaped}
+use Rattle.saml_tree.specs.Kept.{HaveRanges}
 use Rattle.saml_tree.specs.Index.{IsIndex}
 use Rattle.saml_tree.specs.declared.ids.Ids.{Ids}
 use Rattle.saml_tree.specs.Resolved.{AreResolved}
-use Rattle.saml_tree.specs.declared.row.Link.{Link}
+use Rattle.tree_rows.specs.declared.node.Link.{Link}
 use Rattle.saml_tree.specs.declared.names.Names.{Names}
 
 -- how deep each row stands

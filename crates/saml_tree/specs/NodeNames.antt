@@ -4,7 +4,7 @@ use Rattle.std.specs.Option.{option_map, option_and_then}
 use Rattle.xml_spec.specs.Characters.{prefix_of, local_of}
 use Rattle.xml_spec.specs.Tree.{Attribute, Nodes, Element, Instruction}
 use Rattle.xml_spec.specs.Numbering.{from_node}
-use Rattle.xml_spec.specs.Names.{Scope, outermost, inner_scope, element_name, attribute_name, is_declaration, xmlns_namespace}
+use Rattle.xml_spec.specs.Names.{Binding, Scope, outermost, inner_scope, element_name, attribute_name, is_declaration, binding_of, xmlns_namespace}
 use Rattle.xml_spec.specs.Canonical.{scope_at}
 use Rattle.saml_tree.specs.Documents.{kind_of, attributes_of}
 use Rattle.saml_tree.specs.declared.node.NodeKind.TheVariants as kinds
@@ -45,12 +45,18 @@ attribute_name_at tree k i =
     option_and_then (λ attributes. option_map (shown_attribute_name (inner_scope attributes (scope_at outermost tree k)))
     (slice_get attributes i)) (attributes_of (from_node tree k))
 
--- there is a name at this place: the node is an element, or it has such an attribute
+-- the binding that attribute i of node k declares
+abbrev pub binding_at : Nodes → ℕ → ℕ → Option Binding
+binding_at tree k i = option_and_then binding_of (attribute_at tree k i)
+
+-- there is such a place: the node is an element, or it has such an attribute, or such a declaration
 abbrev pub IsNameAt : Nodes → NameAt → Type 0
 IsNameAt tree (places.Element n) = kind_of (from_node tree n.0) ≡ Some kinds.Element
 IsNameAt tree (places.Attribute n i) = IsSome (attribute_at tree n.0 i)
+IsNameAt tree (places.Declaration n i) = IsSome (binding_at tree n.0 i)
 
--- the namespace that the name at this place is in
+-- the namespace that the name at this place is in, or that the declaration binds its prefix to
 abbrev pub namespace_at : Nodes → NameAt → Option (List ℕ)
 namespace_at tree (places.Element n) = option_map (λ name. name.namespace) (name_at tree n.0)
 namespace_at tree (places.Attribute n i) = option_map (λ name. name.namespace) (attribute_name_at tree n.0 i)
+namespace_at tree (places.Declaration n i) = option_map (λ b. b.namespace) (binding_at tree n.0 i)

@@ -7,8 +7,10 @@ use Rattle.xml_spec.specs.Document.{Spells}
 use Rattle.xml_spec.specs.Laws.{BeginsWith}
 use Rattle.xml_tokens.specs.declared.token.TokenFault.{TokenFault}
 use Rattle.xml_tokens.specs.declared.token.TokenFault.TheVariants as tokens
+use Rattle.element_names.specs.declared.fault.NameFault.{NameFault}
+use Rattle.element_names.specs.declared.fault.NameFault.TheVariants as names
 use Rattle.saml_tree.specs.Outlines.{Outline, outline_of, is_complete}
-use Rattle.saml_tree.specs.Rows.{Row, nodes_at}
+use Rattle.tree_rows.specs.Rows.{Row, nodes_at}
 use Rattle.saml_tree.specs.Kept.{IsRead}
 use Rattle.saml_tree.specs.declared.node.TreeFault.{TreeFault}
 use Rattle.saml_tree.specs.declared.node.TreeFault.TheVariants as faults
@@ -22,6 +24,10 @@ Reads text (token ∷ tokens) rest = (middle : List ℕ) × BeginsWith text toke
 abbrev pub fault_of : TokenFault → TreeFault
 fault_of tokens.Invalid = faults.BadXml
 fault_of tokens.NoMemory = faults.NoMemory
+
+abbrev pub name_fault : NameFault → TreeFault
+name_fault names.BadNames = faults.BadNames
+name_fault names.NoMemory = faults.NoMemory
 
 -- what a text spells that is refused before its names are looked at: no tree, or one beyond the limits
 abbrev pub IsNotKept : List ℕ → TreeFault → Type 0

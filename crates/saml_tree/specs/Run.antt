@@ -1,9 +1,9 @@
 -- What one token after the other makes of a document that is being read: its rows.
-use Rattle.std.specs.Prelude.{ℕ, zero, suc, ◌+◌, Bool, true, false, List, [], ◌∷◌, ◌++◌, length, if◌then◌else◌}
+use Rattle.std.specs.Prelude.{ℕ, ◌+◌, Bool, true, false, List, [], ◌∷◌, ◌++◌, length, if◌then◌else◌}
 use Rattle.std.specs.Char.{encode_utf8}
 use Rattle.xml_spec.specs.Syntax.{character_of, Tag, Item, Characters, Refers, Section, CommentItem, ProcessingInstruction, EmptyTag, print_item, Token, Alone, StartTag, EndTag, print_token}
 use Rattle.xml_spec.specs.Meaning.{line_ends, attributes_of}
-use Rattle.saml_tree.specs.Rows.{Shape, ElementShape, TextShape, CommentShape, InstructionShape, Row}
+use Rattle.tree_rows.specs.Rows.{Shape, ElementShape, TextShape, CommentShape, InstructionShape, Row, end_at}
 
 -- the rows so far, the text behind them that may go on, the numbers of the open elements, the innermost first, and
 -- where the next token begins
@@ -73,16 +73,6 @@ with_item s item end = with_part_inside s (part_of item) end
 -- an element whose start tag is written up to this place
 abbrev pub opened : State → Shape → ℕ → State
 opened s shape end = record (with_part s (NodePart shape) end) { open_elements = length (all_rows s) ∷ s.open_elements }
-
--- the element ends at this place
-abbrev pub ended : ℕ → Row → Row
-ended place row = record row { end = place }
-
--- row n ends at this place
-abbrev pub end_at : ℕ → ℕ → List Row → List Row
-end_at place n [] = []
-end_at place zero (row ∷ rows) = ended place row ∷ rows
-end_at place (suc n) (row ∷ rows) = row ∷ end_at place n rows
 
 -- the innermost of these open elements ends at this place
 abbrev pub closed : State → List ℕ → ℕ → State

@@ -9,7 +9,7 @@ ghost use Rattle.saml_tree.specs.Views.{outline_view};
 use crate::node::TreeFault;
 use crate::outline::Outline;
 use std::alloc::Global;
-use xml_tokens::{bare_start, next_token};
+use xml_tokens::{Attribute, bare_start, next_token};
 
 // Opens the elements whose start tags stand in a row and hold a name alone, and gives what follows them. Of such tags
 // texts are made that are so deep.
@@ -29,11 +29,11 @@ fn open_all<'a>(outline: &mut Outline<'a>, rest: &'a str) -> Result<&'a str, Tre
     Ok(left)
 }
 
-// Adds the next token, and gives what follows it.
+// Adds the next token, and gives what follows it. The attributes of a tag are put into the list, which is not read.
 fn take_next<'a>(
-    alloc: Global,
     outline: &mut Outline<'a>,
     left: &'a str,
+    attributes: &mut Vec<Attribute<'a>>,
 ) -> Result<&'a str, TreeFault>
     requires some { 0 < length left.now }
     requires tail { (front : List ℕ) × (outline.old.names.text ≡ front ++ left.now) }
@@ -43,7 +43,8 @@ fn take_next<'a>(
         × (outline_of (outline_view outline.old) tokens ≡ Some (outline_view outline.new))) }
     ensures err { IfErr result (λ e. (e ≡ TreeFault.NoMemory) ⊎ ((e ≡ TreeFault.BadXml) × NoneComplete (outline_view outline.old) left.now)) }
 {
-    let (markup, behind) = next_token(alloc, left)?;
+    attributes.clear();
+    let (markup, behind) = next_token(left, attributes)?;
     outline.take(&markup, left)?;
     Ok(behind)
 }
@@ -60,9 +61,10 @@ fn outline_behind<'a>(
     ensures err { IfErr result (λ e. (e ≡ TreeFault.NoMemory) ⊎ ((e ≡ TreeFault.BadXml) × NoneComplete (outline_view begun.entry) rest.now)) }
 {
     let mut outline = begun;
+    let mut attributes = Vec::new(alloc);
     let mut left = open_all(&mut outline, rest)?;
     'tokens: while !left.is_empty() {
-        let behind = take_next(alloc, &mut outline, left)?;
+        let behind = take_next(&mut outline, left, &mut attributes)?;
         left = open_all(&mut outline, behind)?;
     }
     Ok(outline)

@@ -7,27 +7,32 @@ ghost use Rattle.xml_spec.specs.Identifiers.{identifiers, node_with};
 ghost use Rattle.xml_spec.specs.Document.{IsRange};
 ghost use Rattle.saml_tree.specs.Documents.{IsSpelled, IsWritten, kind_of, name_of, attributes_of, text_of};
 ghost use Rattle.saml_tree.specs.NodeNames.{ShownName, name_at, attribute_at, attribute_name_at, IsNameAt, namespace_at};
-ghost use Rattle.saml_tree.specs.Rows.{node, nodes_at};
-ghost use Rattle.saml_tree.specs.Resolved.{AreResolved};
-ghost use Rattle.saml_tree.specs.Kept.{IsShaped, HaveRanges};
+ghost use Rattle.tree_rows.specs.Rows.{node, nodes_at};
+ghost use Rattle.tree_rows.specs.Shaped.{IsShaped};
+ghost use Rattle.tree_rows.specs.Views.{shown_shape};
+ghost use Rattle.saml_tree.specs.Resolved.{AreResolved, kept_for};
+ghost use Rattle.saml_tree.specs.Kept.{HaveRanges};
 ghost use Rattle.saml_tree.specs.Index.{IsIndex};
 ghost use Rattle.saml_tree.specs.Links.{depths_of, AreLinkedSoFar};
-ghost use Rattle.saml_tree.specs.Views.{shape_view, row_views, links_of, name_view};
+ghost use Rattle.saml_tree.specs.Views.{leaf_text, name_view};
+ghost use Rattle.xml_spec.specs.Meaning.{line_ends};
 ghost use Rattle.xml_tokens.specs.Views.{attribute_view};
 
 use crate::ids::Ids;
-use crate::names::{Names, shown_name};
+use crate::names::{Kept, Names, shown_name};
 use crate::node::{Name, NameAt, NodeKind, NodeNo};
-use crate::row::{Attribute, Row, Shape};
+use element_names::is_declaration;
 use owned_values::NoMemory;
 use std::marker::Model;
+use tree_rows::{Leaf, Rows, Shape};
 use xml_chars::Span;
+use xml_tokens::{Attribute, put_line_ends, strip_line_ends};
 
 /// A document: the text that it was read from, and the nodes of its tree, each addressed by its number.
 #[derive(Debug, Drop)]
 pub struct Doc<'a> {
     text: &'a [u8],
-    rows: Vec<Row<'a>>,
+    rows: Rows<'a>,
     names: Names,
     ids: Ids,
 }
@@ -39,13 +44,12 @@ impl<'a> Model for Doc<'a> {
 
     ghost coded = { coded_document };
 
-    ghost use Rattle.saml_tree.specs.Rows.{nodes_at};
-    ghost use Rattle.saml_tree.specs.Views.{row_views, links_of};
+    ghost use Rattle.tree_rows.specs.Rows.{nodes_at};
     ghost use Rattle.saml_tree.specs.Links.{IsKept};
 
-    ghost view = { λ d. record { text = d.text.now; tree = nodes_at 0 (row_views d.rows.items) } };
+    ghost view = { λ d. record { text = d.text.now; tree = nodes_at 0 d.rows.rows } };
 
-    ghost invariant = { λ d. IsKept d.text.now (row_views d.rows.items) (links_of d.rows.items) d.names d.ids };
+    ghost invariant = { λ d. IsKept d.text.now d.rows.rows d.rows.links d.names d.ids };
 }
 
 impl<'a> Doc<'a> {
@@ -53,16 +57,16 @@ impl<'a> Doc<'a> {
     ghost use Rattle.saml_tree.specs.declared.node.NodeKind.TheVariants as kinds;
 
     /// The document of these rows, with its elements by their IDs.
-    pub(crate) fn of(text: &'a [u8], rows: Vec<Row<'a>>, names: Names, ids: Ids) -> Doc<'a>
-        requires shaped { IsShaped (row_views rows.items) }
-        requires ranges { HaveRanges text.now (row_views rows.items) }
-        requires count { length rows.items < 2 ^ 32 }
-        requires linked { AreLinkedSoFar (depths_of (row_views rows.items)) (links_of rows.items) [] }
-        requires resolved { AreResolved (row_views rows.items) names }
-        requires spelled { IsSpelled text.now (nodes_at 0 (row_views rows.items)) }
-        requires indexed { IsIndex (identifiers (nodes_at 0 (row_views rows.items))) ids }
+    pub(crate) fn of(text: &'a [u8], rows: Rows<'a>, names: Names, ids: Ids) -> Doc<'a>
+        requires shaped { IsShaped rows.rows }
+        requires ranges { HaveRanges text.now rows.rows }
+        requires count { length rows.rows < 2 ^ 32 }
+        requires linked { AreLinkedSoFar (depths_of rows.rows) rows.links [] }
+        requires resolved { AreResolved rows.rows names }
+        requires spelled { IsSpelled text.now (nodes_at 0 rows.rows) }
+        requires indexed { IsIndex (identifiers (nodes_at 0 rows.rows)) ids }
         ensures text { result.text ≡ text.now }
-        ensures tree { result.tree ≡ nodes_at 0 (row_views rows.entry.items) }
+        ensures tree { result.tree ≡ nodes_at 0 rows.entry.rows }
     {
         Doc {
             text,
@@ -84,11 +88,11 @@ impl<'a> Doc<'a> {
     }
 
     /// The node itself, without its kids.
-    fn shape(&self, n: NodeNo) -> &Shape<'a>
+    fn shape(&self, n: NodeNo) -> Shape<'_, 'a>
         requires { n.0 < size self.now.tree }
-        ensures node { let here = from_node self.now.tree n.0 in here ≡ node (shape_view result.now) (kids_of here) (rest_of here) }
+        ensures node { let here = from_node self.now.tree n.0 in here ≡ node (shown_shape result) (kids_of here) (rest_of here) }
     {
-        &self.rows[n.0 as usize].shape
+        self.rows.shape(n.0 as usize)
     }
 
     /// What the node is.
@@ -98,9 +102,11 @@ impl<'a> Doc<'a> {
     {
         match self.shape(n) {
             Shape::Element { .. } => NodeKind::Element,
-            Shape::Text(_) => NodeKind::Text,
-            Shape::Comment(_) => NodeKind::Comment,
-            Shape::Instruction { .. } => NodeKind::Instruction,
+            Shape::Leaf(leaf) => match leaf {
+                Leaf::Text(_) => NodeKind::Text,
+                Leaf::Comment(_) => NodeKind::Comment,
+                Leaf::Instruction { .. } => NodeKind::Instruction,
+            },
         }
     }
 
@@ -110,7 +116,7 @@ impl<'a> Doc<'a> {
         ensures number { option_map (λ kid. kid.0) result ≡ first_kid_of self.now.tree n.0 }
         ensures inside { IfSome result (λ kid. kid.0 < size self.now.tree) }
     {
-        let end = self.rows[n.0 as usize].link.end;
+        let end = self.rows.link(n.0 as usize).end;
         let behind = n.0 as usize + 1;
         if behind < end {
             Some(NodeNo(behind as u32))
@@ -125,8 +131,8 @@ impl<'a> Doc<'a> {
         ensures number { option_map (λ node. node.0) result ≡ next_of self.now.tree n.0 }
         ensures inside { IfSome result (λ node. node.0 < size self.now.tree) }
     {
-        let end = self.rows[n.0 as usize].link.end;
-        if end < self.rows.len() && self.rows[end].depth == self.rows[n.0 as usize].depth {
+        let end = self.rows.link(n.0 as usize).end;
+        if end < self.rows.len() && self.rows.depth(end) == self.rows.depth(n.0 as usize) {
             Some(NodeNo(end as u32))
         } else {
             None
@@ -142,7 +148,7 @@ impl<'a> Doc<'a> {
         if n.0 == 0 {
             None
         } else {
-            Some(NodeNo(self.rows[n.0 as usize].link.parent as u32))
+            Some(NodeNo(self.rows.link(n.0 as usize).parent as u32))
         }
     }
 
@@ -152,22 +158,44 @@ impl<'a> Doc<'a> {
         ensures { name_at self.now.tree n.0 ≡ Some (name_view result) }
     {
         match self.shape(n) {
-            Shape::Element { name, .. } => shown_name(name, self.namespace(n)),
-            Shape::Instruction { target, .. } => Name {
-                prefix: "",
-                local: target,
-                namespace: "",
+            Shape::Element { name, .. } => {
+                shown_name(name, self.namespace_at(NameAt::Element(n)))
+            }
+            Shape::Leaf(leaf) => match leaf {
+                Leaf::Instruction { target, .. } => Name {
+                    prefix: "",
+                    local: target,
+                    namespace: "",
+                },
+                Leaf::Text(_) | Leaf::Comment(_) => unreachable!(),
             },
-            Shape::Text(_) | Shape::Comment(_) => unreachable!(),
         }
     }
 
-    /// The namespace that the name of an element is in.
-    fn namespace(&self, n: NodeNo) -> &str
-        requires { kind_of (from_node self.now.tree n.0) ≡ Some kinds.Element }
-        ensures { option_map (λ name. name.namespace) (name_at self.now.tree n.0) ≡ Some result.now }
+    /// Which number is kept for a place.
+    fn kept(&self, place: NameAt) -> Kept
+        requires { IsNameAt self.now.tree place }
+        ensures { result ≡ kept_for self.now.tree place }
     {
-        self.names.of_element(n.0 as usize)
+        match place {
+            NameAt::Element(n) => Kept::Element(n),
+            NameAt::Attribute(n, i) => {
+                if is_declaration(&self.attribute(n, i).name) {
+                    Kept::Xmlns
+                } else {
+                    Kept::Attribute(n, i)
+                }
+            }
+            NameAt::Declaration(n, i) => Kept::Attribute(n, i),
+        }
+    }
+
+    /// The namespace that the name at a place is in, or that a declaration binds its prefix to; empty where that is none.
+    pub fn namespace_at(&self, place: NameAt) -> &str
+        requires { IsNameAt self.now.tree place }
+        ensures { namespace_at self.now.tree place ≡ Some result.now }
+    {
+        self.names.text(self.kept(place))
     }
 
     /// Where an element stands in the text: from its first '<' to behind its last '>'.
@@ -175,7 +203,7 @@ impl<'a> Doc<'a> {
         requires { kind_of (from_node self.now.tree n.0) ≡ Some kinds.Element }
         ensures { IsRange self.now.text (elements_before self.now.tree n.0) (record { start = result.start; end = result.end }) }
     {
-        self.rows[n.0 as usize].span
+        self.rows.span(n.0 as usize)
     }
 
     /// The bytes of the text that an element is written as, which are those of its `span`. It takes no memory.
@@ -193,8 +221,8 @@ impl<'a> Doc<'a> {
         ensures attributes { attributes_of (from_node self.now.tree n.0) ≡ Some (map attribute_view result.now) }
     {
         match self.shape(n) {
-            Shape::Element { attributes, .. } => attributes.as_slice(),
-            Shape::Text(_) | Shape::Comment(_) | Shape::Instruction { .. } => unreachable!(),
+            Shape::Element { attributes, .. } => attributes,
+            Shape::Leaf(_) => unreachable!(),
         }
     }
 
@@ -219,24 +247,17 @@ impl<'a> Doc<'a> {
         requires { IsSome (attribute_at self.now.tree n.0 i) }
         ensures { attribute_name_at self.now.tree n.0 i ≡ Some (name_view result) }
     {
-        shown_name(self.attribute(n, i).name, self.attr_namespace(n, i))
+        let namespace = self.namespace_at(NameAt::Attribute(n, i));
+        shown_name(&self.attribute(n, i).name, namespace)
     }
 
-    /// The namespace that the name of attribute i of an element is in.
-    fn attr_namespace(&self, n: NodeNo, i: usize) -> &str
-        requires { IsSome (attribute_at self.now.tree n.0 i) }
-        ensures { option_map (λ name. name.namespace) (attribute_name_at self.now.tree n.0 i) ≡ Some result.now }
-    {
-        self.names.of_attribute(n.0 as usize, i)
-    }
-
-    /// Whether the names at two places are in one namespace. The time does not grow with the namespaces' names.
+    /// Whether the namespaces at two places are the same. The time does not grow with the namespaces' names.
     pub fn same_namespace(&self, one: NameAt, other: NameAt) -> bool
         requires one { IsNameAt self.now.tree one }
         requires other { IsNameAt self.now.tree other }
         ensures { IsTrue result ↔ (namespace_at self.now.tree one ≡ namespace_at self.now.tree other) }
     {
-        self.names.is_same(one, other)
+        self.names.is_same(self.kept(one), self.kept(other))
     }
 
     /// Whether the value of attribute i of an element is `s`, byte by byte.
@@ -261,15 +282,14 @@ impl<'a> Doc<'a> {
         Ok(())
     }
 
-    /// A text, or the value of an instruction.
-    fn text(&self, n: NodeNo) -> &str
+    /// A node that nothing stands in: a text or an instruction.
+    fn leaf(&self, n: NodeNo) -> &Leaf<'a>
         requires { IsSome (text_of (from_node self.now.tree n.0)) }
-        ensures { text_of (from_node self.now.tree n.0) ≡ Some result.now }
+        ensures { text_of (from_node self.now.tree n.0) ≡ leaf_text result.now }
     {
         match self.shape(n) {
-            Shape::Text(text) => text.as_str(),
-            Shape::Instruction { value, .. } => value.as_str(),
-            Shape::Element { .. } | Shape::Comment(_) => unreachable!(),
+            Shape::Leaf(leaf) => leaf,
+            Shape::Element { .. } => unreachable!(),
         }
     }
 
@@ -278,7 +298,11 @@ impl<'a> Doc<'a> {
         requires { IsSome (text_of (from_node self.now.tree n.0)) }
         ensures { IfSome (text_of (from_node self.now.tree n.0)) (λ text. IsTrue result ↔ (text ≡ s.now)) }
     {
-        self.text(n) == s
+        match self.leaf(n) {
+            Leaf::Text(text) => text.is(s),
+            Leaf::Instruction { value, .. } => is_translated(value, s),
+            Leaf::Comment(_) => unreachable!(),
+        }
     }
 
     /// Appends the text, or the value of an instruction.
@@ -291,7 +315,11 @@ impl<'a> Doc<'a> {
         ensures ok { IfSome (text_of (from_node self.now.tree n.0)) (λ text. OnOk result (string_bytes out.new ≡ string_bytes out.old ++ text)) }
         ensures err { IfSome (text_of (from_node self.now.tree n.0)) (λ text. OnErr result ((k : ℕ) × (string_bytes out.new ≡ string_bytes out.old ++ take k text))) }
     {
-        out.push_str(self.text(n))?;
+        match self.leaf(n) {
+            Leaf::Text(text) => text.put(out)?,
+            Leaf::Instruction { value, .. } => put_line_ends(value, out)?,
+            Leaf::Comment(_) => unreachable!(),
+        }
         Ok(())
     }
 
@@ -302,5 +330,15 @@ impl<'a> Doc<'a> {
     {
         let number = self.ids.get(id)?;
         Some(NodeNo(number))
+    }
+}
+
+/// Whether a text is this one, its line ends translated.
+fn is_translated(written: &str, text: &str) -> bool
+    ensures { IsTrue result ↔ (line_ends written.now ≡ text.now) }
+{
+    match strip_line_ends(text, written) {
+        Some(behind) => behind.is_empty(),
+        None => false,
     }
 }

@@ -4,17 +4,17 @@ ghost use Rattle.std.specs.Prelude.{◌≡◌, ◌<◌, ◌^◌, ◌⊎◌, ◌+
 ghost use Rattle.std.specs.BTreeMap.{get_by_text};
 ghost use Rattle.std.specs.List.{filter_map};
 ghost use Rattle.xml_spec.specs.Identifiers.{Identifier, identifier_at, identifiers, IsSingle};
-ghost use Rattle.saml_tree.specs.Rows.{nodes_at};
-ghost use Rattle.saml_tree.specs.Kept.{IsShaped};
+ghost use Rattle.tree_rows.specs.Rows.{nodes_at};
+ghost use Rattle.tree_rows.specs.Shaped.{IsShaped};
 ghost use Rattle.saml_tree.specs.Index.{IsIndex, AreIndexed, AreOnce};
-ghost use Rattle.saml_tree.specs.Views.{row_views};
 ghost use Rattle.xml_tokens.specs.Views.{attribute_view};
 ghost use Rattle.saml_tree.specs.declared.node.TreeFault.TheVariants as faults;
 
 use crate::node::TreeFault;
-use crate::row::{Attribute, Row, Shape};
 use std::alloc::Global;
 use std::collections::BTreeMap;
+use tree_rows::{Rows, Shape};
+use xml_tokens::Attribute;
 
 /// The elements of a document by their IDs: a look-up takes the logarithm of how many there are.
 #[derive(Debug, Drop)]
@@ -67,7 +67,7 @@ impl Ids {
             ¬ (AreOnce (before ++ filter_map (identifier_at node) (map attribute_view attributes.now)))))) }
     {
         for attribute in attributes {
-            if attribute.name == "ID" {
+            if attribute.name.as_str() == "ID" {
                 let value = attribute.value.text(alloc)?;
                 self.add(value, node)?;
             }
@@ -82,17 +82,17 @@ impl Ids {
 /// # Errors
 ///
 /// `DuplicateId`: two attributes named ID have one value. `NoMemory`.
-pub(crate) fn index_of(alloc: Global, rows: &[Row<'_>]) -> Result<Ids, TreeFault>
-    requires shaped { IsShaped (row_views rows.now) }
-    requires count { length rows.now < 2 ^ 32 }
-    ensures ok { IfOk result (λ ids. IsSingle (nodes_at 0 (row_views rows.now))
-        × IsIndex (identifiers (nodes_at 0 (row_views rows.now))) ids) }
+pub(crate) fn index_of(alloc: Global, rows: &Rows<'_>) -> Result<Ids, TreeFault>
+    requires shaped { IsShaped rows.now.rows }
+    requires count { length rows.now.rows < 2 ^ 32 }
+    ensures ok { IfOk result (λ ids. IsSingle (nodes_at 0 rows.now.rows)
+        × IsIndex (identifiers (nodes_at 0 rows.now.rows)) ids) }
     ensures err { IfErr result (λ e. (e ≡ faults.NoMemory)
-        ⊎ ((e ≡ faults.DuplicateId) × ¬ (IsSingle (nodes_at 0 (row_views rows.now))))) }
+        ⊎ ((e ≡ faults.DuplicateId) × ¬ (IsSingle (nodes_at 0 rows.now.rows)))) }
 {
     let mut ids = Ids::new(alloc);
-    for (k, row) in rows.iter().enumerate() {
-        if let Shape::Element { attributes, .. } = &row.shape {
+    for k in 0..rows.len() {
+        if let Shape::Element { attributes, .. } = rows.shape(k) {
             ids.add_all(alloc, attributes, k as u32)?;
         }
     }

@@ -18,7 +18,6 @@
 
 mod beyond;
 mod build;
-mod distinct;
 mod doc;
 mod ids;
 mod limits;
@@ -26,11 +25,7 @@ mod names;
 mod node;
 mod open_names;
 mod outline;
-mod qualified;
 mod read;
-mod row;
-mod spaces;
-mod table;
 #[cfg(test)]
 mod tests;
 

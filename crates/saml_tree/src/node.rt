@@ -1,5 +1,6 @@
 // Nodes by number, and what is said of one.
 
+use owned_values::NoMemory;
 use std::alloc::{AllocError, AllocFailed};
 
 /// The number of a node: its place in document order, from 0.
@@ -19,13 +20,15 @@ pub enum NodeKind {
     Instruction,
 }
 
-/// Where a name stands in a document.
+/// Where a document speaks of a namespace.
 #[derive(Clone, Copy, Debug, PartialEq, Eq)]
 pub enum NameAt {
     /// The name of this element.
     Element(NodeNo),
     /// The name of attribute i of this element, counted from 0, declarations of namespaces with them.
     Attribute(NodeNo, usize),
+    /// What attribute i of this element, which is a declaration, binds its prefix to.
+    Declaration(NodeNo, usize),
 }
 
 /// A name as it is written, in two parts, and the namespace that it is in (Namespaces in XML 1.0, 4).
@@ -72,6 +75,17 @@ impl<T: Drop> From<AllocFailed<T>> for TreeFault {
     ghost from_gives = { λ _ e. e ≡ NoMemory };
 
     fn from(_: AllocFailed<T>) -> TreeFault {
+        TreeFault::NoMemory
+    }
+}
+
+impl From<NoMemory> for TreeFault {
+    ghost use Rattle.std.specs.Prelude.{◌≡◌};
+    ghost use Rattle.saml_tree.specs.declared.node.TreeFault.TheVariants.{NoMemory};
+
+    ghost from_gives = { λ _ e. e ≡ NoMemory };
+
+    fn from(_: NoMemory) -> TreeFault {
         TreeFault::NoMemory
     }
 }

@@ -3,6 +3,7 @@
 ghost use Rattle.std.specs.Prelude.{◌≡◌, ℕ, ◌<◌, ◌⊎◌, ◌^◌, List, ◌∷◌, ◌++◌, length, IfErr, OnOk, IsTrue, IsFalse, None, Some};
 ghost use Rattle.std.specs.List.{list_all};
 ghost use Rattle.xml_spec.specs.Ascii.{less_than};
+ghost use Rattle.xml_spec.specs.Tree.{Attribute};
 ghost use Rattle.xml_spec.specs.Syntax.{is_white, Tag, EmptyTag, Token, Alone, StartTag, print_token};
 ghost use Rattle.xml_tokens.specs.Views.{Shows};
 ghost use Rattle.saml_tree.specs.Outlines.{first_outline, next_outline, named_end, is_complete};
@@ -44,12 +45,12 @@ impl<'a> Outline<'a> {
     /// Adds the token at the front of `left`, the end of the text. A refusal says that the token has no place there.
     pub(crate) fn take(&mut self, markup: &Markup<'_>, left: &str) -> Result<(), TreeFault>
         requires tail { (front : List ℕ) × (self.old.names.text ≡ front ++ left.now) }
-        requires token { (token : Token) × Shows token markup.now × (behind : List ℕ) × (left.now ≡ print_token token ++ behind) }
+        requires token { (token : Token) × (attributes : List Attribute) × Shows token markup.now attributes × (behind : List ℕ) × (left.now ≡ print_token token ++ behind) }
         ensures text { self.new.names.text ≡ self.old.names.text }
-        ensures ok { OnOk result ((token : Token) → Shows token markup.now →
+        ensures ok { OnOk result ((token : Token) (attributes : List Attribute) → Shows token markup.now attributes →
             next_outline (outline_view self.old) token ≡ Some (outline_view self.new)) }
         ensures err { IfErr result (λ e. (e ≡ TreeFault.NoMemory) ⊎ ((e ≡ TreeFault.BadXml)
-            × ((token : Token) → Shows token markup.now → next_outline (outline_view self.old) token ≡ None))) }
+            × ((token : Token) (attributes : List Attribute) → Shows token markup.now attributes → next_outline (outline_view self.old) token ≡ None))) }
     {
         let inside = !self.names.is_empty();
         match markup {
@@ -57,7 +58,7 @@ impl<'a> Outline<'a> {
             Markup::Reference(_) | Markup::Section(_) => allow(inside),
             Markup::Comment(_) | Markup::Instruction { .. } => Ok(()),
             Markup::Empty { .. } => self.take_empty(),
-            Markup::Start { name, .. } => self.open(name, left),
+            Markup::Start { name } => self.open(name.as_str(), left),
             Markup::End { name } => self.close(name),
         }
     }

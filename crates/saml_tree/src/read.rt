@@ -1,15 +1,14 @@
 // From the bytes of a text to its rows.
 
-ghost use Rattle.std.specs.Prelude.{◌≡◌, ◌<◌, ◌≤◌, ◌^◌, [], length, vec_len, IfOk, IfErr};
+ghost use Rattle.std.specs.Prelude.{◌≡◌, ◌<◌, ◌≤◌, ◌^◌, [], length, IfOk, IfErr};
 ghost use Rattle.xml_spec.specs.Characters.{IsText};
 ghost use Rattle.xml_spec.specs.Tree.{IsWithinLimits};
 ghost use Rattle.xml_tokens.specs.Heads.{HasHead};
-ghost use Rattle.saml_tree.specs.Rows.{nodes_at};
+ghost use Rattle.tree_rows.specs.Rows.{nodes_at};
 ghost use Rattle.saml_tree.specs.Kept.{IsRead};
 ghost use Rattle.saml_tree.specs.Documents.{IsSpelled, IsRefused};
 ghost use Rattle.saml_tree.specs.Reads.{IsNotKept};
 ghost use Rattle.saml_tree.specs.Links.{depths_of, AreLinkedSoFar};
-ghost use Rattle.saml_tree.specs.Views.{row_views, links_of};
 
 use crate::beyond::fault_beyond;
 use crate::build::Builder;
@@ -19,11 +18,11 @@ use crate::limits::is_small;
 use crate::names::resolve;
 use crate::node::TreeFault;
 use crate::outline::Outline;
-use crate::row::Row;
 use std::alloc::Global;
+use tree_rows::Rows;
 use xml_chars::text_of;
 use xml_spec::MAX_DOCUMENT_LENGTH;
-use xml_tokens::{TokenFault, behind_head, next_token};
+use xml_tokens::{TokenFault, behind_head};
 
 impl From<TokenFault> for TreeFault {
     ghost use Rattle.std.specs.Prelude.{◌≡◌};
@@ -45,26 +44,26 @@ pub(crate) fn read_rows<'a>(
     alloc: Global,
     text: &'a str,
     rest: &'a str,
-) -> Result<Vec<Row<'a>>, TreeFault>
+) -> Result<Rows<'a>, TreeFault>
     requires head { HasHead text.now rest.now }
     requires small { length text.now < 2 ^ 32 }
-    ensures ok { IfOk result (λ rows. IsText text.now → IsRead text.now (row_views rows.items)) }
-    ensures limits { IfOk result (λ rows. IsWithinLimits (nodes_at 0 (row_views rows.items))) }
-    ensures few { IfOk result (λ rows. vec_len rows ≤ length text.now) }
-    ensures linked { IfOk result (λ rows. AreLinkedSoFar (depths_of (row_views rows.items)) (links_of rows.items) []) }
+    ensures ok { IfOk result (λ rows. IsText text.now → IsRead text.now rows.rows) }
+    ensures limits { IfOk result (λ rows. IsWithinLimits (nodes_at 0 rows.rows)) }
+    ensures few { IfOk result (λ rows. length rows.rows ≤ length text.now) }
+    ensures linked { IfOk result (λ rows. AreLinkedSoFar (depths_of rows.rows) rows.links []) }
     ensures err { IfErr result (λ fault. IsNotKept text.now fault) }
 {
     let mut outline = Outline::new(alloc, rest);
-    let mut builder = Builder::new(alloc, text.len() - rest.len());
+    let mut builder = Builder::new(alloc, rest, text.len() - rest.len());
     let mut left = rest;
     'tokens: while !left.is_empty() {
-        let (markup, behind) = next_token(alloc, left)?;
-        let small = is_small(&markup, outline.depth());
+        let (markup, behind) = builder.rows.next_token(left)?;
+        let small = is_small(&markup, builder.rows.pending(), outline.depth());
         outline.take(&markup, left)?;
         if !small {
             return Err(fault_beyond(alloc, outline, behind));
         }
-        builder.take(alloc, markup, left.len() - behind.len())?;
+        builder.take(markup, behind)?;
         left = behind;
     }
     if !outline.is_complete() {
@@ -74,11 +73,11 @@ pub(crate) fn read_rows<'a>(
 }
 
 // The document of the rows that were read, where its names and its IDs keep the rules.
-fn document_of<'a>(alloc: Global, text: &'a [u8], rows: Vec<Row<'a>>) -> Result<Doc<'a>, TreeFault>
-    requires read { IsRead text.now (row_views rows.items) }
-    requires limits { IsWithinLimits (nodes_at 0 (row_views rows.items)) }
-    requires count { length rows.items < 2 ^ 32 }
-    requires linked { AreLinkedSoFar (depths_of (row_views rows.items)) (links_of rows.items) [] }
+fn document_of<'a>(alloc: Global, text: &'a [u8], rows: Rows<'a>) -> Result<Doc<'a>, TreeFault>
+    requires read { IsRead text.now rows.rows }
+    requires limits { IsWithinLimits (nodes_at 0 rows.rows) }
+    requires count { length rows.rows < 2 ^ 32 }
+    requires linked { AreLinkedSoFar (depths_of rows.rows) rows.links [] }
     ensures text { IfOk result (λ doc. doc.text ≡ text.now) }
     ensures ok { IfOk result (λ doc. IsSpelled text.now doc.tree) }
     ensures refused { IfErr result (λ fault. IsRefused text.now fault) }

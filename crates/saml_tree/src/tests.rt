@@ -222,6 +222,7 @@ fn namespaces_are_compared_by_their_names(rt: HostRuntime) -> Result<(), Fail> {
     let count = doc.attr_count(root);
     assert!(rt; count == 3);
     assert!(rt; doc.same_namespace(NameAt::Element(root), NameAt::Attribute(root, 2)));
+    assert_eq!(rt; doc.namespace_at(NameAt::Attribute(root, 2)), "urn:x");
     Ok(())
 }
 

@@ -1,3 +1,4 @@
+pub mod AttributeNames
 pub mod Children
 pub mod Faults
 pub mod Places

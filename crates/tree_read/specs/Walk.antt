@@ -9,6 +9,7 @@ use Rattle.xml_spec.specs.Codes.{coded_bytes}
 use Rattle.xml_spec.specs.Names.{Scope, outermost, inner_scope, ExpandedName, element_name}
 use Rattle.xml_spec.specs.Canonical.{scope_at}
 use Rattle.saml_tree.specs.Documents.{DocumentView, coded_document}
+use Rattle.tree_read.specs.declared.at.At.{At}
 use Rattle.tree_read.specs.Children.{Child, child, elements_of}
 
 -- the document, and the element children of an element in it that are left
@@ -56,3 +57,7 @@ IsFrom (Some k) n = k ≤ n
 -- there is no child, or just one, which has this name
 abbrev pub IsOneAtMost : ExpandedName → List Child → Type 0
 IsOneAtMost name children = (children ≡ []) ⊎ ((k : ℕ) × (children ≡ child k name ∷ []))
+
+-- the child that an element is
+abbrev pub child_at : At → Child
+child_at at = child at.node.0 (name_of_node at.doc.now.tree at.node.0)

@@ -1,8 +1,8 @@
 //! What no clause says: that there is memory for each call, on documents that are read.
 
 use crate::{
-    At, ChildFault, ElementChildren, Nodes, at_most_one, attr_equals, attr_text, children,
-    first_child, has_attr, only_child, text_of, trimmed,
+    At, AttributeNames, ChildFault, ElementChildren, Elements, Nodes, at_most_one, attr_equals,
+    attr_text, children, first_child, has_attr, only_child, text_of, trimmed,
 };
 use saml_names::ExpandedName;
 use saml_tree::{NodeNo, read_document};
@@ -73,6 +73,12 @@ fn texts_and_values_are_read(rt: HostRuntime) -> Result<(), Fail> {
         doc: &doc,
         node: doc.root(),
     };
+    assert!(rt; AttributeNames::of(root).count() == 3);
+    let mut last = None;
+    for kid in Elements::of(root) {
+        last = Some(kid.node);
+    }
+    assert!(rt; last == Some(NodeNo(2)));
     assert!(rt; text_of(rt.alloc(), root)?.as_str() == " xyz\n");
     assert!(rt; trimmed(rt.alloc(), root)?.as_str() == "xyz");
     match attr_text(rt.alloc(), root, "ID")? {

@@ -8,7 +8,8 @@ ghost use Rattle.saml_names.specs.Views.{name_of};
 ghost use Rattle.saml_tree.specs.Elements.{IsElement};
 ghost use Rattle.tree_read.specs.Children.{Child, child, is_name, named, element_children};
 ghost use Rattle.tree_read.specs.Views.{tree_of};
-ghost use Rattle.tree_read.specs.Walk.{IsFrom, IsOneAtMost, name_of_node, children_from, children_first};
+ghost use Rattle.std.specs.Iterator.{YieldsFirstBy};
+ghost use Rattle.tree_read.specs.Walk.{IsFrom, IsOneAtMost, name_of_node, children_from, children_first, child_at};
 
 use crate::at::At;
 use crate::fault::OtherShape;
@@ -93,6 +94,21 @@ impl<'d, 'a> ElementChildren<'d, 'a> {
             doc: at.doc,
             next: at.doc.first_kid(at.node),
         }
+    }
+
+    /// Takes the next one.
+    fn next_element(&mut self) -> Option<At<'d, 'a>>
+        ensures taken { YieldsFirstBy child_at (λ w. w.left) self.old result self.new }
+        ensures there { IfSome result (λ at. at.doc.now ≡ self.old.document) }
+        ensures document { self.new.document ≡ self.old.document }
+    {
+        let doc = self.doc;
+        let Some(node) = first_element(doc, self.next) else {
+            self.next = None;
+            return None;
+        };
+        self.next = doc.next(node);
+        Some(At { doc, node })
     }
 
     /// Takes the next one, which has to have this name.
@@ -195,5 +211,50 @@ impl<'d, 'a> ElementChildren<'d, 'a> {
         }
         self.take(name)?;
         self.end()
+    }
+}
+
+/// The element children of an element that are left, in document order, as an iterator.
+#[derive(Drop)]
+pub struct Elements<'d, 'a> {
+    left: ElementChildren<'d, 'a>,
+}
+
+impl<'d, 'a> Model for Elements<'d, 'a> {
+    ghost use Rattle.tree_read.specs.Walk.{ChildrenView, coded_children};
+
+    ghost Value = { ChildrenView };
+
+    ghost coded = { coded_children };
+
+    ghost view = { λ e. e.left };
+}
+
+impl<'d, 'a> Elements<'d, 'a> {
+    /// All the element children of an element.
+    pub fn of(at: At<'d, 'a>) -> Elements<'d, 'a>
+        ensures document { result.document ≡ at.entry.doc.now }
+        ensures left { result.left ≡ element_children (tree_of at.entry) at.entry.node.0 }
+    {
+        Elements {
+            left: ElementChildren::of(at),
+        }
+    }
+}
+
+impl<'d, 'a> Iterator for Elements<'d, 'a> {
+    type Item = At<'d, 'a>;
+
+    ghost use Rattle.std.specs.Iterator.{YieldsFirstBy, item_count};
+    ghost use Rattle.tree_read.specs.Walk.{child_at};
+
+    ghost next_gives = { λ old result new. YieldsFirstBy child_at (λ w. w.left) old result new
+        × (new.document ≡ old.document) × IfSome result (λ at. at.doc.now ≡ old.document) };
+
+    ghost remaining = { item_count (λ w. w.left) };
+
+    /// The next one.
+    fn next(&mut self) -> Option<At<'d, 'a>> {
+        self.left.next_element()
     }
 }

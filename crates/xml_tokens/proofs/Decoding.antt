@@ -31,7 +31,7 @@ named_run (b ∷ name) seen rest h =
     is_not true k = absurd (let clash : false ≡ true = k in cc)
     is_not false k = refl
 
-abbrev reference_name : Reference → List ℕ
+abbrev pub reference_name : Reference → List ℕ
 reference_name LessThan = codes "lt"
 reference_name GreaterThan = codes "gt"
 reference_name Ampersand = codes "amp"
@@ -40,7 +40,7 @@ reference_name QuotationMark = codes "quot"
 reference_name (Decimal digits) = codes "#" ++ digits
 reference_name (Hexadecimal digits) = codes "#x" ++ digits
 
-printed : (r : Reference) (rest : List ℕ) → print_reference r ++ rest ≡ ampersand ∷ (reference_name r ++ semicolon ∷ rest)
+pub printed : (r : Reference) (rest : List ℕ) → print_reference r ++ rest ≡ ampersand ∷ (reference_name r ++ semicolon ∷ rest)
 printed LessThan rest = refl
 printed GreaterThan rest = refl
 printed Ampersand rest = refl
@@ -66,7 +66,7 @@ digit_no_semicolon b h = grind arith
 hexdigit_no_semicolon : (b : ℕ) → is_ascii_hexdigit b ≡ true → not (b == semicolon) ≡ true
 hexdigit_no_semicolon b h = grind arith
 
-name_has_none : (r : Reference) → IsReference r → AllPass (λ b. not (b == semicolon)) (reference_name r)
+pub name_has_none : (r : Reference) → IsReference r → AllPass (λ b. not (b == semicolon)) (reference_name r)
 name_has_none LessThan v = refl
 name_has_none GreaterThan v = refl
 name_has_none Ampersand v = refl
@@ -82,7 +82,7 @@ no_x (b ∷ digits) some h = first b (both_true (is_ascii_digit b) (list_all is_
     first : (b : ℕ) → is_ascii_digit b ≡ true → ((120 == b) && true) ≡ false
     first b k = grind arith
 
-name_means : (r : Reference) → IsReference r → referred_character (reference_name r) ≡ character_of r
+pub name_means : (r : Reference) → IsReference r → referred_character (reference_name r) ≡ character_of r
 name_means LessThan v = refl
 name_means GreaterThan v = refl
 name_means Ampersand v = refl

@@ -1,3 +1,4 @@
+pub mod Adding
 pub mod AttributeReadings
 mod BareTags
 pub mod Boundaries
@@ -6,7 +7,12 @@ pub mod Faults
 pub mod Finding
 pub mod HeadReadings
 pub mod MarkReadings
+pub mod SplitNames
 pub mod TagReadings
+pub mod TextMeanings
+pub mod TextParts
+pub mod TextReadings
+pub mod TextRuns
 pub mod TokenReadings
 pub mod Translating
 pub mod ValueReadings

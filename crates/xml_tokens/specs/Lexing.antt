@@ -232,10 +232,11 @@ NoProcessingInstruction bytes = (target value behind : List ℕ) → ¬ (Process
 abbrev pub NoToken : List ℕ → Type 0
 NoToken bytes = (token : Token) (behind : List ℕ) → ¬ (BeginsWith bytes token behind)
 
--- the answer is the token that begins the bytes with what follows it, and none where no valid token begins them
+-- the answer is the token that begins the bytes with what follows it, which is no tag with attributes, and none where no
+-- valid token begins them
 abbrev pub ReadsToken : List ℕ → Option (Markup × Bor (List ℕ)) → Type 0
 ReadsToken bytes answer = MatchOption answer (NoToken bytes)
-    (λ found. (token : Token) × Shows token found.0 × BeginsWith bytes token found.1.now)
+    (λ found. (token : Token) × ((attributes : List tree.Attribute) → Shows token found.0 attributes) × BeginsWith bytes token found.1.now)
 
 -- memory ran out, or the bytes are not XML, which says this
 abbrev pub IsFaultFor : Type 0 → TokenFault → Type 0

@@ -3,3 +3,5 @@ pub mod Lexing
 pub mod Markup
 pub mod Views
 pub mod Decoded
+pub mod Texts
+pub mod Names

@@ -7,7 +7,7 @@ ghost use Rattle.std.specs.Str.{str_to_ascii_lowercase};
 ghost use Rattle.xml_spec.specs.Characters.{at_colon};
 ghost use Rattle.xml_spec.specs.Syntax.{Token};
 ghost use Rattle.xml_spec.specs.Laws.{BeginsWith};
-ghost use Rattle.xml_tokens.specs.Views.{Shows};
+ghost use Rattle.xml_tokens.specs.Views.{Grows, added, Shows};
 ghost use Rattle.xml_tokens.specs.Markup.{NoTokens};
 ghost use Rattle.xml_tokens.specs.Lexing.{CharactersAt, NoCharacters, CommentAt, NoComment, ProcessingInstructionAt, NoProcessingInstruction, ReadsToken};
 
@@ -15,9 +15,8 @@ use crate::class::{Class, split_run};
 use crate::marks::{has_mark, split_mark, strip_byte, strip_word};
 use crate::parts::name;
 use crate::tags::{end_tag, open_tag};
-use crate::token::{Markup, TokenFault};
+use crate::token::{Attribute, Markup, TokenFault};
 use crate::values::reference;
-use std::alloc::Global;
 
 /// A run of characters, and what follows it.
 fn characters<'a>(rest: &'a str) -> Option<(&'a str, &'a str)>
@@ -104,16 +103,22 @@ fn end_token<'a>(rest: &'a str) -> Option<(Markup<'a>, &'a str)>
     Some((Markup::End { name }, behind))
 }
 
-/// The first token of the rest, and what follows it.
+/// The first token of the rest, and what follows it. The attributes of a tag are put behind those of the list; those
+/// of an invalid tag may be put there too.
 ///
 /// # Errors
 ///
 /// `Invalid`: no valid tokens are written so. `NoMemory`.
-pub fn next_token<'a>(alloc: Global, rest: &'a str) -> Result<(Markup<'a>, &'a str), TokenFault>
+pub fn next_token<'a>(
+    rest: &'a str,
+    attributes: &mut Vec<Attribute<'a>>,
+) -> Result<(Markup<'a>, &'a str), TokenFault>
     requires some { 0 < length rest.now }
 
     // What is read is a valid token, as long as it can be, and what follows it is given back.
-    ensures read { IfOk result (λ found. (token : Token) × Shows token found.0 × BeginsWith rest.now token found.1.now) }
+    ensures read { IfOk result (λ found. (token : Token) × Shows token found.0 (added attributes.old.items attributes.new.items)
+        × BeginsWith rest.now token found.1.now) }
+    ensures grows { Grows attributes.old.items attributes.new.items }
     ensures refused { IfErr result (λ e. (e ≡ TokenFault.NoMemory) ⊎ ((e ≡ TokenFault.Invalid) × NoTokens rest.now)) }
 {
     let Some(tag) = strip_byte(rest, b'<') else {
@@ -128,5 +133,5 @@ pub fn next_token<'a>(alloc: Global, rest: &'a str) -> Result<(Markup<'a>, &'a s
     if let Some(inner) = strip_byte(tag, b'!') {
         return section_or_comment(inner).ok_or(TokenFault::Invalid);
     }
-    open_tag(alloc, tag)
+    open_tag(tag, attributes)
 }

@@ -6,18 +6,22 @@ mod head;
 mod lex;
 mod lines;
 mod marks;
+mod name;
 mod parts;
 mod settings;
 mod tags;
 #[cfg(test)]
 mod tests;
+mod text;
 mod token;
 mod value;
 mod values;
 
 pub use head::behind_head;
 pub use lex::next_token;
-pub use lines::put_line_ends;
+pub use lines::{put_line_ends, strip_line_ends};
+pub use name::WrittenName;
 pub use tags::bare_start;
+pub use text::{ElementText, TextRun};
 pub use token::{Attribute, Markup, TokenFault};
 pub use value::AttributeValue;

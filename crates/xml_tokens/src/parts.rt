@@ -12,6 +12,7 @@ ghost use Rattle.xml_tokens.specs.Lexing.{is_ascii_name_byte, NameAt, EqualsAt, 
 
 use crate::class::{Class, begins_name, split_run};
 use crate::marks::strip_byte;
+use crate::name::WrittenName;
 use crate::token::{Attribute, TokenFault};
 use crate::values::value;
 
@@ -121,6 +122,7 @@ fn assigned<'a>(rest: &'a str) -> Result<(Attribute<'a>, &'a str), TokenFault>
         return Err(TokenFault::Invalid);
     };
     let (value, behind) = value(quote)?;
+    let name = WrittenName::new(name);
     Ok((Attribute { name, value }, behind))
 }
 

@@ -7,15 +7,15 @@ ghost use Rattle.xml_spec.specs.Ascii.{less_than};
 ghost use Rattle.xml_spec.specs.Bytes.{begins_with};
 ghost use Rattle.xml_spec.specs.Syntax.{is_white, Token};
 ghost use Rattle.xml_spec.specs.Laws.{BeginsWith};
-ghost use Rattle.xml_tokens.specs.Views.{attribute_view, Shows};
+ghost use Rattle.xml_tokens.specs.Views.{Grows, added, Shows};
 ghost use Rattle.xml_tokens.specs.Lexing.{is_name_byte, BeginsTag, NameAt, AttributesAt, EndAt, NoAttributes, NoEnd, NoToken, IsFaultFor};
 ghost use Rattle.xml_tokens.specs.Markup.{bare_tag, NoBareStart};
 
 use crate::class::{Class, begins_name, split_run};
 use crate::marks::strip_byte;
+use crate::name::WrittenName;
 use crate::parts::{assignment, name};
 use crate::token::{Attribute, Markup, TokenFault};
-use std::alloc::Global;
 
 /// Whether the text begins with a sign that closes a tag.
 fn begins_close(rest: &str) -> bool
@@ -28,22 +28,22 @@ fn begins_close(rest: &str) -> bool
     }
 }
 
-/// The attributes of a tag, and what follows them and the white space behind them.
+/// Puts the attributes of a tag behind those of a list, and gives what follows them and the white space behind them.
 ///
 /// # Errors
 ///
 /// `Invalid`: what stands there is no such list. `NoMemory`.
 #[inline(never)]
-fn listed<'a>(alloc: Global, whole: &'a str) -> Result<(Vec<Attribute<'a>>, &'a str), TokenFault>
-    ensures reading { IfOk result (λ found. AttributesAt whole.now (map attribute_view found.0.items) found.1.now) }
+fn listed<'a>(whole: &'a str, attributes: &mut Vec<Attribute<'a>>) -> Result<&'a str, TokenFault>
+    ensures grows { Grows attributes.old.items attributes.new.items }
+    ensures reading { IfOk result (λ behind. AttributesAt whole.now (added attributes.old.items attributes.new.items) behind.now) }
     ensures refused { IfErr result (IsFaultFor (NoAttributes whole.now)) }
 {
-    let mut attributes = Vec::new(alloc);
     let mut rest = whole;
     'tag: loop {
         let (space, at) = split_run(rest, Class::White);
         if !begins_name(at) {
-            return Ok((attributes, at));
+            return Ok(at);
         }
         let (attribute, behind) = assignment(space, at)?;
         attributes.push(attribute)?;
@@ -51,23 +51,25 @@ fn listed<'a>(alloc: Global, whole: &'a str) -> Result<(Vec<Attribute<'a>>, &'a 
     }
 }
 
-/// The attributes of a tag, and what follows them and the white space behind them: there are none where the tag closes.
+/// Puts the attributes of a tag behind those of a list, and gives what follows them and the white space behind them: there
+/// are none where the tag closes.
 ///
 /// # Errors
 ///
 /// `Invalid`: what stands there is no such list. `NoMemory`.
 #[inline(always)]
 fn attributes<'a>(
-    alloc: Global,
     whole: &'a str,
-) -> Result<(Vec<Attribute<'a>>, &'a str), TokenFault>
-    ensures reading { IfOk result (λ found. AttributesAt whole.now (map attribute_view found.0.items) found.1.now) }
+    attributes: &mut Vec<Attribute<'a>>,
+) -> Result<&'a str, TokenFault>
+    ensures grows { Grows attributes.old.items attributes.new.items }
+    ensures reading { IfOk result (λ behind. AttributesAt whole.now (added attributes.old.items attributes.new.items) behind.now) }
     ensures refused { IfErr result (IsFaultFor (NoAttributes whole.now)) }
 {
     if begins_close(whole) {
-        return Ok((Vec::new(alloc), whole));
+        return Ok(whole);
     }
-    listed(alloc, whole)
+    listed(whole, attributes)
 }
 
 /// What follows the sign that closes the tag of an empty element.
@@ -78,53 +80,60 @@ fn strip_empty_close<'a>(rest: &'a str) -> Option<&'a str>
     strip_byte(sign, b'>')
 }
 
-/// The tag of this name, which stands behind `<` and in front of the given text, and what follows it.
+/// The tag of this name, which stands behind `<` and in front of the given text, and what follows it. Its attributes are put
+/// behind those of the list.
 ///
 /// # Errors
 ///
 /// `Invalid`: no valid token is written so. `NoMemory`.
 #[inline(never)]
 fn named_tag<'a>(
-    alloc: Global,
     name: &'a str,
     given: &'a str,
+    list: &mut Vec<Attribute<'a>>,
 ) -> Result<(Markup<'a>, &'a str), TokenFault>
     requires named { NameAt (name.now ++ given.now) name.now given.now }
     requires begins { BeginsTag (name.now ++ given.now) }
-    ensures reading { IfOk result (λ found. (token : Token) × Shows token found.0 × BeginsWith (less_than ∷ (name.now ++ given.now)) token found.1.now) }
+    ensures grows { Grows list.old.items list.new.items }
+    ensures reading { IfOk result (λ found. (token : Token) × Shows token found.0 (added list.old.items list.new.items)
+        × BeginsWith (less_than ∷ (name.now ++ given.now)) token found.1.now) }
     ensures refused { IfErr result (IsFaultFor (NoToken (less_than ∷ (name.now ++ given.now)))) }
 {
-    let (attributes, close) = attributes(alloc, given)?;
+    let close = attributes(given, list)?;
+    let name = WrittenName::new(name);
     if let Some(behind) = strip_byte(close, b'>') {
-        return Ok((Markup::Start { name, attributes }, behind));
+        return Ok((Markup::Start { name }, behind));
     }
     match strip_empty_close(close) {
-        Some(behind) => Ok((Markup::Empty { name, attributes }, behind)),
+        Some(behind) => Ok((Markup::Empty { name }, behind)),
         None => Err(TokenFault::Invalid),
     }
 }
 
-/// The start tag or the tag of an empty element behind `<`, and what follows it.
+/// The start tag or the tag of an empty element behind `<`, and what follows it. Its attributes are put behind those
+/// of the list.
 ///
 /// # Errors
 ///
 /// `Invalid`: no valid token is written so. `NoMemory`.
 pub(crate) fn open_tag<'a>(
-    alloc: Global,
     rest: &'a str,
+    attributes: &mut Vec<Attribute<'a>>,
 ) -> Result<(Markup<'a>, &'a str), TokenFault>
     requires begins { BeginsTag rest.now }
-    ensures reading { IfOk result (λ found. (token : Token) × Shows token found.0 × BeginsWith (less_than ∷ rest.now) token found.1.now) }
+    ensures grows { Grows attributes.old.items attributes.new.items }
+    ensures reading { IfOk result (λ found. (token : Token) × Shows token found.0 (added attributes.old.items attributes.new.items)
+        × BeginsWith (less_than ∷ rest.now) token found.1.now) }
     ensures refused { IfErr result (IsFaultFor (NoToken (less_than ∷ rest.now))) }
 {
     let Some((name, given)) = name(rest) else {
         return Err(TokenFault::Invalid);
     };
     if let Some(behind) = strip_byte(given, b'>') {
-        let attributes = Vec::new(alloc);
-        return Ok((Markup::Start { name, attributes }, behind));
+        let name = WrittenName::new(name);
+        return Ok((Markup::Start { name }, behind));
     }
-    let (token, behind) = named_tag(alloc, name, given)?;
+    let (token, behind) = named_tag(name, given, attributes)?;
     Ok((token, behind))
 }
 

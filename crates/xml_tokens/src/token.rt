@@ -1,5 +1,6 @@
 // What is read of a document.
 
+use crate::name::WrittenName;
 use crate::value::AttributeValue;
 use std::alloc::{AllocError, AllocFailed};
 
@@ -7,7 +8,7 @@ use std::alloc::{AllocError, AllocFailed};
 #[derive(Debug, Drop)]
 pub struct Attribute<'a> {
     /// The name as it is written.
-    pub name: &'a str,
+    pub name: WrittenName<'a>,
     /// The value.
     pub value: AttributeValue<'a>,
 }
@@ -30,19 +31,15 @@ pub enum Markup<'a> {
         /// What stands behind the name and the white space.
         value: &'a str,
     },
-    /// A start tag.
+    /// A start tag. Its attributes are put into the list that is lent.
     Start {
         /// The name of the element.
-        name: &'a str,
-        /// Its attributes in written order.
-        attributes: Vec<Attribute<'a>>,
+        name: WrittenName<'a>,
     },
-    /// The tag of an element without content.
+    /// The tag of an element without content, and likewise.
     Empty {
         /// The name of the element.
-        name: &'a str,
-        /// Its attributes in written order.
-        attributes: Vec<Attribute<'a>>,
+        name: WrittenName<'a>,
     },
     /// An end tag.
     End {

@@ -1,6 +1,5 @@
-use Rattle.saml_tree.specs.Views.{row_views}
 use Rattle.saml_tree.proofs.Walks.{Walk}
 use Rattle.saml_tree.proofs.names.resolve.Given as goal
 
-abbrev pub invariant-loop-row : goal.invariant-loop-row
-invariant-loop-row l = Walk (row_views l.rows) l.row-index l.spaces l.named.items
+abbrev pub invariant-loop-k : goal.invariant-loop-k
+invariant-loop-k l = Walk l.rows.rows l.k l.spaces l.numbers.items l.named.items

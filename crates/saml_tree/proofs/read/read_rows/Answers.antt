@@ -1,11 +1,14 @@
-use Rattle.std.proofs.Common.{rules, ◌≡◌, false, ◌∷◌, ◌++◌, [], length, sym, ◌∙◌, ap, subst, arith}
+use Rattle.std.proofs.Common.{List, ℕ, rules, ◌≡◌, false, ◌∷◌, ◌++◌, [], length, sym, ◌∙◌, ap, subst, arith}
 use Rattle.std.proofs.lemmas.Result.{err_from_is_err_and}
 use Rattle.saml_tree.specs.RowTests.{is_small_token}
 use Rattle.saml_tree.specs.Links.{depths_of, AreLinkedSoFar}
-use Rattle.saml_tree.specs.Views.{outline_view, row_views, links_of}
+use Rattle.tree_rows.specs.Rows.{Row}
+use Rattle.saml_tree.specs.Run.{step}
+use Rattle.saml_tree.specs.Views.{outline_view, builder_view}
+use Rattle.xml_spec.specs.Laws.{BeginsWith}
 use Rattle.xml_spec.specs.Syntax.{print_tokens}
 use Rattle.saml_tree.proofs.Reading.{after, Progress, reads_more, reads_printed, more_progress, no_place, no_tokens, not_complete}
-use Rattle.saml_tree.proofs.Following.{more_small, more_follows, builder_depth, none_open, no_items, token_length, empty_list, no_token, not_taken, rows_read, rows_within, not_kept}
+use Rattle.saml_tree.proofs.Following.{still_linked, more_small, more_follows, builder_depth, none_open, no_items, empty_list, no_token, not_taken, rows_read, rows_within, not_kept}
 use Rattle.saml_tree.proofs.read.read_rows.Goals as goal
 
 pub take-requires-clause-tail : goal.take-requires-clause-tail
@@ -16,7 +19,7 @@ take-requires-clause-tail c =
 pub take-requires-clause-token : goal.take-requires-clause-token
 take-requires-clause-token c =
     let found = c.in_ok-markup.ensures.read in
-    (found.0, found.1, c.in_ok-markup.behind.now, found.2.printed)
+    (found.0, c.next_token.new.self.pending, found.1, c.in_ok-markup.behind.now, found.2.printed)
 
 pub fault_beyond-requires : goal.fault_beyond-requires
 fault_beyond-requires c =
@@ -47,7 +50,7 @@ returns-in_err-take-clause-err c =
     let p = err_from_is_err_and c.from_residual-in_err-take.result c.from_residual-in_err-take.ensures.1 in
     rw (p.1, p.2) (not_taken c.args.text.now _ _ c.in_err-take.ensures.err
     (λ none. no_place c.args.text.now c.args.rest.now left c.in_ok-markup.behind.now read.0 (outline_view c.tokens.outline) found.0
-    c.requires.head read.1 found.2 (none found.0 found.1)))
+    c.requires.head read.1 found.2 (none found.0 _ found.1)))
 
 pub returns-then-not-small-clause-err : goal.returns-then-not-small-clause-err
 returns-then-not-small-clause-err c =
@@ -59,10 +62,10 @@ returns-then-not-small-clause-err c =
     let found = c.in_ok-markup.ensures.read in
     let depth : length (after text rest ts).open_elements ≡ c.depth.result = sym read.1.level ∙ sym c.depth.ensures in
     let beyond = more_small text rest ts found.0 false read.2.small
-    (ap (λ d. is_small_token d found.0) depth ∙ c.is_small-small.ensures found.0 found.1 ∙ c.if-not-small.true) in
+    (ap (λ d. is_small_token d found.0) depth ∙ c.is_small-small.ensures found.0 _ found.1 c.pending.ensures ∙ c.if-not-small.true) in
     not_kept text rest behind (ts ++ found.0 ∷ []) (outline_view c.take.new.self) c.fault_beyond.result c.requires.head
     (more_progress text rest c.tokens.left.now behind ts (outline_view c.tokens.outline) (outline_view c.take.new.self) found.0
-    read.1 found.2 (c.in_ok-take.ensures.ok found.0 found.1)) beyond c.fault_beyond.ensures
+    read.1 found.2 (c.in_ok-take.ensures.ok found.0 _ found.1)) beyond c.fault_beyond.ensures
 
 pub take-requires-in-tokens-clause-few : goal.take-requires-in-tokens-clause-few
 take-requires-in-tokens-clause-few c =
@@ -85,15 +88,18 @@ tokens-preserved c =
     sym read.1.level ∙ sym c.depth.ensures in
     record {
       utf8 = search rules;
-      linked = c.in_ok-take-2.ensures.linked c.tokens.invariant.linked;
+      linked = c.in_ok-take-2.ensures.linked (still_linked c.tokens.builder c.next_token.new.self c.next_token.ensures.rows c.next_token.ensures.links c.tokens.invariant.linked);
+      clear = c.in_ok-take-2.ensures.clear;
+      behind = c.in_ok-take-2.ensures.behind;
       outline = c.take.ensures.text ∙ c.tokens.invariant.outline;
       read = (
         read.0 ++ found.0 ∷ [],
         more_progress c.args.text.now c.args.rest.now left behind read.0 (outline_view c.tokens.outline) (outline_view c.take.new.self) found.0
-            read.1 found.2 (c.in_ok-take.ensures.ok found.0 found.1),
+            read.1 found.2 (c.in_ok-take.ensures.ok found.0 _ found.1),
         more_follows c.args.text.now c.args.rest.now read.0 found.0 c.tokens.builder c.take-in-tokens.new.self
-            read.2 (ap (λ d. is_small_token d found.0) depth ∙ c.is_small-small.ensures found.0 found.1 ∙ c.if-not-small.false)
-            (c.in_ok-take-2.ensures.ok found.0 found.1 (token_length left behind found.0 found.2)),
+            read.2 (ap (λ d. is_small_token d found.0) depth ∙ c.is_small-small.ensures found.0 _ found.1 c.pending.ensures ∙ c.if-not-small.false)
+            (ap (λ (rs : List Row). step (record (builder_view c.tokens.builder) { rows = rs }) found.0) (sym c.next_token.ensures.rows)
+            ∙ c.in_ok-take-2.ensures.ok found.0 found.1 (subst (λ (x : List ℕ). BeginsWith x found.0 behind) (sym c.tokens.invariant.behind) found.2)),
       );
     }
 
@@ -126,5 +132,5 @@ returns-clause-linked c =
     let closed : length builder.open_elements.items ≡ 0 =
     builder_depth builder (after c.args.text.now c.args.rest.now read.0) read.2.view ∙ sym read.1.level
     ∙ none_open (outline_view c.tokens.outline) (sym c.is_complete.ensures ∙ c.if-not-is_complete.false) in
-    subst (λ numbers. AreLinkedSoFar (depths_of (row_views builder.rows.items)) (links_of builder.rows.items) numbers)
+    subst (λ numbers. AreLinkedSoFar (depths_of builder.rows.rows) builder.rows.links numbers)
     (no_items builder.open_elements.items closed) c.tokens.invariant.linked

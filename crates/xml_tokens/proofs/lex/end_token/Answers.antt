@@ -10,6 +10,6 @@ pub returns : goal.returns
 returns c =
     let at = c.in_ok-name.ensures in (
       EndTag c.in_ok-name.name.now at.space,
-      refl,
+      λ attributes. refl,
       end_begins c.args.rest.now c.in_ok-name.name.now c.in_ok-name.behind.now at,
     )

@@ -10,6 +10,6 @@ pub returns : goal.returns
 returns c =
     let at = c.in_ok-target.ensures in (
       Alone (ProcessingInstruction c.in_ok-target.target.now at.space c.in_ok-target.value.now),
-      (refl, refl),
+      λ attributes. (refl, refl),
       processing_begins c.args.rest.now c.in_ok-target.target.now c.in_ok-target.value.now c.in_ok-target.behind.now at,
     )

@@ -10,7 +10,7 @@ returns-in_err-text c =
 pub returns-in-Some : goal.returns-in-Some
 returns-in-Some c = (
   Alone (Section c.in_ok-text.text.now),
-  refl,
+  λ attributes. refl,
   section_begins c.args.rest.now c.in-Some.inner.now c.in_ok-text.text.now c.in_ok-text.behind.now c.in-Some.ensures c.in_ok-text.ensures,
 )
 
@@ -25,6 +25,6 @@ returns-in_err-text-2 c =
 pub returns : goal.returns
 returns c = (
   Alone (CommentItem c.in_ok-text-2.text.now),
-  refl,
+  λ attributes. refl,
   comment_begins c.args.rest.now c.in_ok-inner.inner.now c.in_ok-text-2.text.now c.in_ok-text-2.behind.now c.in_ok-inner.ensures c.in_ok-text-2.ensures,
 )

@@ -7,13 +7,13 @@ pub returns-in-Some : goal.returns-in-Some
 returns-in-Some c =
     let at = c.in-Some.ensures in (
       Alone (Refers at.reference),
-      sym at.meant,
+      λ attributes. sym at.meant,
       reference_begins_with c.args.rest.now c.in-Some.character c.in-Some.behind.now at,
     )
 
 pub returns : goal.returns
 returns c = (
   Alone (Characters c.in_ok-text.text.now),
-  refl,
+  λ attributes. refl,
   characters_begin c.args.rest.now c.in_ok-text.text.now c.in_ok-text.behind.now c.in_ok-text.ensures,
 )

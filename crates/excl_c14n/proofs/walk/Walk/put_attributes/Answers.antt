@@ -10,15 +10,15 @@ use Rattle.excl_c14n.specs.NodeByNode.{scope_inside}
 use Rattle.excl_c14n.proofs.Tags.{print_of, is_found, one_more_put, one_put_partly, all_put, leads_to}
 use Rattle.excl_c14n.proofs.walk.Walk.put_attributes.Goals as goal
 
-pub returns-in_err-order-clause-err : goal.returns-in_err-order-clause-err
-returns-in_err-order-clause-err g c = on_err c.from_residual.result (no_part g.met.O.Octets.composes c.args.out.now _)
+pub returns-in_err-put_in_order-clause-err : goal.returns-in_err-put_in_order-clause-err
+returns-in_err-put_in_order-clause-err g c = on_err c.from_residual.result (no_part g.met.O.Octets.composes c.args.out.now _)
 
 pub loop-i-init : goal.loop-i-init
 loop-i-init g c =
     let tree = c.args.self.now.doc.now.tree in
     let attributes = written_attributes (scope_inside tree c.args.n.0) (attributes_in (from_node tree c.args.n.0)) in
     record {
-      lead = leads_to (attribute_at tree c.args.n.0) c.deref-i-items.result.now c.in_ok-order.order.items attributes c.deref-i-items.ensures.value c.in_ok-order.ensures;
+      lead = leads_to (attribute_at tree c.args.n.0) c.deref-i-items.result.now c.put_in_order.new.order.numbers.items attributes c.deref-i-items.ensures.value c.in_ok-put_in_order.ensures;
       written = underway g.met.O.Octets.composes c.args.out.now (flat_map print_of attributes);
     }
 

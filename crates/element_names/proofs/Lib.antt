@@ -1,0 +1,7 @@
+pub mod Bindings
+pub mod TableIndexing
+mod NamedElements
+mod NameKeys
+mod Differing
+mod QualifiedParts
+mod Lists

@@ -1,0 +1,4 @@
+pub mod Tables
+pub mod Spaces
+pub mod Keys
+pub mod Named

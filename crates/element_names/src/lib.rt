@@ -1,0 +1,28 @@
+//! The names of an element (Namespaces in XML 1.0): whether they keep the rules, and which namespace each is in.
+//!
+//! ```text
+//! let mut spaces = Spaces::new(alloc)?;               // outside a document's root
+//! spaces.enter(alloc, attributes)?;                   // what an element declares is in force
+//! let names = element_names(alloc, &spaces, name, attributes, &mut room, &mut numbers)?;
+//! spaces.table.text(names.element)                    // the namespace of its name
+//! spaces.leave(depth);                                // behind the elements that are deeper
+//! ```
+//!
+//! Each namespace has a number in a table, so that two names are in one namespace where their numbers are the same. The
+//! numbers of all attributes stand in one list.
+#![tactic(auto)]
+
+mod distinct;
+mod fault;
+mod names;
+mod qualified;
+mod spaces;
+mod table;
+#[cfg(test)]
+mod tests;
+
+pub use fault::NameFault;
+pub use names::{Room, RowNames, element_names};
+pub use qualified::is_declaration;
+pub use spaces::{NONE, Spaces, XMLNS};
+pub use table::Table;

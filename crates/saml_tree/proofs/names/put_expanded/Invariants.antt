@@ -1,6 +1,0 @@
-use Rattle.std.proofs.Common.{◌≡◌, take}
-use Rattle.saml_tree.specs.Resolved.{proper_keys}
-use Rattle.saml_tree.proofs.names.put_expanded.Given as goal
-
-abbrev pub invariant-loop-name : goal.invariant-loop-name
-invariant-loop-name l = l.keys.items ≡ proper_keys (take l.name-index l.names)

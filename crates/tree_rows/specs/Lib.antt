@@ -1,0 +1,4 @@
+pub mod Rows
+pub mod Shaped
+pub mod Views
+pub mod Kept
