@@ -2,4 +2,5 @@ pub mod Alone
 pub mod Answering
 pub mod Checking
 pub mod Completeness
+mod Passed
 pub mod Serving

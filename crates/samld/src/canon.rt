@@ -1,6 +1,6 @@
 // What `canon` answers for the bytes of a file.
 
-ghost use Rattle.std.specs.Prelude.{◌≡◌, ◌≢◌, ◌≤◌, length, IfSome};
+ghost use Rattle.std.specs.Prelude.{◌≡◌, ◌≢◌, ◌≤◌, [], false, length, IfSome};
 ghost use Rattle.std.specs.Option.{option_map};
 ghost use Rattle.saml_tree.specs.Elements.{IsElement};
 ghost use Rattle.saml_outside.specs.Counts.{Rose};
@@ -10,10 +10,11 @@ ghost use Rattle.samld.specs.Running.{EndsWith, IsVerdictOf};
 ghost use Rattle.xml_spec.specs.declared.TheConstants.{MAX_DOCUMENT_LENGTH};
 
 use crate::answer::Answer;
+use crate::printing::SinkOctets;
 use crate::status::Status;
 use excl_c14n::canon_into;
 use fault_verdicts::of_document;
-use saml_outside::{Blob, Sink, Texts, Verdict};
+use saml_outside::{NoMemory, Sink, Texts, Verdict};
 use saml_tree::{Doc, NodeNo, read_document};
 use std::alloc::Global;
 
@@ -41,7 +42,34 @@ fn refuse<K: Sink>(alloc: Global, verdict: Option<Verdict>, out: &mut K) -> Stat
     }
 }
 
-/// Prints the canonical form of an element.
+/// Puts the canonical form of an element into a sink.
+fn put_whole<K: Sink>(
+    alloc: Global,
+    doc: &Doc<'_>,
+    node: NodeNo,
+    place: &mut SinkOctets<'_, K>,
+) -> Status
+    requires element { IsElement doc.now.tree node.0 }
+    requires none { place.old.kept.now.items ≡ [] }
+    requires whole { place.old.failed ≡ false }
+    ensures same_reference { place.new.out.ghost_name ≡ place.old.out.ghost_name }
+    ensures ends { EndsWith (OfForm doc.now.tree node.0) (K.taken place.old.out.now) (K.taken place.new.out.now) result }
+    ensures no_read_fault { result ≢ Status.ReadFault }
+    ensures write_fault { result ≡ Status.WriteFault → Rose (K.faults_of place.old.out.now) (K.faults_of place.new.out.now) }
+    ensures never_falls { K.faults_of place.old.out.now ≤ K.faults_of place.new.out.now }
+{
+    let none = Texts::new(alloc);
+    match canon_into(alloc, doc, node, None, &none, place) {
+        Ok(()) => match place.flush() {
+            Ok(()) => Status::Done,
+            Err(NoMemory) => Status::WriteFault,
+        },
+        Err(NoMemory) if place.failed => Status::WriteFault,
+        Err(NoMemory) => Status::NoMemory,
+    }
+}
+
+/// Prints the canonical form of an element, piece by piece. Where memory runs out, a part of it may have been printed.
 fn put_form<K: Sink>(alloc: Global, doc: &Doc<'_>, node: NodeNo, out: &mut K) -> Status
     requires { IsElement doc.now.tree node.0 }
     ensures ends { EndsWith (OfForm doc.now.tree node.0) (K.taken out.old) (K.taken out.new) result }
@@ -49,11 +77,9 @@ fn put_form<K: Sink>(alloc: Global, doc: &Doc<'_>, node: NodeNo, out: &mut K) ->
     ensures write_fault { result ≡ Status.WriteFault → Rose (K.faults_of out.old) (K.faults_of out.new) }
     ensures never_falls { K.faults_of out.old ≤ K.faults_of out.new }
 {
-    let mut form = Blob::new(alloc);
-    if canon_into(alloc, doc, node, None, &Texts::new(alloc), &mut form).is_err() {
-        return Status::NoMemory;
-    }
-    Answer::Printed(form).print(alloc, out)
+    let mut room = Vec::new(alloc);
+    let mut place = SinkOctets::new(out, &mut room);
+    put_whole(alloc, doc, node, &mut place)
 }
 
 /// What `canon` prints of a document.

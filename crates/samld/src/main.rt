@@ -14,6 +14,7 @@ mod check_tests;
 mod command;
 mod fs_files;
 mod limits;
+mod printing;
 mod run;
 #[cfg(test)]
 mod run_tests;
