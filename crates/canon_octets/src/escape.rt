@@ -1,11 +1,13 @@
 //! Characters that are written as references: Canonical XML 1.0, 2.3.
-ghost use Rattle.std.specs.Prelude.{◌≡◌, ℕ, [], ◌∷◌, MatchOption, OnOk, OnErr, IsTrue};
+ghost use Rattle.std.specs.Prelude.{◌≡◌, ℕ, ◌≤◌, [], ◌∷◌, length, take, drop, MatchOption, OnOk, OnErr, IsTrue, IsFalse};
 ghost use Rattle.std.specs.List.{flat_map};
+ghost use Rattle.xml_spec.specs.Bytes.{AllPass, begins_with};
 ghost use Rattle.xml_spec.specs.Canonical.{escape_text, escape_value};
 ghost use Rattle.canon_octets.specs.Places.{AppendsPart};
-ghost use Rattle.canon_octets.specs.Escapes.{escape_byte};
+ghost use Rattle.canon_octets.specs.Escapes.{escape_byte, is_kept};
 
 use crate::octets::Octets;
+use byte_runs::{ByteClass, run_len};
 use owned_values::NoMemory;
 
 /// Where a character stands.
@@ -16,6 +18,7 @@ enum Place {
 }
 
 /// The reference that stands for a byte; none where the byte is written as it is.
+#[inline(always)]
 fn reference(place: Place, b: u8) -> Option<&'static [u8]>
     ensures { MatchOption result (escape_byte place b ≡ b ∷ []) (λ bytes. escape_byte place b ≡ bytes.now) }
 {
@@ -31,21 +34,74 @@ fn reference(place: Place, b: u8) -> Option<&'static [u8]>
     }
 }
 
-/// Appends `bytes`, each as it is written in this place: in runs of those that are written as they are.
+/// The bytes that are written as they are in a text. Most lie above the others, which one comparison tells; the others are
+/// told by `|`, without a branch, so that blocks of bytes are compared in vectors. So it is in `InValue` too.
+struct InText;
+
+impl ByteClass for InText {
+    ghost use Rattle.canon_octets.specs.Escapes.{is_kept_in_text};
+
+    ghost contains = { λ _ b. is_kept_in_text b };
+
+    #[inline(always)]
+    fn has(&self, byte: u8) -> bool {
+        byte > b'>' || !((byte == b'&') | (byte == b'<') | (byte == b'>') | (byte == b'\r'))
+    }
+}
+
+/// The bytes that are written as they are in an attribute's value.
+struct InValue;
+
+impl ByteClass for InValue {
+    ghost use Rattle.canon_octets.specs.Escapes.{is_kept_in_value};
+
+    ghost contains = { λ _ b. is_kept_in_value b };
+
+    #[inline(always)]
+    fn has(&self, byte: u8) -> bool {
+        byte > b'<'
+            || !((byte == b'&')
+                | (byte == b'<')
+                | (byte == b'"')
+                | (byte == b'\t')
+                | (byte == b'\n')
+                | (byte == b'\r'))
+    }
+}
+
+/// How many of the first bytes are written as they are. Each class is known where it is compiled, so that many bytes
+/// are looked at together.
+#[inline(always)]
+fn kept_len(place: Place, bytes: &[u8]) -> usize
+    ensures within { result ≤ length bytes.now }
+    ensures passes { AllPass (is_kept place) (take result bytes.now) }
+    ensures stops { IsFalse (begins_with (is_kept place) (drop result bytes.now)) }
+{
+    match place {
+        Place::Text => run_len(&InText, bytes),
+        Place::Value => run_len(&InValue, bytes),
+    }
+}
+
+/// Appends `bytes`, each as it is written in this place: in runs of those that are written as they are. The first byte
+/// of what is left is looked at by itself, so that no block is looked at in vain for each of many references.
 fn escape<O: Octets>(place: Place, bytes: &[u8], out: &mut O) -> Result<(), NoMemory>
     ensures ok { OnOk result (O.appends out.old out.new (flat_map (escape_byte place) bytes.now)) }
     ensures err { OnErr result (AppendsPart O.appends out.old out.new (flat_map (escape_byte place) bytes.now)) }
     ensures refusing { OnErr result (IsTrue O.may_refuse) }
 {
-    let mut from = 0;
-    for (i, b) in bytes.iter().enumerate() {
-        if let Some(name) = reference(place, *b) {
-            out.put(&bytes[from..i])?;
+    let mut rest = bytes;
+    'pieces: while let Some((first, behind)) = rest.split_first() {
+        if let Some(name) = reference(place, *first) {
             out.put(name)?;
-            from = i + 1;
+            rest = behind;
+        } else {
+            let (run, more) = rest.split_at(1 + kept_len(place, behind));
+            out.put(run)?;
+            rest = more;
         }
     }
-    out.put(&bytes[from..])
+    Ok(())
 }
 
 /// Appends a text as it is written between tags.

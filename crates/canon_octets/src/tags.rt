@@ -12,24 +12,22 @@ use owned_values::NoMemory;
 /// A name as it is written, in two parts (Namespaces in XML 1.0, 4).
 #[derive(Clone, Copy, Debug)]
 pub struct QualifiedName<'d> {
-    /// What stands before the colon; empty where there is none.
+    /// What stands before the colon; empty where there is none, or where the name is held in one piece.
     pub prefix: &'d str,
     /// What stands behind the colon, or the whole name.
     pub local: &'d str,
 }
 
-/// What stands between the parts of a name.
-fn colon_behind(prefix: &str) -> &'static [u8]
-    ensures { (local : List ℕ) → prefix.now ++ (result.now ++ local) ≡ joined_name prefix.now local }
-{
-    if prefix.is_empty() { b"" } else { b":" }
-}
-
-/// What stands behind `xmlns` before the prefix that is declared.
-fn colon_before(prefix: &str) -> &'static [u8]
-    ensures { codes "xmlns" ++ (result.now ++ prefix.now) ≡ declaration_name prefix.now }
-{
-    if prefix.is_empty() { b"" } else { b":" }
+impl<'d> QualifiedName<'d> {
+    /// The name that is written so, in one piece.
+    pub fn written(name: &'d str) -> QualifiedName<'d>
+        ensures { joined_name result.prefix.now result.local.now ≡ name.now }
+    {
+        QualifiedName {
+            prefix: "",
+            local: name,
+        }
+    }
 }
 
 /// What stands between an instruction's target and its value.
@@ -70,8 +68,10 @@ fn put_name<O: Octets>(name: QualifiedName<'_>, out: &mut O) -> Result<(), NoMem
     ensures err { OnErr result (AppendsPart O.appends out.old out.new (joined_name name.entry.prefix.now name.entry.local.now)) }
     ensures refusing { OnErr result (IsTrue O.may_refuse) }
 {
-    let colon = colon_behind(name.prefix);
-    put_three(name.prefix.as_bytes(), colon, name.local.as_bytes(), out)
+    if name.prefix.is_empty() {
+        return out.put(name.local.as_bytes());
+    }
+    put_three(name.prefix.as_bytes(), b":", name.local.as_bytes(), out)
 }
 
 /// Appends a value and the quotation mark behind it.
@@ -141,8 +141,10 @@ fn put_declared<O: Octets>(prefix: &str, out: &mut O) -> Result<(), NoMemory>
     ensures err { OnErr result (AppendsPart O.appends out.old out.new (space_character ∷ declaration_name prefix.now)) }
     ensures refusing { OnErr result (IsTrue O.may_refuse) }
 {
-    let colon = colon_before(prefix);
-    put_three(b" xmlns", colon, prefix.as_bytes(), out)
+    if prefix.is_empty() {
+        return out.put(b" xmlns");
+    }
+    put_two(b" xmlns:", prefix.as_bytes(), out)
 }
 
 /// Appends the declaration of a prefix, or of the default namespace where it is empty.

@@ -6,12 +6,16 @@ ghost use Rattle.xml_spec.specs.Characters.{IsNoColonName, IsQualifiedName};
 ghost use Rattle.xml_spec.specs.Names.{is_scheme_byte, scheme_goes_on, is_absolute, declared_prefix, IsBinding};
 
 use xml_chars::{XML_NAMESPACE, XMLNS_NAMESPACE, is_name, split_colon};
-use xml_tokens::WrittenName;
+use xml_tokens::{WrittenName, is_ascii_no_colon_name};
 
 /// Whether the text is a Name without a colon (Namespaces, 3, NCName).
 fn is_no_colon_name(text: &str) -> bool
     ensures { IsTrue result ↔ IsNoColonName text.now }
 {
+    // most are of ASCII alone, which is told faster
+    if is_ascii_no_colon_name(text) {
+        return true;
+    }
     is_name(text) && split_colon(text).is_none()
 }
 

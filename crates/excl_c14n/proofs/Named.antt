@@ -1,5 +1,5 @@
--- The names that a document shows of its nodes are, put together, the names as written.
-use Rattle.std.proofs.Common.{◌≡◌, ℕ, zero, suc, ◌-◌, Bool, true, false, cond, ltb, List, [], ◌∷◌, Option, Some, None, IfSome, refl, sym, ap, ◌∙◌, subst}
+-- What the names of a document's attributes declare.
+use Rattle.std.proofs.Common.{◌≡◌, ℕ, zero, suc, ◌-◌, Bool, true, false, cond, ltb, List, [], ◌∷◌, Option, Some, None, IfSome, refl, ◌∙◌, subst}
 use Rattle.std.specs.List.{AllByRecursion, slice_get}
 use Rattle.std.specs.Option.{option_and_then}
 use Rattle.xml_spec.specs.Characters.{IsQualifiedName, prefix_of, local_of}
@@ -8,11 +8,9 @@ use Rattle.xml_spec.specs.Numbering.{size, from_node}
 use Rattle.xml_spec.specs.Names.{Scope, outermost, inner_scope, AreNamed, HasNames, declared_prefix}
 use Rattle.xml_spec.specs.Canonical.{scope_at}
 use Rattle.saml_tree.specs.Documents.{attributes_of}
-use Rattle.saml_tree.specs.NodeNames.{ShownName, shown_name, name_at, attribute_at}
-use Rattle.saml_tree.specs.Elements.{name_in}
-use Rattle.canon_octets.specs.Names.{joined_name}
+use Rattle.saml_tree.specs.NodeNames.{attribute_at}
 use Rattle.excl_c14n.specs.Shown.{prefix_declared_by}
-use Rattle.excl_c14n.proofs.Parts.{joined_parts, declared_by_parts}
+use Rattle.excl_c14n.proofs.Parts.{declared_by_parts}
 
 -- the nodes from node k on are named well in the scope in which they stand
 pub named_from : (scope : Scope) (nodes : Nodes) (k : ℕ) → AreNamed scope nodes → AreNamed (scope_at scope nodes k) (from_node nodes k)
@@ -33,28 +31,6 @@ named_from scope (Comment text rest) zero named = named
 named_from scope (Comment text rest) (suc k) named = named_from scope rest k named
 named_from scope (Instruction target value rest) zero named = named
 named_from scope (Instruction target value rest) (suc k) named = named_from scope rest k named
-
-first_name : (scope : Scope) (nodes : Nodes) (shown : ShownName) → AreNamed scope nodes → shown_name scope nodes ≡ Some shown →
-    joined_name shown.prefix shown.local ≡ name_in nodes
-first_name scope NoNodes shown named e = absurd (let clash : None ≡ Some shown = e in cc)
-first_name scope (Element name attributes kids rest) shown named e =
-    ap (λ (s : ShownName). joined_name s.prefix s.local) (sym (the_same e)) ∙ joined_parts name named.0.qualified
-  where
-    the_same : {X : Type 0} {x y : X} → Some x ≡ Some y → x ≡ y
-    the_same e = cc
-first_name scope (Text text rest) shown named e = absurd (let clash : None ≡ Some shown = e in cc)
-first_name scope (Comment text rest) shown named e = absurd (let clash : None ≡ Some shown = e in cc)
-first_name scope (Instruction target value rest) shown named e =
-    ap (λ (s : ShownName). joined_name s.prefix s.local) (sym (the_same e))
-  where
-    the_same : {X : Type 0} {x y : X} → Some x ≡ Some y → x ≡ y
-    the_same e = cc
-
--- the name that is shown of a node
-pub name_joined : (tree : Nodes) (n : ℕ) (shown : ShownName) → HasNames tree → name_at tree n ≡ Some shown →
-    joined_name shown.prefix shown.local ≡ name_in (from_node tree n)
-name_joined tree n shown named e =
-    first_name (scope_at outermost tree n) (from_node tree n) shown (named_from outermost tree n named) e
 
 qualified_at : (attributes : List Attribute) (i : ℕ) (a : Attribute) → AllByRecursion (λ (b : Attribute). IsQualifiedName b.name) attributes →
     slice_get attributes i ≡ Some a → IsQualifiedName a.name
@@ -77,17 +53,7 @@ attribute_qualified tree n i named = which (attribute_at tree n i) refl
     which None e = tt
     which (Some a) e = qualified_in (scope_at outermost tree n) (from_node tree n) i a (named_from outermost tree n named) e
 
--- what holds of the name of attribute i whose parts these are
-pub attribute_joined : (tree : Nodes) (n i : ℕ) (prefix local : List ℕ) → HasNames tree →
-    IfSome (attribute_at tree n i) (λ a. (prefix ≡ prefix_of a.name) × (local ≡ local_of a.name)) →
-    IfSome (attribute_at tree n i) (λ a. joined_name prefix local ≡ a.name)
-attribute_joined tree n i prefix local named parts = which (attribute_at tree n i) (attribute_qualified tree n i named) parts
-  where
-    which : (o : Option Attribute) → IfSome o (λ a. IsQualifiedName a.name) → IfSome o (λ a. (prefix ≡ prefix_of a.name) × (local ≡ local_of a.name)) →
-        IfSome o (λ a. joined_name prefix local ≡ a.name)
-    which None q parts = tt
-    which (Some a) q parts = (λ i. joined_name (parts.0 i) (parts.1 i)) ∙ joined_parts a.name q
-
+-- what the name of attribute i declares, whose parts these are
 pub attribute_declares : (tree : Nodes) (n i : ℕ) (prefix local : List ℕ) → HasNames tree →
     IfSome (attribute_at tree n i) (λ a. (prefix ≡ prefix_of a.name) × (local ≡ local_of a.name)) →
     IfSome (attribute_at tree n i) (λ a. prefix_declared_by prefix local ≡ declared_prefix a.name)

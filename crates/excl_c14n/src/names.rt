@@ -13,27 +13,20 @@ ghost use Rattle.excl_c14n.specs.Shown.{prefix_declared_by};
 use canon_octets::QualifiedName;
 use saml_tree::{Doc, NodeNo};
 
-/// The name of an element, or the target of an instruction, as it is written.
+/// The name of an element as it is written.
 pub(crate) fn node_name<'d>(doc: &'d Doc<'_>, n: NodeNo) -> QualifiedName<'d>
-    requires named { IsSome (name_of (from_node doc.now.tree n.0)) }
-    requires names { HasNames doc.now.tree }
+    requires element { IsElement doc.now.tree n.0 }
     ensures { joined_name result.prefix.now result.local.now ≡ name_in (from_node doc.now.tree n.0) }
 {
-    let name = doc.name(n);
-    QualifiedName {
-        prefix: name.prefix,
-        local: name.local,
-    }
+    QualifiedName::written(doc.written_name(n).as_str())
 }
 
-/// The name of attribute i of node n, as it is written.
+/// The name of attribute i of node n as it is written.
 pub(crate) fn attribute_name<'d>(doc: &'d Doc<'_>, n: NodeNo, i: usize) -> QualifiedName<'d>
     requires there { IsSome (attribute_at doc.now.tree n.0 i) }
-    requires names { HasNames doc.now.tree }
     ensures { IfSome (attribute_at doc.now.tree n.0 i) (λ a. joined_name result.prefix.now result.local.now ≡ a.name) }
 {
-    let (prefix, local) = attribute_parts(doc, n, i);
-    QualifiedName { prefix, local }
+    QualifiedName::written(doc.written_attr_name(n, i).as_str())
 }
 
 /// The prefix of an element's name.
@@ -41,7 +34,7 @@ pub(crate) fn element_prefix<'d>(doc: &'d Doc<'_>, n: NodeNo) -> &'d str
     requires element { IsElement doc.now.tree n.0 }
     ensures { result.now ≡ prefix_of (name_in (from_node doc.now.tree n.0)) }
 {
-    doc.name(n).prefix
+    doc.written_name(n).prefix()
 }
 
 /// The prefix and the local part of the name of attribute i of node n.
@@ -50,8 +43,8 @@ pub(crate) fn attribute_parts<'d>(doc: &'d Doc<'_>, n: NodeNo, i: usize) -> (&'d
     ensures { IfSome (attribute_at doc.now.tree n.0 i) (λ a.
         (result.0.now ≡ prefix_of a.name) × (result.1.now ≡ local_of a.name)) }
 {
-    let name = doc.attr_name(n, i);
-    (name.prefix, name.local)
+    let name = doc.written_attr_name(n, i);
+    (name.prefix(), name.local())
 }
 
 /// The prefix that an attribute of these parts declares: a name is a declaration's where it is xmlns or begins with

@@ -160,7 +160,6 @@ impl<'d, 'a> Walk<'d, 'a> {
         out: &mut O,
     ) -> Result<(), NoMemory>
         requires there { IsSome (attribute_at self.now.doc.now.tree n.0 i) }
-        requires names { HasNames self.now.doc.now.tree }
         ensures ok { OnOk result (IfSome (attribute_at self.now.doc.now.tree n.0 i) (λ a.
             O.appends out.old out.new (print_attribute a.name a.value))) }
         ensures err { OnErr result (IfSome (attribute_at self.now.doc.now.tree n.0 i) (λ a.
@@ -252,7 +251,6 @@ impl<'d, 'a> Walk<'d, 'a> {
     /// Appends the end tag of an element.
     fn put_end<O: Octets>(&self, n: NodeNo, out: &mut O) -> Result<(), NoMemory>
         requires element { IsElement self.now.doc.now.tree n.0 }
-        requires names { HasNames self.now.doc.now.tree }
         ensures ok { OnOk result (O.appends out.old out.new (print_end (name_in (from_node self.now.doc.now.tree n.0)))) }
         ensures err { OnErr result (AppendsPart O.appends out.old out.new (print_end (name_in (from_node self.now.doc.now.tree n.0)))) }
     {

@@ -26,7 +26,7 @@ use owned_values::NoMemory;
 use std::marker::Model;
 use tree_rows::{Leaf, Rows, Shape};
 use xml_chars::Span;
-use xml_tokens::{Attribute, put_line_ends, strip_line_ends};
+use xml_tokens::{Attribute, WrittenName, put_line_ends, strip_line_ends};
 
 /// A document: the text that it was read from, and the nodes of its tree, each addressed by its number.
 #[derive(Debug, Drop)]
@@ -172,6 +172,17 @@ impl<'a> Doc<'a> {
         }
     }
 
+    /// The name of an element as it is written.
+    pub fn written_name(&self, n: NodeNo) -> &WrittenName<'a>
+        requires { kind_of (from_node self.now.tree n.0) ≡ Some kinds.Element }
+        ensures { name_of (from_node self.now.tree n.0) ≡ Some result.now }
+    {
+        match self.shape(n) {
+            Shape::Element { name, .. } => name,
+            Shape::Leaf(_) => unreachable!(),
+        }
+    }
+
     /// Which number is kept for a place.
     fn kept(&self, place: NameAt) -> Kept
         requires { IsNameAt self.now.tree place }
@@ -249,6 +260,14 @@ impl<'a> Doc<'a> {
     {
         let namespace = self.namespace_at(NameAt::Attribute(n, i));
         shown_name(&self.attribute(n, i).name, namespace)
+    }
+
+    /// The name of attribute i of an element as it is written.
+    pub fn written_attr_name(&self, n: NodeNo, i: usize) -> &WrittenName<'a>
+        requires { IsSome (attribute_at self.now.tree n.0 i) }
+        ensures { IfSome (attribute_at self.now.tree n.0 i) (λ a. a.name ≡ result.now) }
+    {
+        &self.attribute(n, i).name
     }
 
     /// Whether the namespaces at two places are the same. The time does not grow with the namespaces' names.

@@ -1,19 +1,20 @@
 -- Where a mark such as ]]> stands in bytes, and where it does not.
-use Rattle.std.proofs.Common.{◌≡◌, ℕ, ◌+◌, ◌<◌, ◌≤◌, Bool, true, false, cond, ◌&&◌, ◌||◌, not, ◌==◌, nat_eq, List, [], ◌∷◌, ◌++◌, length, take, drop, codes, IsTrue, Option, Some, None, is_some, refl, sym, ◌∙◌, ap, arith, append_assoc, append-nil, length-append}
-use Rattle.std.specs.List.{starts_with}
+use Rattle.std.proofs.Common.{◌≡◌, ℕ, ◌+◌, ◌<◌, ◌≤◌, Bool, true, false, cond, ◌&&◌, ◌||◌, not, ◌==◌, nat_eq, nat_lt, List, [], ◌∷◌, ◌++◌, length, take, drop, get_or, codes, IsTrue, Option, Some, None, is_some, refl, sym, ◌∙◌, ap, arith, append_assoc, append-nil, length-append, length-drop}
+use Rattle.std.specs.List.{starts_with, list_all}
 use Rattle.std.specs.Bool.{MatchBool}
 use Rattle.std.specs.Option.{MatchOption, option_map}
 use Rattle.std.specs.Str.{str_to_ascii_lowercase}
 use Rattle.std.specs.Str.Pattern.{FindsText, LacksTextAt, SplitsAroundMatch, HasMatch}
-use Rattle.std.proofs.lemmas.List.{take-append-drop}
+use Rattle.std.proofs.lemmas.List.{take-append-drop, take_all}
 use Rattle.std.proofs.Math.Seq.{drop-append_seam}
+use borrow.Author.Tests.{ltb-true, ltb-false}
 use denote.Ref.{Bor}
-use Rattle.xml_spec.specs.Bytes.{has}
+use Rattle.xml_spec.specs.Bytes.{AllPass, has, begins_with}
 use Rattle.xml_spec.specs.Characters.{at_colon}
 use Rattle.xml_spec.proofs.Tests.{both_true, and_true, first_true, second_true}
 use Rattle.xml_spec.proofs.Runs.{equal_test}
 use Rattle.xml_spec.proofs.Ends.{or_fails}
-use Rattle.xml_tokens.specs.Lexing.{CutAt}
+use Rattle.xml_tokens.specs.Lexing.{CutAt, is_other}
 
 same_number : (m n : ℕ) → (m == n) ≡ true → m ≡ n
 same_number m n h = grind arith
@@ -152,3 +153,61 @@ target_with_colon name colon e h =
       (λ (k : (at_colon name ≡ None) × (str_to_ascii_lowercase name ≡ codes "xml" → ⊥)).
           absurd (let clash : false ≡ true = sym (ap is_some k.0) ∙ found in cc)),
     )
+
+-- a test that fails at the byte itself and holds of all others
+other_turned : (b x : ℕ) → not (x == b) ≡ false → nat_eq b x ≡ true
+other_turned b x h = grind arith
+
+other_kept : (b x : ℕ) → not (x == b) ≡ true → nat_eq b x ≡ false
+other_kept b x h = grind arith
+
+-- where all bytes are others, the byte does not stand in them
+pub lacks_byte : (b : ℕ) (bytes : List ℕ) → AllPass (is_other b) bytes → has (b ∷ []) bytes ≡ false
+lacks_byte b [] h = refl
+lacks_byte b (x ∷ bytes) h =
+    let both = both_true (not (x == b)) (list_all (is_other b) bytes) h in
+    or_fails (nat_eq b x && true) (has (b ∷ []) bytes) (ap (λ t. t && true) (other_kept b x both.0)) (lacks_byte b bytes both.1)
+
+begins_byte : (b : ℕ) (bytes : List ℕ) → 0 < length bytes → begins_with (is_other b) bytes ≡ false → has (b ∷ []) bytes ≡ true
+begins_byte b [] l h = absurd (omega arith)
+begins_byte b (x ∷ bytes) l h = first_true (nat_eq b x && true) (has (b ∷ []) bytes) (ap (λ t. t && true) (other_turned b x h))
+
+-- where a run of others ends before the bytes do, the byte stands in them
+pub has_at_end : (b : ℕ) (bytes : List ℕ) (n : ℕ) → n < length bytes → begins_with (is_other b) (drop n bytes) ≡ false → has (b ∷ []) bytes ≡ true
+has_at_end b bytes n l h =
+    ap (has (b ∷ [])) (sym (take-append-drop n bytes))
+    ∙ has_back (b ∷ []) (take n bytes) (drop n bytes) (begins_byte b (drop n bytes) (omega (arith, length-drop n bytes)) h)
+
+-- the byte stands in the bytes just where a run of others ends before they do
+pub has_by_run : (b : ℕ) (bytes : List ℕ) (n : ℕ) → n ≤ length bytes → AllPass (is_other b) (take n bytes) →
+    begins_with (is_other b) (drop n bytes) ≡ false → nat_lt n (length bytes) ≡ has (b ∷ []) bytes
+has_by_run b bytes n within passes stops = which (nat_lt n (length bytes)) refl
+  where
+    which : (less : Bool) → nat_lt n (length bytes) ≡ less → less ≡ has (b ∷ []) bytes
+    which true e = sym (has_at_end b bytes n (ltb-true n (length bytes) e) stops)
+    which false e =
+        let whole : length bytes ≤ n = ltb-false n (length bytes) e in
+        sym (lacks_byte b bytes (ap (list_all (is_other b)) (sym (take_all n bytes whole)) ∙ passes))
+
+-- bytes without the first of a mark lack the mark
+pub lacks_mark : (b : ℕ) (mark bytes : List ℕ) → has (b ∷ []) bytes ≡ false → has (b ∷ mark) bytes ≡ false
+lacks_mark b mark [] h = refl
+lacks_mark b mark (x ∷ bytes) h = which (nat_eq b x) (starts_with nat_eq bytes mark) h (lacks_mark b mark bytes)
+  where
+    which : (same more : Bool) → ((same && true) || has (b ∷ []) bytes) ≡ false → (has (b ∷ []) bytes ≡ false → has (b ∷ mark) bytes ≡ false) →
+        ((same && more) || has (b ∷ mark) bytes) ≡ false
+    which true more h later = absurd (let clash : true ≡ false = h in cc)
+    which false more h later = later h
+
+-- the same, where the mark is told by its bytes
+pub lacks_by_first : (mark shown bytes : List ℕ) → shown ≡ mark → 1 ≤ length shown → has (get_or shown 0 0 ∷ []) bytes ≡ false → has mark bytes ≡ false
+lacks_by_first mark [] bytes e l h = absurd (omega arith)
+lacks_by_first mark (m ∷ shown) bytes e l h = ap (λ x. has x bytes) (sym e) ∙ lacks_mark m shown bytes h
+
+pub no_place : (mark bytes : List ℕ) → 0 < length mark → has mark bytes ≡ false → (front behind : List ℕ) → ¬ (bytes ≡ front ++ (mark ++ behind))
+no_place mark bytes l h front behind e =
+    absurd (let clash : false ≡ true = sym h ∙ has_found mark front behind bytes l e in cc)
+
+-- a name in which no colon stands is not cut
+pub lacks_colon : (name : List ℕ) → has (58 ∷ []) name ≡ false → at_colon name ≡ None
+lacks_colon name h = no_some (at_colon name) (colon_test name ∙ h)

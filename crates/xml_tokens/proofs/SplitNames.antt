@@ -1,12 +1,16 @@
 -- A name is cut at its first colon.
-use Rattle.std.proofs.Common.{◌≡◌, ℕ, zero, suc, ◌+◌, ◌-◌, ◌<◌, Bool, true, false, cond, ◌==◌, List, [], ◌∷◌, ◌++◌, length, take, drop, get_or, Option, Some, None, unwrap_or, refl, sym, ap, ◌∙◌, subst, append_assoc, length-append, length-take-le, arith}
+use Rattle.std.proofs.Common.{◌≡◌, ℕ, zero, suc, ◌+◌, ◌-◌, ◌<◌, Bool, true, false, cond, not, ◌==◌, List, [], ◌∷◌, ◌++◌, length, take, drop, get_or, Option, Some, None, unwrap_or, refl, sym, ap, ◌∙◌, subst, append_assoc, length-append, length-take-le, add-one, arith}
+use Rattle.std.specs.List.{list_all}
 use Rattle.std.specs.Option.{option_map}
 use Rattle.std.specs.Str.{IsUtf8, IsCharBoundary}
 use Rattle.std.proofs.lemmas.Str.{IsCharBoundary-after_ascii, IsCharBoundary-start}
 use Rattle.std.proofs.Math.Seq.{take-append_seam, drop-append_seam}
 use borrow.Author.Tests.{eqb-true}
 use Rattle.xml_spec.specs.Ascii.{colon}
-use Rattle.xml_spec.specs.Characters.{at_colon, IsName}
+use Rattle.xml_spec.specs.Bytes.{AllPass}
+use Rattle.xml_spec.specs.Characters.{at_colon}
+use Rattle.xml_spec.proofs.Tests.{both_true}
+use Rattle.xml_tokens.specs.Lexing.{is_other}
 use Rattle.xml_tokens.specs.Names.{IsSplitName}
 
 abbrev Parts : Type 0
@@ -45,14 +49,6 @@ dropped : (name prefix local : List ℕ) (n : ℕ) → n ≡ length (prefix ++ c
 dropped name prefix local n e is =
     (λ i. drop (e i) ((is ∙ sym (append_assoc prefix (colon ∷ []) local)) i)) ∙ drop-append_seam (prefix ++ colon ∷ []) local
 
-pub split_at_colon : (name prefix local : List ℕ) → IsName name → at_colon name ≡ Some (prefix, local) → IsSplitName name (length prefix + 1)
-split_at_colon name prefix local named e =
-    let is = joins name prefix local e in
-    let front : take (length prefix + 1 - 1) name ≡ prefix = taken name prefix local (length prefix + 1 - 1) (omega arith) is in
-    let back : drop (length prefix + 1) name ≡ local =
-    dropped name prefix local (length prefix + 1) (omega (arith, length-append prefix (colon ∷ []))) is in
-    record { named = named; inside = omega (arith, ap length is, length-append prefix (colon ∷ local)); whole = λ none. absurd (omega arith); parts = λ some. e ∙ sym (λ i. Some (front i, back i)) }
-
 -- the sign in front of the local part
 sign_in : (name prefix local : List ℕ) (n : ℕ) → n ≡ length prefix → name ≡ prefix ++ colon ∷ local → (n < length name) × (get_or name n 0 ≡ colon)
 sign_in name prefix local n e is = (
@@ -84,3 +80,35 @@ local_boundary name zero u s = IsCharBoundary-start name u
 local_boundary name (suc n) u s =
     let sign = sign_at name (suc n) s (omega arith) in
     subst (IsCharBoundary name) (omega arith) (IsCharBoundary-after_ascii name (suc n - 1) u sign.0 (omega arith))
+
+not_colon : (b : ℕ) → not (b == colon) ≡ true → (b == colon) ≡ false
+not_colon b h = grind arith
+
+is_colon : (b : ℕ) → b ≡ colon → (b == colon) ≡ true
+is_colon b h = grind arith
+
+-- without a colon a name is not cut
+pub no_colon : (bytes : List ℕ) → AllPass (is_other colon) bytes → at_colon bytes ≡ None
+no_colon [] h = refl
+no_colon (b ∷ bytes) h =
+    let both = both_true (not (b == colon)) (list_all (is_other colon) bytes) h in
+    let later : at_colon bytes ≡ None = no_colon bytes both.1 in
+    rw (not_colon b both.0) (ap (option_map (λ (parts : Parts). (b ∷ parts.0, parts.1))) later)
+
+-- the first colon is the one that no other stands in front of
+pub first_colon : (bytes : List ℕ) (i : ℕ) → i < length bytes → AllPass (is_other colon) (take i bytes) → get_or bytes i 0 ≡ colon →
+    at_colon bytes ≡ Some (take i bytes, drop (suc i) bytes)
+first_colon [] i l h e = absurd (omega arith)
+first_colon (b ∷ bytes) zero l h e = rw (is_colon b e) refl
+first_colon (b ∷ bytes) (suc i) l h e =
+    let both = both_true (not (b == colon)) (list_all (is_other colon) (take i bytes)) h in
+    let later : at_colon bytes ≡ Some (take i bytes, drop (suc i) bytes) = first_colon bytes i (omega arith) both.1 e in
+    rw (not_colon b both.0) (ap (option_map (λ (parts : Parts). (b ∷ parts.0, parts.1))) later)
+
+-- the place behind it
+pub behind_colon : (bytes : List ℕ) (i n : ℕ) → n ≡ i + 1 → i < length bytes → AllPass (is_other colon) (take i bytes) → get_or bytes i 0 ≡ colon →
+    at_colon bytes ≡ Some (take (n - 1) bytes, drop n bytes)
+behind_colon bytes i n e l h is =
+    let front : n - 1 ≡ i = omega arith in
+    let behind : n ≡ suc i = e ∙ add-one i in
+    rw (front, behind) (first_colon bytes i l h is)

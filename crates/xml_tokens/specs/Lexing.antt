@@ -38,6 +38,10 @@ is_value_byte quote b = not (b == less_than || b == ampersand || b == quote)
 abbrev pub is_kept_byte : ℕ → Bool
 is_kept_byte b = not (b == tab || b == line_feed || b == carriage_return || b == ampersand)
 
+-- another byte than this one
+abbrev pub is_other : ℕ → ℕ → Bool
+is_other byte b = not (b == byte)
+
 -- the bytes of a class
 abbrev pub is_in : Class → ℕ → Bool
 is_in classes.Name b = is_name_byte b

@@ -21,6 +21,7 @@ pub use head::behind_head;
 pub use lex::next_token;
 pub use lines::{put_line_ends, strip_line_ends};
 pub use name::WrittenName;
+pub use parts::is_ascii_no_colon_name;
 pub use tags::bare_start;
 pub use text::{ElementText, TextRun};
 pub use token::{Attribute, Markup, TokenFault};

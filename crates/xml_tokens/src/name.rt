@@ -1,10 +1,23 @@
 // Names with the place of their colon.
 
-ghost use Rattle.std.specs.Prelude.{◌≡◌, is_some};
+ghost use Rattle.std.specs.Prelude.{◌≡◌, ◌<◌, ◌≤◌, ◌-◌, length, take, drop, Some, None, is_some};
 ghost use Rattle.xml_spec.specs.Characters.{at_colon, prefix_of, local_of, IsName};
 
 use std::marker::Model;
-use xml_chars::split_colon;
+
+/// How many bytes of a name stand in front of its local part, the colon with them.
+fn front_len(name: &str) -> usize
+    ensures inside { result ≤ length name.now }
+    ensures whole { result ≡ 0 → at_colon name.now ≡ None }
+    ensures parts { 0 < result → at_colon name.now ≡ Some (take (result - 1) name.now, drop result name.now) }
+{
+    for (i, byte) in name.as_bytes().iter().enumerate() {
+        if *byte == b':' {
+            return i + 1;
+        }
+    }
+    0
+}
 
 /// A Name as it is written (XML 1.0, 2.3). Contracts see it as its bytes. Its first colon is looked for once (Namespaces in XML
 /// 1.0, 4).
@@ -33,14 +46,8 @@ impl<'a> WrittenName<'a> {
         requires { IsName text.now }
         ensures { result ≡ text.now }
     {
-        let Some((prefix, _)) = split_colon(text) else {
-            return WrittenName { text, front: 0 };
-        };
-        let split = WrittenName {
-            text,
-            front: prefix.len() + 1,
-        };
-        split
+        let front = front_len(text);
+        WrittenName { text, front }
     }
 
     /// The whole name.

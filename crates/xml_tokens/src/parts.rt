@@ -5,13 +5,13 @@ ghost use Rattle.std.specs.Prelude.{◌≡◌, ℕ, ◌<◌, ◌≤◌, List, �
 ghost use Rattle.std.specs.Option.{MatchOption};
 ghost use Rattle.std.specs.Result.{IfOk, IfErr};
 ghost use Rattle.xml_spec.specs.Bytes.{AllPass, begins_with};
-ghost use Rattle.xml_spec.specs.Characters.{is_name_start, is_name_char, IsName};
+ghost use Rattle.xml_spec.specs.Characters.{is_name_start, is_name_char, IsName, IsNoColonName};
 ghost use Rattle.xml_spec.specs.Syntax.{is_white};
 ghost use Rattle.xml_tokens.specs.Views.{attribute_view};
 ghost use Rattle.xml_tokens.specs.Lexing.{is_ascii_name_byte, NameAt, EqualsAt, AssignedAt, AssignmentAt, NoName, NoEquals, NoAssigned, NoAssignment, IsFaultFor};
 
 use crate::class::{Class, begins_name, split_run};
-use crate::marks::strip_byte;
+use crate::marks::{has_byte, strip_byte};
 use crate::name::WrittenName;
 use crate::token::{Attribute, TokenFault};
 use crate::values::value;
@@ -55,6 +55,16 @@ fn is_ascii_name(text: &str) -> bool
         [first, ..] => is_name_start_byte(*first),
         [] => false,
     }
+}
+
+/// Whether the text is a name of ASCII alone that has no colon. `false` says nothing.
+pub fn is_ascii_no_colon_name(text: &str) -> bool
+    ensures { IsTrue result → IsNoColonName text.now }
+{
+    if ascii_len(text.as_bytes()) < text.len() {
+        return false;
+    }
+    is_ascii_name(text) && !has_byte(text, b':')
 }
 
 /// A name of ASCII alone, and what follows it. `None` says nothing.

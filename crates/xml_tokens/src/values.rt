@@ -13,10 +13,12 @@ use crate::token::TokenFault;
 use crate::value::AttributeValue;
 use xml_chars::read_reference;
 
-/// The character that a reference stands for, and what follows the reference.
+/// The character that a reference stands for, and what follows the reference. Most texts begin with none, which their first
+/// byte tells.
 pub(crate) fn reference<'a>(rest: &'a str) -> Option<(char, &'a str)>
     ensures { MatchOption result (BeginsWithNone rest.now) (λ found. BeginsWithReference rest.now found.0 found.1.now) }
 {
+    let _name = strip_byte(rest, b'&')?;
     let (character, end) = read_reference(rest.as_bytes(), 0)?;
     Some((character, &rest[end..]))
 }

@@ -22,11 +22,14 @@ loop-i-init g c =
       written = underway g.met.O.Octets.composes c.args.out.now (flat_map print_of attributes);
     }
 
-pub put_attribute-requires-clause-there : goal.put_attribute-requires-clause-there
-put_attribute-requires-clause-there g c =
+pub put_attribute-requires : goal.put_attribute-requires
+put_attribute-requires g c =
     let tree = c.args.self.now.doc.now.tree in
-    is_found (attribute_at tree c.args.n.0) c.deref-i-items.result.now
-    (written_attributes (scope_inside tree c.args.n.0) (attributes_in (from_node tree c.args.n.0))) c.loop-i.invariant.lead c.loop-i.i-index (omega arith)
+    record {
+      there =
+          is_found (attribute_at tree c.args.n.0) c.deref-i-items.result.now
+          (written_attributes (scope_inside tree c.args.n.0) (attributes_in (from_node tree c.args.n.0))) c.loop-i.invariant.lead c.loop-i.i-index (omega arith);
+    }
 
 pub loop-i-preserved : goal.loop-i-preserved
 loop-i-preserved g c =
