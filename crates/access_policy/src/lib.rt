@@ -27,9 +27,6 @@ mod line;
 mod policy;
 mod read;
 mod rule;
-#[cfg(test)]
-mod tests;
-mod words;
 
 pub use denied::denied_page;
 pub use fault::PolicyFault;

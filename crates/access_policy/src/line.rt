@@ -7,9 +7,9 @@ ghost use Rattle.access_policy.specs.Line as spec;
 
 use crate::conditions::conditions_of;
 use crate::rule::{MAX_CONDITIONS, MAX_NAME_LENGTH, Pattern, Rule};
-use crate::words::words_of;
 use owned_values::{NoMemory, Text};
 use std::alloc::Global;
+use text_lines::words_of;
 
 /// Whether the byte may stand in the name of a rule.
 fn is_name_byte(byte: u8) -> bool

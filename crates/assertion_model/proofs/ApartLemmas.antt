@@ -14,7 +14,7 @@ use Rattle.sig_reference.specs.Form.{Parts}
 use Rattle.sig_reference.specs.Signature.{Vouches, VouchesFirst}
 use Rattle.sig_reference.specs.Vouching.{VouchedView, IsVouched, IsIn}
 use Rattle.tree_read.specs.Children.{Child, scope_of_kids, elements_of, element_children, named, children}
-use Rattle.tree_read.proofs.Numbers.{kids_from}
+use Rattle.saml_tree.proofs.Numbers.{kids_from}
 use Rattle.tree_read.proofs.Placed.{kids_scope}
 use Rattle.assertion_model.specs.Contents.{first}
 use Rattle.assertion_model.specs.Parts.{own_signature}

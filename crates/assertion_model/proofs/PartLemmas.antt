@@ -8,7 +8,7 @@ use Rattle.xml_spec.specs.Content.{Contents, NoContents, ElementContent, TextCon
 use Rattle.tree_read.specs.Children as walk
 use Rattle.tree_read.specs.Children.{Child, is_name, scope_of_kids, elements_of, element_children}
 use Rattle.tree_read.specs.Texts.{text_in, text_of}
-use Rattle.tree_read.proofs.Numbers.{kids_from, rest_from}
+use Rattle.saml_tree.proofs.Numbers.{kids_from, rest_from}
 use Rattle.tree_read.proofs.Placed.{kids_scope, rest_scope}
 use Rattle.assertion_model.specs.Contents.{Part, named, names, text}
 use Rattle.assertion_model.specs.Parts.{part_in, part_at}

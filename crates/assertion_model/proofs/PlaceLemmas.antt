@@ -18,7 +18,7 @@ use Rattle.sig_reference.specs.Vouching.{IsIn}
 use Rattle.tree_read.specs.Children.{Child, child, is_name, scope_of_kids, elements_of, element_children, named, children}
 use Rattle.tree_read.specs.Views.{tree_of}
 use Rattle.tree_read.specs.declared.at.At.{At}
-use Rattle.tree_read.proofs.Numbers.{left_from, size_parts, some_from, kid_from, kids_from}
+use Rattle.saml_tree.proofs.Numbers.{left_from, size_parts, some_from, kid_from, kids_from}
 use Rattle.tree_read.proofs.Placed.{kids_scope}
 use Rattle.assertion_model.specs.Contents.{first}
 use Rattle.assertion_model.specs.Parts.{own_signature}

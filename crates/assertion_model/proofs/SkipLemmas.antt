@@ -34,7 +34,7 @@ no_number : (k : ℕ) (ks : List ℕ) → [] ≡ k ∷ ks → ⊥
 no_number k ks e = cc
 
 -- the elements of a list have numbers from that of its first node on
-numbers_from : (scope : Scope) (n : ℕ) (nodes : Nodes) (k : ℕ) (ks : List ℕ) → walk.named signature (elements_of scope n nodes) ≡ k ∷ ks → n ≤ k
+pub numbers_from : (scope : Scope) (n : ℕ) (nodes : Nodes) (k : ℕ) (ks : List ℕ) → walk.named signature (elements_of scope n nodes) ≡ k ∷ ks → n ≤ k
 numbers_from scope n NoNodes k ks e = absurd (no_number k ks e)
 numbers_from scope n (Element name attributes kids rest) k ks e =
     which (is_name signature (element_name (inner_scope attributes scope) name)) e (numbers_from scope (suc (n + size kids)) rest k ks)
@@ -55,7 +55,8 @@ module _ (local : List ℕ) where
   abbrev shown : Scope → Nodes → List Part
   shown scope nodes = named (saml local) (content_nodes scope nodes)
 
-  without_same : (scope : Scope) (n : ℕ) (nodes : Nodes) (k : ℕ) (ks : List ℕ) → walk.named signature (elements_of scope n nodes) ≡ k ∷ ks →
+  -- without the first Signature of a list the assertion's children of this name are the same
+  pub without_same : (scope : Scope) (n : ℕ) (nodes : Nodes) (k : ℕ) (ks : List ℕ) → walk.named signature (elements_of scope n nodes) ≡ k ∷ ks →
       shown scope (without_node nodes (k - n)) ≡ shown scope nodes
   without_same scope n NoNodes k ks e = absurd (no_number k ks e)
   without_same scope n (Element name attributes kids rest) k ks e =

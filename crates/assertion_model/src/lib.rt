@@ -22,8 +22,6 @@ mod places;
 mod read;
 mod statements;
 mod subject;
-#[cfg(test)]
-mod tests;
 mod values;
 
 pub use audiences::Audiences;

@@ -10,9 +10,6 @@
 ghost use Rattle.std.specs.Prelude.{◌≡◌, ℕ, ◌≤◌, Bool, true, length, take, drop, IsTrue, IsFalse};
 ghost use Rattle.xml_spec.specs.Bytes.{AllPass, begins_with};
 
-#[cfg(test)]
-mod tests;
-
 /// How many bytes are looked at together.
 const BLOCK: usize = 32;
 

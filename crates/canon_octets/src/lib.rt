@@ -19,8 +19,6 @@ mod escape;
 mod hash;
 mod octets;
 mod tags;
-#[cfg(test)]
-mod tests;
 
 pub use escape::{escape_text, escape_value};
 pub use hash::{HashOctets, MacOctets};

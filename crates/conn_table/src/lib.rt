@@ -34,8 +34,6 @@ mod conns;
 pub mod laws;
 mod limits;
 mod progress;
-#[cfg(test)]
-mod tests;
 
 pub use conns::Conns;
 pub use limits::CONNECTION_LIMIT;

@@ -25,8 +25,6 @@ pub mod laws;
 mod mem_disk;
 mod mem_file;
 mod range;
-#[cfg(test)]
-mod tests;
 
 pub use change::{Change, Taken};
 pub use disk::Disk;

@@ -7,8 +7,6 @@ mod names;
 mod piece;
 mod scope;
 mod tag;
-#[cfg(test)]
-mod tests;
 mod writing;
 
 pub use element::Made;

@@ -18,8 +18,6 @@ mod names;
 mod qualified;
 mod spaces;
 mod table;
-#[cfg(test)]
-mod tests;
 
 pub use fault::NameFault;
 pub use names::{Room, RowNames, element_names};

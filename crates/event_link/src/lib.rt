@@ -31,8 +31,6 @@ mod list_clock;
 mod list_link;
 mod outbox;
 mod queue;
-#[cfg(test)]
-mod tests;
 
 pub use arrival::Arrival;
 pub use clock::Clock;

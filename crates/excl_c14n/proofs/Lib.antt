@@ -7,7 +7,6 @@ pub mod Listing
 pub mod Named
 pub mod Needed
 pub mod Nesting
-pub mod Nodes
 pub mod Opening
 pub mod Ordered
 pub mod Pairs

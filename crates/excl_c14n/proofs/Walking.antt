@@ -6,7 +6,7 @@ use Rattle.xml_spec.specs.Numbering.{size, from_node, kids_of, rest_of, number_i
 use Rattle.xml_spec.specs.Names.{Scope}
 use Rattle.saml_tree.specs.declared.node.NodeNo.{NodeNo}
 use Rattle.excl_c14n.specs.NodeByNode.{nodes_form, node_form}
-use Rattle.excl_c14n.proofs.Nodes.{kids_from, kids_there, rest_from, rest_there}
+use Rattle.saml_tree.proofs.Numbers.{kids_from, kids_there, rest_from, rest_there}
 
 -- the number of a node, if there is one
 abbrev pub number_of : Option NodeNo → Option ℕ

@@ -16,8 +16,6 @@ mod names;
 mod order;
 mod placed;
 mod rendered;
-#[cfg(test)]
-mod tests;
 mod walk;
 mod wanted;
 

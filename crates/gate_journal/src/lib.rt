@@ -28,8 +28,6 @@ mod opening;
 mod reading;
 mod record;
 mod remaking;
-#[cfg(test)]
-mod tests;
 mod writing;
 
 pub use crash_disk::{Disk, Failed, FileNo};

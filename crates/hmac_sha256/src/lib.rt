@@ -18,9 +18,6 @@ ghost use Rattle.hmac_sha256.specs.Running.{IsMac};
 use sha2::{Digest, Sha256};
 use std::alloc::AllocError;
 
-#[cfg(test)]
-mod tests;
-
 // The length of a block of SHA-256, in bytes.
 const BLOCK: usize = 64;
 

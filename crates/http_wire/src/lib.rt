@@ -44,8 +44,6 @@ mod media;
 mod method;
 mod request;
 mod status;
-#[cfg(test)]
-mod tests;
 
 pub use answer::{Answer, full_answer};
 pub use cookie::cookie_of;

@@ -16,8 +16,6 @@ mod issuing;
 pub mod laws;
 mod sending;
 mod showing;
-#[cfg(test)]
-mod tests;
 
 pub use issuing::{issued_answer, no_passive_answer};
 pub use showing::{login_answer, metadata_answer};

@@ -37,8 +37,6 @@ mod row;
 mod rules;
 mod sessions;
 mod standing;
-#[cfg(test)]
-mod tests;
 
 pub use draft::Draft;
 pub use gate_journal::{Disk, Failed, FileNo, Header, OpenFault};

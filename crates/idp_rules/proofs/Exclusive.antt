@@ -21,8 +21,8 @@ use Rattle.peer_keys.specs.declared.peers.LogoutPeer.{LogoutPeer}
 use Rattle.idp_rules.specs.declared.asked.Asked.{Asked}
 use Rattle.idp_rules.specs.Asking.{Carried, Carries, Posts, is_signed, is_destination, is_wanted_at, IsAuthentic, asked_of, IsAsked}
 use Rattle.idp_rules.specs.Verdict.{form_refusal, IsRefused, by_form, by_document, by_root, by_issuer, by_destination, by_consumer, by_signature}
-use Rattle.idp_rules.proofs.Faults.{spelled_not_refused, one_refusal, vouched_not_unvouched, one_fault}
-use Rattle.idp_rules.proofs.Stages.{IsOne, Staged, staged_one, staged_none}
+use Rattle.fault_verdicts.proofs.Faults.{spelled_not_refused, one_refusal, vouched_not_unvouched, one_fault}
+use Rattle.fault_verdicts.proofs.Stages.{IsOne, Staged, staged_one, staged_none}
 
 some_one : {X : Type 0} (o : Option X) (x y : X) → o ≡ Some x → o ≡ Some y → x ≡ y
 some_one o x y e h = let both : Some x ≡ Some y = sym e ∙ h in cc

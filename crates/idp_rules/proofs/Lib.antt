@@ -1,6 +1,3 @@
 pub mod Deciding
 pub mod Exclusive
-pub mod Faults
-pub mod Posting
-pub mod Stages
 pub mod Texts

@@ -18,8 +18,6 @@ mod asked;
 mod config;
 mod judging;
 pub mod laws;
-#[cfg(test)]
-mod tests;
 
 pub use asked::Asked;
 pub use config::{GREATEST_SKEW, IdpConfig, MOST_PEERS, sign_on_address};

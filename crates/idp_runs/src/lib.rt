@@ -17,8 +17,6 @@
 
 pub mod laws;
 mod run;
-#[cfg(test)]
-mod tests;
 
 pub use node_runs::{Ended, RunFault};
 pub use run::run_idp;

@@ -20,5 +20,4 @@ pub mod Replies
 pub mod Serving
 pub mod Shown
 mod Signed
-mod Signing
 pub mod Walks

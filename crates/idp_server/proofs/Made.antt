@@ -17,7 +17,7 @@ use Rattle.idp_answers.specs.Answers.{signed_assertion, signed_response}
 use Rattle.ledger_records.specs.declared.idp_record.Issued.{Issued}
 use Rattle.idp_server.specs.Logins.{login_of}
 use Rattle.idp_server.specs.Replies.{IsIssuable}
-use Rattle.idp_server.proofs.Signing.{signed_made}
+use Rattle.sig_reference.proofs.SignatureMade.{signed_made}
 
 -- an attribute of this name
 named : (name value : List ℕ) → IsNoColonName name → (name ≡ codes "xmlns" → ⊥) → IsText value → IsMadeAttribute (record { name = name; value = value })

@@ -36,8 +36,6 @@ mod replying;
 mod route;
 mod sign_on;
 mod single_logout;
-#[cfg(test)]
-mod tests;
 mod texts;
 
 pub use node::IdpNode;

@@ -18,7 +18,7 @@ use Rattle.provider_config.specs.declared.line.TheConstants.{MILLIS, MOST_SKEW}
 use Rattle.peer_keys.specs.Peers.{place_of, differ}
 use Rattle.idp_rules.specs.Config.{IsTextPeer, IsTextUser, IsUsable}
 use Rattle.idp_rules.specs.declared.config.IdpConfig.{IdpConfig}
-use Rattle.idp_rules.proofs.Texts.{AreWritable}
+use Rattle.tree_read.proofs.WritableTexts.{AreWritable}
 use Rattle.idp_setup.specs.declared.loaded.Loaded.{Loaded}
 use Rattle.idp_setup.specs.Setup.{nothing, doubled_with, Adds, AreLoaded, config_of, IsSetUpBy}
 use Rattle.idp_setup.proofs.Counting.{few_named}

@@ -1,5 +1,5 @@
 -- The texts of a peer that metadata describes hold characters that a document may hold.
-use Rattle.std.proofs.Common.{◌≡◌, ℕ, Bool, true, false, List, [], ◌∷◌, Option, None, Some, IfSome, Ok, codes, if◌then◌else◌, subst}
+use Rattle.std.proofs.Common.{◌≡◌, ℕ, List, [], ◌∷◌, Option, None, Some, IfSome, Ok, codes, subst}
 use Rattle.xml_spec.specs.Characters.{IsText}
 use Rattle.xml_spec.specs.Tree.{Nodes}
 use Rattle.canon_laws.specs.Writable.{IsWritable}
@@ -8,30 +8,14 @@ use Rattle.tree_read.specs.Children.{is_name}
 use Rattle.tree_read.specs.Texts.{attribute_text}
 use Rattle.tree_read.specs.Walk.{name_of_node}
 use Rattle.metadata.specs.Faults.{IsRead}
-use Rattle.metadata.specs.Metadata.{is_post, first_location, not_empty, described, with_service, address, entity, sign_on, logout}
+use Rattle.metadata.specs.Metadata.{not_empty, described, with_service, address, entity, sign_on, logout}
 use Rattle.metadata.specs.declared.peer.Peer.{Peer}
 use Rattle.metadata.specs.declared.peer.Role.{Role}
-use Rattle.idp_rules.proofs.Texts.{attribute_is_text, AreWritable}
-
--- METADATA
-
-either_option : (b : Bool) (one other : Option (List ℕ)) → IfSome one IsText → IfSome other IsText → IfSome (if b then one else other) IsText
-either_option true one other h k = h
-either_option false one other h k = k
+use Rattle.tree_read.proofs.WritableTexts.{AreWritable, either_option, attribute_is_text}
+use Rattle.metadata.proofs.PeerTexts.{location_text, not_empty_text}
 
 abbrev pub IsTextOf : Peer → Type 0
 IsTextOf peer = IsText peer.entity × IsText peer.service × IfSome peer.logout IsText
-
-location_text : (tree : Nodes) (endpoints : List ℕ) → IsWritable tree → IfSome (first_location tree endpoints) IsText
-location_text tree [] h = tt
-location_text tree (n ∷ others) h =
-    either_option (is_post (attribute_text tree n (codes "Binding"))) (attribute_text tree n (codes "Location")) (first_location tree others)
-    (attribute_is_text tree n (codes "Location") h) (location_text tree others h)
-
-not_empty_text : (o : Option (List ℕ)) → IfSome o IsText → IfSome (not_empty o) IsText
-not_empty_text None h = tt
-not_empty_text (Some []) h = tt
-not_empty_text (Some (b ∷ text)) h = h
 
 of_parts : (name : List ℕ) (service logout_address : Option (List ℕ)) (peer : Peer) → IsText name → IfSome service IsText → IfSome logout_address IsText →
     with_service name service logout_address ≡ Ok peer → IsTextOf peer

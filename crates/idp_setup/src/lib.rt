@@ -19,8 +19,6 @@ pub mod laws;
 mod loaded;
 mod reading;
 mod setup;
-#[cfg(test)]
-mod tests;
 
 pub use setup::set_up;
 pub use sp_setup::SetupFault;

@@ -22,8 +22,6 @@ mod key_number;
 pub mod laws;
 mod reading;
 pub mod sp_record;
-#[cfg(test)]
-mod tests;
 mod writing;
 
 pub use idp_record::{IdpRecord, read_idp_record};

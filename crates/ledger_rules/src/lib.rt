@@ -18,8 +18,6 @@
 mod fault;
 mod kept;
 mod numbers;
-#[cfg(test)]
-mod tests;
 
 pub use fault::DraftFault;
 pub use kept::keep;

@@ -1,12 +1,11 @@
 -- What the content of an element shows of its children.
-use Rattle.std.proofs.Common.{◌≡◌, ℕ, suc, ◌+◌, ◌-◌, ◌<◌, ◌≤◌, Bool, true, false, cond, nat_lt, ltb, List, [], ◌∷◌, map, codes, Option, None, Some, refl, sym, ap, ◌∙◌, subst, arith}
+use Rattle.std.proofs.Common.{◌≡◌, ℕ, suc, ◌+◌, ◌-◌, ◌<◌, ◌≤◌, Bool, true, false, cond, nat_lt, List, [], ◌∷◌, map, codes, Option, None, Some, refl, sym, ap, ◌∙◌, subst, arith}
 use Rattle.std.specs.List.{AllByRecursion}
-use Rattle.std.proofs.lemmas.Bool.{cond-false, le-ltb}
 use Rattle.xml_spec.specs.Tree.{Nodes, NoNodes, Element, Text, Comment, Instruction}
 use Rattle.xml_spec.specs.Numbering.{size, from_node, kids_of, without_node}
 use Rattle.xml_spec.specs.Names.{Scope, outermost, inner_scope, ExpandedName, element_name}
 use Rattle.xml_spec.specs.Canonical.{alone, scope_at}
-use Rattle.xml_spec.specs.Content.{Contents, NoContents, ElementContent, content_attributes, content_nodes, content}
+use Rattle.xml_spec.specs.Content.{Contents, NoContents, ElementContent, content_nodes, content}
 use Rattle.saml_names.specs.Names.{saml, samlp, ds}
 use Rattle.saml_tree.specs.Documents.{kind_of}
 use Rattle.saml_tree.specs.declared.node.NodeKind.TheVariants as kinds
@@ -14,16 +13,15 @@ use Rattle.saml_tree.specs.Elements.{IsElement}
 use Rattle.tree_read.specs.Children as walk
 use Rattle.tree_read.specs.Children.{Child, child, is_name, scope_of_kids, elements_of, element_children}
 use Rattle.tree_read.specs.Walk.{first_name, name_of_node}
-use Rattle.tree_read.proofs.Numbers.{kids_from}
+use Rattle.saml_tree.proofs.Numbers.{kids_from}
 use Rattle.tree_read.proofs.Placed.{kids_scope}
 use Rattle.sig_reference.specs.Form.{Parts, HasForm}
 use Rattle.assertion_model.specs.Contents.{Part, named, only, first}
 use Rattle.assertion_model.specs.Login.{where_holds, login_of}
 use Rattle.assertion_model.specs.Parts.{part_in, part_at, own_signature, login_at}
-use Rattle.assertion_model.proofs.PartLemmas.{Stands, behind, next, named_behind_text, some, named_at}
+use Rattle.assertion_model.proofs.PartLemmas.{Stands, behind, next, some, named_at}
 use Rattle.assertion_model.proofs.PlaceLemmas.{IsThere, IsElementIn, children_in, elements_there, of_name}
-use Rattle.assertion_model.proofs.SkipLemmas.{login_is}
-use Rattle.assertion_model.proofs.ValueLemmas.{name_is}
+use Rattle.assertion_model.proofs.SkipLemmas.{signature, numbers_from, without_same, login_is}
 
 -- WHERE CHILDREN STAND
 
@@ -131,32 +129,11 @@ same_child wanted one other k l a b e f same =
 
 -- THE ASSERTION OF A RESPONSE, WITHOUT THE SIGNATURE OF THAT
 
-abbrev signature : ExpandedName
-signature = ds (codes "Signature")
-
 abbrev pub assertion : ExpandedName
 assertion = saml (codes "Assertion")
 
 abbrev pub response : ExpandedName
 response = samlp (codes "Response")
-
-no_number : (k : ℕ) (ks : List ℕ) → [] ≡ k ∷ ks → ⊥
-no_number k ks e = cc
-
--- the elements of a list have numbers from that of its first node on
-numbers_from : (scope : Scope) (n : ℕ) (nodes : Nodes) (k : ℕ) (ks : List ℕ) → walk.named signature (elements_of scope n nodes) ≡ k ∷ ks → n ≤ k
-numbers_from scope n NoNodes k ks e = absurd (no_number k ks e)
-numbers_from scope n (Element name attributes kids rest) k ks e =
-    which (is_name signature (element_name (inner_scope attributes scope) name)) e (numbers_from scope (suc (n + size kids)) rest k ks)
-  where
-    which : (b : Bool) →
-        cond b (n ∷ walk.named signature (elements_of scope (suc (n + size kids)) rest)) (walk.named signature (elements_of scope (suc (n + size kids)) rest)) ≡ k ∷ ks →
-        (walk.named signature (elements_of scope (suc (n + size kids)) rest) ≡ k ∷ ks → suc (n + size kids) ≤ k) → n ≤ k
-    which true e later = let same : n ≡ k = cc in omega (arith, same)
-    which false e later = omega (arith, later e)
-numbers_from scope n (Text bytes rest) k ks e = omega (arith, numbers_from scope (suc n) rest k ks e)
-numbers_from scope n (Comment bytes rest) k ks e = omega (arith, numbers_from scope (suc n) rest k ks e)
-numbers_from scope n (Instruction target value rest) k ks e = omega (arith, numbers_from scope (suc n) rest k ks e)
 
 abbrev shown : Scope → Nodes → List Part
 shown scope nodes = named assertion (content_nodes scope nodes)
@@ -164,47 +141,7 @@ shown scope nodes = named assertion (content_nodes scope nodes)
 -- without the first Signature of a list its Assertions are the same
 without_signature : (scope : Scope) (n : ℕ) (nodes : Nodes) (k : ℕ) (ks : List ℕ) → walk.named signature (elements_of scope n nodes) ≡ k ∷ ks →
     shown scope (without_node nodes (k - n)) ≡ shown scope nodes
-without_signature scope n NoNodes k ks e = absurd (no_number k ks e)
-without_signature scope n (Element name attributes kids rest) k ks e =
-    which (is_name signature (element_name (inner_scope attributes scope) name)) refl e
-    (without_signature scope (suc (n + size kids)) rest k ks) (numbers_from scope (suc (n + size kids)) rest k ks)
-  where
-    which : (b : Bool) → is_name signature (element_name (inner_scope attributes scope) name) ≡ b →
-        cond b (n ∷ walk.named signature (elements_of scope (suc (n + size kids)) rest)) (walk.named signature (elements_of scope (suc (n + size kids)) rest)) ≡ k ∷ ks →
-        (walk.named signature (elements_of scope (suc (n + size kids)) rest) ≡ k ∷ ks →
-        shown scope (without_node rest (k - suc (n + size kids))) ≡ shown scope rest) →
-        (walk.named signature (elements_of scope (suc (n + size kids)) rest) ≡ k ∷ ks → suc (n + size kids) ≤ k) →
-        shown scope (without_node (Element name attributes kids rest) (k - n)) ≡ shown scope (Element name attributes kids rest)
-    which true h e later from =
-        let same : n ≡ k = cc in
-        let none : k - n ≡ 0 = omega (arith, same) in
-        let full = element_name (inner_scope attributes scope) name in
-        ap (λ j. shown scope (without_node (Element name attributes kids rest) j)) none
-        ∙ sym (cond-false (is_name assertion full) _ _ (ap (is_name assertion) (name_is signature full h)))
-    which false h e later from =
-        let past = from e in
-        let place : k - n ≡ suc (size kids + (k - suc (n + size kids))) = omega (arith, past) in
-        let back : size kids + (k - suc (n + size kids)) - size kids ≡ k - suc (n + size kids) = omega arith in
-        ap (λ j. shown scope (without_node (Element name attributes kids rest) j)) place
-        ∙ ap (shown scope) (cond-false (ltb (size kids + (k - suc (n + size kids))) (size kids)) _ _ (le-ltb _ _ (omega arith)))
-        ∙ ap (λ j. shown scope (Element name attributes kids (without_node rest j))) back
-        ∙ ap (λ others. cond (is_name assertion (element_name (inner_scope attributes scope) name))
-        (record { attributes = content_attributes (inner_scope attributes scope) attributes; kids = content_nodes (inner_scope attributes scope) kids } ∷ others) others)
-        (later e)
-without_signature scope n (Text bytes rest) k ks e =
-    let past = numbers_from scope (suc n) rest k ks e in
-    let place : k - n ≡ suc (k - suc n) = omega (arith, past) in
-    ap (λ j. shown scope (without_node (Text bytes rest) j)) place
-    ∙ named_behind_text assertion bytes (content_nodes scope (without_node rest (k - suc n)))
-    ∙ without_signature scope (suc n) rest k ks e ∙ sym (named_behind_text assertion bytes (content_nodes scope rest))
-without_signature scope n (Comment bytes rest) k ks e =
-    let past = numbers_from scope (suc n) rest k ks e in
-    let place : k - n ≡ suc (k - suc n) = omega (arith, past) in
-    ap (λ j. shown scope (without_node (Comment bytes rest) j)) place ∙ without_signature scope (suc n) rest k ks e
-without_signature scope n (Instruction target value rest) k ks e =
-    let past = numbers_from scope (suc n) rest k ks e in
-    let place : k - n ≡ suc (k - suc n) = omega (arith, past) in
-    ap (λ j. shown scope (without_node (Instruction target value rest) j)) place ∙ without_signature scope (suc n) rest k ks e
+without_signature = without_same (codes "Assertion")
 
 -- the one Assertion that the content of a Response shows
 abbrev pub assertion_in : Contents → Option Part

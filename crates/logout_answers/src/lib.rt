@@ -13,7 +13,5 @@
 
 mod answers;
 pub mod laws;
-#[cfg(test)]
-mod tests;
 
 pub use answers::{end_answer, ending_answer, leaving_answer};

@@ -23,8 +23,9 @@ use Rattle.logout_profile.specs.declared.logout.Logout.{Logout}
 use Rattle.logout_profile.specs.Carrying.{IsMessage, issuer_of, destination_of, until_of, logout_of, Posts}
 use Rattle.logout_profile.specs.Keys.{keys_of, IsVouched, IsNotVouched}
 use Rattle.logout_profile.specs.Verdict.{IsPeer, is_sent_to, is_in_time, form_refusal, message_refusal, IsRefused, IsAccepted, by_form, by_document, by_root, by_issuer, by_signature, by_message}
-use Rattle.logout_profile.proofs.Faults.{spelled_not_refused, one_refusal, one_key, vouched_not_refused, not_vouched_one}
-use Rattle.logout_profile.proofs.Stages.{IsOne, Staged, staged_one, staged_none}
+use Rattle.fault_verdicts.proofs.Faults.{spelled_not_refused, one_refusal}
+use Rattle.logout_profile.proofs.Faults.{one_key, vouched_not_refused, not_vouched_one}
+use Rattle.fault_verdicts.proofs.Stages.{IsOne, Staged, staged_one, staged_none}
 
 some_one : {X : Type 0} (o : Option X) (x y : X) → o ≡ Some x → o ≡ Some y → x ≡ y
 some_one o x y e h = let both : Some x ≡ Some y = sym e ∙ h in cc

@@ -25,8 +25,6 @@ mod logout;
 mod making;
 mod meant;
 mod message;
-#[cfg(test)]
-mod tests;
 mod vouching;
 
 pub use fault_verdicts::Judged;

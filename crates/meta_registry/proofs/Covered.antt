@@ -11,7 +11,7 @@ use Rattle.xml_spec.proofs.Sorting.{each_weaker}
 use Rattle.saml_names.specs.Names.{md, ds}
 use Rattle.tree_read.specs.Children.{Child, child, named, scope_of_kids, elements_of, element_children}
 use Rattle.tree_read.specs.Texts.{attribute_text}
-use Rattle.tree_read.proofs.Numbers.{kids_from}
+use Rattle.saml_tree.proofs.Numbers.{kids_from}
 use Rattle.tree_read.proofs.Placed.{kids_scope}
 use Rattle.assertion_model.proofs.PartLemmas.{Stands, behind, next, some}
 use Rattle.assertion_model.proofs.PlaceLemmas.{IsThere, elements_there, IsElementIn, children_in, of_name, in_both}

@@ -3,6 +3,5 @@ pub mod Covered
 pub mod Reading
 pub mod Skipping
 pub mod Shown
-pub mod OneForm
 pub mod Outcomes
 mod Examples

@@ -24,7 +24,7 @@ use Rattle.meta_registry.specs.declared.fault.RegistryFault.{RegistryFault}
 use Rattle.meta_registry.specs.declared.fault.RegistryFault.TheVariants as faults
 use Rattle.meta_registry.specs.Aggregate.{valid_until, RegistryView}
 use Rattle.meta_registry.specs.Faults.{IsRegistryOf, IsRead, IsRefused}
-use Rattle.meta_registry.proofs.OneForm.{one_first_signature}
+use Rattle.sig_reference.proofs.OneSignature.{one_first_signature}
 use Rattle.meta_registry.proofs.Skipping.{first_part, signature_behind}
 use Rattle.meta_registry.proofs.Shown.{entries_in, moment_in, entries_shown, until_shown}
 

@@ -13,7 +13,7 @@ use Rattle.saml_tree.specs.Elements.{IsElement}
 use Rattle.tree_read.specs.Children.{Child, child, is_name, scope_of_kids, elements_of, element_children, children}
 use Rattle.tree_read.specs.Texts.{attribute_text}
 use Rattle.tree_read.specs.Walk.{first_name, name_of_node}
-use Rattle.tree_read.proofs.Numbers.{kids_from}
+use Rattle.saml_tree.proofs.Numbers.{kids_from}
 use Rattle.tree_read.proofs.Placed.{kids_scope}
 use Rattle.assertion_model.specs.Contents.{Part, named, value}
 use Rattle.assertion_model.specs.Instants.{moment_of}

@@ -20,8 +20,6 @@ mod entry;
 mod fault;
 pub mod laws;
 mod registry;
-#[cfg(test)]
-mod tests;
 
 pub use fault::{PeerFault, RegistryFault};
 pub use registry::{Registry, read_registry};

@@ -1,3 +1,4 @@
+pub mod PeerTexts
 pub mod Texts
 pub mod Reading
 pub mod Refusals

@@ -15,8 +15,6 @@ pub mod laws;
 mod make;
 mod peer;
 mod read;
-#[cfg(test)]
-mod tests;
 
 pub use fault::MetaFault;
 pub use make::{put_metadata, put_plain_metadata};

@@ -150,6 +150,3 @@ impl<'a> Scope<'a> {
         self.latest.get(prefix).copied()
     }
 }
-
-#[cfg(test)]
-mod tests;

@@ -35,8 +35,6 @@ mod limits;
 mod node;
 mod served;
 mod serving;
-#[cfg(test)]
-mod tests;
 mod turns;
 
 pub use limits::PIECE_ROOM;

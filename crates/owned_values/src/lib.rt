@@ -15,8 +15,6 @@ mod attributes;
 pub mod laws;
 mod memory;
 mod owned;
-#[cfg(test)]
-mod tests;
 
 pub use attributes::{Attribute, Attributes};
 pub use memory::NoMemory;

@@ -11,7 +11,5 @@
 #![tactic(auto)]
 
 mod peers;
-#[cfg(test)]
-mod tests;
 
 pub use peers::{LogoutPeer, Peers, place_of};

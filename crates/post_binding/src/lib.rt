@@ -25,8 +25,6 @@ mod page;
 mod pages;
 mod posted;
 mod reading;
-#[cfg(test)]
-mod tests;
 mod text;
 mod writing;
 

@@ -1,8 +1,9 @@
 //! A form is read: the message that it carries, or the values of named fields.
-ghost use Rattle.std.specs.Prelude.{◌≡◌, IfOk};
+ghost use Rattle.std.specs.Prelude.{◌≡◌, ◌≤◌, length, IfOk};
 ghost use Rattle.owned_values.specs.Gives.{Gives};
 ghost use Rattle.post_binding.specs.Form.{pairs, values, field_name, relay_name, message_of, message_field, relay_field, fault_of, form, the_value, fields};
 ghost use Rattle.post_binding.specs.Occurrences.{IsOccurrence};
+ghost use Rattle.post_binding.specs.declared.posted.TheConstants.{MESSAGE_LIMIT};
 
 use crate::fault::FormFault;
 use crate::posted::{Field, MESSAGE_LIMIT, Posted, RELAY_LIMIT};
@@ -46,7 +47,8 @@ fn occurrence_of(alloc: Global, body: &[u8], name: &str) -> Result<Occurrence, N
 ///
 /// `BadBase64` where it is no base64; then `TooLarge` where the message has more than [`MESSAGE_LIMIT`] bytes.
 fn decode_message(alloc: Global, text: &str) -> Result<Blob, FormFault>
-    ensures { Gives (λ message. message) fault_of result (message_of text.now) }
+    ensures gives { Gives (λ message. message) fault_of result (message_of text.now) }
+    ensures small { IfOk result (λ message. length message ≤ MESSAGE_LIMIT) }
 {
     let symbols = without_white(alloc, text.as_bytes())?;
     let message = match STANDARD.decode(alloc, symbols.as_slice()) {
@@ -108,9 +110,10 @@ fn read_relay(alloc: Global, body: &[u8]) -> Result<Option<Text>, FormFault>
 /// The first that holds. `BadForm`: the pairs named SAMLRequest or SAMLResponse are not one in all, or RelayState
 /// stands twice or has more than [`RELAY_LIMIT`] bytes, or U+FFFD stands in one of these values. `BadBase64`: without
 /// white space the value is no base64 with its padding. `TooLarge`: the message has more than [`MESSAGE_LIMIT`] bytes.
-/// `NoMemory` may come in place of any answer.
+/// `NoMemory` may come in place of any answer. So the message that is given has at most [`MESSAGE_LIMIT`] bytes (`small`).
 pub fn read_form(alloc: Global, body: &[u8]) -> Result<Posted, FormFault>
-    ensures { Gives (λ posted. posted) fault_of result (form body.now) }
+    ensures gives { Gives (λ posted. posted) fault_of result (form body.now) }
+    ensures small { IfOk result (λ posted. length posted.message ≤ MESSAGE_LIMIT) }
 {
     let (field, text) = read_message_field(alloc, body)?;
     let relay = read_relay(alloc, body)?;

@@ -7,7 +7,7 @@ use Rattle.xml_spec.specs.Canonical.{scope_at}
 use Rattle.saml_tree.specs.Elements.{attributes_in}
 use Rattle.tree_read.specs.Children.{scope_of_kids, element_children, elements_of}
 use Rattle.tree_read.specs.Texts.{text_in, text_of, attribute_text, value_of}
-use Rattle.tree_read.proofs.Numbers.{kids_from, rest_from}
+use Rattle.saml_tree.proofs.Numbers.{kids_from, rest_from}
 use Rattle.tree_read.proofs.Placed.{kids_scope, rest_scope}
 
 -- these are node k of the tree and those behind it in its list, and they stand in this scope

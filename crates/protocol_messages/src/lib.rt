@@ -16,8 +16,6 @@ mod logout;
 mod make;
 mod parts;
 mod response;
-#[cfg(test)]
-mod tests;
 
 pub use authn::{AuthnRequest, read_authn};
 pub use logout::{

@@ -8,9 +8,9 @@ ghost use Rattle.provider_config.specs.IdpLine as spec;
 
 use crate::idp_config::{PeerFiles, SignMode};
 use crate::line::skew_of;
-use crate::words::words_of;
 use owned_values::{NoMemory, Text};
 use std::alloc::Global;
+use text_lines::words_of;
 
 /// A line of an identity provider's config.
 #[derive(Debug, Drop)]

@@ -31,9 +31,6 @@ mod idp_read;
 pub mod laws;
 mod line;
 mod read;
-#[cfg(test)]
-mod tests;
-mod words;
 
 pub use config::{
     AskedLine, FileRole, MAX_CONFIG_LENGTH, NamedFile, OpenedLine, RegistryLine, SpFile, SpLines,

@@ -7,11 +7,10 @@ ghost use Rattle.xml_spec.specs.Characters.{IsText};
 ghost use Rattle.provider_config.specs.Line as spec;
 
 use crate::config::{AskedLine, OpenedLine, RegistryLine, Times};
-use crate::words::words_of;
 use owned_values::{NoMemory, Text};
 use saml_time::LAST;
 use std::alloc::Global;
-use text_lines::number_of;
+use text_lines::{number_of, words_of};
 
 /// The most seconds by which clocks may be said to differ.
 pub const MOST_SKEW: u64 = 300;

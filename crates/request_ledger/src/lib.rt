@@ -29,8 +29,6 @@ mod marked;
 mod naming;
 mod rules;
 mod standing;
-#[cfg(test)]
-mod tests;
 
 pub use draft::Draft;
 pub use gate_journal::{Disk, Failed, FileNo, Header, OpenFault};

@@ -28,8 +28,6 @@ mod key;
 pub mod laws;
 mod row;
 mod rows;
-#[cfg(test)]
-mod tests;
 
 pub use kept::KeptRows;
 pub use key::RowKey;

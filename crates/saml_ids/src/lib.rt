@@ -12,8 +12,6 @@ ghost use Rattle.saml_ids.specs.IdText.{id_text, random_bytes, number_of};
 ghost use Rattle.saml_ids.specs.Laws.{IsUsableId};
 
 pub mod laws;
-#[cfg(test)]
-mod tests;
 
 use rand_chacha::ChaCha20Rng;
 use rand_core::{Rng, SeedableRng};

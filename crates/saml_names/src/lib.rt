@@ -6,8 +6,6 @@
 
 mod name;
 mod namespaces;
-#[cfg(test)]
-mod tests;
 mod uris;
 
 pub use name::{ExpandedName, ds, md, saml, samlp};

@@ -11,8 +11,6 @@ pub mod laws;
 mod reading;
 mod stop;
 mod taken_bytes;
-#[cfg(test)]
-mod tests;
 mod writing;
 
 pub use held_files::{MemFiles, SteadyFiles};

@@ -5,8 +5,6 @@
 ghost use Rattle.saml_time.specs.Instant.{OneInstant, ReadsBack};
 
 mod read;
-#[cfg(test)]
-mod tests;
 mod write;
 
 pub use read::read_instant;

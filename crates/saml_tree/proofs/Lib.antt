@@ -33,3 +33,5 @@ pub mod Indexing
 pub mod OwnIds
 pub mod RowIds
 pub mod ElementsFound
+pub mod Numbers
+pub mod Placed

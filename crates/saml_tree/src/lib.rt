@@ -26,8 +26,6 @@ mod node;
 mod open_names;
 mod outline;
 mod read;
-#[cfg(test)]
-mod tests;
 
 pub use doc::Doc;
 pub use node::{Name, NameAt, NodeKind, NodeNo, TreeFault};

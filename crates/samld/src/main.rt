@@ -4,40 +4,13 @@
 //! `Status` that `run` gives.
 #![tactic(auto)]
 
-mod answer;
-#[cfg(test)]
-mod both_tests;
-mod canon;
-mod check;
-#[cfg(test)]
-mod check_tests;
-mod command;
-mod fs_files;
-mod limits;
-mod printing;
-mod run;
-#[cfg(test)]
-mod run_tests;
-mod serve;
-#[cfg(test)]
-mod serve_tests;
-mod status;
-mod stdout_sink;
-#[cfg(test)]
-mod tests;
-mod vouch;
-#[cfg(test)]
-mod vouch_tests;
-
 ghost use Rattle.std.specs.Prelude.{◌≡◌, drop, map, string_bytes, IfOk};
 ghost use Rattle.std.specs.Vec.Iter.{into_iter_items};
 ghost use Rattle.std.specs.Process.{exit_status};
-ghost use Rattle.samld.specs.Exit.{exit_number};
+ghost use Rattle.saml_commands.specs.Exit.{exit_number};
 
-use fs_files::FsFiles;
-use run::run;
+use saml_commands::{Status, run};
 use saml_outside::{NoMemory, Text};
-use status::Status;
 use std::alloc::Global;
 use std::env::Args;
 use std::io::ErrorKind;
@@ -45,8 +18,7 @@ use std::net::Net;
 use std::process::ExitCode;
 use std::rt::{Clock, Env, Files};
 use std::{env, io};
-use stdout_sink::StdoutSink;
-use system_objects::{FsDisk, SystemClock, TcpLink};
+use system_objects::{FsDisk, FsFiles, StdoutSink, SystemClock, TcpLink};
 
 // The words behind the first, which is the program's name.
 fn words_behind_name(alloc: Global, mut arguments: Args) -> Result<Vec<Text>, NoMemory>

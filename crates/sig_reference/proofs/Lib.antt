@@ -9,7 +9,7 @@ mod Parting
 mod Places
 mod PutInside
 mod Shapes
-mod SignatureMade
+pub mod SignatureMade
 mod SignedNodes
 mod SignedPlace
 mod SignedVouched

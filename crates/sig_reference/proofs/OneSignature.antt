@@ -6,7 +6,7 @@ use Rattle.base64.proofs.EngineFacts.{decode_of-encode_of}
 use Rattle.xml_spec.specs.Tree.{Nodes}
 use Rattle.tree_read.specs.Texts.{text_of}
 use Rattle.tree_read.specs.Children.{element_children}
-use Rattle.sig_reference.specs.Form.{words, Parts, IsPrefixList, IsCanonicalization, IsBase64, AreTransforms, IsReference, IsSignedInfo, IsSignature, HasForm}
+use Rattle.sig_reference.specs.Form.{words, Parts, IsPrefixList, IsCanonicalization, IsBase64, AreTransforms, IsReference, IsSignedInfo, IsSignature, HasForm, HasFirstForm}
 use Rattle.sig_reference.proofs.Shapes.{first_is, behind_first, listed_by}
 
 one_list : (tree : Nodes) (k : ℕ) (a b : List (List ℕ)) → IsPrefixList tree k a → IsPrefixList tree k b → a ≡ b
@@ -95,3 +95,7 @@ one_parts tree p q here s t =
 pub one_signature : (tree : Nodes) (e : ℕ) (p q : Parts) → HasForm tree e p → HasForm tree e q → p ≡ q
 one_signature tree e p q f g =
     one_parts tree p q (first_is (behind_first g.children f.children) refl) f.signature g.signature
+
+-- so is what a signature in front says
+pub one_first_signature : (tree : Nodes) (e : ℕ) (p q : Parts) → HasFirstForm tree e p → HasFirstForm tree e q → p ≡ q
+one_first_signature tree e p q f g = one_parts tree p q (first_is f.children g.children) f.signature g.signature

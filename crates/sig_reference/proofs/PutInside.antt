@@ -10,7 +10,7 @@ use Rattle.element_make.specs.Made.{Made, MadeNodes, NothingMade, MadeElement, M
 use Rattle.element_make.specs.Writing.{by_name}
 use Rattle.saml_names.specs.Names.{ds}
 use Rattle.tree_read.specs.Children.{named, children}
-use Rattle.tree_read.proofs.Numbers.{rest_from}
+use Rattle.saml_tree.proofs.Numbers.{rest_from}
 use Rattle.tree_read.proofs.Placed.{rest_scope}
 use Rattle.sig_reference.specs.Placing.{Around, Beside, Inside, filled, place, place_in}
 use Rattle.sig_reference.specs.Signing.{has_no_signature}

@@ -8,7 +8,7 @@ use Rattle.xml_spec.specs.Canonical.{scope_at}
 use Rattle.saml_tree.specs.Elements.{IsElement}
 use Rattle.saml_tree.specs.Documents.{DocumentView, kind_of}
 use Rattle.saml_tree.specs.declared.node.NodeKind.TheVariants as kinds
-use Rattle.tree_read.proofs.Numbers.{in_rest, kid_from, node_there}
+use Rattle.saml_tree.proofs.Numbers.{in_rest, kid_from, node_there}
 use Rattle.tree_read.specs.Children.{Child, child, scope_of_kids, elements_of, element_children}
 use Rattle.sig_reference.specs.Algorithms.{inclusive_namespaces}
 use Rattle.sig_reference.specs.Form.{IsPrefixList, ListsPrefixes, IsCanonicalization}

@@ -4,7 +4,7 @@ use Rattle.std.proofs.lemmas.Bool.{cases_lt}
 use Rattle.xml_spec.specs.Tree.{Nodes}
 use Rattle.xml_spec.specs.Numbering.{size, from_node, kids_of}
 use Rattle.saml_tree.specs.Elements.{IsElement}
-use Rattle.tree_read.proofs.Numbers.{left_from, some_from, size_parts, kid_from}
+use Rattle.saml_tree.proofs.Numbers.{left_from, some_from, size_parts, kid_from}
 use Rattle.sig_reference.specs.Form.{Parts, HasForm, HasFirstForm, IsSignature}
 use Rattle.sig_reference.specs.Vouching.{VouchedView, IsVouchedWith, IsVouchedFirstWith, IsVouched, IsIn}
 use Rattle.sig_reference.proofs.Shapes.{first_child, second_child}

@@ -7,8 +7,6 @@ mod form;
 pub mod laws;
 mod methods;
 mod signing;
-#[cfg(test)]
-mod tests;
 mod uris;
 mod validation;
 mod vouched;

@@ -12,8 +12,6 @@
 
 mod asking;
 mod showing;
-#[cfg(test)]
-mod tests;
 
 pub use asking::ask_answer;
 pub use showing::{denied_answer, metadata_answer, opened_answer, user_answer};

@@ -25,8 +25,9 @@ use Rattle.sp_rules.specs.Meant.{consumer, is_from, is_for, is_sent_to, is_in_ti
 use Rattle.sp_rules.specs.Outstanding.{asked_for, is_outstanding, is_relayed}
 use Rattle.sp_rules.specs.Opening.{Posts, Asserts, Brought, Opens}
 use Rattle.sp_rules.specs.Verdict.{form_refusal, number_refusal, head_refusal, login_refusal, first_failing, IsRefused, by_form, by_document, by_root, by_head, by_signature, by_assertion, by_login}
-use Rattle.sp_rules.proofs.Faults.{spelled_not_refused, one_refusal, covered_not_uncovered, uncovered_one, covered_one}
-use Rattle.sp_rules.proofs.Stages.{IsOne, Staged, staged_one, staged_none}
+use Rattle.fault_verdicts.proofs.Faults.{spelled_not_refused, one_refusal}
+use Rattle.sp_rules.proofs.Faults.{covered_not_uncovered, uncovered_one, covered_one}
+use Rattle.fault_verdicts.proofs.Stages.{IsOne, Staged, staged_one, staged_none}
 
 some_one : {X : Type 0} (o : Option X) (x y : X) → o ≡ Some x → o ≡ Some y → x ≡ y
 some_one o x y e h = let both : Some x ≡ Some y = sym e ∙ h in cc

@@ -1,55 +1,14 @@
--- A document, and an element, fail for one reason.
+-- An element is verified under one key, and one that is not fails for one reason.
 use Rattle.std.proofs.Common.{◌≡◌, ℕ, List, [], ◌∷◌, None, Some, inl, inr, refl, sym, ◌∙◌, ap, subst}
-use Rattle.xml_spec.specs.Tree.{Nodes, IsWithinLimits}
-use Rattle.xml_spec.specs.Names.{HasNames}
-use Rattle.xml_spec.specs.Identifiers.{IsSingle}
-use Rattle.xml_spec.proofs.Documents.{one_tree}
-use Rattle.saml_tree.specs.Documents.{IsSpelled, IsRefused}
-use Rattle.saml_tree.specs.declared.node.TreeFault.{TreeFault}
-use Rattle.saml_tree.specs.declared.node.TreeFault.TheVariants as trees
+use Rattle.xml_spec.specs.Tree.{Nodes}
 use Rattle.sig_reference.specs.Signature.{IsReferredTo, IsDigested}
 use Rattle.sig_reference.specs.declared.fault.SigFault.{SigFault}
 use Rattle.sig_reference.specs.declared.fault.SigFault.TheVariants as sigs
 use Rattle.sig_reference.proofs.OneSignature.{one_signature}
 use Rattle.verdict_codes.specs.declared.codes.Verdict.{Verdict}
-use Rattle.fault_verdicts.specs.Verdicts.{of_document, of_signature}
+use Rattle.fault_verdicts.specs.Verdicts.{of_signature}
 use Rattle.sp_rules.specs.Keys.{Key}
 use Rattle.sp_rules.specs.Covering.{tagging, signed_of, IsVerified, IsUnverified, AreVerified, IsCovered, IsFirstUnverified, IsUncovered}
-
--- DOCUMENTS
-
--- a text that is read is refused for nothing
-pub spelled_not_refused : (text : List ℕ) (tree : Nodes) (fault : TreeFault) (verdict : Verdict) → IsSpelled text tree → IsRefused text fault →
-    of_document fault ≡ Some verdict → ⊥
-spelled_not_refused text tree trees.BadXml verdict s r e = r tree s.spells
-spelled_not_refused text tree trees.XmlLimit verdict s r e = r.2 (subst IsWithinLimits (one_tree text tree r.0 s.spells r.1) s.limits)
-spelled_not_refused text tree trees.BadNames verdict s r e = r.3 (subst HasNames (one_tree text tree r.0 s.spells r.1) s.names)
-spelled_not_refused text tree trees.DuplicateId verdict s r e = r.4 (subst IsSingle (one_tree text tree r.0 s.spells r.1) s.single)
-spelled_not_refused text tree trees.NoMemory verdict s r e = cc
-
--- one fault comes first
-pub one_refusal : (text : List ℕ) (f g : TreeFault) (v w : Verdict) → IsRefused text f → IsRefused text g → of_document f ≡ Some v →
-    of_document g ≡ Some w → f ≡ g
-one_refusal text trees.BadXml trees.BadXml v w r s e h = refl
-one_refusal text trees.BadXml trees.XmlLimit v w r s e h = absurd (r s.0 s.1)
-one_refusal text trees.BadXml trees.BadNames v w r s e h = absurd (r s.0 s.1)
-one_refusal text trees.BadXml trees.DuplicateId v w r s e h = absurd (r s.0 s.1)
-one_refusal text trees.XmlLimit trees.BadXml v w r s e h = absurd (s r.0 r.1)
-one_refusal text trees.XmlLimit trees.XmlLimit v w r s e h = refl
-one_refusal text trees.XmlLimit trees.BadNames v w r s e h = absurd (r.2 (subst IsWithinLimits (one_tree text s.0 r.0 s.1 r.1) s.2))
-one_refusal text trees.XmlLimit trees.DuplicateId v w r s e h = absurd (r.2 (subst IsWithinLimits (one_tree text s.0 r.0 s.1 r.1) s.2))
-one_refusal text trees.BadNames trees.BadXml v w r s e h = absurd (s r.0 r.1)
-one_refusal text trees.BadNames trees.XmlLimit v w r s e h = absurd (s.2 (subst IsWithinLimits (one_tree text r.0 s.0 r.1 s.1) r.2))
-one_refusal text trees.BadNames trees.BadNames v w r s e h = refl
-one_refusal text trees.BadNames trees.DuplicateId v w r s e h = absurd (r.3 (subst HasNames (one_tree text s.0 r.0 s.1 r.1) s.3))
-one_refusal text trees.DuplicateId trees.BadXml v w r s e h = absurd (s r.0 r.1)
-one_refusal text trees.DuplicateId trees.XmlLimit v w r s e h = absurd (s.2 (subst IsWithinLimits (one_tree text r.0 s.0 r.1 s.1) r.2))
-one_refusal text trees.DuplicateId trees.BadNames v w r s e h = absurd (s.3 (subst HasNames (one_tree text r.0 s.0 r.1 s.1) r.3))
-one_refusal text trees.DuplicateId trees.DuplicateId v w r s e h = refl
-one_refusal text trees.NoMemory g v w r s e h = cc
-one_refusal text f trees.NoMemory v w r s e h = cc
-
--- SIGNATURES
 
 -- an element is verified under one key
 pub one_key : (keys : List Key) (tree : Nodes) (e : ℕ) (k l : Key) → IsVerified keys tree e k → IsVerified keys tree e l → k ≡ l

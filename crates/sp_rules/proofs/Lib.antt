@@ -3,8 +3,6 @@ pub mod Covers
 pub mod Deciding
 pub mod Exclusive
 pub mod Faults
-pub mod Posting
 pub mod Refusals
 pub mod Showing
-pub mod Stages
 pub mod Verifying

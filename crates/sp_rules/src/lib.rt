@@ -26,8 +26,6 @@ mod judging;
 pub mod laws;
 mod login;
 mod shown;
-#[cfg(test)]
-mod tests;
 
 pub use accepted::{Accepted, Spans};
 pub use config::{FIRST, GREATEST_SKEW, NextKey, SECOND, SESSION_LENGTH, SpConfig};

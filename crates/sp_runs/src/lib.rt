@@ -18,8 +18,6 @@
 
 pub mod laws;
 mod run;
-#[cfg(test)]
-mod tests;
 
 pub use node_runs::{Ended, RunFault};
 pub use run::run_sp;

@@ -37,7 +37,5 @@ mod peer;
 mod recording;
 mod route;
 mod single_logout;
-#[cfg(test)]
-mod tests;
 
 pub use node::SpNode;

@@ -20,8 +20,6 @@ mod limits;
 mod loaded;
 mod setup;
 mod source;
-#[cfg(test)]
-mod tests;
 
 pub use fault::SetupFault;
 pub use limits::{GREATEST_KEY, ID_KEY, LEAST_KEY};

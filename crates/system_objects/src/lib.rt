@@ -1,4 +1,4 @@
-//! The clock, the disk and the connections of the system, behind the traits that a program is proved over.
+//! The clock, the disk, the connections, the files and the output of the system, behind the traits that a program is proved over.
 //!
 //! ```
 //! let mut clock = SystemClock::new(&rt);
@@ -12,6 +12,10 @@
 //! link.next(&mut into)?;                      // waits for its bytes: Piece(1, 18)
 //! link.send(1, b"HTTP/1.1 204 \r\n\r\n")?;
 //! link.close(1);
+//! let mut files = FsFiles::new(&rt);
+//! files.read_all("sp.conf", 65_536, &mut into);
+//! let mut out = StdoutSink::new(io::writer(&rt));
+//! out.put(b"yes\n")?;
 //! ```
 //!
 //! None of them tells what it holds or what is to come, so a contract sees no more than their counts of faults: a call
@@ -20,6 +24,10 @@
 
 mod faults;
 mod fs_disk;
+mod fs_files;
+mod stdout_sink;
+#[cfg(test)]
+mod stream_tests;
 mod system_clock;
 mod tcp_link;
 #[cfg(test)]
@@ -27,5 +35,7 @@ mod tests;
 
 pub use crash_disk::Failed;
 pub use fs_disk::FsDisk;
+pub use fs_files::FsFiles;
+pub use stdout_sink::StdoutSink;
 pub use system_clock::SystemClock;
 pub use tcp_link::TcpLink;

@@ -12,16 +12,15 @@
 //!
 //! A text is UTF-8 of characters that XML allows, in lines that a line feed ends. Empty lines and those that begin with
 //! `#` are passed over; all are counted. One space separates two words. A contract sees `Lines` as the list of what is
-//! still to be said. No call takes memory, and each is linear in what it looks at.
+//! still to be said. Each call is linear in what it looks at, and [`words_of`]
+//! alone takes memory.
 #![tactic(auto)]
 
 pub mod laws;
 mod line;
 mod number;
-#[cfg(test)]
-mod tests;
 mod word;
 
 pub use line::{Lines, Said};
 pub use number::number_of;
-pub use word::{Parts, Words, parts_of};
+pub use word::{Parts, Words, parts_of, words_of};

@@ -1,9 +1,11 @@
 // The words of a line.
 
-ghost use Rattle.std.specs.Prelude.{◌≡◌, [], ◌∷◌, List, ℕ, MatchOption};
-ghost use Rattle.text_lines.specs.Words.{parts_of, between_spaces};
+ghost use Rattle.std.specs.Prelude.{◌≡◌, [], ◌∷◌, List, ℕ, IfOk, MatchOption};
+ghost use Rattle.text_lines.specs.Words.{parts_of, between_spaces, words_of};
 ghost use Rattle.text_lines.specs.Views.{parts_view};
 
+use owned_values::{NoMemory, Text, Texts};
+use std::alloc::Global;
 use std::marker::Model;
 
 /// A line in two, at its first space.
@@ -66,4 +68,19 @@ impl<'a> Words<'a> {
         self.rest = parts.rest;
         Some(parts.first)
     }
+}
+
+/// The words of a line; none where a word would be empty, so that two spaces stand together or one stands at an end.
+pub fn words_of(alloc: Global, line: &str) -> Result<Option<Texts>, NoMemory>
+    ensures { IfOk result (λ found. found ≡ words_of line.now) }
+{
+    let mut found = Texts::new(alloc);
+    let mut words = Words::of(line);
+    while let Some(word) = words.next_word() {
+        if word.is_empty() {
+            return Ok(None);
+        }
+        found.push(Text::of(alloc, word)?)?;
+    }
+    Ok(Some(found))
 }

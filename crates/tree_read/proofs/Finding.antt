@@ -8,7 +8,7 @@ use Rattle.saml_tree.specs.declared.node.NodeNo.{NodeNo}
 use Rattle.saml_tree.specs.Elements.{IsElement}
 use Rattle.tree_read.specs.Children.{is_name, named}
 use Rattle.tree_read.specs.Walk.{name_of_node, children_from, children_first, IsFrom, IsPlace}
-use Rattle.tree_read.proofs.Numbers.{node_there}
+use Rattle.saml_tree.proofs.Numbers.{node_there}
 use Rattle.tree_read.proofs.Walking.{number_of, IsBehind, left_at, from_behind}
 
 pub element_there : (tree : Nodes) (n : ℕ) → IsElement tree n → n < size tree

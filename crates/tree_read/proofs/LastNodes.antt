@@ -2,7 +2,7 @@
 use Rattle.std.proofs.Common.{◌≡◌, ℕ, suc, ◌+◌, ◌<◌, Some, None, sym, ap, ◌∙◌, arith}
 use Rattle.xml_spec.specs.Tree.{Nodes}
 use Rattle.xml_spec.specs.Numbering.{size, from_node, kids_of, rest_of, first_kid_of, next_of}
-use Rattle.tree_read.proofs.Numbers.{size_parts, some_from, kids_from, rest_from, number_is, number_none}
+use Rattle.saml_tree.proofs.Numbers.{size_parts, some_from, kids_from, rest_from, number_is, number_none}
 
 -- the first kid, and what follows it in its list, end where what is below the node ends
 pub record IsAmongKids (tree : Nodes) (node kid : ℕ) : Type 0 where

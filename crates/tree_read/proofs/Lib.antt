@@ -3,8 +3,8 @@ mod Examples
 pub mod Finding
 pub mod LastNodes
 mod NamesLeft
-pub mod Numbers
 pub mod Placed
 pub mod TextBelow
 pub mod Trimming
 pub mod Walking
+pub mod WritableTexts

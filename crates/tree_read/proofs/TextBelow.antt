@@ -9,7 +9,7 @@ use Rattle.saml_tree.specs.Documents as documents
 use Rattle.saml_tree.specs.declared.node.NodeKind.{NodeKind}
 use Rattle.saml_tree.specs.declared.node.NodeKind.TheVariants as kinds
 use Rattle.tree_read.specs.Texts.{text_in, text_of}
-use Rattle.tree_read.proofs.Numbers.{in_kids, in_rest, kid_from}
+use Rattle.saml_tree.proofs.Numbers.{in_kids, in_rest, kid_from}
 
 -- the text that the first node of a list is, empty where it is none
 abbrev pub own_text : Nodes → List ℕ

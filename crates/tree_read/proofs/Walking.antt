@@ -11,7 +11,7 @@ use Rattle.saml_tree.specs.declared.node.NodeNo.{NodeNo}
 use Rattle.saml_tree.specs.declared.node.NodeKind.TheVariants as kinds
 use Rattle.tree_read.specs.Children.{child, elements_of, scope_of_kids, element_children}
 use Rattle.tree_read.specs.Walk.{first_name, name_of_node, children_from, children_first, IsFrom}
-use Rattle.tree_read.proofs.Numbers.{kids_from, kids_there, rest_from, rest_there}
+use Rattle.saml_tree.proofs.Numbers.{kids_from, kids_there, rest_from, rest_there}
 use Rattle.tree_read.proofs.Placed.{kids_scope, rest_scope}
 
 -- the number of a node, if there is one

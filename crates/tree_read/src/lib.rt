@@ -12,8 +12,6 @@ mod attribute_names;
 mod fault;
 mod named;
 mod nodes;
-#[cfg(test)]
-mod tests;
 mod texts;
 mod values;
 mod walk;

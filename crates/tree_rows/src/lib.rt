@@ -16,8 +16,6 @@
 
 mod node;
 mod rows;
-#[cfg(test)]
-mod tests;
 
 pub use node::{Leaf, Link, Place, Shape};
 pub use rows::Rows;

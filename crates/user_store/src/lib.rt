@@ -22,11 +22,8 @@
 mod fault;
 mod line;
 mod read;
-#[cfg(test)]
-mod tests;
 mod user;
 mod users;
-mod words;
 
 pub use fault::UserFault;
 pub use line::MOST_ROUNDS;

@@ -4,11 +4,10 @@ ghost use Rattle.std.specs.Prelude.{◌≡◌, ◌≤◌, IfOk, IfSome};
 ghost use Rattle.user_store.specs.Line as spec;
 
 use crate::user::{User, VALUE_LENGTH};
-use crate::words::words_of;
 use hex::FromHexError;
 use owned_values::{Attributes, Blob, NoMemory, Text};
 use std::alloc::Global;
-use text_lines::{number_of, parts_of};
+use text_lines::{number_of, parts_of, words_of};
 
 /// The most rounds of PBKDF2.
 pub const MOST_ROUNDS: u64 = 100_000;

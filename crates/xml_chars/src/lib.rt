@@ -7,8 +7,6 @@ ghost use Rattle.xml_spec.specs.Characters.{InRanges, char_ranges, name_start_ra
 
 mod parts;
 mod references;
-#[cfg(test)]
-mod tests;
 mod text;
 
 pub use parts::{

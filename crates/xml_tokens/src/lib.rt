@@ -10,8 +10,6 @@ mod name;
 mod parts;
 mod settings;
 mod tags;
-#[cfg(test)]
-mod tests;
 mod text;
 mod token;
 mod value;

@@ -5,7 +5,7 @@ use Rattle.canon_octets.proofs.Appending.{on_err, no_part, same_ok, same_err}
 use Rattle.excl_c14n.specs.Levels.{RenderedView, in_force}
 use Rattle.excl_c14n.specs.Pairs.{AreDeclared}
 use Rattle.excl_c14n.proofs.Canonical.{form_is_canonical}
-use Rattle.excl_c14n.proofs.Nodes.{node_there}
+use Rattle.saml_tree.proofs.Numbers.{node_there}
 use Rattle.excl_c14n.proofs.Walking.{number_of, skip_behind}
 use Rattle.excl_c14n.proofs.walk.canon_into.Goals as goal
 

@@ -2,7 +2,7 @@ use Rattle.std.proofs.Common.{◌≡◌, ap, ◌∙◌, subst, ◌++◌}
 use Rattle.std.proofs.lemmas.Result.{IfOk-weaker}
 use Rattle.element_make.specs.Made.{IsMade, written}
 use Rattle.sig_reference.specs.Signing.{signed}
-use Rattle.logout_profile.proofs.Signable.{unsigned_made}
+use Rattle.sig_reference.proofs.SignatureMade.{unsigned_made}
 use Rattle.logout_profile.proofs.making.signed.Goals as goal
 
 pub returns : goal.returns

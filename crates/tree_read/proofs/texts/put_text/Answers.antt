@@ -1,7 +1,7 @@
 use Rattle.std.proofs.Common.{◌+◌, ◌++◌, string_bytes, sym, ap, ◌∙◌, arith}
 use Rattle.std.proofs.lemmas.List.{append-nil}
 use Rattle.tree_read.proofs.Finding.{element_there}
-use Rattle.tree_read.proofs.Numbers.{kid_number_there}
+use Rattle.saml_tree.proofs.Numbers.{kid_number_there}
 use Rattle.tree_read.proofs.TextBelow.{none_on, all_on, text_put, one_more_put, no_text, not_text, none_put}
 use Rattle.tree_read.specs.Texts.{text_of}
 use Rattle.xml_spec.specs.Numbering.{from_node}

@@ -3,7 +3,7 @@ use Rattle.saml_tree.specs.Elements.{IsElement}
 use Rattle.saml_tree.specs.declared.node.NodeNo.{NodeNo}
 use Rattle.excl_c14n.specs.NodeByNode.{scope_inside}
 use Rattle.excl_c14n.proofs.Declaring.{AreLookedAt, number_of, left_above, binds_as, one_more_looked_at, all_looked_around, scope_around, fewer_left, of_number}
-use Rattle.excl_c14n.proofs.Nodes.{node_there}
+use Rattle.saml_tree.proofs.Numbers.{node_there}
 use Rattle.excl_c14n.proofs.walk.Walk.declared_around.Goals as goal
 
 pub parent-next-requires : goal.parent-next-requires

@@ -1,0 +1,13 @@
+//! What the clauses of the decisions do not say: that each call succeeds with ample memory, and that memory is all it asks for.
+#![tactic(auto)]
+
+#[cfg(test)]
+mod access_policy_tests;
+#[cfg(test)]
+mod idp_rules_tests;
+#[cfg(test)]
+mod logout_profile_tests;
+#[cfg(test)]
+mod provider_config_tests;
+#[cfg(test)]
+mod sp_rules_tests;

@@ -1,4 +1,0 @@
-use Rattle.http_wire.proofs.tests.heads_are_read_or_refused.Goals as goal
-
-pub look-requires : goal.look-requires
-look-requires g c = c.new.ensures _

@@ -1,0 +1,126 @@
+-- How a run of the program ends that serves, and how one ends that does not.
+use Rattle.std.proofs.Common.{◌≡◌, ◌≢◌, ℕ, ◌⊎◌, List, [], Option, Some, None, MatchOption, Ok, Err, append-nil, refl, sym, ap, subst}
+use Rattle.saml_outside.specs.Files.{File}
+use Rattle.crash_disk.specs.Disk.{DiskState}
+use Rattle.node_runs.specs.declared.ended.Ended.{Ended}
+use Rattle.node_runs.specs.declared.ended.Ended.TheVariants as ends
+use Rattle.node_runs.specs.Runs.{Outside, IsServed}
+use Rattle.saml_commands.specs.declared.status.Status.{Status}
+use Rattle.saml_commands.specs.declared.status.Status.TheVariants as statuses
+use Rattle.saml_commands.specs.Answers.{Answer, Printed, Refused, BadFile, Foreign, Usage, status_of, IsYes}
+use Rattle.saml_commands.specs.Running.{Command, Canon, Vouch, Check, Sp, Idp, command_of, Does, DoesCommand, Carries, CommandCarries, OfCommand, Answers, Prints, EndsWith, EndsAfter, DoesServe, Accepts, AcceptsServing, IsRunnableBy}
+use Rattle.saml_commands.specs.Serving.{Ran, Unserved, RanSp, RanIdp, answer_of}
+use Rattle.saml_commands.proofs.Answering.{weaker, answered, settled}
+use Rattle.saml_commands.proofs.Completeness.{Laws, accepted_yes}
+
+-- ---- what is answered names no fault of the disk or the link
+
+not_disk_fault : (answer : Answer) → statuses.DiskFault ≡ status_of answer → ⊥
+not_disk_fault (Printed text) e = cc
+not_disk_fault (Refused verdict) e = cc
+not_disk_fault (BadFile file line) e = cc
+not_disk_fault (Foreign file place) e = cc
+not_disk_fault Usage e = cc
+
+not_link_fault : (answer : Answer) → statuses.LinkFault ≡ status_of answer → ⊥
+not_link_fault (Printed text) e = cc
+not_link_fault (Refused verdict) e = cc
+not_link_fault (BadFile file line) e = cc
+not_link_fault (Foreign file place) e = cc
+not_link_fault Usage e = cc
+
+pub no_disk_fault : (P : Answer → Type 0) (old new : Option (List ℕ)) (status : Status) → EndsWith P old new status → status ≡ statuses.DiskFault → ⊥
+no_disk_fault P old new status h e = let at = subst (EndsWith P old new) e h in not_disk_fault at.0 at.2
+
+pub no_link_fault : (P : Answer → Type 0) (old new : Option (List ℕ)) (status : Status) → EndsWith P old new status → status ≡ statuses.LinkFault → ⊥
+no_link_fault P old new status h e = let at = subst (EndsWith P old new) e h in not_link_fault at.0 at.2
+
+-- ---- behind what was done
+
+pub nothing_printed : (taken : Option (List ℕ)) → Prints taken taken []
+nothing_printed None = refl
+nothing_printed (Some bytes) = ap (λ (b : List ℕ). Some b) (sym (append-nil bytes))
+
+pub weaker_after : (ran : Ran) (P Q : Answer → Type 0) (old new : Option (List ℕ)) (status : Status) → ((answer : Answer) → P answer → Q answer) →
+    EndsAfter ran P old new status → EndsAfter ran Q old new status
+weaker_after Unserved P Q old new status f h = weaker P Q old new status f h
+weaker_after (RanSp turns (Ok ended)) P Q old new status f h = (h.0, weaker P Q old new status f h.1)
+weaker_after (RanSp turns (Err fault)) P Q old new status f h = h
+weaker_after (RanIdp turns (Ok ended)) P Q old new status f h = (h.0, weaker P Q old new status f h.1)
+weaker_after (RanIdp turns (Err fault)) P Q old new status f h = h
+
+-- a command of the words is what the program does
+pub done : (words : List (List ℕ)) (told : Option (List File)) (command : Command) → command_of words ≡ Some command →
+    (before : Outside) (ran : Ran) (after : Outside) → DoesCommand told command before ran after → Does words told before ran after
+done words told command e before ran after h =
+    subst (λ (o : Option Command). MatchOption o ((ran ≡ Unserved) × (after ≡ before)) (λ c. DoesCommand told c before ran after)) (sym e) h
+
+-- and what it carries is carried by the words
+pub carried : (words : List (List ℕ)) (told : Option (List File)) (command : Command) → command_of words ≡ Some command →
+    (before : Outside) (ran : Ran) (after : Outside) → CommandCarries told command before ran after → Carries words told before ran after
+carried words told command e before ran after h =
+    subst (λ (o : Option Command). MatchOption o (Unit {0}) (λ c. CommandCarries told c before ran after)) (sym e) h
+
+-- without a command nothing is carried
+pub nothing_carried : (words : List (List ℕ)) (told : Option (List File)) → command_of words ≡ None → (before : Outside) → Carries words told before Unserved before
+nothing_carried words told e before =
+    subst (λ (o : Option Command). MatchOption o (Unit {0}) (λ c. CommandCarries told c before Unserved before)) (sym e) tt
+
+-- without a command nothing is done but to say so
+pub nothing_done : (words : List (List ℕ)) (told : Option (List File)) → command_of words ≡ None → (before : Outside) → Does words told before Unserved before
+nothing_done words told e before =
+    subst (λ (o : Option Command). MatchOption o ((Unserved ≡ Unserved) × (before ≡ before)) (λ c. DoesCommand told c before Unserved before)) (sym e) (refl, refl)
+
+pub usage_answered : (words : List (List ℕ)) (told : Option (List File)) (ran : Ran) → command_of words ≡ None → (answer : Answer) → answer ≡ Usage →
+    Answers words told ran answer
+usage_answered words told ran e answer is =
+    subst (λ (o : Option Command). MatchOption o (answer ≡ Usage) (λ c. OfCommand told ran c answer)) (sym e) is
+
+-- ---- completeness
+
+unserved : (told : Option (List File)) (command : Command) (before : Outside) (ran : Ran) (after : Outside) → (DoesServe (Some command) → ⊥) →
+    DoesCommand told command before ran after → ran ≡ Unserved
+unserved told (Canon file id) before ran after idle h = h.0
+unserved told (Vouch file id key_file) before ran after idle h = h.0
+unserved told (Check config body now) before ran after idle h = h.0
+unserved told (Sp config events) before ran after idle h = absurd (idle tt)
+unserved told (Idp config events) before ran after idle h = absurd (idle tt)
+
+accepted_idle : (words : List (List ℕ)) (told : Option (List File)) (command : Command) → command_of words ≡ Some command → Accepts words told →
+    DoesServe (Some command) → ⊥
+accepted_idle words told (Canon file id) e h serves = serves
+accepted_idle words told (Vouch file id key_file) e h serves = serves
+accepted_idle words told (Check config body now) e h serves = serves
+accepted_idle words told (Sp config events) e h serves =
+    subst (λ (o : Option Command). MatchOption o (h.answer ≡ Usage) (λ c. OfCommand (Some h.files) Unserved c h.answer)) e h.answered
+accepted_idle words told (Idp config events) e h serves =
+    subst (λ (o : Option Command). MatchOption o (h.answer ≡ Usage) (λ c. OfCommand (Some h.files) Unserved c h.answer)) e h.answered
+
+-- words that are accepted are done, or there was no memory
+pub accepted_done : Laws → (words : List (List ℕ)) (told : Option (List File)) (command : Command) → command_of words ≡ Some command → Accepts words told →
+    (before : Outside) (ran : Ran) (after : Outside) (old new : Option (List ℕ)) (status : Status) → DoesCommand told command before ran after →
+    EndsAfter ran (OfCommand told ran command) old new status → (status ≢ statuses.ReadFault) → (status ≢ statuses.WriteFault) →
+    (status ≡ statuses.Done) ⊎ (status ≡ statuses.NoMemory)
+accepted_done laws words told command e accepted before ran after old new status does ends no_read no_write =
+    let idle = unserved told command before ran after (accepted_idle words told command e accepted) does in
+    let plain : EndsWith (OfCommand told Unserved command) old new status =
+    subst (λ (r : Ran). EndsAfter r (OfCommand told r command) old new status) idle ends in
+    settled (Answers words told Unserved) old new status (accepted_yes laws words told accepted) no_read no_write
+    (weaker (OfCommand told Unserved command) (Answers words told Unserved) old new status (answered words told Unserved command e) plain)
+
+served_yes : (ended : Ended) (answer : Answer) → IsServed (Ok ended) → answer ≡ answer_of ended → IsYes answer
+served_yes (ends.BadFile file line) answer h e = absurd h
+served_yes (ends.Foreign file place) answer h e = absurd h
+served_yes (ends.Served served) answer h e = subst IsYes (sym e) tt
+
+-- a provider that served is done, or there was no memory to say so
+pub served_done : (ended : Ended) (old new : Option (List ℕ)) (status : Status) → IsServed (Ok ended) → EndsWith (λ answer. answer ≡ answer_of ended) old new status →
+    (status ≢ statuses.ReadFault) → (status ≢ statuses.WriteFault) → (status ≡ statuses.Done) ⊎ (status ≡ statuses.NoMemory)
+served_done ended old new status h ends no_read no_write =
+    settled (λ answer. answer ≡ answer_of ended) old new status (λ answer. served_yes ended answer h) no_read no_write ends
+
+-- a command of the words that can be run
+pub runnable : (words : List (List ℕ)) (told : Option (List File)) (disk : Option DiskState) (command : Command) → command_of words ≡ Some command →
+    AcceptsServing words told disk → IsRunnableBy told disk command
+runnable words told disk command e h =
+    subst (λ (o : Option Command). MatchOption o ⊥ (λ c. IsRunnableBy told disk c)) e h

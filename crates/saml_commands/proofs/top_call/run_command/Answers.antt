@@ -1,0 +1,20 @@
+use Rattle.std.proofs.Common.{refl}
+use Rattle.crash_disk.specs.Moments.{Leaves}
+use Rattle.crash_disk.specs.Steps.{started}
+use Rattle.saml_commands.specs.Serving.{Unserved}
+use Rattle.saml_commands.proofs.top_call.run_command.Goals as goal
+
+pub returns-in-Canon-clause-ends : goal.returns-in-Canon-clause-ends
+returns-in-Canon-clause-ends g c =
+    let leaves = started g.D.Disk.moment g.D.Disk.left_since c.args.disk.now (Leaves (g.D.Disk.told c.args.disk.now)) (g.met.D.Disk.only_now c.args.disk.now) in
+    rw c.in-Canon.is (Unserved, (refl, refl), tt, c.run_canon.ensures.ends, leaves)
+
+pub returns-in-Vouch-clause-ends : goal.returns-in-Vouch-clause-ends
+returns-in-Vouch-clause-ends g c =
+    let leaves = started g.D.Disk.moment g.D.Disk.left_since c.args.disk.now (Leaves (g.D.Disk.told c.args.disk.now)) (g.met.D.Disk.only_now c.args.disk.now) in
+    rw c.in-Vouch.is (Unserved, (refl, refl), tt, c.run_vouch.ensures.ends, leaves)
+
+pub returns-in-Check-clause-ends : goal.returns-in-Check-clause-ends
+returns-in-Check-clause-ends g c =
+    let leaves = started g.D.Disk.moment g.D.Disk.left_since c.args.disk.now (Leaves (g.D.Disk.told c.args.disk.now)) (g.met.D.Disk.only_now c.args.disk.now) in
+    rw c.in-Check.is (Unserved, (refl, refl), tt, c.run_check.ensures.ends, leaves)

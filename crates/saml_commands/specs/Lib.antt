@@ -1,0 +1,13 @@
+pub mod Answers
+pub mod Canon
+pub mod Check
+pub mod CheckExamples
+pub mod Composing
+pub mod Documents
+pub mod Exit
+pub mod Passing
+pub mod Reading
+pub mod Running
+pub mod Serving
+pub mod Views
+pub mod Vouch

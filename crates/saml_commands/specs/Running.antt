@@ -1,0 +1,164 @@
+-- What a run of the program prints, and with which status it ends.
+use Rattle.std.specs.Prelude.{◌≡◌, ◌≢◌, ℕ, ◌⊎◌, List, [], ◌∷◌, ◌++◌, take, Option, Some, None, MatchOption, Ok, Err, if◌then◌else◌, nat_le, codes}
+use Rattle.std.specs.Str.{bytes_eq}
+use Rattle.std.specs.Option.{option_map, option_and_then}
+use Rattle.xml_spec.specs.declared.TheConstants.{MAX_DOCUMENT_LENGTH}
+use Rattle.saml_outside.specs.Files.{File}
+use Rattle.verdict_codes.specs.declared.codes.Verdict.{Verdict}
+use Rattle.crash_disk.specs.Disk.{DiskState}
+use Rattle.saml_time.specs.declared.TheConstants.{LAST}
+use Rattle.text_lines.specs.Numbers.{number_of}
+use Rattle.sp_setup.specs.declared.limits.TheConstants.{GREATEST_KEY}
+use Rattle.node_runs.specs.Runs.{Outside}
+use Rattle.idp_runs.specs.Headline as idp_headline
+use Rattle.idp_runs.specs.Runs as idp
+use Rattle.sp_runs.specs.Headline as sp_headline
+use Rattle.sp_runs.specs.Runs as sp
+use Rattle.saml_commands.specs.declared.limits.TheConstants.{MOST_EVENTS}
+use Rattle.saml_commands.specs.declared.status.Status.{Status}
+use Rattle.saml_commands.specs.declared.status.Status.TheVariants as statuses
+use Rattle.saml_commands.specs.Answers.{Answer, Refused, Usage, status_of, text_of, IsYes}
+use Rattle.saml_commands.specs.Canon.{OfCanon}
+use Rattle.saml_commands.specs.Check.{OfCheck}
+use Rattle.saml_commands.specs.Reading.{OfFile}
+use Rattle.saml_commands.specs.Serving.{Ran, Unserved, RanSp, RanIdp, OfRun, status_of_fault}
+use Rattle.saml_commands.specs.Vouch.{OfVouch}
+
+-- what the program is asked for: the canonical form of the element of a file that has this ID, or of the root; whether the
+-- element of a file that has this ID is vouched for with the key in another file; what a provider with this config says at this
+-- moment to the form in another file; that a service provider or an identity provider with this config serves, until so many events
+-- were taken
+pub data Command : Type 0 where
+  Canon : (file : List ℕ) (id : Option (List ℕ)) → Command
+  Vouch : (file id key_file : List ℕ) → Command
+  Check : (config body : List ℕ) (now : ℕ) → Command
+  Sp : (config : List ℕ) (events : ℕ) → Command
+  Idp : (config : List ℕ) (events : ℕ) → Command
+
+-- `check CONFIG BODYFILE NOW`, where NOW is a moment in milliseconds
+abbrev pub check_at : List ℕ → List ℕ → Option ℕ → Option Command
+check_at config body now = option_map (λ moment. Check config body moment) now
+
+-- EVENTS is a number from 1 on
+abbrev pub events_of : Option ℕ → Option ℕ
+events_of number = option_and_then (λ count. if nat_le 1 count then Some count else None) number
+
+-- `sp CONFIG EVENTS` and `idp CONFIG EVENTS`
+abbrev pub sp_of : List ℕ → Option ℕ → Option Command
+sp_of config number = option_map (λ events. Sp config events) (events_of number)
+
+abbrev pub idp_of : List ℕ → Option ℕ → Option Command
+idp_of config number = option_map (λ events. Idp config events) (events_of number)
+
+-- two words behind the name of a command
+abbrev pub of_two : List ℕ → List ℕ → List ℕ → Option Command
+of_two word first second =
+    if bytes_eq word (codes "canon") then Some (Canon first (Some second))
+    else if bytes_eq word (codes "sp") then sp_of first (number_of MOST_EVENTS second)
+    else if bytes_eq word (codes "idp") then idp_of first (number_of MOST_EVENTS second) else None
+
+-- three words behind the name of a command
+abbrev pub of_three : List ℕ → List ℕ → List ℕ → List ℕ → Option Command
+of_three word first second third =
+    if bytes_eq word (codes "vouch") then Some (Vouch first second third)
+    else if bytes_eq word (codes "check") then check_at first second (number_of LAST third) else None
+
+-- the command of the words `canon FILE`, `canon FILE ID`, `vouch FILE ID KEYFILE`, `check CONFIG BODYFILE NOW`, `sp CONFIG EVENTS` and
+-- `idp CONFIG EVENTS`, which are the forms that the program knows yet
+abbrev pub command_of : List (List ℕ) → Option Command
+command_of (word ∷ file ∷ []) = if bytes_eq word (codes "canon") then Some (Canon file None) else None
+command_of (word ∷ first ∷ second ∷ []) = of_two word first second
+command_of (word ∷ first ∷ second ∷ third ∷ []) = of_three word first second third
+command_of words = None
+
+-- What a command does: `sp` runs a service provider, `idp` an identity provider, and the others leave all that is outside as it is.
+abbrev pub DoesCommand : Option (List File) → Command → Outside → Ran → Outside → Type 0
+DoesCommand told (Sp config events) before (RanSp turns result) after = sp.Runs told config events before turns result after
+DoesCommand told (Sp config events) before ran after = ⊥
+DoesCommand told (Idp config events) before (RanIdp turns result) after = idp.Runs told config events before turns result after
+DoesCommand told (Idp config events) before ran after = ⊥
+DoesCommand told other before ran after = (ran ≡ Unserved) × (after ≡ before)
+
+-- what the program does for words, by what the files tell
+abbrev pub Does : List (List ℕ) → Option (List File) → Outside → Ran → Outside → Type 0
+Does words told before ran after =
+    MatchOption (command_of words) ((ran ≡ Unserved) × (after ≡ before)) (λ command. DoesCommand told command before ran after)
+
+-- What the program carries over what it did. Where it ran a service provider, sessions were opened exactly where a posted form opens
+-- one, each of a login that was signed, and no two of one request; and they were closed exactly where their users left them or the
+-- identity provider ended them, for good. Where it ran an identity provider, each Assertion was issued to a user with a password or a
+-- session, each signed element is one of a record that was durable before it was sent, and sessions were ended exactly where their
+-- users left them or a peer ended them, for good.
+abbrev pub CommandCarries : Option (List File) → Command → Outside → Ran → Outside → Type 0
+CommandCarries told (Sp config events) before (RanSp turns result) after = sp_headline.Headline told config before turns after
+CommandCarries told (Idp config events) before (RanIdp turns result) after = idp_headline.Headline told config before turns after
+CommandCarries told command before ran after = Unit {0}
+
+abbrev pub Carries : List (List ℕ) → Option (List File) → Outside → Ran → Outside → Type 0
+Carries words told before ran after = MatchOption (command_of words) (Unit {0}) (λ command. CommandCarries told command before ran after)
+
+-- what a command is answered with: the files are read in the order in which they are named
+abbrev pub OfCommand : Option (List File) → Ran → Command → Answer → Type 0
+OfCommand told ran (Canon file id) answer = OfFile (OfCanon id) told file MAX_DOCUMENT_LENGTH answer
+OfCommand told ran (Vouch file id key_file) answer =
+    OfFile (λ bytes. OfFile (OfVouch id key_file bytes) told key_file GREATEST_KEY) told file MAX_DOCUMENT_LENGTH answer
+OfCommand told ran (Check config body now) answer = OfCheck told config body now answer
+OfCommand told ran (Sp config events) answer = OfRun ran answer
+OfCommand told ran (Idp config events) answer = OfRun ran answer
+
+-- what words are answered with, by what the files tell and what was done
+abbrev pub Answers : List (List ℕ) → Option (List File) → Ran → Answer → Type 0
+Answers words told ran answer = MatchOption (command_of words) (answer ≡ Usage) (λ command. OfCommand told ran command answer)
+
+-- a refusal with the verdict that there is
+abbrev pub IsVerdictOf : Option Verdict → Answer → Type 0
+IsVerdictOf told answer = (verdict : Verdict) × (told ≡ Some verdict) × (answer ≡ Refused verdict)
+
+-- this was appended to what a sink took, where it tells
+abbrev pub Prints : Option (List ℕ) → Option (List ℕ) → List ℕ → Type 0
+Prints old new text = new ≡ option_map (λ taken. taken ++ text) old
+
+-- a part of what is printed of an answer, from its first byte on
+abbrev pub PrintsPart : (Answer → Type 0) → Option (List ℕ) → Option (List ℕ) → Type 0
+PrintsPart meaning old new = (answer : Answer) × (n : ℕ) × meaning answer × Prints old new (take n (text_of answer))
+
+-- What a run ends with, and what it has printed then, where this is what it has to answer. With ReadFault nothing is printed,
+-- with WriteFault and NoMemory a part of the text.
+abbrev pub EndsWith : (Answer → Type 0) → Option (List ℕ) → Option (List ℕ) → Status → Type 0
+EndsWith meaning old new statuses.ReadFault = Prints old new []
+EndsWith meaning old new statuses.WriteFault = PrintsPart meaning old new
+EndsWith meaning old new statuses.NoMemory = Prints old new [] ⊎ PrintsPart meaning old new
+EndsWith meaning old new status =
+    (answer : Answer) × meaning answer × (status ≡ status_of answer) × Prints old new (text_of answer)
+
+-- What a run ends with behind what it did. A provider's run that ended early ends with the status of its fault, and nothing is
+-- printed.
+abbrev pub EndsAfter : Ran → (Answer → Type 0) → Option (List ℕ) → Option (List ℕ) → Status → Type 0
+EndsAfter Unserved meaning old new status = EndsWith meaning old new status
+EndsAfter (RanSp turns (Ok ended)) meaning old new status = (status ≢ statuses.ReadFault) × EndsWith meaning old new status
+EndsAfter (RanSp turns (Err fault)) meaning old new status = (status ≡ status_of_fault fault) × Prints old new []
+EndsAfter (RanIdp turns (Ok ended)) meaning old new status = (status ≢ statuses.ReadFault) × EndsWith meaning old new status
+EndsAfter (RanIdp turns (Err fault)) meaning old new status = (status ≡ status_of_fault fault) × Prints old new []
+
+-- the command serves
+abbrev pub DoesServe : Option Command → Type 0
+DoesServe (Some (Sp config events)) = Unit {0}
+DoesServe (Some (Idp config events)) = Unit {0}
+DoesServe other = ⊥
+
+-- the files tell, and by what they tell the definition says yes
+pub record Accepts (words : List (List ℕ)) (told : Option (List File)) : Type 0 where
+  pub files : List File
+  pub tells : told ≡ Some files
+  pub answer : Answer
+  pub answered : Answers words (Some files) Unserved answer
+  pub yes : IsYes answer
+
+abbrev pub IsRunnableBy : Option (List File) → Option DiskState → Command → Type 0
+IsRunnableBy told disk (Sp config events) = sp.IsRunnable told config disk
+IsRunnableBy told disk (Idp config events) = idp.IsRunnable told config disk
+IsRunnableBy told disk other = ⊥
+
+-- the words ask for a provider that can be run
+abbrev pub AcceptsServing : List (List ℕ) → Option (List File) → Option DiskState → Type 0
+AcceptsServing words told disk = MatchOption (command_of words) ⊥ (λ command. IsRunnableBy told disk command)

@@ -1,0 +1,29 @@
+-- How the definitions see a command and an answer.
+use Rattle.std.specs.Prelude.{◌≤◌}
+use Rattle.std.specs.Option.{option_map}
+use Rattle.saml_time.specs.declared.TheConstants.{LAST}
+use Rattle.saml_commands.specs.Answers as answers
+use Rattle.saml_commands.specs.Running as running
+use Rattle.saml_commands.specs.declared.answer.Answer.{Answer}
+use Rattle.saml_commands.specs.declared.answer.Answer.TheVariants as kinds
+use Rattle.saml_commands.specs.declared.command.Command.{Command}
+use Rattle.saml_commands.specs.declared.command.Command.TheVariants as commands
+
+abbrev pub command_view : Command → running.Command
+command_view (commands.Canon file id) = running.Canon file.now (option_map (λ text. text.now) id)
+command_view (commands.Vouch file id key_file) = running.Vouch file.now id.now key_file.now
+command_view (commands.Check config body now) = running.Check config.now body.now now
+command_view (commands.Sp config events) = running.Sp config.now events
+command_view (commands.Idp config events) = running.Idp config.now events
+
+abbrev pub answer_view : Answer → answers.Answer
+answer_view (kinds.Printed text) = answers.Printed text
+answer_view (kinds.Refused verdict) = answers.Refused verdict
+answer_view (kinds.BadFile file line) = answers.BadFile file line
+answer_view (kinds.Foreign file place) = answers.Foreign file place
+answer_view kinds.Usage = answers.Usage
+
+-- a moment that a command names has a written form
+abbrev pub HasMoment : Command → Type 0
+HasMoment (commands.Check config body now) = now ≤ LAST
+HasMoment command = Unit {0}

@@ -1,0 +1,137 @@
+// The commands, and the words that ask for them.
+
+ghost use Rattle.std.specs.Prelude.{◌≡◌, IfSome};
+ghost use Rattle.std.specs.Option.{option_map};
+ghost use Rattle.text_lines.specs.Numbers.{number_of};
+ghost use Rattle.saml_commands.specs.Running.{check_at, events_of, sp_of, idp_of, of_two, of_three, command_of};
+ghost use Rattle.saml_commands.specs.Views.{command_view, HasMoment};
+
+use crate::limits::MOST_EVENTS;
+use saml_outside::Text;
+use saml_time::LAST;
+use text_lines::number_of;
+
+/// What the program is asked for.
+#[derive(Clone, Copy, Debug)]
+pub(crate) enum Command<'w> {
+    /// The canonical form of the element of a file that has this ID, or of the root.
+    Canon {
+        file: &'w str,
+        id: Option<&'w str>,
+    },
+    /// Whether the element of a file that has this ID is vouched for with the key in another file.
+    Vouch {
+        file: &'w str,
+        id: &'w str,
+        key_file: &'w str,
+    },
+    /// What a provider with this config says at this moment, in milliseconds since 1970-01-01T00:00:00Z, to the form in
+    /// another file.
+    Check {
+        config: &'w str,
+        body: &'w str,
+        now: u64,
+    },
+    /// That a service provider with this config serves, until so many events were taken.
+    Sp {
+        config: &'w str,
+        events: u64,
+    },
+    /// That an identity provider with this config serves, until so many events were taken.
+    Idp {
+        config: &'w str,
+        events: u64,
+    },
+}
+
+/// What `check CONFIG BODYFILE NOW` asks for, where NOW is a moment.
+fn check_at<'w>(config: &'w str, body: &'w str, now: &str) -> Option<Command<'w>>
+    ensures command { option_map command_view result ≡ check_at config.entry.now body.entry.now (number_of LAST now.now) }
+    ensures moment { IfSome result HasMoment }
+{
+    let now = number_of(now, LAST)?;
+    Some(Command::Check { config, body, now })
+}
+
+/// The number of events that a word says, from 1 on.
+fn events_of(word: &str) -> Option<u64>
+    ensures { result ≡ events_of (number_of MOST_EVENTS word.now) }
+{
+    let events = number_of(word, MOST_EVENTS)?;
+    if events == 0 {
+        return None;
+    }
+    Some(events)
+}
+
+/// What `sp CONFIG EVENTS` asks for.
+fn sp_of<'w>(config: &'w str, events: &str) -> Option<Command<'w>>
+    ensures command { option_map command_view result ≡ sp_of config.entry.now (number_of MOST_EVENTS events.now) }
+    ensures moment { IfSome result HasMoment }
+{
+    let events = events_of(events)?;
+    Some(Command::Sp { config, events })
+}
+
+/// What `idp CONFIG EVENTS` asks for.
+fn idp_of<'w>(config: &'w str, events: &str) -> Option<Command<'w>>
+    ensures command { option_map command_view result ≡ idp_of config.entry.now (number_of MOST_EVENTS events.now) }
+    ensures moment { IfSome result HasMoment }
+{
+    let events = events_of(events)?;
+    Some(Command::Idp { config, events })
+}
+
+/// The command of this name with two words behind it.
+fn of_two<'w>(word: &str, first: &'w str, second: &'w str) -> Option<Command<'w>>
+    ensures command { option_map command_view result ≡ of_two word.now first.entry.now second.entry.now }
+    ensures moment { IfSome result HasMoment }
+{
+    match word {
+        "canon" => Some(Command::Canon {
+            file: first,
+            id: Some(second),
+        }),
+        "sp" => sp_of(first, second),
+        "idp" => idp_of(first, second),
+        _ => None,
+    }
+}
+
+/// The command of this name with three words behind it.
+fn of_three<'w>(word: &str, first: &'w str, second: &'w str, third: &'w str) -> Option<Command<'w>>
+    ensures command { option_map command_view result ≡ of_three word.now first.entry.now second.entry.now third.entry.now }
+    ensures moment { IfSome result HasMoment }
+{
+    match word {
+        "vouch" => Some(Command::Vouch {
+            file: first,
+            id: second,
+            key_file: third,
+        }),
+        "check" => check_at(first, second, third),
+        _ => None,
+    }
+}
+
+/// The command of the words `canon FILE`, `canon FILE ID`, `vouch FILE ID KEYFILE`, `check CONFIG BODYFILE NOW`,
+/// `sp CONFIG EVENTS` and `idp CONFIG EVENTS`.
+pub(crate) fn command_of(words: &[Text]) -> Option<Command<'_>>
+    ensures command { option_map command_view result ≡ command_of words.now }
+    ensures moment { IfSome result HasMoment }
+{
+    match words {
+        [word, file] if word.as_str() == "canon" => Some(Command::Canon {
+            file: file.as_str(),
+            id: None,
+        }),
+        [word, first, second] => of_two(word.as_str(), first.as_str(), second.as_str()),
+        [word, first, second, third] => of_three(
+            word.as_str(),
+            first.as_str(),
+            second.as_str(),
+            third.as_str(),
+        ),
+        _ => None,
+    }
+}
