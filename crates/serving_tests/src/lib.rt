@@ -1,0 +1,19 @@
+//! What the clauses of serving do not say: heads that others write, and that each call succeeds with ample memory.
+#![tactic(auto)]
+
+#[cfg(test)]
+mod conn_table_tests;
+#[cfg(test)]
+mod http_wire_tests;
+#[cfg(test)]
+mod idp_answers_tests;
+#[cfg(test)]
+mod idp_server_tests;
+#[cfg(test)]
+mod logout_answers_tests;
+#[cfg(test)]
+mod node_serve_tests;
+#[cfg(test)]
+mod sp_answers_tests;
+#[cfg(test)]
+mod sp_server_tests;
