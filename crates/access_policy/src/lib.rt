@@ -1,8 +1,8 @@
 //! Access policies: ordered rules that say which user may see which page.
 //!
 //! ```text
-//! staff  allow /app/* has role reader
-//! closed deny  /app
+//! staff allow /app/* has role reader
+//! closed deny /app
 //! ```
 //!
 //! ```

@@ -19,3 +19,4 @@ pub record LeavesOnly {D : Type 0} (moment : D → ℕ) (left_since : D → ℕ 
   pub each : (image : Image) → left_since new (moment old) image → P image
   -- for a run that began earlier
   pub before : (t : ℕ) (image : Image) → t ≤ moment old → left_since new t image → left_since old t image ⊎ P image
+  pub keeps : (t : ℕ) (image : Image) → t ≤ moment old → left_since old t image → left_since new t image

@@ -32,7 +32,7 @@ leaves_sync change (Some disk) result now image same is reads left = subst (λ (
 module _ {D : Type 0} (moment : D → ℕ) (left_since : D → ℕ → Image → Type 0) where
   -- before the first call
   pub started : (old : D) (P : Image → Type 0) → ((image : Image) → left_since old (moment old) image → P image) → LeavesOnly moment left_since old old P
-  started old P here = record { later = omega arith; each = here; before = λ t image le left. inl left }
+  started old P here = record { later = omega arith; each = here; before = λ t image le left. inl left; keeps = λ t image le left. left }
 
   -- one call more, after which a crash leaves what has P
   pub goes_on : (old mid new : D) (P : Image → Type 0) (told : Option DiskState) → LeavesOnly moment left_since old mid P → Elapses (moment mid) (moment new) (left_since mid) (left_since new) told
@@ -41,6 +41,7 @@ module _ {D : Type 0} (moment : D → ℕ) (left_since : D → ℕ → Image →
     later = omega (arith, so_far.later, time.later);
     each = λ image left. ⊎_elim (so_far.each image) (here image) (time.nothing_else (moment old) image so_far.later left);
     before = λ t image le left. ⊎_elim (so_far.before t image le) (λ now. inr (here image now)) (time.nothing_else t image (omega (arith, le, so_far.later)) left);
+    keeps = λ t image le left. time.keeps t image (omega (arith, le, so_far.later)) (so_far.keeps t image le left);
   }
 
   -- one run behind another
@@ -50,6 +51,7 @@ module _ {D : Type 0} (moment : D → ℕ) (left_since : D → ℕ → Image →
     later = omega (arith, first.later, second.later);
     each = λ image left. ⊎_elim (λ was. p image (first.each image was)) (q image) (second.before (moment old) image first.later left);
     before = λ t image le left. ⊎_elim (λ was. ⊎_elim inl (λ now. inr (p image now)) (first.before t image le was)) (λ now. inr (q image now)) (second.before t image (omega (arith, le, first.later)) left);
+    keeps = λ t image le left. second.keeps t image (omega (arith, le, first.later)) (first.keeps t image le left);
   }
 
   -- what is weaker holds too
@@ -58,4 +60,5 @@ module _ {D : Type 0} (moment : D → ℕ) (left_since : D → ℕ → Image →
     later = first.later;
     each = λ image left. p image (first.each image left);
     before = λ t image le left. ⊎_elim inl (λ now. inr (p image now)) (first.before t image le left);
+    keeps = first.keeps;
   }

@@ -1,5 +1,5 @@
 //! A disk of two files, and the rule that it keeps.
-ghost use Rattle.std.specs.Prelude.{◌≡◌, ◌<◌, ◌≤◌, ◌^◌, ◌++◌, ℕ, Option, length, drop, min, IfSome, IfOk};
+ghost use Rattle.std.specs.Prelude.{◌≡◌, ◌<◌, ◌≤◌, ◌^◌, ◌++◌, ℕ, Bool, Option, is_some, length, drop, min, IfSome, IfOk};
 ghost use Rattle.crash_disk.specs.Counts.{CountsFaults};
 ghost use Rattle.crash_disk.specs.Disk.{Image, DiskState, Changes, MayLeave, image_of, read_from, reads_of};
 ghost use Rattle.crash_disk.specs.Moments.{Elapses, Leaves};
@@ -10,6 +10,9 @@ use crate::{Change, Failed, FileNo};
 pub trait Disk {
     /// What a read gives and what a crash may leave, where the object tells it.
     ghost told: { Self → Option DiskState };
+
+    /// Whether the object tells: it does at each moment, or at none.
+    ghost tells: { Bool };
 
     /// The moment, as a number that never falls.
     ghost moment: { Self → ℕ };
@@ -59,6 +62,9 @@ pub trait Disk {
     /// How many faults there were. The count never falls, and stays at 2^64 - 1 once it is there.
     fn faults(&self) -> u64
         ensures { result ≡ faults_of self.now };
+
+    /// No call changes whether the object tells.
+    ghost tells_always: { (disk : Self) → is_some (told disk) ≡ tells };
 
     /// A disk as it reads is one of its images.
     ghost reads_an_image: { (disk : Self) → IfSome (told disk) (λ state. MayLeave state (image_of state)) };

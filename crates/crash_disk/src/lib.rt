@@ -12,8 +12,8 @@
 //! A contract sees what a disk tells of itself: of each file what a read gives, what the last sync kept, the least and
 //! the greatest length since then, and the ranges that were written since then. The disk rule, in `specs/Disk.antt`,
 //! says which images a crash may leave of that. A disk that does not tell, as one over real files, meets the same
-//! contract. `left_since` is what a crash at some moment from one on might have left, so that a clause can speak of
-//! every moment inside a call (`specs/Moments.antt`).
+//! contract; an object tells at each moment or at none (`tells`). `left_since` is what a crash at some moment from one on
+//! might have left, so that a clause can speak of every moment inside a call (`specs/Moments.antt`).
 //!
 //! A call answers [`Failed`] only where the count of faults rose in it. What it then did is no more than begun.
 #![tactic(auto)]

@@ -267,17 +267,21 @@ impl MemDisk {
 }
 
 impl Disk for MemDisk {
-    ghost use Rattle.std.specs.Prelude.{Some, length};
+    ghost use Rattle.std.specs.Prelude.{Some, true, refl, length};
     ghost use Rattle.crash_disk.specs.Memory.{state_of, LeftSince};
     ghost use Rattle.crash_disk.specs.Soundness.{reads_an_image, left_since_now, left_now};
 
     ghost told = { λ m. Some (state_of m) };
+
+    ghost tells = { true };
 
     ghost moment = { λ m. length m.log };
 
     ghost left_since = { LeftSince };
 
     ghost faults_of = { λ m. m.faults };
+
+    ghost tells_always = { λ _. refl };
 
     ghost reads_an_image = { reads_an_image };
 

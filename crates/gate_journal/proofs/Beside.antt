@@ -96,6 +96,7 @@ both moment left_since old new P Q R p q leads = record {
   later = p.later;
   each = λ image left. leads image (p.each image left) (q.each image left);
   before = λ t image le left. ⊎_elim inl (λ has_p. ⊎_elim inl (λ has_q. inr (leads image has_p has_q)) (q.before t image le left)) (p.before t image le left);
+  keeps = p.keeps;
 }
 
 -- the same of all disks

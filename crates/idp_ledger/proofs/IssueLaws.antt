@@ -14,7 +14,7 @@ use Rattle.idp_ledger.specs.declared.row.IssuedRow.{IssuedRow}
 use Rattle.idp_ledger.specs.declared.row.SessionRow.{SessionRow}
 use Rattle.idp_ledger.specs.Finding.{is_that_peer, has_issued, last_issue, last_peer, peer_of}
 use Rattle.idp_ledger.specs.RowsOf.{ended_if, ended_where}
-use Rattle.idp_ledger.specs.Standing.{here_or_later, last_place, cookies, ArePrevious, AreLast, IsRowAt}
+use Rattle.idp_ledger.specs.Standing.{here_or_later, last_place, cookies, session_indexes, ArePrevious, AreLast, IsRowAt}
 use Rattle.idp_ledger.proofs.RowPlaces.{no_row_has}
 
 -- ---- one issued row more
@@ -245,6 +245,10 @@ no_last = record { long = refl; each = λ k row there. absurd (cc); none = λ co
 pub ended_cookies : (test : SessionRow → Bool) (sessions : List SessionRow) → cookies (ended_where test sessions) ≡ cookies sessions
 ended_cookies test [] = refl
 ended_cookies test (x ∷ xs) = ap (λ rest. x.cookie ∷ rest) (ended_cookies test xs)
+
+pub ended_indexes : (test : SessionRow → Bool) (sessions : List SessionRow) → session_indexes (ended_where test sessions) ≡ session_indexes sessions
+ended_indexes test [] = refl
+ended_indexes test (x ∷ xs) = ap (λ rest. x.index ∷ rest) (ended_indexes test xs)
 
 ended_get : (test : SessionRow → Bool) (sessions : List SessionRow) (k : ℕ) (row : SessionRow) → slice_get (ended_where test sessions) k ≡ Some row
     → (old : SessionRow) × (slice_get sessions k ≡ Some old) × (old.cookie ≡ row.cookie)

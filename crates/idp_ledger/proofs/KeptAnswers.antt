@@ -1,27 +1,30 @@
 -- A compaction changes no answer.
-use Rattle.std.proofs.Common.{◌≡◌, ℕ, ◌<◌, ◌≤◌, max, nat_lt, Bool, true, false, ◌&&◌, not, cond, List, [], ◌∷◌, Option, None, Some, filter, find, map, bytes_eq, sym, ap, ◌∙◌, subst, inl, inr, refl, arith}
+use Rattle.std.proofs.Common.{◌≡◌, ℕ, ◌<◌, ◌≤◌, max, nat_lt, Bool, true, false, ◌&&◌, ◌||◌, not, cond, List, [], ◌∷◌, Option, None, Some, filter, find, map, bytes_eq, sym, ap, ◌∙◌, subst, inl, inr, refl, arith}
 use Rattle.std.specs.List.{list_any}
-use Rattle.std.proofs.lemmas.Bool.{and_parts, or_cases, or_left, or_right, ltb-true, lt-ltb}
+use Rattle.std.proofs.lemmas.Bool.{cases_Bool, false≢true, and_parts, or_cases, or_left, or_right, ltb-true, lt-ltb}
+use Rattle.std.specs.Option.{IsSome}
+use Rattle.std.proofs.lemmas.Option.{same_Some}
 use Rattle.ledger_records.specs.declared.idp_record.IdpRecord.{IdpRecord}
 use Rattle.ledger_records.specs.declared.idp_record.IdpRecord.TheVariants as kinds
 use Rattle.idp_ledger.specs.Naming.{has_visible, has_session_visible}
-use Rattle.record_ledger.proofs.Words.{each_weaker}
-use Rattle.record_ledger.specs.Marks.{all}
+use Rattle.record_ledger.proofs.Words.{each_weaker, same_text}
+use Rattle.record_ledger.specs.Marks.{all, kept}
+use Rattle.ledger_rules.proofs.Counted.{find_same, any_same_seen, filter_same}
 use Rattle.record_ledger.proofs.KeptFlags.{are_marked}
 use Rattle.idp_ledger.specs.declared.row.PendingRow.{PendingRow}
 use Rattle.idp_ledger.specs.declared.row.IssuedRow.{IssuedRow}
 use Rattle.idp_ledger.specs.declared.row.SessionRow.{SessionRow}
 use Rattle.idp_ledger.specs.declared.row.LeftRow.{LeftRow}
-use Rattle.idp_ledger.specs.Finding.{visible, pending_found, session_found, is_waiting_now, is_listed, is_ending, ending, has_issued}
+use Rattle.idp_ledger.specs.Finding.{visible, pending_found, session_found, is_waiting_now, is_listed, is_ending, ending, is_partial, has_issued, last_peer}
 use Rattle.idp_ledger.specs.RowsOf.{pending_rows, issued_rows, session_rows, left_rows, rows_of}
 use Rattle.idp_ledger.specs.Record.{AreRecords, idp_rules}
 use Rattle.idp_ledger.specs.Ledger.{Held}
 use Rattle.idp_ledger.specs.Compacting.{AreKept, IsCompacted}
 use Rattle.idp_ledger.specs.Laws.{CompactionsChangeNoAnswer}
 use Rattle.idp_ledger.proofs.LawWords.{Each}
-use Rattle.idp_ledger.proofs.KeptMarks.{Marked}
-use Rattle.idp_ledger.proofs.KeptIssues.{issues_alike}
-use Rattle.idp_ledger.proofs.KeptRows.{find_counted, any_counted, filter_counted, pending_seen, session_seen, left_seen, pendings_alike, sessions_alike, lefts_alike}
+use Rattle.idp_ledger.proofs.KeptMarks.{Marked, AreLinked}
+use Rattle.idp_ledger.proofs.KeptIssues.{issues_alike, peers_alike}
+use Rattle.idp_ledger.proofs.KeptRows.{pending_seen, session_seen, left_seen, pendings_alike, sessions_alike, lefts_alike}
 
 -- what is visible at a moment was visible before
 visible_before : (until now later horizon : ℕ) → now ≤ later → visible until later horizon ≡ true → visible until now horizon ≡ true
@@ -67,17 +70,6 @@ same_seen now later horizon records some first are_kept =
           ∙ ap (λ l. filter (left_seen later horizon) (left_rows l)) m.are_all;
     }
 
--- lists whose counted ones are alike answer alike
-module _ {X : Type 0} (test counts : X → Bool) (only : (x : X) → test x ≡ true → counts x ≡ true) (xs ys : List X) (same : filter counts xs ≡ filter counts ys) where
-  find_same : find test xs ≡ find test ys
-  find_same = sym (find_counted test counts only xs) ∙ ap (find test) same ∙ find_counted test counts only ys
-
-  any_same_seen : list_any test xs ≡ list_any test ys
-  any_same_seen = sym (any_counted test counts only xs) ∙ ap (list_any test) same ∙ any_counted test counts only ys
-
-  filter_same : filter test xs ≡ filter test ys
-  filter_same = sym (filter_counted test counts only xs) ∙ ap (filter test) same ∙ filter_counted test counts only ys
-
 filter_each : {X : Type 0} (test other : X → Bool) (xs : List X) → Each (λ x. test x ≡ other x) xs → filter test xs ≡ filter other xs
 filter_each test other [] each = refl
 filter_each test other (x ∷ xs) each = λ i. cond (each.0 i) (x ∷ filter_each test other xs each.1 i) (filter_each test other xs each.1 i)
@@ -86,14 +78,48 @@ second_of : (a b c d e : Bool) → (a && b && c && d && e) ≡ true → b ≡ tr
 second_of a b c d e is =
     (and_parts a b (and_parts (a && b) c (and_parts (a && b && c) d (and_parts (a && b && c && d) e is).0).0).0).1
 
--- what was issued in the sessions that are kept
-same_issues : (now horizon : ℕ) (records some : List IdpRecord) (peer : List ℕ) → AreRecords records → AreKept now horizon records some
-    → Each (λ (row : SessionRow). has_issued false (issued_rows some) row.cookie peer ≡ has_issued false (issued_rows records) row.cookie peer) (session_rows some)
-same_issues now horizon records some peer are are_kept =
+any_each : {X : Type 0} (test other : X → Bool) (xs : List X) → Each (λ x. test x ≡ other x) xs → list_any test xs ≡ list_any other xs
+any_each test other [] each = refl
+any_each test other (x ∷ xs) each = λ i. each.0 i || any_each test other xs each.1 i
+
+-- what is found of a list passes the test, and has what each has
+found_has : {X : Type 0} (P : X → Type 0) (test : X → Bool) (xs : List X) (x : X) → Each P xs → find test xs ≡ Some x → (test x ≡ true) × P x
+found_has P test [] x each found = absurd (cc)
+found_has P test (y ∷ xs) x each found = elim (cases_Bool (test y)) [
+  | inl here ↦
+      let same : y ≡ x = same_Some y x (sym (ap (λ b. cond b (Some y) (find test xs)) here) ∙ found) in
+      subst (λ z. (test z ≡ true) × P z) same (here, each.0)
+  | inr later ↦ found_has P test xs x each.1 (sym (ap (λ b. cond b (Some y) (find test xs)) later) ∙ found)
+]
+
+-- what holds of what was issued in the sessions that are kept, among all and among what is kept
+same_where : (now horizon : ℕ) (records some : List IdpRecord) (P : List IssuedRow → List IssuedRow → List ℕ → Type 0) → AreRecords records → AreKept now horizon records some
+    → ((marks : List Marked) → AreRecords (all marks) → AreLinked marks → Each (λ (row : SessionRow). P (issued_rows (kept marks)) (issued_rows (all marks)) row.cookie) (session_rows (kept marks)))
+    → Each (λ (row : SessionRow). P (issued_rows some) (issued_rows records) row.cookie) (session_rows some)
+same_where now horizon records some P are are_kept alike =
     let m = are_marked idp_rules now horizon records some are_kept in
-    let alike = issues_alike false peer m.marks (subst AreRecords (sym m.are_all) are) m.linked in
-    let one = subst (λ rs. Each (λ (row : SessionRow). has_issued false (issued_rows rs) row.cookie peer ≡ has_issued false (issued_rows (all m.marks)) row.cookie peer) (session_rows rs)) m.are_kept alike in
-    subst (λ rs. Each (λ (row : SessionRow). has_issued false (issued_rows some) row.cookie peer ≡ has_issued false (issued_rows rs) row.cookie peer) (session_rows some)) m.are_all one
+    let one = subst (λ rs. Each (λ (row : SessionRow). P (issued_rows rs) (issued_rows (all m.marks)) row.cookie) (session_rows rs)) m.are_kept
+    (alike m.marks (subst AreRecords (sym m.are_all) are) m.linked) in
+    subst (λ rs. Each (λ (row : SessionRow). P (issued_rows some) (issued_rows rs) row.cookie) (session_rows some)) m.are_all one
+
+-- what was issued in the sessions that are kept
+same_issues : (beside : Bool) (now horizon : ℕ) (records some : List IdpRecord) (peer : List ℕ) → AreRecords records → AreKept now horizon records some
+    → Each (λ (row : SessionRow). has_issued beside (issued_rows some) row.cookie peer ≡ has_issued beside (issued_rows records) row.cookie peer) (session_rows some)
+same_issues beside now horizon records some peer are are_kept =
+    same_where now horizon records some (λ few many cookie. has_issued beside few cookie peer ≡ has_issued beside many cookie peer) are are_kept
+    (λ marks are linked. issues_alike beside peer marks are linked)
+
+-- and to whom the last assertion went
+same_peers : (now horizon : ℕ) (records some : List IdpRecord) → AreRecords records → AreKept now horizon records some
+    → Each (λ (row : SessionRow). last_peer (issued_rows some) row.cookie ≡ last_peer (issued_rows records) row.cookie) (session_rows some)
+same_peers now horizon records some are are_kept =
+    same_where now horizon records some (λ few many cookie. last_peer few cookie ≡ last_peer many cookie) are are_kept
+    (λ marks are linked. peers_alike marks are linked)
+
+-- the two facts of a row on which an answered logout rests
+each_both : {X : Type 0} (P Q : X → Type 0) (xs : List X) → Each P xs → Each Q xs → Each (λ x. P x × Q x) xs
+each_both P Q [] one other = tt
+each_both P Q (x ∷ xs) one other = ((one.0, other.0), each_both P Q xs one.1 other.1)
 
 module _ (now later : ℕ) (old new : Held) (are : AreRecords old.records) (made : IsCompacted now old new) (first : now ≤ later) where
   same : SameSeen later old.header.horizon old.records new.records
@@ -125,7 +151,7 @@ module _ (now later : ℕ) (old new : Held) (are : AreRecords old.records) (made
       let each = each_weaker (λ (row : SessionRow). has_issued false (issued_rows new.records) row.cookie peer ≡ has_issued false (issued_rows old.records) row.cookie peer)
       (λ (row : SessionRow). test (issued_rows new.records) row ≡ test (issued_rows old.records) row)
       (λ row alike. ap (λ b. not row.ended && visible row.until later old.header.horizon && bytes_eq row.user name && is_listed indexes row.index && b) alike)
-      (session_rows new.records) (same_issues now old.header.horizon old.records new.records peer are made.records) in
+      (session_rows new.records) (same_issues false now old.header.horizon old.records new.records peer are made.records) in
       ap (λ m. map (λ (row : SessionRow). row.cookie) (filter (λ (row : SessionRow). not row.ended && nat_lt m row.until && bytes_eq row.user name && is_listed indexes row.index && has_issued false (issued_rows new.records) row.cookie peer) (session_rows new.records))) latest
       ∙ ap (map (λ (row : SessionRow). row.cookie))
       (filter_each (test (issued_rows new.records)) (test (issued_rows old.records)) (session_rows new.records) each
@@ -133,6 +159,39 @@ module _ (now later : ℕ) (old new : Held) (are : AreRecords old.records) (made
       (session_seen later old.header.horizon)
       (λ row is. second_of (not row.ended) (visible row.until later old.header.horizon) (bytes_eq row.user name) (is_listed indexes row.index) (has_issued false (issued_rows old.records) row.cookie peer) is)
       (session_rows new.records) (session_rows old.records) same.sessions)
+
+  partial_same : (peer name : List ℕ) (indexes : List (List ℕ))
+      → is_partial later new.header.horizon peer name indexes (rows_of new.records) ≡ is_partial later old.header.horizon peer name indexes (rows_of old.records)
+  partial_same peer name indexes =
+      let test : List IssuedRow → SessionRow → Bool = λ issues row. is_ending later old.header.horizon peer name indexes issues row && has_issued true issues row.cookie peer in
+      let One : SessionRow → Type 0 = λ row. has_issued false (issued_rows new.records) row.cookie peer ≡ has_issued false (issued_rows old.records) row.cookie peer in
+      let Other : SessionRow → Type 0 = λ row. has_issued true (issued_rows new.records) row.cookie peer ≡ has_issued true (issued_rows old.records) row.cookie peer in
+      let each = each_weaker (λ row. One row × Other row) (λ (row : SessionRow). test (issued_rows new.records) row ≡ test (issued_rows old.records) row)
+      (λ row alike. ap (λ b. not row.ended && visible row.until later old.header.horizon && bytes_eq row.user name && is_listed indexes row.index && b && has_issued true (issued_rows new.records) row.cookie peer) alike.0
+      ∙ ap (λ b. is_ending later old.header.horizon peer name indexes (issued_rows old.records) row && b) alike.1)
+      (session_rows new.records)
+      (each_both One Other (session_rows new.records) (same_issues false now old.header.horizon old.records new.records peer are made.records)
+      (same_issues true now old.header.horizon old.records new.records peer are made.records)) in
+      ap (λ m. list_any (λ (row : SessionRow). not row.ended && nat_lt m row.until && bytes_eq row.user name && is_listed indexes row.index && has_issued false (issued_rows new.records) row.cookie peer && has_issued true (issued_rows new.records) row.cookie peer) (session_rows new.records)) latest
+      ∙ any_each (test (issued_rows new.records)) (test (issued_rows old.records)) (session_rows new.records) each
+      ∙ any_same_seen (test (issued_rows old.records))
+      (session_seen later old.header.horizon)
+      (λ row is. second_of (not row.ended) (visible row.until later old.header.horizon) (bytes_eq row.user name) (is_listed indexes row.index) (has_issued false (issued_rows old.records) row.cookie peer)
+      (and_parts (is_ending later old.header.horizon peer name indexes (issued_rows old.records) row) (has_issued true (issued_rows old.records) row.cookie peer) is).0)
+      (session_rows new.records) (session_rows old.records) same.sessions
+
+  peer_same : (cookie : List ℕ) → IsSome (session_found (session_rows new.records) cookie later new.header.horizon) → last_peer (issued_rows new.records) cookie ≡ last_peer (issued_rows old.records) cookie
+  peer_same cookie = found_peer (session_found (session_rows new.records) cookie later new.header.horizon) refl
+    where
+      found_peer : (o : Option SessionRow) → session_found (session_rows new.records) cookie later new.header.horizon ≡ o → IsSome o
+          → last_peer (issued_rows new.records) cookie ≡ last_peer (issued_rows old.records) cookie
+      found_peer None found some = absurd (false≢true some)
+      found_peer (Some row) found some =
+          let test : SessionRow → Bool = λ row. bytes_eq row.cookie cookie && not row.ended && visible row.until later new.header.horizon in
+          let has = found_has (λ (row : SessionRow). last_peer (issued_rows new.records) row.cookie ≡ last_peer (issued_rows old.records) row.cookie) test (session_rows new.records) row
+          (same_peers now old.header.horizon old.records new.records are made.records) found in
+          let here = (and_parts (bytes_eq row.cookie cookie) (not row.ended) (and_parts (bytes_eq row.cookie cookie && not row.ended) (visible row.until later new.header.horizon) has.0).0).0 in
+          subst (λ c. last_peer (issued_rows new.records) c ≡ last_peer (issued_rows old.records) c) (same_text row.cookie cookie here) has.1
 
   waiting_same : (request : List ℕ) → is_waiting_now (left_rows new.records) request later new.header.horizon ≡ is_waiting_now (left_rows old.records) request later old.header.horizon
   waiting_same request =
@@ -147,5 +206,7 @@ compactions_change_no_answer now later old new are made first = record {
   pending = pending_same now later old new are made first;
   session = session_same now later old new are made first;
   ending = ending_same now later old new are made first;
+  partial = partial_same now later old new are made first;
+  last_peer = peer_same now later old new are made first;
   waiting = waiting_same now later old new are made first;
 }

@@ -1,8 +1,10 @@
 -- With a session all that was issued in it is kept.
-use Rattle.std.proofs.Common.{◌≡◌, ℕ, ◌+◌, ◌<◌, ◌≤◌, Bool, true, false, ◌||◌, ◌&&◌, List, [], ◌∷◌, ◌++◌, Option, None, Some, slice_get, bytes_eq, refl, sym, ap, ◌∙◌, subst, inl, inr, arith, append_assoc, append-nil}
+use Rattle.std.proofs.Common.{◌≡◌, ℕ, ◌+◌, ◌<◌, ◌≤◌, Bool, true, false, ◌||◌, ◌&&◌, List, [], ◌∷◌, ◌++◌, Option, None, Some, cond, find, reverse, slice_get, bytes_eq, refl, sym, ap, ◌∙◌, subst, inl, inr, arith, append_assoc, append-nil}
 use Rattle.std.specs.List.{list_any}
 use Rattle.std.proofs.lemmas.Bool.{false≢true, true≢false, and_parts, or_cases, or_left, or_parts, false_from_ne_true}
-use Rattle.std.proofs.lemmas.List.Folds.{list_any-append}
+use Rattle.std.specs.Option.{option_or}
+use Rattle.std.proofs.lemmas.List.{reverse-append}
+use Rattle.std.proofs.lemmas.List.Folds.{list_any-append, find-append}
 use Rattle.ledger_records.specs.declared.idp_record.Issued.{Issued}
 use Rattle.ledger_records.specs.declared.idp_record.IdpRecord.{IdpRecord}
 use Rattle.ledger_records.specs.declared.idp_record.IdpRecord.TheVariants as kinds
@@ -13,8 +15,9 @@ use Rattle.record_ledger.proofs.Numbers.{one_number, IsFresh, all_fresh}
 use Rattle.record_ledger.proofs.Words.{each_weaker, each_push, same_text, text_itself}
 use Rattle.record_ledger.proofs.KeptMarks.{all_push, any_same}
 use Rattle.idp_ledger.specs.declared.row.SessionRow.{SessionRow}
-use Rattle.idp_ledger.specs.Finding.{is_that_peer, has_issued}
-use Rattle.idp_ledger.specs.RowsOf.{if_pending, issued_rows, session_rows, session_row, ends}
+use Rattle.idp_ledger.specs.declared.row.IssuedRow.{IssuedRow}
+use Rattle.idp_ledger.specs.Finding.{is_that_peer, has_issued, last_issue, last_peer, peer_of}
+use Rattle.idp_ledger.specs.RowsOf.{if_pending, issued_row, issued_rows, session_rows, session_row, ends}
 use Rattle.idp_ledger.specs.Record.{drawn, next_of, is_record, AreRecordsAfter, AreRecords, idp_rules}
 use Rattle.idp_ledger.proofs.LawWords.{Each, parts, next_push}
 use Rattle.idp_ledger.proofs.StandingRows.{above_some, cookie_of, index_of}
@@ -256,3 +259,45 @@ issues_alike beside peer marks are linked =
     each_weaker (λ (row : SessionRow). KeepsAll (is_of row.cookie) marks)
     (λ (row : SessionRow). has_issued beside (issued_rows (kept marks)) row.cookie peer ≡ has_issued beside (issued_rows (all marks)) row.cookie peer)
     (λ row keeps. told_alike beside row.cookie peer marks keeps) (session_rows (kept marks)) (each_session_keeps [] marks none_numbered are linked)
+
+-- ---- and so is which of these was the last
+
+last_step : (row : IssuedRow) (rows : List IssuedRow) (cookie : List ℕ)
+    → last_issue (row ∷ rows) cookie ≡ option_or (last_issue rows cookie) (cond (bytes_eq row.cookie cookie) (Some row) None)
+last_step row rows cookie =
+    let test : IssuedRow → Bool = λ r. bytes_eq r.cookie cookie in
+    ap (find test) (reverse-append (row ∷ []) rows) ∙ find-append test (reverse rows) (row ∷ [])
+
+or_none : {X : Type 0} (o : Option X) → option_or o None ≡ o
+or_none None = refl
+or_none (Some x) = refl
+
+last_same : (cookie : List ℕ) (marks : List Marked) → KeepsAll (is_of cookie) marks → last_issue (issued_rows (kept marks)) cookie ≡ last_issue (issued_rows (all marks)) cookie
+last_same cookie [] keeps = refl
+last_same cookie ((true, kinds.Issued r) ∷ marks) keeps =
+    last_step (issued_row r) (issued_rows (kept marks)) cookie
+    ∙ ap (λ o. option_or o (cond (bytes_eq r.cookie cookie) (Some (issued_row r)) None)) (last_same cookie marks keeps.1)
+    ∙ sym (last_step (issued_row r) (issued_rows (all marks)) cookie)
+last_same cookie ((false, kinds.Issued r) ∷ marks) keeps =
+    let other : bytes_eq r.cookie cookie ≡ false = false_from_ne_true (bytes_eq r.cookie cookie) (λ here. false≢true (keeps.0 here)) in
+    last_same cookie marks keeps.1
+    ∙ sym (last_step (issued_row r) (issued_rows (all marks)) cookie
+    ∙ ap (λ b. option_or (last_issue (issued_rows (all marks)) cookie) (cond b (Some (issued_row r)) None)) other
+    ∙ or_none (last_issue (issued_rows (all marks)) cookie))
+last_same cookie ((true, kinds.Pending r) ∷ marks) keeps = last_same cookie marks keeps.1
+last_same cookie ((true, kinds.Ended r) ∷ marks) keeps = last_same cookie marks keeps.1
+last_same cookie ((true, kinds.Left r) ∷ marks) keeps = last_same cookie marks keeps.1
+last_same cookie ((true, kinds.Confirmed r) ∷ marks) keeps = last_same cookie marks keeps.1
+last_same cookie ((true, kinds.Spoke r) ∷ marks) keeps = last_same cookie marks keeps.1
+last_same cookie ((false, kinds.Pending r) ∷ marks) keeps = last_same cookie marks keeps.1
+last_same cookie ((false, kinds.Ended r) ∷ marks) keeps = last_same cookie marks keeps.1
+last_same cookie ((false, kinds.Left r) ∷ marks) keeps = last_same cookie marks keeps.1
+last_same cookie ((false, kinds.Confirmed r) ∷ marks) keeps = last_same cookie marks keeps.1
+last_same cookie ((false, kinds.Spoke r) ∷ marks) keeps = last_same cookie marks keeps.1
+
+pub peers_alike : (marks : List Marked) → AreRecords (all marks) → AreLinked marks
+    → Each (λ (row : SessionRow). last_peer (issued_rows (kept marks)) row.cookie ≡ last_peer (issued_rows (all marks)) row.cookie) (session_rows (kept marks))
+peers_alike marks are linked =
+    each_weaker (λ (row : SessionRow). KeepsAll (is_of row.cookie) marks)
+    (λ (row : SessionRow). last_peer (issued_rows (kept marks)) row.cookie ≡ last_peer (issued_rows (all marks)) row.cookie)
+    (λ row keeps. ap peer_of (last_same row.cookie marks keeps)) (session_rows (kept marks)) (each_session_keeps [] marks none_numbered are linked)

@@ -1,7 +1,7 @@
 -- The visible rows of what is kept are those of all.
-use Rattle.std.proofs.Common.{◌≡◌, ℕ, Bool, true, false, ◌||◌, cond, List, [], ◌∷◌, ◌++◌, Option, None, Some, filter, find, bytes_eq, refl, sym, ap, ◌∙◌, inl, inr}
+use Rattle.std.proofs.Common.{◌≡◌, ℕ, Bool, true, false, cond, List, [], ◌∷◌, ◌++◌, Option, None, Some, filter, bytes_eq, refl, ap, ◌∙◌}
 use Rattle.std.specs.List.{list_any}
-use Rattle.std.proofs.lemmas.Bool.{cases_Bool, false≢true, or_left, or_parts, false_from_ne_true}
+use Rattle.std.proofs.lemmas.Bool.{false≢true, or_left, or_parts, false_from_ne_true}
 use Rattle.ledger_records.specs.declared.idp_record.Pending.{Pending}
 use Rattle.ledger_records.specs.declared.idp_record.Issued.{Issued}
 use Rattle.ledger_records.specs.declared.idp_record.Left.{Left}
@@ -17,35 +17,6 @@ use Rattle.idp_ledger.specs.declared.row.LeftRow.{LeftRow}
 use Rattle.idp_ledger.specs.Finding.{visible}
 use Rattle.idp_ledger.specs.RowsOf.{if_pending, pending_rows, session_rows, left_rows, pending_row, session_row, left_row, is_pending, uses, ends, confirms}
 use Rattle.idp_ledger.proofs.KeptMarks.{Marked, NamersOf, AreLinked}
-
--- what a list answers where only those that pass a test count
-module _ {X : Type 0} (test counts : X → Bool) (only : (x : X) → test x ≡ true → counts x ≡ true) where
-  fails : (x : X) → counts x ≡ false → test x ≡ false
-  fails x none = false_from_ne_true (test x) (λ passes. false≢true (sym none ∙ only x passes))
-
-  pub find_counted : (xs : List X) → find test (filter counts xs) ≡ find test xs
-  find_counted [] = refl
-  find_counted (x ∷ xs) =
-      elim (cases_Bool (counts x)) [
-        | inl one ↦ rw one (ap (cond (test x) (Some x)) (find_counted xs))
-        | inr none ↦ rw (none, fails x none) (find_counted xs)
-      ]
-
-  pub any_counted : (xs : List X) → list_any test (filter counts xs) ≡ list_any test xs
-  any_counted [] = refl
-  any_counted (x ∷ xs) =
-      elim (cases_Bool (counts x)) [
-        | inl one ↦ rw one (ap (λ b. test x || b) (any_counted xs))
-        | inr none ↦ rw (none, fails x none) (any_counted xs)
-      ]
-
-  pub filter_counted : (xs : List X) → filter test (filter counts xs) ≡ filter test xs
-  filter_counted [] = refl
-  filter_counted (x ∷ xs) =
-      elim (cases_Bool (counts x)) [
-        | inl one ↦ rw one (ap (λ rest. cond (test x) (x ∷ rest) rest) (filter_counted xs))
-        | inr none ↦ rw (none, fails x none) (filter_counted xs)
-      ]
 
 -- what uses a login, ends a session or confirms a logout names its record
 issue_user : (r : Pending) (p : Option (List ℕ)) (cookie : List ℕ) → is_pending r.pending p ≡ true → issue_names p cookie (kinds.Pending r) ≡ true

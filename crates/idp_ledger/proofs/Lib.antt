@@ -1,4 +1,5 @@
 pub mod RowPlaces
+pub mod RowOrders
 pub mod IssueLaws
 pub mod StandingRows
 pub mod RowLaws

@@ -2,12 +2,13 @@
 use Rattle.std.proofs.Common.{◌≡◌, ℕ, zero, suc, ◌<◌, ◌≤◌, Bool, true, false, cond, not, ◌&&◌, ◌||◌, List, [], ◌∷◌, ◌++◌, map, set, length, slice_index, get_or, Option, None, Some, sym, refl, ap, ◌∙◌, subst, inl, inr, arith}
 use Rattle.std.specs.List.{list_any, find, slice_get}
 use Rattle.std.specs.Str.{bytes_eq}
-use Rattle.std.proofs.lemmas.Bool.{cases_Bool, cases_lt, and_parts, false_from_ne_true, true≢false}
+use Rattle.std.proofs.lemmas.Bool.{cases_lt, and_parts, false_from_ne_true, true≢false}
 use Rattle.std.proofs.lemmas.List.{get_or-map, length-map, length_push, map_push, get_or_append_left, get_or_push}
-use Rattle.std.proofs.lemmas.List.Folds.{list_any_at, list_any_none}
-use Rattle.std.proofs.lemmas.Option.{slice_get_within, slice_get-get_or, slice_get_read, get_or_from_slice_get}
+use Rattle.std.proofs.lemmas.List.Folds.{list_any_at}
+use Rattle.std.proofs.lemmas.Option.{slice_get_within, slice_get_read, get_or_from_slice_get}
 use Rattle.std.proofs.lemmas.Slice.Eq.{bytes_eq-Decides}
 use Rattle.ledger_rules.specs.Numbers.{has_number, IsPlaceOf}
+use Rattle.ledger_rules.proofs.Passing.{any_is_at, any_is_nowhere}
 use Rattle.record_ledger.proofs.Numbers.{one_number}
 use Rattle.idp_ledger.specs.Standing.{HaveNumbers, IsRowAt, id_at}
 
@@ -41,27 +42,6 @@ module _ {X : Type 0} (key : X → List ℕ) (rows : List X) (numbers : List ℕ
       record { row = row; there = read_there p is row read; id_is = same; only = only_place p is }
 
 -- ---- what one row decides
-
--- where one row alone may pass a test, it decides
-pub any_is_at : {X : Type 0} (test : X → Bool) (rows : List X) (p : ℕ) (row : X) → slice_get rows p ≡ Some row
-    → ((k : ℕ) (other : X) → slice_get rows k ≡ Some other → test other ≡ true → k ≡ p) → list_any test rows ≡ test row
-any_is_at test rows p row there only =
-    let within = slice_get_within rows p row there in
-    let read = get_or_from_slice_get rows p row row there in
-    elim (cases_Bool (test row)) [
-      | inl passes ↦ list_any_at test rows p row within (ap test read ∙ passes) ∙ sym passes
-      | inr fails ↦
-          list_any_none test rows (λ k d inside. false_from_ne_true (test (get_or rows k d)) (λ passes.
-          let same = only k (get_or rows k d) (slice_get-get_or rows k d inside) passes in
-          let other : get_or rows k d ≡ row = get_or_from_slice_get rows k row d (subst (λ j. slice_get rows j ≡ Some row) (sym same) there) in
-          true≢false (sym passes ∙ ap test other ∙ fails)))
-          ∙ sym fails
-    ]
-
-pub any_is_nowhere : {X : Type 0} (test : X → Bool) (rows : List X) → ((k : ℕ) (other : X) → slice_get rows k ≡ Some other → test other ≡ true → ⊥)
-    → list_any test rows ≡ false
-any_is_nowhere test rows none =
-    list_any_none test rows (λ k d inside. false_from_ne_true (test (get_or rows k d)) (λ passes. none k (get_or rows k d) (slice_get-get_or rows k d inside) passes))
 
 pub find_is_nowhere : {X : Type 0} (test : X → Bool) (rows : List X) → ((k : ℕ) (other : X) → slice_get rows k ≡ Some other → test other ≡ true → ⊥)
     → find test rows ≡ None

@@ -1,9 +1,9 @@
 -- The texts of rows, and the rows that records name.
 use Rattle.std.specs.Prelude.{IsSome}
-use Rattle.std.proofs.Common.{◌≡◌, ◌⊎◌, ℕ, ◌+◌, ◌<◌, ◌≤◌, Bool, true, false, cond, not, ◌&&◌, ◌||◌, nat_le, List, [], ◌∷◌, ◌++◌, map, take, length, get_or, slice_get, zero, suc, unwrap_or, reverse, Option, None, Some, arith, refl, sym, ap, ◌∙◌, subst, inl, inr}
+use Rattle.std.proofs.Common.{◌≡◌, ℕ, ◌+◌, ◌<◌, ◌≤◌, Bool, true, false, cond, not, ◌&&◌, ◌||◌, nat_le, List, [], ◌∷◌, ◌++◌, map, take, length, get_or, slice_get, zero, suc, unwrap_or, reverse, Option, None, Some, arith, refl, sym, ap, ◌∙◌, subst}
 use Rattle.std.specs.List.{list_all, list_any, find, filter, flat_map}
 use Rattle.std.specs.Str.{bytes_eq, chars}
-use Rattle.std.proofs.lemmas.Bool.{and_parts, false≢true, leb-true}
+use Rattle.std.proofs.lemmas.Bool.{and_parts, or_left, or_right, leb-true}
 use Rattle.std.proofs.lemmas.List.{append_assoc, reverse-append, take_more}
 use Rattle.std.proofs.lemmas.Option.{get_or_from_slice_get, none-some}
 use Rattle.std.proofs.lemmas.List.Folds.{list_any-append, list_all-append}
@@ -12,6 +12,7 @@ use Rattle.ledger_records.specs.declared.idp_record.Issued.{Issued}
 use Rattle.ledger_records.specs.declared.idp_record.IdpRecord.{IdpRecord}
 use Rattle.ledger_records.specs.declared.idp_record.IdpRecord.TheVariants as kinds
 use Rattle.ledger_rules.specs.Numbers.{is_xml_text}
+use Rattle.ledger_rules.proofs.Passing.{any_more, any_all}
 use Rattle.idp_ledger.specs.declared.row.PendingRow.{PendingRow}
 use Rattle.idp_ledger.specs.declared.row.IssuedRow.{IssuedRow}
 use Rattle.idp_ledger.specs.declared.row.SessionRow.{SessionRow}
@@ -22,46 +23,6 @@ use Rattle.idp_ledger.specs.Record.{LAST, of_option, of_attribute, is_unused, is
 use Rattle.idp_ledger.proofs.RowLaws.{is_record-is}
 use Rattle.idp_ledger.proofs.StandingRows.{NextParts, next_parts}
 use Rattle.record_ledger.proofs.Draftable.{both}
-
--- ---- tests
-
-or_right : (a b : Bool) → b ≡ true → (a || b) ≡ true
-or_right true b is = refl
-or_right false b is = is
-
-or_left : (a b : Bool) → a ≡ true → (a || b) ≡ true
-or_left true b is = refl
-or_left false b is = absurd (false≢true is)
-
-or_cases : (a b : Bool) → (a || b) ≡ true → (a ≡ true) ⊎ (b ≡ true)
-or_cases true b is = inl refl
-or_cases false b is = inr is
-
--- an element that passes, where one is found
-pub found : {X : Type 0} (test : X → Bool) (xs : List X) → IsSome (find test xs) → list_any test xs ≡ true
-found test [] some = some
-found test (x ∷ xs) some = by_test (test x) (found test xs) some
-  where
-    by_test : (b : Bool) → (IsSome (find test xs) → list_any test xs ≡ true) → IsSome (cond b (Some x) (find test xs)) → (b || list_any test xs) ≡ true
-    by_test true later some = refl
-    by_test false later some = later some
-
-pub any_more : {X : Type 0} (test more : X → Bool) (xs : List X) → ((x : X) → test x ≡ true → more x ≡ true) → list_any test xs ≡ true → list_any more xs ≡ true
-any_more test more [] leads is = absurd (false≢true is)
-any_more test more (x ∷ xs) leads is = elim (or_cases (test x) (list_any test xs) is) [
-  | inl here ↦ or_left (more x) (list_any more xs) (leads x here)
-  | inr there ↦ or_right (more x) (list_any more xs) (any_more test more xs leads there)
-]
-
--- an element that passes, of those that all pass another test
-pub any_all : {X : Type 0} (test other : X → Bool) (xs : List X) → list_all other xs ≡ true → list_any test xs ≡ true → (x : X) × (test x ≡ true) × (other x ≡ true)
-any_all test other [] all is = absurd (false≢true is)
-any_all test other (x ∷ xs) all is =
-    let parts = and_parts (other x) (list_all other xs) all in
-    elim (or_cases (test x) (list_any test xs) is) [
-      | inl here ↦ (x, here, parts.0)
-      | inr there ↦ any_all test other xs parts.1 there
-    ]
 
 pub row_there : {X : Type 0} (xs : List X) (i : ℕ) → i < length xs → (x : X) × (slice_get xs i ≡ Some x)
 row_there [] i inside = absurd (omega arith)

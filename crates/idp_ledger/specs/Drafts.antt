@@ -18,10 +18,7 @@ use Rattle.idp_ledger.specs.Standing.{idp_row_rules}
 use Rattle.idp_ledger.specs.Ids.{login_ids}
 use Rattle.idp_ledger.specs.Record.{LAST, of_attribute, idp_rules}
 use Rattle.idp_ledger.specs.Ledger.{Held, Opened}
-
--- how long a login may be pending, or a logout answered, in milliseconds
-abbrev pub LIFE : ℕ
-LIFE = 600000
+pub use Rattle.ledger_rules.specs.Moments.{LIFE}
 
 -- how long an assertion is accepted, and how long a session lives
 abbrev pub ASSERTION_LIFE : ℕ

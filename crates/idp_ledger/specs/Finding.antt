@@ -1,5 +1,5 @@
 -- What is looked up in the rows of an identity provider. A moment is the milliseconds since 1970-01-01T00:00:00Z.
-use Rattle.std.specs.Prelude.{ℕ, Bool, true, false, ◌&&◌, ◌||◌, not, List, [], ◌∷◌, map, filter, reverse, Option, None, Some, nat_lt, max}
+use Rattle.std.specs.Prelude.{ℕ, Bool, true, false, ◌&&◌, ◌||◌, not, List, [], map, filter, reverse, Option, None, Some, nat_lt, max}
 use Rattle.std.specs.List.{find, list_any}
 use Rattle.std.specs.Str.{bytes_eq}
 use Rattle.idp_ledger.specs.declared.row.PendingRow.{PendingRow}
@@ -7,6 +7,7 @@ use Rattle.idp_ledger.specs.declared.row.IssuedRow.{IssuedRow}
 use Rattle.idp_ledger.specs.declared.row.SessionRow.{SessionRow}
 use Rattle.idp_ledger.specs.declared.row.LeftRow.{LeftRow}
 use Rattle.idp_ledger.specs.RowsOf.{IdpRows, is_among}
+pub use Rattle.ledger_rules.specs.Texts.{is_empty}
 
 -- something is visible where the moment until which it holds is greater than the larger of the present and the horizon, which
 -- is the latest moment at which rows were dropped
@@ -27,11 +28,6 @@ session_found sessions cookie now horizon =
 abbrev pub is_waiting_now : List LeftRow → (request : List ℕ) (now horizon : ℕ) → Bool
 is_waiting_now lefts request now horizon =
     list_any (λ row. bytes_eq row.request request && not row.confirmed && visible row.until now horizon) lefts
-
--- whether there is no text
-abbrev pub is_empty : List (List ℕ) → Bool
-is_empty [] = true
-is_empty (first ∷ others) = false
 
 -- the last assertion that was issued in the session of a cookie
 abbrev pub last_issue : List IssuedRow → (cookie : List ℕ) → Option IssuedRow

@@ -1,23 +1,26 @@
 -- The laws of a ledger.
-use Rattle.std.specs.Prelude.{◌≡◌, ℕ, ◌≤◌, false, List, ◌∷◌, ◌++◌, Option, None, Some, slice_get}
+use Rattle.std.specs.Prelude.{◌≡◌, ℕ, ◌≤◌, false, List, ◌∷◌, ◌++◌, Option, None, Some, IsSome, slice_get}
 use Rattle.ledger_records.specs.declared.idp_record.Issued.{Issued}
 use Rattle.ledger_records.specs.declared.idp_record.IdpRecord.{IdpRecord}
 use Rattle.ledger_records.specs.declared.idp_record.IdpRecord.TheVariants as kinds
 use Rattle.idp_ledger.specs.declared.row.PendingRow.{PendingRow}
 use Rattle.idp_ledger.specs.declared.row.SessionRow.{SessionRow}
 use Rattle.record_ledger.specs.Laws as any
-use Rattle.idp_ledger.specs.Finding.{pending_found, session_found, ending, is_waiting_now}
+use Rattle.idp_ledger.specs.Finding.{pending_found, session_found, ending, is_partial, last_peer, is_waiting_now}
 use Rattle.idp_ledger.specs.RowsOf.{IdpRows, rows_of}
 use Rattle.idp_ledger.specs.Record.{AreRecords, idp_rules}
 use Rattle.idp_ledger.specs.Ledger.{Held}
 use Rattle.idp_ledger.specs.Compacting.{IsCompacted}
 
 -- At a moment the two rows with their horizons answer all that is asked of them alike: which login is pending, which session
--- lives, which sessions an answered logout ends, and which logout waits.
+-- lives, which sessions an answered logout ends and whether it is partial, to which peer the last assertion in a live session
+-- went, and which logout waits.
 pub record AnswerAlike (now : ℕ) (one other : Held) : Type 0 where
   pub pending : (pending : List ℕ) → pending_found (rows_of one.records).pendings pending now one.header.horizon ≡ pending_found (rows_of other.records).pendings pending now other.header.horizon
   pub session : (cookie : List ℕ) → session_found (rows_of one.records).sessions cookie now one.header.horizon ≡ session_found (rows_of other.records).sessions cookie now other.header.horizon
   pub ending : (peer name : List ℕ) (indexes : List (List ℕ)) → ending now one.header.horizon peer name indexes (rows_of one.records) ≡ ending now other.header.horizon peer name indexes (rows_of other.records)
+  pub partial : (peer name : List ℕ) (indexes : List (List ℕ)) → is_partial now one.header.horizon peer name indexes (rows_of one.records) ≡ is_partial now other.header.horizon peer name indexes (rows_of other.records)
+  pub last_peer : (cookie : List ℕ) → IsSome (session_found (rows_of one.records).sessions cookie now one.header.horizon) → last_peer (rows_of one.records).issues cookie ≡ last_peer (rows_of other.records).issues cookie
   pub waiting : (request : List ℕ) → is_waiting_now (rows_of one.records).lefts request now one.header.horizon ≡ is_waiting_now (rows_of other.records).lefts request now other.header.horizon
 
 -- what an image stands for has records of the ledger, each behind those before it

@@ -3,6 +3,7 @@ pub mod Finding
 pub mod Naming
 pub mod Record
 pub mod Standing
+pub mod Order
 pub mod Ledger
 pub mod Draft
 pub mod Ids

@@ -2,7 +2,6 @@
 use Rattle.std.specs.Prelude.{ℕ, ◌+◌, nat_le, Bool, true, ◌&&◌, not, List, [], ◌∷◌, ◌++◌, Option, None, Some, Result}
 use Rattle.std.specs.List.{flat_map, list_all, list_any}
 use Rattle.std.specs.Str.{bytes_eq}
-use Rattle.owned_values.specs.declared.attributes.Attribute.{Attribute}
 use Rattle.ledger_records.specs.declared.idp_record.IdpRecord.{IdpRecord}
 use Rattle.ledger_records.specs.declared.idp_record.IdpRecord.TheVariants as kinds
 use Rattle.ledger_records.specs.Found.{idp_record}
@@ -15,6 +14,8 @@ use Rattle.record_ledger.specs.Rules.{RecordRules}
 use Rattle.record_ledger.specs.Rules as any
 use Rattle.idp_ledger.specs.RowsOf.{IdpRows, if_pending, rows_of, rows_of_kind}
 use Rattle.idp_ledger.specs.Naming.{has_visible, names}
+pub use Rattle.ledger_rules.specs.Texts.{of_option, of_attribute}
+pub use Rattle.ledger_rules.specs.Moments.{LAST}
 
 -- whether there is a pending login of this ID that is not used
 abbrev pub is_unused : List PendingRow → List ℕ → Bool
@@ -55,13 +56,6 @@ drawn (kinds.Confirmed r) = []
 drawn (kinds.Spoke r) = record { number = r.first; id = r.message } ∷ []
 
 -- the texts of a record but a relay state
-abbrev pub of_option : Option (List ℕ) → List (List ℕ)
-of_option None = []
-of_option (Some text) = text ∷ []
-
-abbrev pub of_attribute : Attribute → List (List ℕ)
-of_attribute a = a.name ∷ a.values
-
 abbrev pub texts : IdpRecord → List (List ℕ)
 texts (kinds.Pending r) = r.pending ∷ r.request ∷ r.peer ∷ r.consumer ∷ []
 texts (kinds.Issued r) =
@@ -80,10 +74,6 @@ moments (kinds.Ended r) = r.moment ∷ []
 moments (kinds.Left r) = r.moment ∷ []
 moments (kinds.Confirmed r) = r.moment ∷ []
 moments (kinds.Spoke r) = r.moment ∷ []
-
--- the last millisecond of the year 9999
-abbrev pub LAST : ℕ
-LAST = 253402300799999
 
 -- A record of the ledger where these are the rows, and this number is above all that were drawn: the rows that it names
 -- are there and free, its numbers are greater than all before and below 2^63, each ID that it draws begins with its number,

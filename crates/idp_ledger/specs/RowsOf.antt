@@ -11,6 +11,7 @@ use Rattle.idp_ledger.specs.declared.row.PendingRow.{PendingRow}
 use Rattle.idp_ledger.specs.declared.row.IssuedRow.{IssuedRow}
 use Rattle.idp_ledger.specs.declared.row.SessionRow.{SessionRow}
 use Rattle.idp_ledger.specs.declared.row.LeftRow.{LeftRow}
+pub use Rattle.ledger_rules.specs.Texts.{is_among}
 
 -- the rows of each kind, in the order of their records
 pub record IdpRows : Type 0 where
@@ -63,10 +64,6 @@ if_pending (Some pending) items = items
 -- the session that an Issued begins: it draws a cookie where a login was pending
 abbrev pub begun : Bool → Issued → List SessionRow
 begun ended r = if_pending r.pending (session_row ended r ∷ [])
-
--- whether a text is among these
-abbrev pub is_among : List ℕ → List (List ℕ) → Bool
-is_among text texts = list_any (λ other. bytes_eq other text) texts
 
 -- whether this is the login that was pending
 abbrev pub is_pending : List ℕ → Option (List ℕ) → Bool

@@ -2,6 +2,9 @@
 use Rattle.std.specs.Prelude.{◌≡◌, ℕ, suc, ◌<◌, ◌≤◌, max, Bool, true, false, List, [], ◌∷◌, length, map, take, slice_index, slice_index_or, slice_get, Option, None, Some, if◌then◌else◌}
 use Rattle.std.specs.List.{list_any}
 use Rattle.std.specs.Str.{bytes_eq}
+use Rattle.std.specs.Ordering.{nat_cmp}
+use Rattle.std.specs.declared.cmp.Ordering.TheVariants.{Less}
+use Rattle.std.specs.Cmp.Lexicographic.{slice_cmp}
 use Rattle.ledger_records.specs.declared.idp_record.IdpRecord.{IdpRecord}
 use Rattle.ledger_records.specs.declared.idp_record.IdpRecord.TheVariants as kinds
 use Rattle.ledger_rules.specs.Numbers.{above, has_number}
@@ -12,6 +15,7 @@ use Rattle.idp_ledger.specs.declared.row.LeftRow.{LeftRow}
 use Rattle.record_ledger.specs.Rules.{RowRules}
 use Rattle.idp_ledger.specs.RowsOf.{IdpRows, session_row, rows_of, rows_after}
 use Rattle.idp_ledger.specs.Record.{drawn, next_of}
+pub use Rattle.ledger_rules.specs.Texts.{id_at}
 
 -- for how many more rows of each kind there is memory
 pub record RowSpare : Type 0 where
@@ -48,13 +52,15 @@ pub record SessionsView : Type 0 where
   pub numbers : List ℕ
   pub spare : ℕ
 
-abbrev pub id_at : List (List ℕ) → ℕ → List ℕ
-id_at ids k = slice_index_or ids k []
-
 -- the IDs of rows begin with these numbers
 pub record HaveNumbers (numbers : List ℕ) (ids : List (List ℕ)) : Type 0 where
   pub long : length numbers ≡ length ids
   pub each : (k : ℕ) → k < length ids → has_number (slice_index numbers k) (id_at ids k) ≡ true
+
+-- The IDs of rows ascend by bytes, and there are so many.
+pub record ComeInOrder (ids : List (List ℕ)) (count : ℕ) : Type 0 where
+  pub long : count ≡ length ids
+  pub ascends : (k : ℕ) → suc k < length ids → slice_cmp nat_cmp (id_at ids k) (id_at ids (suc k)) ≡ Less
 
 -- the IDs of the rows
 abbrev pub pending_ids : List PendingRow → List (List ℕ)
@@ -62,6 +68,9 @@ pending_ids rows = map (λ row. row.pending) rows
 
 abbrev pub cookies : List SessionRow → List (List ℕ)
 cookies rows = map (λ row. row.cookie) rows
+
+abbrev pub session_indexes : List SessionRow → List (List ℕ)
+session_indexes rows = map (λ row. row.index) rows
 
 abbrev pub requests : List LeftRow → List (List ℕ)
 requests rows = map (λ row. row.request) rows

@@ -1,29 +1,17 @@
 //! What makes a record one of the ledger, beside the rows that it names.
-ghost use Rattle.std.specs.Prelude.{◌≡◌, ◌+◌, ◌<◌, ◌^◌, ◌∷◌, [], ◌&&◌, nat_le, nat_lt, ◌↔◌, All, IsTrue};
-ghost use Rattle.std.specs.List.{list_all, flat_map};
-ghost use Rattle.ledger_rules.specs.Numbers.{NUMBER_END, has_number, is_xml_text};
+ghost use Rattle.std.specs.Prelude.{◌≡◌, ◌+◌, ◌<◌, ◌^◌, ◌∷◌, [], nat_le, ◌↔◌, All, IsTrue};
+ghost use Rattle.std.specs.List.{list_all};
+ghost use Rattle.ledger_rules.specs.Numbers.{NUMBER_END, is_xml_text};
 ghost use Rattle.ledger_rules.specs.Numbers.{are_fresh as are_fresh_numbers};
 ghost use Rattle.ledger_records.specs.declared.idp_record.IdpRecord.TheVariants as kinds;
 ghost use Rattle.idp_ledger.specs.RowsOf.{if_pending};
-ghost use Rattle.idp_ledger.specs.Record.{LAST, drawn, moments, of_attribute, texts};
+ghost use Rattle.idp_ledger.specs.Record.{LAST, drawn, moments, texts};
 
 use ledger_records::IdpRecord;
 use ledger_records::idp_record::Issued;
-use ledger_rules::{has_number, is_xml_text};
-use owned_values::{Attribute, Text};
-
-/// The last millisecond of the year 9999.
-pub(crate) const LAST: u64 = 253_402_300_799_999;
-
-/// Numbers end below this one.
-const END_OF_NUMBERS: u64 = 1 << 63;
-
-/// Whether a number is this one or greater and below the end, and an ID begins with it.
-fn is_fresh(least: u64, number: u64, id: &Text) -> bool
-    ensures { result ≡ (nat_le least number && nat_lt number NUMBER_END && has_number number id.now) }
-{
-    least <= number && number < END_OF_NUMBERS && has_number(number, id.as_str())
-}
+use ledger_rules::{
+    END_OF_NUMBERS, LAST, are_allowed, are_allowed_attributes, is_allowed, is_fresh,
+};
 
 /// Whether the cookie and the index that an Issued draws are fresh, where it draws them.
 fn is_session_fresh(least: u64, r: &Issued) -> bool
@@ -71,36 +59,6 @@ pub(crate) fn are_before_end(entry: &IdpRecord) -> bool
         IdpRecord::Confirmed(_) => true,
         IdpRecord::Spoke(r) => r.first < END_OF_NUMBERS,
     }
-}
-
-/// Whether a document may hold the characters of a text.
-fn is_allowed(text: &Text) -> bool
-    ensures { result ≡ is_xml_text text.now }
-{
-    is_xml_text(text.as_str())
-}
-
-/// Whether a document may hold the characters of these texts.
-fn are_allowed(texts: &[Text]) -> bool
-    ensures { result ≡ list_all is_xml_text texts.now }
-{
-    texts.iter().all(|text| is_allowed(text))
-}
-
-/// Whether a document may hold the characters of an attribute's name and values.
-fn is_allowed_attribute(attribute: &Attribute) -> bool
-    ensures { result ≡ list_all is_xml_text (of_attribute attribute.now) }
-{
-    is_allowed(&attribute.name) && are_allowed(attribute.values.as_slice())
-}
-
-/// Whether a document may hold the characters of the names and values of attributes.
-fn are_allowed_attributes(attributes: &[Attribute]) -> bool
-    ensures { result ≡ list_all is_xml_text (flat_map of_attribute attributes.now) }
-{
-    attributes
-        .iter()
-        .all(|attribute| is_allowed_attribute(attribute))
 }
 
 /// Whether a document may hold the characters of an Issued's texts.

@@ -1,9 +1,10 @@
 //! The drafts of each kind of record.
-ghost use Rattle.std.specs.Prelude.{◌≡◌, ◌<◌, ◌≤◌, ◌&&◌, true, not, length, slice_get, Some, IsSome, IfOk};
+ghost use Rattle.std.specs.Prelude.{◌≡◌, ◌<◌, ◌≤◌, ◌&&◌, true, not, [], length, slice_get, Some, IsSome, IfOk};
+ghost use Rattle.std.specs.List.{list_any};
 ghost use Rattle.std.specs.Str.{bytes_eq};
 ghost use Rattle.ledger_rules.specs.Numbers.{is_xml_text};
 ghost use Rattle.idp_ledger.specs.declared.row.SessionRow.{SessionRow};
-ghost use Rattle.idp_ledger.specs.RowsOf.{is_among};
+ghost use Rattle.ledger_rules.specs.Texts.{IsSetOf};
 ghost use Rattle.idp_ledger.specs.Finding.{is_empty, is_ending, is_listed, is_partial, is_waiting_now, ending, last_peer, session_found, visible};
 ghost use Rattle.idp_ledger.specs.Record.{LAST};
 ghost use Rattle.idp_ledger.specs.Ledger.{KeepsSpare, next_number, rows_in};
@@ -14,12 +15,9 @@ use crate::ledger::IdpLedger;
 use crate::row::{Ask, SessionRow};
 use ledger_records::IdpRecord;
 use ledger_records::idp_record::{Confirmed, Ended, Left, Pending, Spoke};
-use ledger_rules::DraftFault;
+use ledger_rules::{DraftFault, LIFE, TextSet};
 use owned_values::{NoMemory, Text, Texts};
 use saml_ids::{Kind, id_of};
-
-/// How long a login may be pending, or a logout answered, in milliseconds.
-const LIFE: u64 = 600_000;
 
 /// A copy of a text, where there is one.
 pub(crate) fn copy_of(text: &Option<Text>) -> Result<Option<Text>, NoMemory>
@@ -153,11 +151,12 @@ impl IdpLedger {
         ensures spare { KeepsSpare self.old self.new }
     {
         self.holds_records();
-        let cookies = self.ending(now, peer, name, indexes)?;
+        let set = TextSet::of(self.ledger.allocator(), indexes)?;
+        let cookies = self.ending(now, peer, name, indexes, &set)?;
         if cookies.is_empty() {
             return Ok(None);
         }
-        let partial = self.is_partial(now, peer, name, indexes);
+        let partial = self.is_partial(now, peer, name, indexes, &set);
         let first = self.next_number();
         let key = self.key();
         let message = id_of(key, Kind::Message, first);
@@ -175,53 +174,66 @@ impl IdpLedger {
 }
 
 impl IdpLedger {
-    /// Whether the session at a place lives, is of a name, has a listed index where any is listed, and an assertion was
-    /// issued in it to a peer.
-    fn is_ending(&self, place: usize, now: u64, peer: &str, name: &str, indexes: &Texts) -> bool
+    /// Whether the session at a place lives, is of a name, and an assertion was issued in it to a peer.
+    fn is_open_to(&self, place: usize, now: u64, peer: &str, name: &str) -> bool
         requires { place < length (rows_in self.now).sessions }
-        ensures { (row : SessionRow) → slice_get (rows_in self.now).sessions place ≡ Some row → result ≡ is_ending now self.now.held.header.horizon peer.now name.now indexes.now (rows_in self.now).issues row }
+        ensures { (row : SessionRow) → slice_get (rows_in self.now).sessions place ≡ Some row → result ≡ is_ending now self.now.held.header.horizon peer.now name.now [] (rows_in self.now).issues row }
     {
         let horizon = self.header().horizon;
         let rows = self.sessions();
-        if !is_named(&rows[place], now, horizon, name, indexes) {
+        if !is_named(&rows[place], now, horizon, name) {
             return false;
         }
         self.standing().has_issued(place, peer, false)
     }
 
+    /// The same, where its index is listed too, or none is. `set` has what is listed.
+    fn is_ending(
+        &self,
+        place: usize,
+        now: u64,
+        peer: &str,
+        name: &str,
+        indexes: &Texts,
+        set: &TextSet,
+    ) -> bool
+        requires place { place < length (rows_in self.now).sessions }
+        requires set { IsSetOf set.now indexes.now }
+        ensures { (row : SessionRow) → slice_get (rows_in self.now).sessions place ≡ Some row → result ≡ is_ending now self.now.held.header.horizon peer.now name.now indexes.now (rows_in self.now).issues row }
+    {
+        let rows = self.sessions();
+        is_listed(indexes, set, &rows[place].index) && self.is_open_to(place, now, peer, name)
+    }
+
     /// The cookies of these sessions.
-    fn ending(&self, now: u64, peer: &str, name: &str, indexes: &Texts) -> Result<Texts, NoMemory>
+    fn ending(
+        &self,
+        now: u64,
+        peer: &str,
+        name: &str,
+        indexes: &Texts,
+        set: &TextSet,
+    ) -> Result<Texts, NoMemory>
+        requires { IsSetOf set.now indexes.now }
         ensures { IfOk result (λ cookies. cookies ≡ ending now self.now.held.header.horizon peer.now name.now indexes.now (rows_in self.now)) }
     {
         let mut cookies = Texts::new(self.ledger.allocator());
         for (place, row) in self.sessions().iter().enumerate() {
-            if self.is_ending(place, now, peer, name, indexes) {
+            if self.is_ending(place, now, peer, name, indexes, set) {
                 cookies.push(row.cookie.copy()?)?;
             }
         }
         Ok(cookies)
     }
 
-    /// Whether there is a live session of a name in which an assertion was issued to a peer, and whose index is listed, or any
-    /// of these where none is listed: one that `draft_end` would end.
-    pub fn has_ending(&self, now: u64, peer: &str, name: &str, indexes: &Texts) -> bool
-        ensures { result ≡ not (is_empty (ending now self.now.held.header.horizon peer.now name.now indexes.now (rows_in self.now))) }
-    {
-        for place in 0..self.sessions().len() {
-            if self.is_ending(place, now, peer, name, indexes) {
-                return true;
-            }
-        }
-        false
-    }
-
     /// Whether in one of these sessions an assertion was issued to another peer too.
-    fn is_partial(&self, now: u64, peer: &str, name: &str, indexes: &Texts) -> bool
+    fn is_partial(&self, now: u64, peer: &str, name: &str, indexes: &Texts, set: &TextSet) -> bool
+        requires { IsSetOf set.now indexes.now }
         ensures { result ≡ is_partial now self.now.held.header.horizon peer.now name.now indexes.now (rows_in self.now) }
     {
         let standing = self.standing();
         for place in 0..self.sessions().len() {
-            if self.is_ending(place, now, peer, name, indexes)
+            if self.is_ending(place, now, peer, name, indexes, set)
                 && standing.has_issued(place, peer, true)
             {
                 return true;
@@ -229,31 +241,57 @@ impl IdpLedger {
         }
         false
     }
+
+    /// Whether there is a live session of a name in which an assertion was issued to a peer.
+    fn has_open(&self, now: u64, peer: &str, name: &str) -> bool
+        ensures { result ≡ list_any (is_ending now self.now.held.header.horizon peer.now name.now [] (rows_in self.now).issues) (rows_in self.now).sessions }
+    {
+        for place in 0..self.sessions().len() {
+            if self.is_open_to(place, now, peer, name) {
+                return true;
+            }
+        }
+        false
+    }
+
+    /// Whether there is one of this index.
+    fn has_open_at(&self, index: &str, now: u64, peer: &str, name: &str) -> bool
+        ensures { result ≡ list_any (λ row. bytes_eq index.now row.index && is_ending now self.now.held.header.horizon peer.now name.now [] (rows_in self.now).issues row) (rows_in self.now).sessions }
+    {
+        match self.standing().place_of_index(index) {
+            Some(place) => self.is_open_to(place, now, peer, name),
+            None => false,
+        }
+    }
+
+    /// Whether there is a live session of a name in which an assertion was issued to a peer, and whose index is listed, or any
+    /// of these where none is listed: one that `draft_end` would end. It takes no memory: each listed index is looked up.
+    pub fn has_ending(&self, now: u64, peer: &str, name: &str, indexes: &Texts) -> bool
+        ensures { result ≡ not (is_empty (ending now self.now.held.header.horizon peer.now name.now indexes.now (rows_in self.now))) }
+    {
+        if indexes.is_empty() {
+            return self.has_open(now, peer, name);
+        }
+        for index in indexes.as_slice() {
+            if self.has_open_at(index.as_str(), now, peer, name) {
+                return true;
+            }
+        }
+        false
+    }
 }
 
-/// Whether a session lives at a moment, is of this name, and its index is listed or none is.
-fn is_named(row: &SessionRow, now: u64, horizon: u64, name: &str, indexes: &Texts) -> bool
-    ensures { result ≡ (not row.now.ended && visible row.now.until now horizon && bytes_eq row.now.user name.now && is_listed indexes.now row.now.index) }
+/// Whether a session lives at a moment, and is of this name.
+fn is_named(row: &SessionRow, now: u64, horizon: u64, name: &str) -> bool
+    ensures { result ≡ (not row.now.ended && visible row.now.until now horizon && bytes_eq row.now.user name.now) }
 {
-    !row.ended
-        && now.max(horizon) < row.until
-        && row.user.as_str() == name
-        && is_listed(indexes, &row.index)
+    !row.ended && now.max(horizon) < row.until && row.user.as_str() == name
 }
 
-/// Whether an index is listed, or none is.
-fn is_listed(indexes: &Texts, index: &Text) -> bool
+/// Whether an index is listed, or none is. `set` has what is listed.
+fn is_listed(indexes: &Texts, set: &TextSet, index: &Text) -> bool
+    requires { IsSetOf set.now indexes.now }
     ensures { result ≡ is_listed indexes.now index.now }
 {
-    indexes.is_empty() || is_among(index, indexes)
-}
-
-/// Whether a text is among these.
-fn is_among(text: &Text, texts: &Texts) -> bool
-    ensures { result ≡ is_among text.now texts.now }
-{
-    texts
-        .as_slice()
-        .iter()
-        .any(|other| other.as_str() == text.as_str())
+    indexes.is_empty() || set.holds(index.as_str())
 }

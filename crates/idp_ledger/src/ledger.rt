@@ -5,6 +5,8 @@ ghost use Rattle.crash_disk.specs.Counts.{CountsFaults};
 ghost use Rattle.crash_disk.specs.Disk.{image_of};
 ghost use Rattle.crash_disk.specs.Moments.{LeavesOnly};
 ghost use Rattle.gate_journal.specs.Opening.{open_fault_of, CausesFaults};
+ghost use Rattle.request_rows.specs.Order.{IsOrder};
+ghost use Rattle.idp_ledger.specs.Order.{keys_of};
 ghost use Rattle.idp_ledger.specs.Finding.{is_waiting_now, pending_found, session_found};
 ghost use Rattle.idp_ledger.specs.Record.{AreRecords};
 ghost use Rattle.idp_ledger.specs.RowsOf.{rows_of};
@@ -12,6 +14,7 @@ ghost use Rattle.idp_ledger.specs.Ledger.{CanCommit, IsOwn, IsWithOrWithout, Lef
 ghost use Rattle.idp_ledger.specs.Compacting.{Compacts, IsOldOrCompacted};
 
 use crate::draft::Draft;
+use crate::key::IdpKey;
 use crate::row::{IssuedRow, LeftRow, PendingRow, SessionRow};
 use crate::standing::Standing;
 use gate_journal::{Disk, Failed, Header, OpenFault};
@@ -105,6 +108,14 @@ impl IdpLedger {
         ensures { result.now ≡ (rows_in self.now).lefts }
     {
         self.standing().lefts()
+    }
+
+    /// The places of the pending rows or of the sessions, counted from 0, in the order of this key: each place once, and of
+    /// two neighbours the first has the lesser key by bytes, or an equal key and the lesser place. It takes no memory.
+    pub fn order(&self, key: IdpKey) -> &[u32]
+        ensures { IsOrder (keys_of key (rows_in self.now)) result.now }
+    {
+        self.standing().order(key)
     }
 
     /// What the journal's header keeps.

@@ -26,6 +26,7 @@ mod drafting;
 mod drafts;
 mod ids;
 mod issues;
+mod key;
 pub mod laws;
 mod ledger;
 mod lefts;
@@ -40,6 +41,7 @@ mod standing;
 
 pub use draft::Draft;
 pub use gate_journal::{Disk, Failed, FileNo, Header, OpenFault};
+pub use key::IdpKey;
 pub use ledger::IdpLedger;
 pub use ledger_rules::DraftFault;
 pub use record_ledger::MOST_ROWS;

@@ -6,7 +6,6 @@ ghost use Rattle.idp_ledger.specs.Record.{LAST};
 ghost use Rattle.idp_ledger.specs.Ledger.{KeepsSpare, next_number, rows_in};
 ghost use Rattle.idp_ledger.specs.Drafts.{login, login_with, issue, issue_with, IsXmlAsk, AreXmlAttributes, Drafts, SameLedger};
 
-use crate::checks::LAST;
 use crate::draft::Draft;
 use crate::drafts::copy_of;
 use crate::ids::{LoginIds, login_ids};
@@ -14,7 +13,7 @@ use crate::ledger::IdpLedger;
 use crate::row::{Ask, PendingRow, SessionRow};
 use ledger_records::IdpRecord;
 use ledger_records::idp_record::Issued;
-use ledger_rules::DraftFault;
+use ledger_rules::{DraftFault, LAST};
 use owned_values::{Attributes, NoMemory, Text};
 use std::alloc::Global;
 

@@ -1,5 +1,5 @@
 //! The logins that are pending.
-ghost use Rattle.std.specs.Prelude.{◌≡◌, ◌<◌, ◌≤◌, true, false, [], ◌∷◌, ◌++◌, option_copied, OnOk, IfSome, IfNone};
+ghost use Rattle.std.specs.Prelude.{◌≡◌, ◌<◌, ◌≤◌, true, false, [], ◌∷◌, ◌++◌, map, length, option_copied, OnOk, IfSome, IfNone};
 ghost use Rattle.std.specs.List.{list_any};
 ghost use Rattle.ledger_rules.specs.Numbers.{AreBelow, has_number};
 ghost use Rattle.std.specs.Str.{bytes_eq};
@@ -7,33 +7,35 @@ ghost use Rattle.idp_ledger.specs.RowsOf.{is_pending, used_where};
 ghost use Rattle.idp_ledger.specs.Finding.{pending_found};
 ghost use Rattle.idp_ledger.specs.Record.{is_unused};
 ghost use Rattle.idp_ledger.specs.Standing.{IsRowAt};
+ghost use Rattle.request_rows.specs.Order.{one_text, IsOrder};
 
 use crate::row::PendingRow;
-use ledger_rules::Numbers;
+use ledger_rules::{Numbers, RowPlaces};
 use owned_values::{NoMemory, Text};
 use std::alloc::Global;
 use std::marker::Model;
 
-/// The rows of pending logins, and the numbers by which they are found.
+/// The rows of pending logins, the numbers by which they are found, and their places, which are in the order of their IDs.
 #[derive(Debug, Drop)]
 pub(crate) struct Pendings {
     rows: Vec<PendingRow>,
     numbers: Numbers,
+    places: RowPlaces,
 }
 
 impl Model for Pendings {
     ghost use Rattle.std.specs.Prelude.{◌-◌, min, vec_len, vec_capacity};
-    ghost use Rattle.idp_ledger.specs.Standing.{PendingsView, HaveNumbers, pending_ids};
+    ghost use Rattle.idp_ledger.specs.Standing.{PendingsView, HaveNumbers, ComeInOrder, pending_ids};
 
     ghost Value = { PendingsView };
 
     ghost view = { λ p. record {
       rows = p.rows.items;
       numbers = p.numbers.listed;
-      spare = min (vec_capacity p.rows - vec_len p.rows) p.numbers.spare;
+      spare = min (min (vec_capacity p.rows - vec_len p.rows) p.numbers.spare) p.places.spare;
     } };
 
-    ghost invariant = { λ p. HaveNumbers p.numbers.listed (pending_ids p.rows.items) };
+    ghost invariant = { λ p. HaveNumbers p.numbers.listed (pending_ids p.rows.items) × ComeInOrder (pending_ids p.rows.items) p.places.count };
 }
 
 impl Pendings {
@@ -45,6 +47,7 @@ impl Pendings {
         Pendings {
             rows: Vec::new(alloc),
             numbers: Numbers::new(alloc),
+            places: RowPlaces::new(alloc),
         }
     }
 
@@ -53,6 +56,13 @@ impl Pendings {
         ensures { result.now ≡ self.now.rows }
     {
         self.rows.as_slice()
+    }
+
+    /// The places of the rows in the order of their IDs.
+    pub(crate) fn order(&self) -> &[u32]
+        ensures { IsOrder (map (λ row. one_text row.pending) self.now.rows) result.now }
+    {
+        self.places.as_slice()
     }
 
     /// The place of the login of an ID.
@@ -99,11 +109,13 @@ impl Pendings {
         ensures kept { self.old.spare ≤ self.new.spare }
     {
         self.rows.reserve(1)?;
-        self.numbers.reserve()
+        self.numbers.reserve()?;
+        self.places.reserve()
     }
 
     /// Puts a row behind the others, whose ID begins with this number, where there is room. It takes no memory.
     pub(crate) fn put(&mut self, row: PendingRow, number: u64)
+        requires few { length self.old.rows < 4294967295 }
         requires below { AreBelow number self.old.numbers }
         requires has { has_number number row.pending ≡ true }
         requires room { 0 < self.old.spare }
@@ -115,6 +127,7 @@ impl Pendings {
             Err(_) => unreachable!(),
         }
         self.numbers.put(number);
+        self.places.put_next();
     }
 
     /// Uses the login that was pending, where there is one.

@@ -1,5 +1,5 @@
 //! The sessions, and the assertions that were issued in them.
-ghost use Rattle.std.specs.Prelude.{◌≡◌, ◌<◌, ◌≤◌, ◌^◌, true, false, [], ◌∷◌, ◌++◌, Some, length, slice_get, option_copied, OnOk, IfSome, IfNone};
+ghost use Rattle.std.specs.Prelude.{◌≡◌, ◌<◌, ◌≤◌, ◌+◌, ◌^◌, true, false, [], ◌∷◌, ◌++◌, Some, map, length, slice_get, option_copied, OnOk, IfSome, IfNone};
 ghost use Rattle.std.specs.List.{list_any, list_all};
 ghost use Rattle.std.specs.Str.{bytes_eq};
 ghost use Rattle.ledger_rules.specs.Numbers.{AreBelow, has_number};
@@ -7,28 +7,31 @@ ghost use Rattle.idp_ledger.specs.RowsOf.{ended_where, is_among};
 ghost use Rattle.idp_ledger.specs.Finding.{session_found, has_issued, last_peer};
 ghost use Rattle.idp_ledger.specs.Record.{is_unended};
 ghost use Rattle.idp_ledger.specs.Standing.{IsRowAt};
+ghost use Rattle.request_rows.specs.Order.{one_text, IsOrder};
 ghost use Rattle.idp_ledger.specs.declared.row.SessionRow.{SessionRow};
 
 use crate::issues::Issues;
 use crate::row::{IssuedRow, SessionRow};
-use ledger_rules::Numbers;
+use ledger_rules::{Numbers, RowPlaces};
 use owned_values::{NoMemory, Text};
 use std::alloc::Global;
 use std::marker::Model;
 
-/// The rows of sessions, the numbers by which they are found, the issued rows, and with each session the place of its last
-/// one.
+/// The rows of sessions, the numbers of their cookies and of their indexes, by which they are found, their places, which are in
+/// the order of their cookies, the issued rows, and with each session the place of its last one.
 #[derive(Debug, Drop)]
 pub(crate) struct Sessions {
     rows: Vec<SessionRow>,
     numbers: Numbers,
+    indexes: Numbers,
+    places: RowPlaces,
     last: Vec<u32>,
     issues: Issues,
 }
 
 impl Model for Sessions {
-    ghost use Rattle.std.specs.Prelude.{◌≡◌, ◌-◌, ◌≤◌, ◌<◌, min, length, vec_len, vec_capacity};
-    ghost use Rattle.idp_ledger.specs.Standing.{SessionsView, HaveNumbers, AreLast, cookies};
+    ghost use Rattle.std.specs.Prelude.{◌≡◌, ◌-◌, ◌≤◌, ◌<◌, min, suc, map, length, vec_len, vec_capacity};
+    ghost use Rattle.idp_ledger.specs.Standing.{SessionsView, HaveNumbers, ComeInOrder, AreLast, cookies, session_indexes};
 
     ghost Value = { SessionsView };
 
@@ -36,10 +39,10 @@ impl Model for Sessions {
       rows = s.rows.items;
       issues = s.issues.rows;
       numbers = s.numbers.listed;
-      spare = min (min (vec_capacity s.rows - vec_len s.rows) s.numbers.spare) (min (vec_capacity s.last - vec_len s.last) s.issues.spare);
+      spare = min (min (min (vec_capacity s.rows - vec_len s.rows) s.numbers.spare) (min (vec_capacity s.last - vec_len s.last) s.issues.spare)) (min s.places.spare s.indexes.spare);
     } };
 
-    ghost invariant = { λ s. HaveNumbers s.numbers.listed (cookies s.rows.items) × AreLast s.rows.items s.last.items s.issues.rows };
+    ghost invariant = { λ s. HaveNumbers s.numbers.listed (cookies s.rows.items) × AreLast s.rows.items s.last.items s.issues.rows × ComeInOrder (cookies s.rows.items) s.places.count × HaveNumbers s.indexes.listed (session_indexes s.rows.items) × (s.indexes.listed ≡ map suc s.numbers.listed) };
 }
 
 impl Sessions {
@@ -52,6 +55,8 @@ impl Sessions {
         Sessions {
             rows: Vec::new(alloc),
             numbers: Numbers::new(alloc),
+            indexes: Numbers::new(alloc),
+            places: RowPlaces::new(alloc),
             last: Vec::new(alloc),
             issues: Issues::new(alloc),
         }
@@ -71,6 +76,13 @@ impl Sessions {
         self.issues.rows()
     }
 
+    /// The places of the rows in the order of their cookies.
+    pub(crate) fn order(&self) -> &[u32]
+        ensures { IsOrder (map (λ row. one_text row.cookie) self.now.rows) result.now }
+    {
+        self.places.as_slice()
+    }
+
     /// The place of the session of a cookie.
     fn place(&self, cookie: &str) -> Option<usize>
         ensures some { IfSome result (IsRowAt (λ row. row.cookie) self.now.rows cookie.now) }
@@ -78,6 +90,19 @@ impl Sessions {
     {
         let place = self.numbers.place_of(cookie)?;
         if self.rows[place].cookie.as_str() == cookie {
+            Some(place)
+        } else {
+            None
+        }
+    }
+
+    /// The place of the session of an index.
+    pub(crate) fn place_of_index(&self, index: &str) -> Option<usize>
+        ensures some { IfSome result (IsRowAt (λ row. row.index) self.now.rows index.now) }
+        ensures none { IfNone result (list_any (λ row. bytes_eq row.index index.now) self.now.rows ≡ false) }
+    {
+        let place = self.indexes.place_of(index)?;
+        if self.rows[place].index.as_str() == index {
             Some(place)
         } else {
             None
@@ -143,17 +168,21 @@ impl Sessions {
     {
         self.rows.reserve(1)?;
         self.numbers.reserve()?;
+        self.indexes.reserve()?;
+        self.places.reserve()?;
         self.last.reserve(1)?;
         self.issues.reserve()
     }
 
-    /// Begins a session, whose cookie begins with this number, with its first assertion, where there is room. It takes no
+    /// Begins a session, whose cookie begins with this number and whose index with the next, with its first assertion, where there is room. It takes no
     /// memory.
     pub(crate) fn begin(&mut self, row: SessionRow, issue: IssuedRow, number: u64)
         requires few { length self.old.issues < 4294967295 }
+        requires few_rows { length self.old.rows < 4294967295 }
         requires below { AreBelow number self.old.numbers }
         requires end { number < 2 ^ 63 }
         requires has { has_number number row.cookie ≡ true }
+        requires has_index { has_number (number + 1) row.index ≡ true }
         requires same { issue.cookie ≡ row.cookie }
         requires room { 0 < self.old.spare }
         ensures rows { self.new.rows ≡ self.old.rows ++ row ∷ [] }
@@ -167,6 +196,8 @@ impl Sessions {
             Err(_) => unreachable!(),
         }
         self.numbers.put(number);
+        self.indexes.put(number + 1);
+        self.places.put_next();
         match self.last.push(place) {
             Ok(()) => {}
             Err(_) => unreachable!(),

@@ -6,9 +6,12 @@ ghost use Rattle.ledger_records.specs.declared.idp_record.IdpRecord.TheVariants 
 ghost use Rattle.idp_ledger.specs.declared.row.SessionRow.{SessionRow};
 ghost use Rattle.idp_ledger.specs.Finding.{pending_found, session_found, is_waiting_now, last_peer, has_issued};
 ghost use Rattle.idp_ledger.specs.Record.{is_free, is_issue_free, is_next};
-ghost use Rattle.idp_ledger.specs.Standing.{HasRoom, KeepsRoom, AreFew, IsAfter, session_begun};
+ghost use Rattle.request_rows.specs.Order.{IsOrder};
+ghost use Rattle.idp_ledger.specs.Order.{keys_of};
+ghost use Rattle.idp_ledger.specs.Standing.{HasRoom, KeepsRoom, AreFew, IsAfter, IsRowAt, session_begun};
 
 use crate::checks::{are_fresh, are_xml_texts, is_dated};
+use crate::key::IdpKey;
 use crate::lefts::Lefts;
 use crate::noted::Noted;
 use crate::pendings::Pendings;
@@ -64,6 +67,16 @@ impl Standing {
         ensures { result.now ≡ self.now.rows.pendings }
     {
         self.pendings.rows()
+    }
+
+    /// The places of the rows in the order of a key.
+    pub(crate) fn order(&self, key: IdpKey) -> &[u32]
+        ensures { IsOrder (keys_of key self.now.rows) result.now }
+    {
+        match key {
+            IdpKey::PendingId => self.pendings.order(),
+            IdpKey::SessionCookie => self.sessions.order(),
+        }
     }
 
     /// The issued rows.
@@ -122,6 +135,14 @@ impl Standing {
         ensures none { IfNone result (list_any (λ row. bytes_eq row.cookie cookie.now) self.now.rows.sessions ≡ false) }
     {
         self.sessions.last_peer(cookie)
+    }
+
+    /// The place of the session of an index.
+    pub(crate) fn place_of_index(&self, index: &str) -> Option<usize>
+        ensures some { IfSome result (IsRowAt (λ row. row.index) self.now.rows.sessions index.now) }
+        ensures none { IfNone result (list_any (λ row. bytes_eq row.index index.now) self.now.rows.sessions ≡ false) }
+    {
+        self.sessions.place_of_index(index)
     }
 
     /// Whether an assertion was issued in the session at a place to this peer, or to another one.
@@ -201,6 +222,7 @@ impl Standing {
 
     /// Puts a pending row.
     fn put_pending(&mut self, r: Pending)
+        requires few { AreFew self.old.rows }
         requires is { is_next self.old.rows self.old.next (kinds.Pending r) ≡ true }
         requires room { HasRoom self.old.spare (kinds.Pending r) }
         ensures { IsAfter self.old self.new (kinds.Pending r) }

@@ -1,22 +1,21 @@
 -- The headline follows from how a run goes.
-use Rattle.std.specs.Prelude.{◌≡◌, List, [], ◌∷◌, Option}
+use Rattle.std.specs.Prelude.{List, [], ◌∷◌, Option}
 use Rattle.std.specs.List.{AllByRecursion}
-use Rattle.std.proofs.Common.{subst, sym}
+use Rattle.std.proofs.Common.{ℕ, subst, sym}
 use Rattle.crash_disk.specs.Counts.{Rose}
-use Rattle.crash_disk.specs.Disk.{DiskState}
+use Rattle.crash_disk.specs.Disk.{Image, DiskState}
 use Rattle.http_wire.specs.declared.answer.Answer.{Answer}
-use Rattle.http_wire.specs.declared.answer.Answer.TheVariants as answers
 use Rattle.node_serve.specs.Turns.{Asked, Asks, Turn, Taken, Full, StarvedStart, Over, Unknown, Waiting, Answered, Refused, StarvedPiece, asked_by}
 use Rattle.node_serve.specs.Worlds.{World}
 use Rattle.node_runs.specs.Runs.{BadSetUp, NotSetUp, NotOpened, Deaf, Serving}
 use Rattle.idp_ledger.specs.Laws.{ImagesHoldRecords}
-use Rattle.idp_server.specs.Histories.{IsProviders, WhatIsAcknowledgedIsKept}
+use Rattle.idp_server.specs.Histories.{IsProviders, SessionsStayEndedInAService, WhatIsAcknowledgedIsKept}
 use Rattle.idp_server.specs.Issues.{AnswersHaveUsers, WhatIsAnsweredIsRecorded}
 use Rattle.idp_server.specs.Logouts.{AnswersEndExactly, ServicesEndExactly, WhatIsAnsweredToALogoutIsRecorded, WhereverAPeerEnds, WhereverAUserLeaves}
 use Rattle.idp_server.specs.Signed.{EachSignedElementIsOfARecord}
 use Rattle.idp_server.specs.Step.{Provider, Steps}
 use Rattle.idp_runs.specs.Headline.{ARunCarriesTheHeadline, EachGoesExactly, EndsExactly, GoesExactly, IssuesOnlyToUsers, ServedNothing, ServedSo}
-use Rattle.idp_runs.proofs.Kept.{kept_behind}
+use Rattle.idp_runs.proofs.Kept.{ended_behind, kept_behind, kept_ever_since}
 
 -- the laws on which it stands
 pub record Laws : Type 0 where
@@ -30,6 +29,7 @@ pub record Laws : Type 0 where
   pub wherever_ended : WhereverAPeerEnds
   pub hold : ImagesHoldRecords
   pub kept : WhatIsAcknowledgedIsKept
+  pub ended : SessionsStayEndedInAService
 
 -- the step by which a request was answered
 stepped : (asked : Asked Provider) (before told : World Provider) → Asks IsProviders asked before told
@@ -87,11 +87,13 @@ module _ (laws : Laws) where
   each_goes [] = tt
   each_goes (turn ∷ past) = (of_turn turn, each_goes past)
 
-  pub headline : ARunCarriesTheHeadline
-  headline told file budget before turns result after (BadSetUp bad line is e bare same) = ServedNothing bare
-  headline told file budget before turns result after (NotSetUp why bare same) = ServedNothing bare
-  headline told file budget before turns result after (NotOpened why bare same) = ServedNothing bare
-  headline told file budget before turns result after (Deaf node opened begins e rose bare same) = ServedNothing bare
-  headline told file budget before turns result after (Serving node last opened served begins serves e) =
-      ServedSo node last opened begins (each_goes turns)
-      (λ tells all. kept_behind laws.hold laws.kept told file budget before opened after node last turns served begins serves tells all)
+  pub headline : (left : ℕ → Image → Type 0) → ARunCarriesTheHeadline left
+  headline left told file budget before turns result after (BadSetUp bad line is e bare same) = ServedNothing bare
+  headline left told file budget before turns result after (NotSetUp why bare same) = ServedNothing bare
+  headline left told file budget before turns result after (NotOpened why bare same) = ServedNothing bare
+  headline left told file budget before turns result after (Deaf node opened begins e rose bare same) = ServedNothing bare
+  headline left told file budget before turns result after (Serving node last opened served begins serves e) =
+      ServedSo node last opened budget served begins serves (each_goes turns)
+      (kept_behind laws.hold laws.kept laws.ended left told file budget before opened after node last turns served begins serves)
+      (kept_ever_since laws.hold left told file budget before opened after node last turns served begins serves)
+      (ended_behind laws.hold laws.kept laws.ended left told file budget before opened after node last turns served begins serves)

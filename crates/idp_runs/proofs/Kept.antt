@@ -1,6 +1,6 @@
 -- What the answers of a run acknowledged is kept behind it.
 use Rattle.std.specs.Prelude.{◌+◌, IsSome, IfSome, Option, None, Some, Result, Ok, Err}
-use Rattle.std.proofs.Common.{◌≡◌, ℕ, ◌==◌, Bool, true, false, if◌then◌else◌, List, sym, subst, refl}
+use Rattle.std.proofs.Common.{◌≡◌, ℕ, ◌==◌, Bool, true, false, if◌then◌else◌, List, ◌∷◌, sym, subst, refl, ap, ◌∙◌}
 use Rattle.crash_disk.specs.Disk.{Image, DiskState, image_of}
 use Rattle.crash_disk.specs.Moments.{Leaves}
 use Rattle.crash_disk.specs.Torn.{other_file}
@@ -16,8 +16,15 @@ use Rattle.node_serve.specs.Worlds.{World}
 use Rattle.node_runs.specs.Runs.{Outside, world_of}
 use Rattle.node_runs.proofs.Ending.{at_end}
 use Rattle.saml_outside.specs.Files.{File}
-use Rattle.idp_server.specs.Histories.{AreKept, AreTold, IsProviders, WhatIsAcknowledgedIsKept}
-use Rattle.idp_server.specs.Step.{Provider}
+use Rattle.idp_ledger.specs.Record.{idp_rules}
+use Rattle.node_steps.specs.Histories.{IsAtStart}
+use Rattle.node_steps.specs.Points.{Point, point, point_in, points, points_asked}
+use Rattle.idp_server.specs.Histories.{AreKept, IsProviders, SessionsStayEndedInAService, StayEnded, WhatIsAcknowledgedIsKept}
+use Rattle.idp_server.specs.Step.{Provider, Answers, StepLeaves}
+use Rattle.idp_server.proofs.Histories.{draws_above}
+use Rattle.node_steps.specs.Lasting.{AreKeptSince}
+use Rattle.node_steps.proofs.Lasting.{kept_since}
+use Rattle.idp_runs.specs.Headline.{ARunIsAStart}
 use Rattle.idp_runs.specs.Runs.{Begins}
 
 -- ---- at the start
@@ -51,12 +58,45 @@ same_disk first last now turns same is =
 
 -- ---- the run
 
-module _ (hold : ImagesHoldRecords) (kept : WhatIsAcknowledgedIsKept) where
-  pub kept_behind : (told : Option (List File)) (file : List ℕ) (budget : ℕ) (before opened after : Outside) (node last : Provider) (turns : List (Turn Provider)) (served : Result Served ServeFault)
-      → Begins told file before node opened → Serves IsProviders budget turns (world_of node opened) served (world_of last after) → IsSome before.disk → AreTold turns
+-- a provider that was started on a disk that tells
+started : ImagesHoldRecords → (told : Option (List File)) (file : List ℕ) (before opened : Outside) (provider : Provider) → IsSome before.disk → Begins told file before provider opened
+    → IsAtStart idp_rules (world_of provider opened)
+started hold told file before opened provider tells begins =
+    record { whole = begins.started.whole; records = told_records hold before.disk provider.ledger.held tells begins.started.holds; own = begins.own; reads = begins.reads }
+
+pub is_a_start : ImagesHoldRecords → ARunIsAStart
+is_a_start hold told file before opened provider turns kept behind tells begins run = record {
+  opened = begins.started.holds;
+  at = started hold told file before opened provider tells begins;
+  tells = begins.tells ∙ tells;
+  run = run;
+}
+
+-- also inside later requests
+pub kept_ever_since : ImagesHoldRecords → (left : ℕ → Image → Type 0) (told : Option (List File)) (file : List ℕ) (budget : ℕ) (before opened after : Outside) (node last : Provider) (turns : List (Turn Provider)) (served : Result Served ServeFault)
+    → Begins told file before node opened → (serves : Serves IsProviders StepLeaves left budget turns (world_of node opened) served (world_of last after)) → IsSome before.disk
+    → AreKeptSince idp_rules Answers left (world_of node opened) turns serves.kept serves.last serves.run
+kept_ever_since hold left told file budget before opened after node last turns served begins serves tells =
+    kept_since idp_rules Answers hold draws_above (world_of node opened) (started hold told file before opened node tells begins) (begins.tells ∙ tells)
+    left turns serves.kept serves.last serves.run serves.in_order
+
+module _ (hold : ImagesHoldRecords) (kept : WhatIsAcknowledgedIsKept) (ended : SessionsStayEndedInAService) where
+  pub kept_behind : (left : ℕ → Image → Type 0) (told : Option (List File)) (file : List ℕ) (budget : ℕ) (before opened after : Outside) (node last : Provider) (turns : List (Turn Provider)) (served : Result Served ServeFault)
+      → Begins told file before node opened → Serves IsProviders StepLeaves left budget turns (world_of node opened) served (world_of last after) → IsSome before.disk
       → AreKept (world_of node opened) (world_of last after) turns
-  kept_behind told file budget before opened after node last turns served begins serves tells all =
+  kept_behind left told file budget before opened after node last turns served begins serves tells =
       let first = world_of node opened in
-      let is = kept first serves.last turns serves.kept
-      (record { whole = begins.started.whole; records = told_records hold before.disk node.ledger.held tells begins.started.holds; own = begins.own }) all serves.run in
+      let is = kept first serves.last turns serves.kept (started hold told file before opened node tells begins) (begins.tells ∙ tells) serves.run in
       same_disk first serves.last (world_of last after) turns (at_end budget turns serves.last (world_of last after) served serves.ends).1 is
+
+  pub ended_behind : (left : ℕ → Image → Type 0) (told : Option (List File)) (file : List ℕ) (budget : ℕ) (before opened after : Outside) (node last : Provider) (turns : List (Turn Provider)) (served : Result Served ServeFault)
+      → Begins told file before node opened → Serves IsProviders StepLeaves left budget turns (world_of node opened) served (world_of last after) → IsSome before.disk
+      → StayEnded (points (world_of node opened) turns (world_of last after))
+  ended_behind left told file budget before opened after node last turns served begins serves tells =
+      let first = world_of node opened in
+      let now = world_of last after in
+      let is = ended first serves.last turns serves.kept (started hold told file before opened node tells begins) (begins.tells ∙ tells) serves.run in
+      let same = at_end budget turns serves.last now served serves.ends in
+      let alike : point_in now ≡ point_in serves.last =
+      ap (λ (n : Provider). point n now.disk) same.0 ∙ ap (λ (d : Option DiskState). point serves.last.node d) same.1 in
+      subst (λ (p : Point Provider). StayEnded (p ∷ points_asked first turns)) (sym alike) is

@@ -5,11 +5,13 @@ use Rattle.std.specs.Prelude.{◌≡◌, ◌⊎◌, ℕ, true, false, List, [], 
 use Rattle.std.specs.List.{AllByRecursion}
 use Rattle.saml_outside.specs.Files.{File}
 use Rattle.crash_disk.specs.Counts.{Rose}
+use Rattle.crash_disk.specs.Disk.{Image}
+use Rattle.conn_table.specs.Table.{Table}
 use Rattle.http_wire.specs.declared.answer.Answer.TheVariants.{Fixed, Full}
 use Rattle.ledger_records.specs.declared.idp_record.IdpRecord.{IdpRecord}
 use Rattle.ledger_records.specs.declared.idp_record.IdpRecord.TheVariants as kinds
 use Rattle.ledger_records.specs.declared.idp_record.Issued.{Issued}
-use Rattle.node_serve.specs.Turns.{Asked, Asks, Turn, asked_by}
+use Rattle.node_serve.specs.Turns.{Asked, Asks, Run, Turn, asked_by}
 use Rattle.node_serve.specs.Worlds.{World}
 use Rattle.node_runs.specs.Runs.{Outside, world_of}
 use Rattle.node_runs.specs.declared.ended.Ended.{Ended}
@@ -19,12 +21,20 @@ use Rattle.protocol_messages.specs.declared.logout.LogoutRequest.{LogoutRequest}
 use Rattle.idp_ledger.specs.declared.row.SessionRow.{SessionRow}
 use Rattle.idp_ledger.specs.Ledger.{Held}
 use Rattle.idp_ledger.specs.RowsOf.{is_among}
-use Rattle.idp_server.specs.Histories.{AreKept, AreTold, IsEnded, IsProviders}
+use Rattle.node_steps.specs.declared.codes.TheConstants.{NO_MEMORY}
+use Rattle.node_serve.specs.Serving as node_serving
+use Rattle.node_serve.specs.declared.served.Served.{Served}
+use Rattle.node_serve.specs.declared.served.ServeFault.{ServeFault}
+use Rattle.node_steps.specs.Lasting.{AreKeptSince}
+use Rattle.node_steps.specs.Points.{points}
+use Rattle.node_steps.specs.Starts.{IsServed}
+use Rattle.idp_ledger.specs.Record.{idp_rules}
+use Rattle.idp_server.specs.Histories.{AreKept, IsEnded, IsProviders, StayEnded}
 use Rattle.idp_server.specs.Issues.{IsOfUser, IsRecorded}
 use Rattle.idp_server.specs.Logouts.{Ends, EndsOver, IsOfLogoutIfEnding, LeavesOver}
 use Rattle.idp_server.specs.Routes.{Login, Logout, SignOn, SingleLogout, To, route}
 use Rattle.idp_server.specs.Signed.{Carries}
-use Rattle.idp_server.specs.Step.{Provider, Answers, HasPlace, NO_MEMORY, Serves, Steps, ended_by, ending_by, left_by}
+use Rattle.idp_server.specs.Step.{Provider, Answers, HasPlace, Serves, StepLeaves, Steps, ended_by, ending_by, left_by}
 use Rattle.idp_runs.specs.Runs.{Begins, Runs}
 
 -- ---- one request, which the provider was asked in one world, and which left another behind
@@ -36,7 +46,7 @@ pub record IssuesOnlyToUsers (asked : Asked Provider) (before after : World Prov
   pub users : (held : Held) (r : Issued) → Answers asked.node.setup held asked.request asked.now asked.answer (Some (kinds.Issued r))
       → IsOfUser asked.node.setup held asked.request asked.now r
   pub signed : (held : Held) (bytes : List ℕ) (r : IdpRecord) → Answers asked.node.setup held asked.request asked.now (Full bytes) (Some r)
-      → Carries asked.node.setup r bytes
+      → Carries asked.node.setup held r bytes
   pub recorded : (bytes : List ℕ) → asked.answer ≡ Full bytes → (route asked.request ≡ To SignOn) ⊎ (route asked.request ≡ To Login)
       → IsRecorded asked.node.setup asked.request asked.now (Full bytes) after.disk
   pub logout_recorded : (bytes : List ℕ) → asked.answer ≡ Full bytes → (route asked.request ≡ To Logout) ⊎ (route asked.request ≡ To SingleLogout)
@@ -78,16 +88,31 @@ EachGoesExactly (turn ∷ past) = AllByRecursion GoesExactly (asked_by turn) × 
 
 -- A run that served nothing, or one that served: each request issued Assertions to users alone, was answered once its record was durable,
 -- and ended sessions exactly; and where the disk tells, what the answers acknowledged is in the history of every ledger that a crash may
--- leave behind the run, and in none of these a session lives that one of the answers ended, or that was ended at the start.
-pub data Headline (told : Option (List File)) (file : List ℕ) (before : Outside) (turns : List (Turn Provider)) (after : Outside) : Type 0 where
-  ServedNothing : turns ≡ [] → Headline told file before turns after
-  ServedSo : (provider last : Provider) (opened : Outside) → Begins told file before provider opened
+-- leave behind the run, and in none of these a session lives that one of the answers ended, or that was ended at the start; from each point
+-- of the run on, also inside later requests, what was acknowledged by then is in the history of every ledger that a crash might leave; and a
+-- session that is ended is live at no later request, and in no ledger that a crash may leave since. `left` says of each moment, seen from the
+-- end of the run, what a crash since then might have left.
+pub data Headline (left : ℕ → Image → Type 0) (told : Option (List File)) (file : List ℕ) (before : Outside) (turns : List (Turn Provider)) (after : Outside) : Type 0 where
+  ServedNothing : turns ≡ [] → Headline left told file before turns after
+  ServedSo : (provider last : Provider) (opened : Outside) (budget : ℕ) (served : Result Served ServeFault) → Begins told file before provider opened
+      → (serves : node_serving.Serves IsProviders StepLeaves left budget turns (world_of provider opened) served (world_of last after))
       → EachGoesExactly turns
-      → (IsSome before.disk → AreTold turns → AreKept (world_of provider opened) (world_of last after) turns)
-      → Headline told file before turns after
+      → (IsSome before.disk → AreKept (world_of provider opened) (world_of last after) turns)
+      → (IsSome before.disk → AreKeptSince idp_rules Answers left (world_of provider opened) turns serves.kept serves.last serves.run)
+      → (IsSome before.disk → StayEnded (points (world_of provider opened) turns (world_of last after)))
+      → Headline left told file before turns after
 
 -- The headline holds of each run.
-abbrev pub ARunCarriesTheHeadline : Type 0
-ARunCarriesTheHeadline =
+abbrev pub ARunCarriesTheHeadline : (left : ℕ → Image → Type 0) → Type 0
+ARunCarriesTheHeadline left =
     (told : Option (List File)) (file : List ℕ) (budget : ℕ) (before : Outside) (turns : List (Turn Provider)) (result : Result Ended RunFault) (after : Outside)
-    → Runs told file budget before turns result after → Headline told file before turns after
+    → Runs left told file budget before turns result after → Headline left told file before turns after
+
+-- A run that served, on a disk that tells, is a start of the provider: its ledger was opened from what the disk held, and then its turns
+-- were done. So what several runs acknowledged, each on what a crash of the one before it may have left, is kept, and what is ended stays
+-- so, by the laws of starts.
+abbrev pub ARunIsAStart : Type 0
+ARunIsAStart =
+    (told : Option (List File)) (file : List ℕ) (before opened : Outside) (provider : Provider) (turns : List (Turn Provider)) (kept : Table) (behind : World Provider)
+    → IsSome before.disk → Begins told file before provider opened → Run IsProviders (world_of provider opened) turns kept behind
+    → IsServed idp_rules Answers before.disk (world_of provider opened) turns kept behind

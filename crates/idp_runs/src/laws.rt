@@ -1,12 +1,15 @@
-//! The law of whole runs, the contract of a function that does nothing.
-ghost use Rattle.idp_runs.specs.Headline.{ARunCarriesTheHeadline};
+//! The laws of whole runs, each the contract of a function that does nothing.
+ghost use Rattle.idp_runs.specs.Headline.{ARunCarriesTheHeadline, ARunIsAStart};
+
+use idp_ledger::Disk;
 
 /// A run issues each Assertion to a user whose password was posted, or in the user's live session; each element that it signs is
 /// one of a record; and no form is sent before its record is in every image that a crash may leave. It ends sessions exactly where
-/// their users leave them, by a POST with their cookie, or where a peer asks for it by a LogoutRequest that is accepted; and in no
-/// ledger that a crash may leave behind it a session lives that was ended.
-pub fn a_run_carries_the_headline()
-    ensures { ARunCarriesTheHeadline }
+/// their users leave them, by a POST with their cookie, or where a peer asks for it by a LogoutRequest that is accepted; and one that
+/// is ended is live at no later request, and in no ledger that a crash may leave since. From each point of the run on, also inside
+/// later requests, what was acknowledged by then is in the history of each ledger that a crash might leave.
+pub fn a_run_carries_the_headline<D: Disk>()
+    ensures { (disk : D) → ARunCarriesTheHeadline (D.left_since disk) }
 {
     idp_ledger::laws::images_hold_records();
     idp_server::laws::each_issue_has_a_password_or_a_session();
@@ -15,4 +18,13 @@ pub fn a_run_carries_the_headline()
     idp_server::laws::what_is_answered_to_a_logout_is_recorded();
     idp_server::laws::a_session_is_ended_exactly();
     idp_server::laws::what_is_acknowledged_is_kept();
+    idp_server::laws::sessions_stay_ended_in_a_service();
+}
+
+/// A run that served is a start of its provider. So by the laws of starts of `idp_server` what several runs acknowledged is kept, and
+/// what is ended stays so, over restarts with crashes between them.
+pub fn a_run_is_a_start()
+    ensures { ARunIsAStart }
+{
+    idp_ledger::laws::images_hold_records();
 }

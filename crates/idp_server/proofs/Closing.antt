@@ -23,6 +23,7 @@ use Rattle.record_ledger.proofs.Words.{other_way, same_text, text_itself}
 use Rattle.idp_ledger.proofs.RowLaws.{rows_of-push}
 use Rattle.idp_ledger.proofs.RowTexts.{any_there}
 use Rattle.idp_rules.specs.declared.config.IdpConfig.{IdpConfig}
+use Rattle.node_steps.specs.Step as shared
 use Rattle.idp_server.specs.Histories.{IsEnded}
 use Rattle.idp_server.specs.Logouts.{EndsOver, LeavesOver, WhereverAPeerEnds, WhereverAUserLeaves}
 use Rattle.idp_server.specs.Step as steps
@@ -74,18 +75,18 @@ left_is setup held request now answer wanted row over answers =
     same_record (Some wanted) _ wanted (left_added setup held request now answer (Some wanted) row over answers) refl
 
 pub wherever_left : WhereverAUserLeaves
-wherever_left found request now faults later answer old new row over room calm (steps.Plain answers whole) =
+wherever_left found request now faults later answer old new row over room calm (shared.Plain answers whole) =
     absurd (let e = left_added old.setup found request now answer None row over answers in cc)
-wherever_left found request now faults later answer old new row over room calm (steps.Recorded r answers place whole) =
+wherever_left found request now faults later answer old new row over room calm (shared.Recorded r answers place whole) =
     let same = left_is old.setup found request now answer r row over answers in
     inr (subst (λ (h : Held). IsEnded h row.cookie) (sym whole.is)
     (subst (λ (x : IdpRecord). IsEnded (held_with x found) row.cookie) same (left_ends old.setup.id_key found now request row over.live)))
-wherever_left found request now faults later answer old new row over room calm (steps.RecordedAfterCompaction held wanted r other wants none made answers place whole) =
-    absurd (none (subst (HasPlace found) (left_is old.setup found request now other wanted row over wants) room))
-wherever_left found request now faults later answer old new row over room calm (steps.NoPlace held wanted r other another wants none made answers still is whole) =
-    absurd (none (subst (HasPlace found) (left_is old.setup found request now other wanted row over wants) room))
-wherever_left found request now faults later answer old new row over room calm (steps.Failed wanted other wants risen is broken) = absurd (calm risen)
-wherever_left found request now faults later answer old new row over room calm (steps.Starved held which is whole) = inl is
+wherever_left found request now faults later answer old new row over room calm (shared.RecordedAfterCompaction held r space answers place whole) =
+    absurd (space.none (subst (HasPlace found) (left_is old.setup found request now space.other space.wanted row over space.wants) room))
+wherever_left found request now faults later answer old new row over room calm (shared.NoPlace held r another space answers still is whole) =
+    absurd (space.none (subst (HasPlace found) (left_is old.setup found request now space.other space.wanted row over space.wants) room))
+wherever_left found request now faults later answer old new row over room calm (shared.Failed wanted other wants risen is broken) = absurd (calm risen)
+wherever_left found request now faults later answer old new row over room calm (shared.Starved held which is whole) = inl is
 
 -- ---- a peer that asks
 
@@ -200,15 +201,15 @@ module _ (law : IsOneLogout) where
       same_record (Some wanted) _ wanted (ended_added setup held request now answer (Some wanted) asked peer cookie over among answers) refl
 
   pub wherever_ended : WhereverAPeerEnds
-  wherever_ended found request now faults later answer old new asked peer cookie over among room calm (steps.Plain answers whole) =
+  wherever_ended found request now faults later answer old new asked peer cookie over among room calm (shared.Plain answers whole) =
       absurd (let e = ended_added old.setup found request now answer None asked peer cookie over among answers in cc)
-  wherever_ended found request now faults later answer old new asked peer cookie over among room calm (steps.Recorded r answers place whole) =
+  wherever_ended found request now faults later answer old new asked peer cookie over among room calm (shared.Recorded r answers place whole) =
       let same = ended_is old.setup found request now answer r asked peer cookie over among answers in
       inr (subst (λ (h : Held). IsEnded h cookie) (sym whole.is)
       (subst (λ (x : IdpRecord). IsEnded (held_with x found) cookie) same (ended_ends old.setup.id_key found now peer.peer.entity asked cookie among)))
-  wherever_ended found request now faults later answer old new asked peer cookie over among room calm (steps.RecordedAfterCompaction held wanted r other wants none made answers place whole) =
-      absurd (none (subst (HasPlace found) (ended_is old.setup found request now other wanted asked peer cookie over among wants) room))
-  wherever_ended found request now faults later answer old new asked peer cookie over among room calm (steps.NoPlace held wanted r other another wants none made answers still is whole) =
-      absurd (none (subst (HasPlace found) (ended_is old.setup found request now other wanted asked peer cookie over among wants) room))
-  wherever_ended found request now faults later answer old new asked peer cookie over among room calm (steps.Failed wanted other wants risen is broken) = absurd (calm risen)
-  wherever_ended found request now faults later answer old new asked peer cookie over among room calm (steps.Starved held which is whole) = inl is
+  wherever_ended found request now faults later answer old new asked peer cookie over among room calm (shared.RecordedAfterCompaction held r space answers place whole) =
+      absurd (space.none (subst (HasPlace found) (ended_is old.setup found request now space.other space.wanted asked peer cookie over among space.wants) room))
+  wherever_ended found request now faults later answer old new asked peer cookie over among room calm (shared.NoPlace held r another space answers still is whole) =
+      absurd (space.none (subst (HasPlace found) (ended_is old.setup found request now space.other space.wanted asked peer cookie over among space.wants) room))
+  wherever_ended found request now faults later answer old new asked peer cookie over among room calm (shared.Failed wanted other wants risen is broken) = absurd (calm risen)
+  wherever_ended found request now faults later answer old new asked peer cookie over among room calm (shared.Starved held which is whole) = inl is

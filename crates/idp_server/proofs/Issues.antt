@@ -22,14 +22,17 @@ use Rattle.idp_ledger.specs.RowsOf.{rows_of}
 use Rattle.idp_ledger.specs.Finding.{session_found, visible}
 use Rattle.idp_ledger.specs.Compacting.{Compacts}
 use Rattle.idp_ledger.specs.Ledger.{Held, held_with, next_number}
+use Rattle.idp_ledger.specs.Record.{idp_rules}
 use Rattle.idp_ledger.specs.Draft.{issued_in}
 use Rattle.idp_ledger.specs.Drafts.{issue, login}
 use Rattle.idp_rules.specs.declared.config.IdpConfig.{IdpConfig}
+use Rattle.node_steps.specs.Step as shared
+use Rattle.node_steps.specs.Step.{IsWhole}
+use Rattle.node_steps.proofs.Serving.{settled}
 use Rattle.idp_server.specs.Routes.{Login, Metadata, SignOn, To, route}
 use Rattle.idp_server.specs.Step as steps
-use Rattle.idp_server.specs.Step.{Provider, Answers, IsWhole, OwnsDisk, Serves, Steps, Typed, ask_of, session_for, session_used}
+use Rattle.idp_server.specs.Step.{Provider, Answers, OwnsDisk, Serves, Steps, ask_of, session_for}
 use Rattle.idp_server.specs.Issues.{AnswersHaveUsers, Anew, IsOfSession, IsOfUser, IsOfUserIfIssued, IsRecorded, LeavesLedger, More, Nothing, ServicesHaveUsers, WhatIsAnsweredIsRecorded}
-use Rattle.idp_server.proofs.Serving.{settled}
 
 -- ---- what is found
 
@@ -56,6 +59,17 @@ followed f (Some a) b is = (a, refl, is)
 pub used_is : (force : Bool) (o : Option SessionRow) (row : SessionRow) → cond force None o ≡ Some row → o ≡ Some row
 used_is true o row is = absurd (cc)
 used_is false o row is = is
+
+-- the session of a request is found by its own cookie
+pub found_itself : (held : Held) (request : Request) (now : ℕ) (row : SessionRow) → session_for held now request ≡ Some row
+    → session_found (rows_of held.records).sessions row.cookie now held.header.horizon ≡ Some row
+found_itself held request now row live =
+    let rows = (rows_of held.records).sessions in
+    let cookie = followed (λ cookie. session_found rows cookie now held.header.horizon) (option_and_then (λ header. cookie_value header (codes "idp_sid")) request.cookie) row live in
+    let found = found_at (λ (s : SessionRow). bytes_eq s.cookie cookie.0 && not s.ended && visible s.until now held.header.horizon) rows row cookie.2 in
+    let first = and_parts (bytes_eq row.cookie cookie.0 && not row.ended) (visible row.until now held.header.horizon) found.2 in
+    let named : row.cookie ≡ cookie.0 = (bytes_eq-Decides row.cookie cookie.0).0 (and_parts (bytes_eq row.cookie cookie.0) (not row.ended) first.0).0 in
+    subst (λ (c : List ℕ). session_found rows c now held.header.horizon ≡ Some row) (sym named) cookie.2
 
 -- ---- why a record is issued
 
@@ -149,18 +163,18 @@ if_issued setup held request now answer (kinds.Confirmed r) answers = tt
 if_issued setup held request now answer (kinds.Spoke r) answers = tt
 
 pub services_have_users : ServicesHaveUsers
-services_have_users found request now before after answer old new (steps.Plain answers whole) unbroken = Nothing whole.is
-services_have_users found request now before after answer old new (steps.Recorded r answers place whole) unbroken =
+services_have_users found request now before after answer old new (shared.Plain answers whole) unbroken = Nothing whole.is
+services_have_users found request now before after answer old new (shared.Recorded r answers place whole) unbroken =
     More found r (inl refl) whole.is (if_issued old.setup found request now answer r answers)
-services_have_users found request now before after answer old new (steps.RecordedAfterCompaction held wanted r other wants none made answers place whole) unbroken =
-    More held r (inr made) whole.is (if_issued old.setup held request now answer r answers)
-services_have_users found request now before after answer old new (steps.NoPlace held wanted r other another wants none made answers still is whole) unbroken =
-    Anew (subst (λ (h : Held). Compacts now found h) (sym whole.is) made)
-services_have_users found request now before after answer old new (steps.Failed wanted other wants risen is broken) unbroken =
+services_have_users found request now before after answer old new (shared.RecordedAfterCompaction held r room answers place whole) unbroken =
+    More held r (inr room.made) whole.is (if_issued old.setup held request now answer r answers)
+services_have_users found request now before after answer old new (shared.NoPlace held r another room answers still is whole) unbroken =
+    Anew (subst (λ (h : Held). Compacts now found h) (sym whole.is) room.made)
+services_have_users found request now before after answer old new (shared.Failed wanted other wants risen is broken) unbroken =
     absurd (let clash : true ≡ false = sym broken.is_broken ∙ unbroken in cc)
-services_have_users found request now before after answer old new (steps.Starved held (inl same) is whole) unbroken = Nothing (whole.is ∙ same)
-services_have_users found request now before after answer old new (steps.Starved held (inr made) is whole) unbroken =
-    Anew (subst (λ (h : Held). Compacts now found h) (sym whole.is) made)
+services_have_users found request now before after answer old new (shared.Starved held (inl same) is whole) unbroken = Nothing (whole.is ∙ same)
+services_have_users found request now before after answer old new (shared.Starved held (inr room) is whole) unbroken =
+    Anew (subst (λ (h : Held). Compacts now found h) (sym whole.is) room.made)
 
 -- ---- what stands behind an answer
 
@@ -189,27 +203,27 @@ none_plain setup held request now bytes adds empty routed (steps.ByConfirming re
 kept : (old new : Provider) (held : Held) (later : Option DiskState) → IsWhole old new held → OwnsDisk new later → LeavesLedger later held
 kept old new held None whole own = tt
 kept old new held (Some d) whole own = λ image left.
-    settled (Some d) new.ledger image whole.unbroken own left ∙ ap (λ (h : Held). Ok (Some h)) whole.is
+    settled idp_rules (Some d) new.ledger image whole.unbroken own left ∙ ap (λ (h : Held). Ok (Some h)) whole.is
 
 is_recorded : (found : Held) (old new : Provider) (later : Option DiskState) (request : Request) (now : ℕ) (Risen : Type 0) (bytes : List ℕ) → OwnsDisk new later
     → (route request ≡ To Metadata → ⊥) → Serves found request now Risen (Full bytes) old new → IsRecorded old.setup request now (Full bytes) later
-is_recorded found old new later request now Risen bytes own routed (steps.Plain answers whole) = absurd (none_plain old.setup found request now bytes None refl routed answers)
-is_recorded found old new later request now Risen bytes own routed (steps.Recorded r answers place whole) =
+is_recorded found old new later request now Risen bytes own routed (shared.Plain answers whole) = absurd (none_plain old.setup found request now bytes None refl routed answers)
+is_recorded found old new later request now Risen bytes own routed (shared.Recorded r answers place whole) =
     record { held = found; r = r; stands = answers; kept = kept old new (held_with r found) later whole own }
-is_recorded found old new later request now Risen bytes own routed (steps.RecordedAfterCompaction held wanted r other wants none made answers place whole) =
+is_recorded found old new later request now Risen bytes own routed (shared.RecordedAfterCompaction held r room answers place whole) =
     record { held = held; r = r; stands = answers; kept = kept old new (held_with r held) later whole own }
-is_recorded found old new later request now Risen bytes own routed (steps.NoPlace held wanted r other another wants none made answers still is whole) = absurd (cc)
-is_recorded found old new later request now Risen bytes own routed (steps.Failed wanted other wants risen is broken) = absurd (cc)
-is_recorded found old new later request now Risen bytes own routed (steps.Starved held which is whole) = absurd (cc)
+is_recorded found old new later request now Risen bytes own routed (shared.NoPlace held r another room answers still is whole) = absurd (cc)
+is_recorded found old new later request now Risen bytes own routed (shared.Failed wanted other wants risen is broken) = absurd (cc)
+is_recorded found old new later request now Risen bytes own routed (shared.Starved held which is whole) = absurd (cc)
 
 -- a page that is not the metadata is recorded by a step
 pub step_recorded : (old new : Provider) (disk later : Option DiskState) (request : Request) (now : ℕ) (Risen : Type 0) (bytes : List ℕ) → Steps old disk request now Risen (Full bytes) new
     → OwnsDisk new later → (route request ≡ To Metadata → ⊥) → IsRecorded old.setup request now (Full bytes) later
-step_recorded old new disk later request now Risen bytes (steps.WithLedger whole serves) own routed = is_recorded old.ledger.held old new later request now Risen bytes own routed serves
-step_recorded old new disk later request now Risen bytes (steps.WithOpened found broken told serves) own routed = is_recorded found old new later request now Risen bytes own routed serves
-step_recorded old new disk later request now Risen bytes (steps.NotOpened broken risen is stays) own routed = absurd (cc)
-step_recorded old new disk later request now Risen bytes (steps.Strange broken told is stays) own routed = absurd (cc)
-step_recorded old new disk later request now Risen bytes (steps.StarvedAtOpening broken is stays) own routed = absurd (cc)
+step_recorded old new disk later request now Risen bytes (shared.WithLedger whole serves) own routed = is_recorded old.ledger.held old new later request now Risen bytes own routed serves
+step_recorded old new disk later request now Risen bytes (shared.WithOpened found broken told serves) own routed = is_recorded found old new later request now Risen bytes own routed serves
+step_recorded old new disk later request now Risen bytes (shared.NotOpened broken risen is stays) own routed = absurd (cc)
+step_recorded old new disk later request now Risen bytes (shared.Strange broken told is stays) own routed = absurd (cc)
+step_recorded old new disk later request now Risen bytes (shared.StarvedAtOpening broken is stays) own routed = absurd (cc)
 
 no_metadata : (request : Request) → (route request ≡ To SignOn) ⊎ (route request ≡ To Login) → route request ≡ To Metadata → ⊥
 no_metadata request (inl signs) to = let clash = sym signs ∙ to in cc

@@ -9,9 +9,10 @@ use Rattle.http_wire.specs.declared.answer.Answer.{Answer}
 use Rattle.http_wire.specs.declared.answer.Answer.TheVariants.{Fixed}
 use Rattle.verdict_codes.specs.Codes.{number_of}
 use Rattle.verdict_codes.specs.declared.codes.Verdict.{Verdict}
+use Rattle.node_steps.specs.Step.{IsWhole, Plain, Starved}
 use Rattle.idp_server.specs.Routes.{Metadata, To, route}
 use Rattle.idp_server.specs.Serving.{IsMetadata, NotShown, Shown, refusal_code}
-use Rattle.idp_server.specs.Step.{Provider, Answers, IsWhole, Serves, ByMetadata, Plain, Starved}
+use Rattle.idp_server.specs.Step.{Provider, Answers, Serves, ByMetadata}
 
 -- a refusal that is right for more
 pub judged_for : (P Q : Verdict → Type 0) (judged : Judged) → ((verdict : Verdict) → P verdict → Q verdict) → IsJudged P judged → IsJudged Q judged

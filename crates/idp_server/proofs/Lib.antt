@@ -1,5 +1,4 @@
 pub mod Alike
-pub mod Behind
 pub mod Closing
 pub mod Drafting
 pub mod Ending
@@ -15,9 +14,8 @@ mod Made
 mod Pages
 pub mod Peers
 pub mod Recorded
-pub mod Reopening
 pub mod Replies
-pub mod Serving
 pub mod Shown
 mod Signed
 pub mod Walks
+mod Starts

@@ -20,9 +20,10 @@ use Rattle.idp_ledger.specs.Compacting.{Compacts}
 use Rattle.idp_ledger.specs.Drafts.{confirmed, pending, spoke}
 use Rattle.idp_ledger.specs.Ledger.{Held, next_number}
 use Rattle.idp_rules.specs.declared.config.IdpConfig.{IdpConfig}
+use Rattle.node_steps.specs.Step as shared
 use Rattle.idp_server.specs.Routes.{Logout, Metadata, SingleLogout, To, route}
 use Rattle.idp_server.specs.Step as steps
-use Rattle.idp_server.specs.Step.{Provider, Answers, ask_of, ended_by, left_by, session_for}
+use Rattle.idp_server.specs.Step.{Answers, ask_of, ended_by, left_by, session_for}
 use Rattle.idp_server.specs.Logouts.{AnswersEndExactly, Anew, IsOfLogoutIfEnding, IsOfPeerThatAsks, IsOfPeerThatReplies, IsOfUserWhoLeaves, More, Nothing, ServicesEndExactly, WhatIsAnsweredToALogoutIsRecorded}
 use Rattle.idp_server.proofs.Issues.{followed, found_at, off, step_recorded}
 
@@ -126,18 +127,18 @@ pub answers_end_exactly : AnswersEndExactly
 answers_end_exactly setup held request now answer r answers = ends_so setup held request now answer (Some r) r refl answers
 
 pub services_end_exactly : ServicesEndExactly
-services_end_exactly found request now before after answer old new (steps.Plain answers whole) unbroken = Nothing whole.is
-services_end_exactly found request now before after answer old new (steps.Recorded r answers place whole) unbroken =
+services_end_exactly found request now before after answer old new (shared.Plain answers whole) unbroken = Nothing whole.is
+services_end_exactly found request now before after answer old new (shared.Recorded r answers place whole) unbroken =
     More found r (inl refl) whole.is (answers_end_exactly old.setup found request now answer r answers)
-services_end_exactly found request now before after answer old new (steps.RecordedAfterCompaction held wanted r other wants none made answers place whole) unbroken =
-    More held r (inr made) whole.is (answers_end_exactly old.setup held request now answer r answers)
-services_end_exactly found request now before after answer old new (steps.NoPlace held wanted r other another wants none made answers still is whole) unbroken =
-    Anew (subst (λ (h : Held). Compacts now found h) (sym whole.is) made)
-services_end_exactly found request now before after answer old new (steps.Failed wanted other wants risen is broken) unbroken =
+services_end_exactly found request now before after answer old new (shared.RecordedAfterCompaction held r room answers place whole) unbroken =
+    More held r (inr room.made) whole.is (answers_end_exactly old.setup held request now answer r answers)
+services_end_exactly found request now before after answer old new (shared.NoPlace held r another room answers still is whole) unbroken =
+    Anew (subst (λ (h : Held). Compacts now found h) (sym whole.is) room.made)
+services_end_exactly found request now before after answer old new (shared.Failed wanted other wants risen is broken) unbroken =
     absurd (let clash : true ≡ false = sym broken.is_broken ∙ unbroken in cc)
-services_end_exactly found request now before after answer old new (steps.Starved held (inl same) is whole) unbroken = Nothing (whole.is ∙ same)
-services_end_exactly found request now before after answer old new (steps.Starved held (inr made) is whole) unbroken =
-    Anew (subst (λ (h : Held). Compacts now found h) (sym whole.is) made)
+services_end_exactly found request now before after answer old new (shared.Starved held (inl same) is whole) unbroken = Nothing (whole.is ∙ same)
+services_end_exactly found request now before after answer old new (shared.Starved held (inr room) is whole) unbroken =
+    Anew (subst (λ (h : Held). Compacts now found h) (sym whole.is) room.made)
 
 -- ---- what stands behind an answer
 

@@ -8,20 +8,25 @@ use Rattle.http_wire.specs.Requests.{Request}
 use Rattle.ledger_records.specs.declared.idp_record.IdpRecord.{IdpRecord}
 use Rattle.ledger_rules.specs.declared.fault.DraftFault.{DraftFault}
 use Rattle.xml_spec.specs.Characters.{IsText}
-use Rattle.idp_ledger.specs.Record.{LAST}
-use Rattle.idp_ledger.specs.Compacting.{Compacts}
+use Rattle.idp_ledger.specs.Record.{LAST, idp_rules}
+use Rattle.idp_ledger.specs.Compacting.{IsOldOrCompacted}
 use Rattle.idp_ledger.specs.Drafts.{IsCause, IsDraftOf, SameLedger}
 use Rattle.idp_ledger.specs.Ledger.{Held, Opened, CanCommit, IsWithOrWithout}
 use Rattle.idp_rules.specs.declared.config.IdpConfig.{IdpConfig}
+use Rattle.node_steps.specs.Serving.{Adds}
+use Rattle.node_steps.specs.Step.{IsWhole, MakesRoom}
+use Rattle.node_steps.specs.declared.codes.TheConstants.{FULL}
+use Rattle.node_steps.proofs.Behind.{full_again, room_by}
+use Rattle.node_steps.proofs.Drafting.{IsForRoom, none_as_full, place_of, whole_behind}
+use Rattle.node_steps.proofs.Serving.{adding_leaves, compacting_leaves, served, served_later, whole_on}
 use Rattle.idp_server.specs.declared.reply.Reply.{Reply}
 use Rattle.idp_server.specs.Replies.{CanBeShown, IsPage, Wants, record_for}
-use Rattle.idp_server.specs.Step.{Provider, Answers, HasPlace, IsWhole, OwnsDisk, Serves, ServingLeaves}
-use Rattle.idp_server.specs.Serving.{Adds, CanServe}
-use Rattle.idp_server.proofs.Behind.{IsRemade, full_again}
-use Rattle.idp_server.proofs.Drafting.{IsForRoom, none_as_full, place_of, sound_of, whole_behind}
+use Rattle.idp_server.specs.Step.{Provider, Answers, HasPlace, OwnsDisk, Serves, ServingLeaves}
+use Rattle.idp_server.specs.Serving.{CanServe}
+use Rattle.idp_server.proofs.Alike.{IsMadeAnew}
+use Rattle.idp_server.proofs.Drafting.{sound_of}
 use Rattle.idp_server.proofs.Pages.{some_page}
 use Rattle.idp_server.proofs.Replies.{page_answers, record_of, shown_of, wants_still}
-use Rattle.idp_server.proofs.Serving.{adding_leaves, served, served_later, whole_on}
 
 -- ---- an answer to each reply
 
@@ -106,18 +111,17 @@ serves_reply old mid new request now Risen answer reply draft d adds =
     (λ other page. drafted_page old.setup old mid request now reply draft other d page) d.place adds
 
 -- and behind a compaction
-pub serves_reply_again : (first old mid new : Provider) (request : Request) (now : ℕ) (Risen : Type 0) (answer other : Answer) (reply : Reply) (wanted draft : IdpRecord)
-    → Answers first.setup first.ledger.held request now other (Some wanted) → ¬ (HasPlace first.ledger.held wanted) → Compacts now first.ledger.held old.ledger.held
-    → IsWhole first old old.ledger.held → IsDrafted first.setup old mid request now reply draft
+pub serves_reply_again : (first old mid new : Provider) (request : Request) (now : ℕ) (Risen : Type 0) (answer : Answer) (reply : Reply) (draft : IdpRecord)
+    → MakesRoom idp_rules Answers first.setup first.ledger.held request now old.ledger.held → IsWhole first old old.ledger.held → IsDrafted first.setup old mid request now reply draft
     → Adds (IsPage mid.setup reply draft now) draft Risen answer mid new → Serves first.ledger.held request now Risen answer first new
-serves_reply_again first old mid new request now Risen answer other reply wanted draft wants none made compacted d adds =
-    served_later first.ledger.held old.ledger.held first mid new request now Risen answer other wanted draft (IsPage mid.setup reply draft now) wants none made
+serves_reply_again first old mid new request now Risen answer reply draft room compacted d adds =
+    served_later first.ledger.held old.ledger.held first mid new request now Risen answer draft (IsPage mid.setup reply draft now) room
     (whole_on first old mid old.ledger.held old.ledger.held compacted (whole_behind old mid d.whole d.behind d.same))
     (λ a page. drafted_page first.setup old mid request now reply draft a d page) d.place adds
 
 -- what a crash leaves meanwhile
 pub reply_leaves : (setup : IdpConfig) (found : Held) (old mid : Provider) (request : Request) (now : ℕ) (reply : Reply) (draft : IdpRecord) (image : Image)
-    → (old.ledger.held ≡ found) ⊎ Compacts now found old.ledger.held → IsDrafted setup old mid request now reply draft
+    → (old.ledger.held ≡ found) ⊎ MakesRoom idp_rules Answers setup found request now old.ledger.held → IsDrafted setup old mid request now reply draft
     → IsWithOrWithout draft mid.ledger.held image → ServingLeaves setup found request now image
 reply_leaves setup found old mid request now reply draft image which d left =
     let some = some_answer setup old.ledger request now reply draft d.asked d.has in
@@ -126,12 +130,30 @@ reply_leaves setup found old mid request now reply draft image which d left =
 -- ---- where it was not
 
 -- there is no place for the record
+abbrev pub HasNoPlace : Opened → ℕ → Reply → Type 0
+HasNoPlace ledger now reply = (r : IdpRecord) → record_for ledger.key ledger.held now reply ≡ Some r → ¬ (HasPlace ledger.held r)
+
 pub none_for : (ledger : Opened) (now : ℕ) (reply : Reply) (fault : DraftFault) → IsForRoom fault
-    → IfSome (record_for ledger.key ledger.held now reply) (λ r. IsCause ledger r fault) → (r : IdpRecord) → record_for ledger.key ledger.held now reply ≡ Some r → ¬ (HasPlace ledger.held r)
+    → IfSome (record_for ledger.key ledger.held now reply) (λ r. IsCause ledger r fault) → HasNoPlace ledger now reply
 none_for ledger now reply fault for causes r is = none_as_full ledger r fault for (of_record (λ (r : IdpRecord). IsCause ledger r fault) _ r is causes)
 
+-- what a compaction leaves that is made for it
+pub making_leaves : (setup : IdpConfig) (ledger : Opened) (request : Request) (now : ℕ) (reply : Reply) → IsAskedFor setup ledger request now reply → HasNoPlace ledger now reply
+    → (image : Image) → IsOldOrCompacted now ledger.held image → ServingLeaves setup ledger.held request now image
+making_leaves setup ledger request now reply asked none =
+    let wanted = some_record setup ledger request now reply asked in
+    let wants = some_answer setup ledger request now reply wanted.0 asked wanted.1 in
+    compacting_leaves setup ledger.held request now wanted.0 wants.0 wants.1 (none wanted.0 wanted.1.is)
+
+-- what the compaction made
+pub room_for : (old anew : Provider) (request : Request) (now : ℕ) (reply : Reply) → IsMadeAnew now old anew → IsAskedFor old.setup old.ledger request now reply → HasNoPlace old.ledger now reply
+    → MakesRoom idp_rules Answers old.setup old.ledger.held request now anew.ledger.held
+room_for old anew request now reply re asked none =
+    let wanted = some_record old.setup old.ledger request now reply asked in
+    room_by old anew request now wanted.0 re (some_answer old.setup old.ledger request now reply wanted.0 asked wanted.1) (none wanted.0 wanted.1.is)
+
 -- a reply is asked for behind a compaction
-pub asked_again : (now : ℕ) (old anew : Provider) (request : Request) (reply : Reply) → IsRemade now old anew → IsAskedFor old.setup old.ledger request now reply
+pub asked_again : (now : ℕ) (old anew : Provider) (request : Request) (reply : Reply) → IsMadeAnew now old anew → IsAskedFor old.setup old.ledger request now reply
     → IsAskedFor old.setup anew.ledger request now reply
 asked_again now old anew request reply re asked = record {
   name = asked.name;
@@ -141,16 +163,13 @@ asked_again now old anew request reply re asked = record {
 }
 
 -- there is no place for it behind that either
-pub full_reply : (old anew mid : Provider) (request : Request) (now : ℕ) (Risen : Type 0) (reply : Reply) → IsRemade now old anew → IsWhole anew mid anew.ledger.held
-    → IsAskedFor old.setup old.ledger request now reply
-    → ((r : IdpRecord) → record_for old.ledger.key old.ledger.held now reply ≡ Some r → ¬ (HasPlace old.ledger.held r))
-    → ((r : IdpRecord) → record_for anew.ledger.key anew.ledger.held now reply ≡ Some r → ¬ (HasPlace anew.ledger.held r))
-    → Serves old.ledger.held request now Risen (Fixed 51) old mid
+pub full_reply : (old anew mid : Provider) (request : Request) (now : ℕ) (Risen : Type 0) (reply : Reply) → IsMadeAnew now old anew → IsWhole anew mid anew.ledger.held
+    → IsAskedFor old.setup old.ledger request now reply → HasNoPlace old.ledger now reply → HasNoPlace anew.ledger now reply
+    → Serves old.ledger.held request now Risen (Fixed FULL) old mid
 full_reply old anew mid request now Risen reply re first asked none unplaced =
     let still = asked_again now old anew request reply re asked in
-    let wanted = some_record old.setup old.ledger request now reply asked in
     let other = some_record old.setup anew.ledger request now reply still in
-    full_again old anew mid request now Risen wanted.0 other.0 re first (some_answer old.setup old.ledger request now reply wanted.0 asked wanted.1) (none wanted.0 wanted.1.is)
+    full_again old anew mid request now Risen other.0 re (room_for old anew request now reply re asked none) first
     (some_answer old.setup anew.ledger request now reply other.0 still other.1) (unplaced other.0 other.1.is)
 
 -- ---- as a provider serves
@@ -167,11 +186,11 @@ stands_for setup ledger request now reply asked =
     subst (λ (o : Option IdpRecord). IsSome o) (sym (some_record setup ledger request now reply asked).1.is) refl
 
 -- a provider behind a compaction can be served
-pub can_again : (old anew : Provider) (told later : Option DiskState) (now : ℕ) → IsRemade now old anew → CanServe old told now → OwnsDisk anew later → CanServe anew later now
+pub can_again : (old anew : Provider) (told later : Option DiskState) (now : ℕ) → IsMadeAnew now old anew → CanServe old told now → OwnsDisk anew later → CanServe anew later now
 can_again old anew told later now re can own = record { sound = sound_of old anew re.whole.setup re.whole.key can.sound; moment = can.moment; whole = re.whole.unbroken; own = own }
 
 -- the draft behind it
-pub drafted_again : (old anew mid : Provider) (request : Request) (now : ℕ) (reply : Reply) (draft : IdpRecord) → IsRemade now old anew → IsAskedFor old.setup old.ledger request now reply
+pub drafted_again : (old anew mid : Provider) (request : Request) (now : ℕ) (reply : Reply) (draft : IdpRecord) → IsMadeAnew now old anew → IsAskedFor old.setup old.ledger request now reply
     → mid.setup ≡ anew.setup → SameLedger anew.ledger mid.ledger
     → IfSome (record_for anew.ledger.key anew.ledger.held now reply) (λ r. IsDraftOf anew.ledger mid.ledger r draft) → IsDrafted old.setup anew mid request now reply draft
 drafted_again old anew mid request now reply draft re asked behind same drafts =

@@ -29,6 +29,8 @@ use Rattle.ledger_records.specs.declared.idp_record.IdpRecord.TheVariants as kin
 use Rattle.peer_keys.specs.Peers.{place_of}
 use Rattle.peer_keys.specs.declared.peers.LogoutPeer.{LogoutPeer}
 use Rattle.idp_ledger.specs.declared.row.SessionRow.{SessionRow}
+use Rattle.idp_ledger.specs.Finding.{session_found}
+use Rattle.idp_ledger.specs.RowsOf.{rows_of}
 use Rattle.idp_ledger.specs.Ledger.{Held, next_number}
 use Rattle.idp_ledger.specs.Drafts.{issue, login}
 use Rattle.idp_rules.specs.Asking.{IsAsked}
@@ -39,9 +41,9 @@ use Rattle.logout_answers.specs.Answers.{BySending, ByEnding, Leaving}
 use Rattle.idp_server.specs.Logins.{login_of}
 use Rattle.idp_server.specs.Signed.{Carries, ALogout, AnEnd, AQuestion, AForm, AReply, ARequest, EachSignedElementIsOfARecord, AnAssertion, AResponse, IsSignedOf, signed_elements}
 use Rattle.idp_server.specs.Step as steps
-use Rattle.idp_server.specs.Step.{Answers, IsAnswerFor, IsEndingAnswer, IsLeavingAnswer, IsPeer, ask_of, ended_by, is_in_part, left_by}
+use Rattle.idp_server.specs.Step.{Answers, IsAnswerFor, IsEndingAnswer, IsLeavingAnswer, IsPeer, ask_of, ended_by, is_in_part, left_by, session_for}
 use Rattle.idp_server.proofs.Ending.{IsAtItsPlace, asking_peer}
-use Rattle.idp_server.proofs.Issues.{the_issued}
+use Rattle.idp_server.proofs.Issues.{found_itself, the_issued}
 use Rattle.idp_server.proofs.Logouts.{the_ended, the_left}
 use Rattle.idp_server.proofs.Peers.{place_names}
 
@@ -120,12 +122,12 @@ elements_are mode key issuer message consumer request at r made of =
 
 -- ---- of an answer
 
-carries_issued : (setup : IdpConfig) (peer : LogoutPeer) (r : Issued) (cookie : Option (List ℕ)) (now : ℕ) (bytes : List ℕ) → IsPeer setup r.peer peer → r.moment ≡ now
-    → IsAnswerFor setup peer r cookie now bytes → Carries setup (kinds.Issued r) bytes
-carries_issued setup peer r cookie now bytes known at a =
+carries_issued : (setup : IdpConfig) (held : Held) (peer : LogoutPeer) (r : Issued) (cookie : Option (List ℕ)) (now : ℕ) (bytes : List ℕ) → IsPeer setup r.peer peer → r.moment ≡ now
+    → IsAnswerFor setup peer r cookie now bytes → Carries setup held (kinds.Issued r) bytes
+carries_issued setup held peer r cookie now bytes known at a =
     let key = peer.key_out in
     let i = a.issued in
-    let P : Made → Type 0 = IsSignedOf setup (kinds.Issued r) in
+    let P : Made → Type 0 = IsSignedOf setup held (kinds.Issued r) in
     let built = response r.message setup.entity r.consumer r.request (Some (signed_assertion setup.mode key i.assertion)) i.answers.instant in
     let of : IsOfIssued setup.entity r i.assertion = record { is = i.of_login } in
     let response_is : signs_response setup.mode ≡ true → P (signed key built) = λ signs. record {
@@ -148,11 +150,11 @@ carries_issued setup peer r cookie now bytes known at a =
     (subst (λ (m : Made). AllByRecursion P (signed_elements (alone m))) (sym sent) all)
 
 -- in a Response without an Assertion nothing is signed
-carries_refusal : (setup : IdpConfig) (r : IdpRecord) (message request consumer : List ℕ) (relay : Option (List ℕ)) (now : ℕ) (bytes : List ℕ)
-    → IsNoPassiveAnswer setup.entity message request consumer relay now bytes → Carries setup r bytes
-carries_refusal setup r message request consumer relay now bytes a =
+carries_refusal : (setup : IdpConfig) (held : Held) (r : IdpRecord) (message request consumer : List ℕ) (relay : Option (List ℕ)) (now : ℕ) (bytes : List ℕ)
+    → IsNoPassiveAnswer setup.entity message request consumer relay now bytes → Carries setup held r bytes
+carries_refusal setup held r message request consumer relay now bytes a =
     AForm a.sent (record { consumer = consumer; relay = relay; cookie = None; is = a.is })
-    (subst (λ (m : Made). AllByRecursion (IsSignedOf setup r) (signed_elements (alone m))) (sym a.answers.is) tt)
+    (subst (λ (m : Made). AllByRecursion (IsSignedOf setup held r) (signed_elements (alone m))) (sym a.answers.is) tt)
 
 -- ---- of an answer in a logout
 
@@ -167,18 +169,28 @@ response_signed : (key id issuer address request : List ℕ) (partial : Bool) (a
 response_signed key id issuer address request true at = refl
 response_signed key id issuer address request false at = refl
 
-carries_asking : (setup : IdpConfig) (r : Left) (row : SessionRow) (now : ℕ) (bytes : List ℕ) (peer : LogoutPeer) → IsPeer setup r.peer peer → r.moment ≡ now → row.cookie ≡ r.cookie
-    → Leaving peer r.request setup.entity now row.user (row.index ∷ []) bytes → Carries setup (kinds.Left r) bytes
-carries_asking setup r row now bytes peer known at cookie (ByEnding none is) = AnEnd true is
-carries_asking setup r row now bytes peer known at cookie (BySending a) =
+-- the session that a record left
+abbrev IsLeft : Held → Left → SessionRow → Type 0
+IsLeft held r row = session_found (rows_of held.records).sessions r.cookie r.moment held.header.horizon ≡ Some row
+
+is_left : (held : Held) (r : Left) (row : SessionRow) (request : Request) (now : ℕ) → now ≡ r.moment → row.cookie ≡ r.cookie → session_for held now request ≡ Some row → IsLeft held r row
+is_left held r row request now at cookie live =
+    let rows = (rows_of held.records).sessions in
+    subst (λ (c : List ℕ). session_found rows c r.moment held.header.horizon ≡ Some row) cookie
+    (subst (λ (t : ℕ). session_found rows row.cookie t held.header.horizon ≡ Some row) at (found_itself held request now row live))
+
+carries_asking : (setup : IdpConfig) (held : Held) (r : Left) (row : SessionRow) (now : ℕ) (bytes : List ℕ) (peer : LogoutPeer) → IsPeer setup r.peer peer → r.moment ≡ now → IsLeft held r row
+    → Leaving peer r.request setup.entity now row.user (row.index ∷ []) bytes → Carries setup held (kinds.Left r) bytes
+carries_asking setup held r row now bytes peer known at live (ByEnding none is) = AnEnd true is
+carries_asking setup held r row now bytes peer known at live (BySending a) =
     let q = a.request in
     let key = peer.key_out in
     let built = logout_request r.request setup.entity q.address row.user (row.index ∷ []) q.made.instant q.made.until in
-    let P : Made → Type 0 = IsSignedOf setup (kinds.Left r) in
+    let P : Made → Type 0 = IsSignedOf setup held (kinds.Left r) in
     let one : P (signed key built) = record {
       key = key;
       made = built;
-      stands = ARequest r peer row q.address built known q.given cookie (record {
+      stands = ARequest r peer row q.address built known q.given live (record {
         instant = q.made.instant;
         until = q.made.until;
         told = subst (TellsInFull q.made.instant) (sym at) q.made.told;
@@ -191,19 +203,19 @@ carries_asking setup r row now bytes peer known at cookie (BySending a) =
     (record { address = q.address; field = fields.Request; relay = None; is = a.is ∙ ap (λ (m : List ℕ). answer 200 None None (auto_form q.address fields.Request m None)) (q.signed.is ∙ ap (λ (m : Made). written (signed key m)) q.made.is) })
     (subst (AllByRecursion P) (sym (request_signed key r.request setup.entity q.address row.user row.index q.made.instant q.made.until)) (one, tt))
 
-carries_leaving : (setup : IdpConfig) (r : Left) (row : SessionRow) (now : ℕ) (bytes : List ℕ) → r.moment ≡ now → row.cookie ≡ r.cookie → IsLeavingAnswer setup r row.user row.index now bytes
-    → Carries setup (kinds.Left r) bytes
-carries_leaving setup r row now bytes at cookie (steps.ToPeer peer known answers) = carries_asking setup r row now bytes peer known at cookie answers
-carries_leaving setup r row now bytes at cookie (steps.ToNone none is) = AnEnd true is
+carries_leaving : (setup : IdpConfig) (held : Held) (r : Left) (row : SessionRow) (now : ℕ) (bytes : List ℕ) → r.moment ≡ now → IsLeft held r row → IsLeavingAnswer setup r row.user row.index now bytes
+    → Carries setup held (kinds.Left r) bytes
+carries_leaving setup held r row now bytes at live (steps.ToPeer peer known answers) = carries_asking setup held r row now bytes peer known at live answers
+carries_leaving setup held r row now bytes at live (steps.ToNone none is) = AnEnd true is
 
-carries_ending : (setup : IdpConfig) (r : Ended) (relay : Option (List ℕ)) (now : ℕ) (bytes : List ℕ) (peer : LogoutPeer) → IsPeer setup r.peer peer → r.moment ≡ now
-    → IsEndingAnswer setup peer r relay now bytes → Carries setup (kinds.Ended r) bytes
-carries_ending setup r relay now bytes peer known at (ByEnding none is) = AnEnd r.partial is
-carries_ending setup r relay now bytes peer known at (BySending a) =
+carries_ending : (setup : IdpConfig) (held : Held) (r : Ended) (relay : Option (List ℕ)) (now : ℕ) (bytes : List ℕ) (peer : LogoutPeer) → IsPeer setup r.peer peer → r.moment ≡ now
+    → IsEndingAnswer setup peer r relay now bytes → Carries setup held (kinds.Ended r) bytes
+carries_ending setup held r relay now bytes peer known at (ByEnding none is) = AnEnd r.partial is
+carries_ending setup held r relay now bytes peer known at (BySending a) =
     let q = a.response in
     let key = peer.key_out in
     let built = logged_out r.message setup.entity q.address r.request (if r.partial then failed partial_logout else succeeded) q.made.instant in
-    let P : Made → Type 0 = IsSignedOf setup (kinds.Ended r) in
+    let P : Made → Type 0 = IsSignedOf setup held (kinds.Ended r) in
     let one : P (signed key built) = record {
       key = key;
       made = built;
@@ -225,7 +237,7 @@ known_peer setup address body asked peer is there =
     (is.place, subst (λ (e : List ℕ). place_of e setup.peers ≡ Some is.place) (sym named) is.asks.known, at)
 
 carried : IsAtItsPlace → (setup : IdpConfig) (held : Held) (request : Request) (now : ℕ) (answer : Answer) (bytes : List ℕ) (adds : Option IdpRecord) (r : IdpRecord) → answer ≡ Full bytes → adds ≡ Some r
-    → Answers setup held request now answer adds → Carries setup r bytes
+    → Answers setup held request now answer adds → Carries setup held r bytes
 carried law setup held request now answer bytes adds r shown some (steps.ByStatus status to is none) = absurd (let e = sym some ∙ none in cc)
 carried law setup held request now answer bytes adds r shown some (steps.ByMetadata to is none) = absurd (let e = sym some ∙ none in cc)
 carried law setup held request now answer bytes adds r shown some (steps.ByVerdict verdict to refused is none) = absurd (let e = sym some ∙ none in cc)
@@ -234,11 +246,11 @@ carried law setup held request now answer bytes adds r shown some (steps.ByIssui
     let spelled : sent ≡ bytes = (let e = sym full ∙ shown in cc) in
     let made = the_issued other (issue setup.id_key (next_number held) now row (ask_of asked peer)) _ drafted refl in
     let known_as = subst (λ (e : List ℕ). IsPeer setup e peer) (ap (λ (i : Issued). i.peer) made) (known_peer setup _ request.body asked peer is known) in
-    subst (λ (x : IdpRecord). Carries setup x bytes) same (subst (Carries setup (kinds.Issued other)) spelled
-    (carries_issued setup peer other None now sent known_as (sym (ap (λ (i : Issued). i.moment) made)) answers))
+    subst (λ (x : IdpRecord). Carries setup held x bytes) same (subst (Carries setup held (kinds.Issued other)) spelled
+    (carries_issued setup held peer other None now sent known_as (sym (ap (λ (i : Issued). i.moment) made)) answers))
 carried law setup held request now answer bytes adds r shown some (steps.ByPassive asked peer message sent to is known none passive adding named answers full) =
     let spelled : sent ≡ bytes = (let e = sym full ∙ shown in cc) in
-    subst (Carries setup r) spelled (carries_refusal setup r message asked.request asked.consumer asked.relay now sent answers)
+    subst (Carries setup held r) spelled (carries_refusal setup held r message asked.request asked.consumer asked.relay now sent answers)
 carried law setup held request now answer bytes adds r shown some (steps.ByAsking asked peer id to is known none passive adding named full) =
     AQuestion id (let e = sym shown ∙ full in cc)
 carried law setup held request now answer bytes adds r shown some (steps.ByFields to bad is none) = absurd (let e = sym some ∙ none in cc)
@@ -249,15 +261,16 @@ carried law setup held request now answer bytes adds r shown some (steps.ByLogin
     let spelled : sent ≡ bytes = (let e = sym full ∙ shown in cc) in
     let made = the_issued other (login setup.id_key (next_number held) now row user.name user.attributes) _ drafted refl in
     let known_as = subst (λ (e : List ℕ). IsPeer setup e peer) (ap (λ (i : Issued). i.peer) made) pending.1 in
-    subst (λ (x : IdpRecord). Carries setup x bytes) same (subst (Carries setup (kinds.Issued other)) spelled
-    (carries_issued setup peer other (Some other.cookie) now sent known_as (sym (ap (λ (i : Issued). i.moment) made)) answers))
+    subst (λ (x : IdpRecord). Carries setup held x bytes) same (subst (Carries setup held (kinds.Issued other)) spelled
+    (carries_issued setup held peer other (Some other.cookie) now sent known_as (sym (ap (λ (i : Issued). i.moment) made)) answers))
 carried law setup held request now answer bytes adds r shown some (steps.ByNoSession to none_live is none) = absurd (let e = sym some ∙ none in cc)
 carried law setup held request now answer bytes adds r shown some (steps.ByLeaving row left sent to live drafted adding answers full) =
     let same : kinds.Left left ≡ r = (let e = sym adding ∙ some in cc) in
     let spelled : sent ≡ bytes = (let e = sym full ∙ shown in cc) in
     let made = the_left left (left_by setup.id_key held now row.cookie) _ drafted refl in
-    subst (λ (x : IdpRecord). Carries setup x bytes) same (subst (Carries setup (kinds.Left left)) spelled
-    (carries_leaving setup left row now sent (sym (ap (λ (l : Left). l.moment) made)) (ap (λ (l : Left). l.cookie) made) answers))
+    subst (λ (x : IdpRecord). Carries setup held x bytes) same (subst (Carries setup held (kinds.Left left)) spelled
+    (carries_leaving setup held left row now sent (sym (ap (λ (l : Left). l.moment) made))
+    (is_left held left row request now (ap (λ (l : Left). l.moment) made) (ap (λ (l : Left). l.cookie) made) live) answers))
 carried law setup held request now answer bytes adds r shown some (steps.ByLogoutVerdict verdict to refused is none) = absurd (let e = sym some ∙ none in cc)
 carried law setup held request now answer bytes adds r shown some (steps.ByNothingToEnd asked peer relay to asks nothing is none) = absurd (let e = sym some ∙ none in cc)
 carried law setup held request now answer bytes adds r shown some (steps.ByEnding asked peer relay ended sent to asks some_end drafted adding answers full) =
@@ -265,8 +278,8 @@ carried law setup held request now answer bytes adds r shown some (steps.ByEndin
     let spelled : sent ≡ bytes = (let e = sym full ∙ shown in cc) in
     let made = the_ended ended (ended_by setup.id_key held now peer.peer.entity asked) _ drafted refl in
     let known_as = subst (λ (e : List ℕ). IsPeer setup e peer) (ap (λ (l : Ended). l.peer) made) (asking_peer law setup request now asked peer relay asks) in
-    subst (λ (x : IdpRecord). Carries setup x bytes) same (subst (Carries setup (kinds.Ended ended)) spelled
-    (carries_ending setup ended relay now sent peer known_as (sym (ap (λ (l : Ended). l.moment) made)) answers))
+    subst (λ (x : IdpRecord). Carries setup held x bytes) same (subst (Carries setup held (kinds.Ended ended)) spelled
+    (carries_ending setup held ended relay now sent peer known_as (sym (ap (λ (l : Ended). l.moment) made)) answers))
 carried law setup held request now answer bytes adds r shown some (steps.ByUnknownLogout response to replies unknown is none) = absurd (let e = sym some ∙ none in cc)
 carried law setup held request now answer bytes adds r shown some (steps.ByConfirming response to replies waits adding full) =
     AnEnd (is_in_part response.outcome) (let e = sym shown ∙ full in cc)

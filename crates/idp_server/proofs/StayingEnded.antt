@@ -21,7 +21,9 @@ use Rattle.record_ledger.proofs.Numbers.{IsFresh, all_fresh, one_number}
 use Rattle.record_ledger.proofs.Records.{AreRecords-push}
 use Rattle.idp_ledger.proofs.LawWords.{Each, next_cons, next_push, parts}
 use Rattle.idp_ledger.proofs.RowLaws.{rows_of-push}
-use Rattle.idp_server.specs.Histories.{Adds, AnEndedSessionStaysEnded, Another, Compacts, Event, Includes, IsDead, IsEnded, Leads, Nothing, Opens, This}
+use Rattle.record_ledger.specs.Runs.{Adds, Compacts, Event, Leads, Opens}
+use Rattle.node_steps.specs.Histories.{Another, Includes, Nothing, This}
+use Rattle.idp_server.specs.Histories.{AnEndedSessionStaysEnded, IsDead, IsEnded}
 
 -- ---- what events lead to are records
 
@@ -29,7 +31,7 @@ migrated_records : (b : Bool) (one other : Held) → one.records ≡ other.recor
 migrated_records true one other same are = subst AreRecords (sym same) are
 migrated_records false one other same are = are
 
-pub run_records : (start held : Held) (events : List Event) → AreRecords start.records → Leads start events held → AreRecords held.records
+pub run_records : (start held : Held) (events : List (Event IdpRecord)) → AreRecords start.records → Leads idp_rules start events held → AreRecords held.records
 run_records start held [] are leads = subst (λ (h : Held). AreRecords h.records) (sym leads) are
 run_records start held (Adds r ∷ past) are leads =
     subst (λ (h : Held). AreRecords h.records) (sym leads.4) (AreRecords-push idp_rules leads.0.records r (run_records start leads.0 past are leads.1) leads.2)
@@ -245,14 +247,14 @@ opened_anew before cookie never =
     record { drew = same.drew; none = same.none }
 
 module _ (law : CompactionsChangeNoAnswer) (start : Held) (are : AreRecords start.records) (cookie : List ℕ) where
-  one_event : (event : Event) (past : List Event) (held : Held) → ((before : Held) → Leads start past before → Never before cookie) → Leads start (event ∷ past) held → Never held cookie
+  one_event : (event : Event IdpRecord) (past : List (Event IdpRecord)) (held : Held) → ((before : Held) → Leads idp_rules start past before → Never before cookie) → Leads idp_rules start (event ∷ past) held → Never held cookie
   one_event (Adds r) past held earlier leads =
       subst (λ (h : Held). Never h cookie) (sym leads.4) (added leads.0 r cookie leads.2 leads.3 (earlier leads.0 leads.1))
   one_event (Compacts now) past held earlier leads =
       compacted now leads.0 held cookie law (run_records start leads.0 past are leads.1) leads.2 (earlier leads.0 leads.1)
   one_event Opens past held earlier leads = subst (λ (h : Held). Never h cookie) (sym leads.2) (opened_anew leads.0 cookie (earlier leads.0 leads.1))
 
-  run_never : (events : List Event) (held : Held) → Never start cookie → Leads start events held → Never held cookie
+  run_never : (events : List (Event IdpRecord)) (held : Held) → Never start cookie → Leads idp_rules start events held → Never held cookie
   run_never [] held never leads = subst (λ (h : Held). Never h cookie) (sym leads) never
   run_never (event ∷ past) held never leads = one_event event past held (λ before led. run_never past before never led) leads
 
@@ -329,7 +331,7 @@ front x r xs (suc k, less, is) = inr (k, omega (arith, less), is)
 
 -- and stays ended over a history in which the record was added
 module _ (law : CompactionsChangeNoAnswer) (start : Held) (are : AreRecords start.records) (r : IdpRecord) (cookie : List ℕ) (ending : ends cookie r ≡ true) where
-  once_ended : (events : List Event) (records : List IdpRecord) (held : Held) → Includes events records → Contains records r → Leads start events held → Never held cookie
+  once_ended : (events : List (Event IdpRecord)) (records : List IdpRecord) (held : Held) → Includes events records → Contains records r → Leads idp_rules start events held → Never held cookie
   once_ended [] [] held Nothing (k, less, is) leads = absurd (omega (arith, less))
   once_ended [] (x ∷ records) held includes has leads = elim includes [ ]
   once_ended (Adds x ∷ past) (y ∷ records) held (This includes) has leads =
@@ -345,5 +347,5 @@ module _ (law : CompactionsChangeNoAnswer) (start : Held) (are : AreRecords star
   once_ended (event ∷ past) records held (Another includes) has leads =
       one_event law start are cookie event past held (λ before led. once_ended past records before includes has led) leads
 
-  pub stays_dead : (events : List Event) (records : List IdpRecord) (held : Held) → Includes events records → Contains records r → Leads start events held → IsDead held cookie
+  pub stays_dead : (events : List (Event IdpRecord)) (records : List IdpRecord) (held : Held) → Includes events records → Contains records r → Leads idp_rules start events held → IsDead held cookie
   stays_dead events records held includes has leads = (once_ended events records held includes has leads).none

@@ -18,6 +18,8 @@ use Rattle.ledger_records.specs.declared.idp_record.Issued.{Issued}
 use Rattle.ledger_records.specs.declared.idp_record.Left.{Left}
 use Rattle.peer_keys.specs.declared.peers.LogoutPeer.{LogoutPeer}
 use Rattle.idp_ledger.specs.declared.row.SessionRow.{SessionRow}
+use Rattle.idp_ledger.specs.Finding.{session_found}
+use Rattle.idp_ledger.specs.RowsOf.{rows_of}
 use Rattle.idp_ledger.specs.Ledger.{Held}
 use Rattle.idp_rules.specs.declared.config.IdpConfig.{IdpConfig}
 use Rattle.idp_answers.specs.Answers.{login_answer, response_form, signed_assertion, signs_assertion, signs_response}
@@ -35,27 +37,29 @@ signed_elements (MadeText text rest) = signed_elements rest
 
 -- An element that is signed for a record, before it is signed, and the key: the Assertion of an Issued where the mode signs it; the
 -- Response that carries this, where the mode signs that; the LogoutRequest of a Left for the user and the index of the session that was
--- left, and the LogoutResponse of an Ended, where the peer has an address for logout; all with the key of what is sent to the record's
--- peer. No other record stands for a signed element: the Response of a Spoke is not signed.
-pub data IsSignedFor (setup : IdpConfig) : IdpRecord → (key : List ℕ) → Made → Type 0 where
+-- left, which lived in the ledger under the record's cookie at its moment, and the LogoutResponse of an Ended, where the peer has an
+-- address for logout; all with the key of what is sent to the record's peer. No other record stands for a signed element: the Response
+-- of a Spoke is not signed.
+pub data IsSignedFor (setup : IdpConfig) (held : Held) : IdpRecord → (key : List ℕ) → Made → Type 0 where
   AnAssertion : (r : Issued) (peer : LogoutPeer) (made : Made) → IsPeer setup r.peer peer → signs_assertion setup.mode ≡ true
-      → IsAssertionOf (login_of setup.entity r) made → IsSignedFor setup (kinds.Issued r) peer.key_out made
+      → IsAssertionOf (login_of setup.entity r) made → IsSignedFor setup held (kinds.Issued r) peer.key_out made
   AResponse : (r : Issued) (peer : LogoutPeer) (assertion made : Made) → IsPeer setup r.peer peer → signs_response setup.mode ≡ true
       → IsAssertionOf (login_of setup.entity r) assertion
       → IsMadeAt r.moment (response r.message setup.entity r.consumer r.request (Some (signed_assertion setup.mode peer.key_out assertion))) made
-      → IsSignedFor setup (kinds.Issued r) peer.key_out made
+      → IsSignedFor setup held (kinds.Issued r) peer.key_out made
   ARequest : (r : Left) (peer : LogoutPeer) (row : SessionRow) (address : List ℕ) (made : Made) → IsPeer setup r.peer peer → peer.peer.logout ≡ Some address
-      → row.cookie ≡ r.cookie → IsMadeFrom r.moment (request_end r.moment) (logout_request r.request setup.entity address row.user (row.index ∷ [])) made
-      → IsSignedFor setup (kinds.Left r) peer.key_out made
+      → session_found (rows_of held.records).sessions r.cookie r.moment held.header.horizon ≡ Some row
+      → IsMadeFrom r.moment (request_end r.moment) (logout_request r.request setup.entity address row.user (row.index ∷ [])) made
+      → IsSignedFor setup held (kinds.Left r) peer.key_out made
   AReply : (r : Ended) (peer : LogoutPeer) (address : List ℕ) (made : Made) → IsPeer setup r.peer peer → peer.peer.logout ≡ Some address
       → IsMadeAt r.moment (logged_out r.message setup.entity address r.request (if r.partial then failed partial_logout else succeeded)) made
-      → IsSignedFor setup (kinds.Ended r) peer.key_out made
+      → IsSignedFor setup held (kinds.Ended r) peer.key_out made
 
 -- the element is one of these with its Signature
-pub record IsSignedOf (setup : IdpConfig) (r : IdpRecord) (element : Made) : Type 0 where
+pub record IsSignedOf (setup : IdpConfig) (held : Held) (r : IdpRecord) (element : Made) : Type 0 where
   pub key : List ℕ
   pub made : Made
-  pub stands : IsSignedFor setup r key made
+  pub stands : IsSignedFor setup held r key made
   pub is : element ≡ signed key made
 
 -- the answer is a form that sends this Response on
@@ -72,15 +76,15 @@ pub record SendsOn (bytes : List ℕ) (sent : Made) : Type 0 where
   pub relay : Option (List ℕ)
   pub is : bytes ≡ answer 200 None None (auto_form address field (written sent) relay)
 
--- what an answer that stands for a record carries: the page where the user logs in, a Response or a message of a logout whose signed
--- elements are all of the record, or the page at the end of a logout
-pub data Carries (setup : IdpConfig) (r : IdpRecord) (bytes : List ℕ) : Type 0 where
-  AQuestion : (id : List ℕ) → bytes ≡ login_answer id → Carries setup r bytes
-  AForm : (sent : Made) → Sends bytes sent → AllByRecursion (IsSignedOf setup r) (signed_elements (alone sent)) → Carries setup r bytes
-  ALogout : (sent : Made) → SendsOn bytes sent → AllByRecursion (IsSignedOf setup r) (signed_elements (alone sent)) → Carries setup r bytes
-  AnEnd : (partial : Bool) → bytes ≡ end_answer partial → Carries setup r bytes
+-- what an answer that stands for a record over a ledger carries: the page where the user logs in, a Response or a message of a logout
+-- whose signed elements are all of the record, or the page at the end of a logout
+pub data Carries (setup : IdpConfig) (held : Held) (r : IdpRecord) (bytes : List ℕ) : Type 0 where
+  AQuestion : (id : List ℕ) → bytes ≡ login_answer id → Carries setup held r bytes
+  AForm : (sent : Made) → Sends bytes sent → AllByRecursion (IsSignedOf setup held r) (signed_elements (alone sent)) → Carries setup held r bytes
+  ALogout : (sent : Made) → SendsOn bytes sent → AllByRecursion (IsSignedOf setup held r) (signed_elements (alone sent)) → Carries setup held r bytes
+  AnEnd : (partial : Bool) → bytes ≡ end_answer partial → Carries setup held r bytes
 
 abbrev pub EachSignedElementIsOfARecord : Type 0
 EachSignedElementIsOfARecord =
     (setup : IdpConfig) (held : Held) (request : Request) (now : ℕ) (bytes : List ℕ) (r : IdpRecord)
-    → Answers setup held request now (Full bytes) (Some r) → Carries setup r bytes
+    → Answers setup held request now (Full bytes) (Some r) → Carries setup held r bytes

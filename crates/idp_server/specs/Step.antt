@@ -1,7 +1,7 @@
 -- What an identity provider does at one request.
-use Rattle.std.specs.Prelude.{◌≡◌, ◌⊎◌, ℕ, Bool, true, false, List, [], ◌∷◌, codes, Option, None, Some, IfSome, Ok, Err, if◌then◌else◌, slice_get}
+use Rattle.std.specs.Prelude.{◌≡◌, ℕ, Bool, true, false, List, [], ◌∷◌, codes, Option, None, Some, if◌then◌else◌, slice_get}
 use Rattle.std.specs.Option.{option_and_then}
-use Rattle.crash_disk.specs.Disk.{Image, DiskState, image_of}
+use Rattle.crash_disk.specs.Disk.{Image, DiskState}
 use Rattle.http_wire.specs.declared.answer.Answer.{Answer}
 use Rattle.http_wire.specs.declared.answer.Answer.TheVariants.{Fixed, Full}
 use Rattle.http_wire.specs.Requests.{Request}
@@ -19,7 +19,6 @@ use Rattle.ledger_records.specs.declared.idp_record.Issued.{Issued}
 use Rattle.ledger_records.specs.declared.idp_record.Left.{Left}
 use Rattle.ledger_records.specs.declared.idp_record.IdpRecord.{IdpRecord}
 use Rattle.ledger_records.specs.declared.idp_record.IdpRecord.TheVariants as kinds
-use Rattle.gate_journal.specs.Format.{Fault}
 use Rattle.peer_keys.specs.Peers.{place_of}
 use Rattle.peer_keys.specs.declared.peers.LogoutPeer.{LogoutPeer}
 use Rattle.user_store.specs.Store.{checked}
@@ -29,10 +28,11 @@ use Rattle.idp_ledger.specs.declared.row.PendingRow.{PendingRow}
 use Rattle.idp_ledger.specs.declared.row.SessionRow.{SessionRow}
 use Rattle.idp_ledger.specs.RowsOf.{rows_of}
 use Rattle.idp_ledger.specs.Finding.{ending, is_empty, is_partial, is_waiting_now, last_peer, pending_found, session_found}
-use Rattle.idp_ledger.specs.Ledger.{Held, Opened, IsFitting, IsOwn, LeftByOpening, ledger_in, taken, next_number, held_with}
+use Rattle.idp_ledger.specs.Record.{idp_rules}
+use Rattle.idp_ledger.specs.Standing.{StandingView}
+use Rattle.idp_ledger.specs.Ledger.{Held, next_number}
 use Rattle.idp_ledger.specs.Draft.{first_id}
-use Rattle.idp_ledger.specs.Drafts.{confirmed, ended, issue, left, login, pending, spoke, is_full}
-use Rattle.idp_ledger.specs.Compacting.{Compacts}
+use Rattle.idp_ledger.specs.Drafts.{confirmed, ended, issue, left, login, pending, spoke}
 use Rattle.idp_rules.specs.Asking.{IsAsked}
 use Rattle.idp_rules.specs.Config.{logout, sign_on}
 use Rattle.idp_rules.specs.Verdict.{IsRefused}
@@ -43,13 +43,13 @@ use Rattle.logout_answers.specs.Answers.{Ending, Leaving, end_answer}
 use Rattle.logout_profile.specs.Verdict as logouts
 use Rattle.logout_profile.specs.declared.logout.Logout.{Logout as Message}
 use Rattle.logout_profile.specs.declared.logout.Logout.TheVariants as messages
+use Rattle.node_steps.specs.Step as any
 use Rattle.idp_server.specs.Logins.{login_of}
 use Rattle.idp_server.specs.Routes.{SignOn, Login, Metadata, Logout, SingleLogout, To, Refused, route}
 
 -- a provider: what it is set up with, and its ledger
-pub record Provider : Type 0 where
-  pub setup : IdpConfig
-  pub ledger : Opened
+abbrev pub Provider : Type 0
+Provider = any.Provider IdpConfig IdpRecord StandingView
 
 -- ---- what a request brings
 
@@ -227,87 +227,31 @@ pub data Answers (setup : IdpConfig) (held : Held) (request : Request) (now : �
       → is_awaited held now response.request ≡ true → adds ≡ Some (confirmed now response.request)
       → answer ≡ Full (end_answer (is_in_part response.outcome)) → Answers setup held request now answer adds
 
+-- ---- one request
+
 -- there is room for a record: fewer rows of its kind are kept than may be, and it fits
-pub record HasPlace (held : Held) (r : IdpRecord) : Type 0 where
-  pub few : is_full (rows_of held.records) r ≡ false
-  pub fits : IsFitting held r
-
--- after a request the ledger is whole and holds this
-pub record IsWhole (old new : Provider) (held : Held) : Type 0 where
-  pub setup : new.setup ≡ old.setup
-  pub key : new.ledger.key ≡ old.ledger.key
-  pub unbroken : new.ledger.broken ≡ false
-  pub is : new.ledger.held ≡ held
-
--- after a request the ledger is broken
-pub record IsBroken (old new : Provider) : Type 0 where
-  pub setup : new.setup ≡ old.setup
-  pub key : new.ledger.key ≡ old.ledger.key
-  pub is_broken : new.ledger.broken ≡ true
-
--- the codes that a provider answers where it can't go on
-abbrev pub DISK_FAULT : ℕ
-DISK_FAULT = 50
-
-abbrev pub FULL : ℕ
-FULL = 51
-
-abbrev pub NO_MEMORY : ℕ
-NO_MEMORY = 52
-
-abbrev pub FOREIGN : ℕ
-FOREIGN = 53
+abbrev pub HasPlace : Held → IdpRecord → Type 0
+HasPlace = any.HasPlace idp_rules
 
 -- What is done at a request over the ledger that it finds: the request and the moment; whether the disk's count of faults rose;
 -- the answer; the provider before and after.
-pub data Serves (found : Held) (request : Request) (now : ℕ) (Risen : Type 0) (answer : Answer) (old new : Provider) : Type 0 where
-  -- nothing is recorded
-  Plain : Answers old.setup found request now answer None → IsWhole old new found → Serves found request now Risen answer old new
-  -- a record is added
-  Recorded : (r : IdpRecord) → Answers old.setup found request now answer (Some r) → HasPlace found r → IsWhole old new (held_with r found)
-      → Serves found request now Risen answer old new
-  -- there was no place for it, and after one compaction there is
-  RecordedAfterCompaction : (held : Held) (wanted r : IdpRecord) (other : Answer) → Answers old.setup found request now other (Some wanted)
-      → ¬ (HasPlace found wanted) → Compacts now found held → Answers old.setup held request now answer (Some r) → HasPlace held r
-      → IsWhole old new (held_with r held) → Serves found request now Risen answer old new
-  -- there is none after it either
-  NoPlace : (held : Held) (wanted r : IdpRecord) (other another : Answer) → Answers old.setup found request now other (Some wanted)
-      → ¬ (HasPlace found wanted) → Compacts now found held → Answers old.setup held request now another (Some r) → ¬ (HasPlace held r)
-      → answer ≡ Fixed FULL → IsWhole old new held → Serves found request now Risen answer old new
-  -- a record was to be added, and the disk failed in the compaction or while the record was written
-  Failed : (wanted : IdpRecord) (other : Answer) → Answers old.setup found request now other (Some wanted) → Risen → answer ≡ Fixed DISK_FAULT
-      → IsBroken old new → Serves found request now Risen answer old new
-  -- there was no memory: nothing is recorded, and one compaction may have been made
-  Starved : (held : Held) → (held ≡ found) ⊎ Compacts now found held → answer ≡ Fixed NO_MEMORY → IsWhole old new held
-      → Serves found request now Risen answer old new
+abbrev pub Serves : (found : Held) (request : Request) (now : ℕ) (Risen : Type 0) (answer : Answer) (old new : Provider) → Type 0
+Serves = any.Serves idp_rules Answers
 
 -- The step of a provider at one request. A ledger that is broken is opened again first.
-pub data Steps (old : Provider) (disk : Option DiskState) (request : Request) (now : ℕ) (Risen : Type 0) (answer : Answer) (new : Provider) : Type 0 where
-  WithLedger : old.ledger.broken ≡ false → Serves old.ledger.held request now Risen answer old new → Steps old disk request now Risen answer new
-  WithOpened : (found : Held) → old.ledger.broken ≡ true → IfSome disk (λ d. taken (ledger_in (image_of d)) ≡ Ok found)
-      → Serves found request now Risen answer old new → Steps old disk request now Risen answer new
-  -- the disk failed, it stands for no ledger, or there was no memory: the ledger stays broken
-  NotOpened : old.ledger.broken ≡ true → Risen → answer ≡ Fixed DISK_FAULT → IsBroken old new → Steps old disk request now Risen answer new
-  Strange : old.ledger.broken ≡ true → IfSome disk (λ d. (fault : Fault) × (taken (ledger_in (image_of d)) ≡ Err fault)) → answer ≡ Fixed FOREIGN
-      → IsBroken old new → Steps old disk request now Risen answer new
-  StarvedAtOpening : old.ledger.broken ≡ true → answer ≡ Fixed NO_MEMORY → IsBroken old new → Steps old disk request now Risen answer new
+abbrev pub Steps : (old : Provider) (disk : Option DiskState) (request : Request) (now : ℕ) (Risen : Type 0) (answer : Answer) (new : Provider) → Type 0
+Steps = any.Steps idp_rules Answers
 
--- What a crash while a request is served over a ledger may leave: this ledger, or it after one compaction, and either with the record
+-- What a crash while a request is served over a ledger may leave: this ledger, or it after the one compaction, and either with the record
 -- that the request adds.
-pub data ServingLeaves (setup : IdpConfig) (found : Held) (request : Request) (now : ℕ) (image : Image) : Type 0 where
-  Same : ledger_in image ≡ Ok (Some found) → ServingLeaves setup found request now image
-  Compacted : (held : Held) → Compacts now found held → ledger_in image ≡ Ok (Some held) → ServingLeaves setup found request now image
-  With : (held : Held) (r : IdpRecord) (answer : Answer) → (held ≡ found) ⊎ Compacts now found held → Answers setup held request now answer (Some r)
-      → HasPlace held r → ledger_in image ≡ Ok (Some (held_with r held)) → ServingLeaves setup found request now image
+abbrev pub ServingLeaves : (setup : IdpConfig) (found : Held) (request : Request) (now : ℕ) (image : Image) → Type 0
+ServingLeaves = any.ServingLeaves idp_rules Answers
 
 -- What a crash at a moment of a request may leave: that, and while a broken ledger is opened again what the disk stood for, or what is
 -- opened from it.
-pub data StepLeaves (old : Provider) (disk : Option DiskState) (request : Request) (now : ℕ) (image : Image) : Type 0 where
-  InLedger : old.ledger.broken ≡ false → ServingLeaves old.setup old.ledger.held request now image → StepLeaves old disk request now image
-  InOpened : (found : Held) → old.ledger.broken ≡ true → IfSome disk (λ d. taken (ledger_in (image_of d)) ≡ Ok found)
-      → ServingLeaves old.setup found request now image → StepLeaves old disk request now image
-  InOpening : old.ledger.broken ≡ true → LeftByOpening disk image → StepLeaves old disk request now image
+abbrev pub StepLeaves : (old : Provider) (disk : Option DiskState) (request : Request) (now : ℕ) (image : Image) → Type 0
+StepLeaves = any.StepLeaves idp_rules Answers
 
 -- the disk is the provider's own
 abbrev pub OwnsDisk : Provider → Option DiskState → Type 0
-OwnsDisk provider disk = IsOwn disk provider.ledger
+OwnsDisk = any.OwnsDisk idp_rules

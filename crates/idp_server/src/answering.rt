@@ -5,7 +5,7 @@ ghost use Rattle.crash_disk.specs.Moments.{LeavesOnly};
 ghost use Rattle.http_wire.specs.Views.{request_view};
 ghost use Rattle.node_serve.specs.Worlds.{HasBytes};
 ghost use Rattle.idp_server.specs.Step.{OwnsDisk, Serves, ServingLeaves};
-ghost use Rattle.idp_server.specs.Serving.{CanServe, IsMetadata, code_of, refusal_code};
+ghost use Rattle.idp_server.specs.Serving.{CanServe, IsMetadata, refusal_code};
 
 use crate::node::IdpNode;
 use crate::route::{Route, route_of};
@@ -15,26 +15,7 @@ use gate_journal::OpenFault;
 use http_wire::{Answer, HttpRequest};
 use idp_answers::metadata_answer;
 use node_serve::Node;
-
-/// The codes that are answered where a provider can't go on.
-pub(crate) const DISK_FAULT: u16 = 50;
-
-pub(crate) const FULL: u16 = 51;
-
-pub(crate) const NO_MEMORY: u16 = 52;
-
-pub(crate) const FOREIGN: u16 = 53;
-
-/// The code of a fault of an opening or a compaction.
-pub(crate) fn code_of(fault: OpenFault) -> u16
-    ensures { result ≡ code_of fault }
-{
-    match fault {
-        OpenFault::DiskFault => DISK_FAULT,
-        OpenFault::Foreign { .. } => FOREIGN,
-        OpenFault::NoMemory => NO_MEMORY,
-    }
-}
+use node_steps::{NO_MEMORY, code_of};
 
 /// The code of a refusal.
 pub(crate) fn refusal_code(judged: Judged) -> u16
@@ -94,8 +75,9 @@ impl IdpNode {
 
 impl Node for IdpNode {
     ghost use Rattle.crash_disk.specs.Counts.{Rose};
+    ghost use Rattle.idp_ledger.specs.Ledger.{LeftByOpening};
     ghost use Rattle.idp_server.specs.Step.{OwnsDisk, Steps, StepLeaves};
-    ghost use Rattle.idp_server.specs.Node.{MayOpen, Restarts, RestartLeaves, CompactionOf, CompactionLeaves};
+    ghost use Rattle.idp_server.specs.Node.{MayOpen, Restarts, CompactionOf, CompactionLeaves};
 
     ghost own = { OwnsDisk };
 
@@ -107,7 +89,7 @@ impl Node for IdpNode {
 
     ghost reopens = { λ old disk _ _ result new _. Restarts old disk result new };
 
-    ghost reopening_leaves = { λ _ disk. RestartLeaves disk };
+    ghost reopening_leaves = { λ _ disk. LeftByOpening disk };
 
     ghost compacts = { λ old disk now _ _ result new _. CompactionOf old disk now result new };
 

@@ -1,6 +1,6 @@
 //! Laws of an identity provider, each the contract of a function that does nothing.
 ghost use Rattle.idp_server.specs.Issues.{AnswersHaveUsers, ServicesHaveUsers, WhatIsAnsweredIsRecorded};
-ghost use Rattle.idp_server.specs.Histories.{AnEndedSessionStaysEnded, WhatIsAcknowledgedIsKept};
+ghost use Rattle.idp_server.specs.Histories.{AnEndedSessionStaysEnded, SessionsStayEndedInAService, SessionsStayEndedOverStarts, WhatIsAcknowledgedIsKept, WhatIsAcknowledgedIsKeptOverStarts};
 ghost use Rattle.idp_server.specs.Logouts.{AnswersEndExactly, ServicesEndExactly, WhatIsAnsweredToALogoutIsRecorded, WhereverAPeerEnds, WhereverAUserLeaves};
 ghost use Rattle.idp_server.specs.Signed.{EachSignedElementIsOfARecord};
 
@@ -44,6 +44,31 @@ pub fn what_is_acknowledged_is_kept()
 {
     idp_ledger::laws::images_hold_records();
     idp_ledger::laws::compactions_change_no_answer();
+}
+
+/// Over each list of events, moments, disk faults and openings: a session that is ended is live at no later request, and in no ledger
+/// that a crash may leave since.
+pub fn sessions_stay_ended_in_a_service()
+    ensures { SessionsStayEndedInAService }
+{
+    idp_ledger::laws::images_hold_records();
+    an_ended_session_stays_ended();
+}
+
+/// Over each list of starts of a provider, each of which opens what a crash of the one before it may have left: what an answer
+/// acknowledged is in the history of every ledger that may be opened behind them.
+pub fn what_is_acknowledged_is_kept_over_starts()
+    ensures { WhatIsAcknowledgedIsKeptOverStarts }
+{
+    idp_ledger::laws::images_hold_records();
+}
+
+/// And a session that was ended is live in no ledger that may be opened behind them.
+pub fn sessions_stay_ended_over_starts()
+    ensures { SessionsStayEndedOverStarts }
+{
+    idp_ledger::laws::images_hold_records();
+    an_ended_session_stays_ended();
 }
 
 /// Each form and each page that is answered to a user who leaves, or to a message of a logout, stands for one record, and behind the

@@ -4,17 +4,17 @@ ghost use Rattle.crash_disk.specs.Counts.{Rose};
 ghost use Rattle.crash_disk.specs.Moments.{LeavesOnly};
 ghost use Rattle.gate_journal.specs.Opening.{CausesFaults};
 ghost use Rattle.node_serve.specs.Worlds.{HasBytes};
+ghost use Rattle.node_steps.specs.Serving.{Commits};
 ghost use Rattle.idp_ledger.specs.Ledger.{CanCommit, IsWithOrWithout};
 ghost use Rattle.idp_ledger.specs.Compacting.{IsOldOrCompacted};
 ghost use Rattle.idp_server.specs.Step.{OwnsDisk};
 ghost use Rattle.idp_server.specs.Node.{CompactsFound};
-ghost use Rattle.idp_server.specs.Serving.{Commits};
 
-use crate::answering::DISK_FAULT;
 use crate::node::IdpNode;
 use crash_disk::Disk;
 use http_wire::Answer;
 use idp_ledger::{Draft, OpenFault};
+use node_steps::DISK_FAULT;
 use owned_values::Blob;
 
 impl IdpNode {

@@ -7,15 +7,16 @@ ghost use Rattle.http_wire.specs.Views.{request_view};
 ghost use Rattle.http_wire.specs.declared.answer.Answer.TheVariants.{Fixed};
 ghost use Rattle.ledger_records.specs.declared.idp_record.IdpRecord.{IdpRecord};
 ghost use Rattle.node_serve.specs.Worlds.{HasBytes};
+ghost use Rattle.node_steps.specs.Serving.{Adds};
 ghost use Rattle.saml_time.specs.declared.TheConstants.{LAST};
 ghost use Rattle.verdict_codes.specs.Codes.{number_of};
 ghost use Rattle.idp_ledger.specs.Ledger.{CanCommit, IsWithOrWithout};
 ghost use Rattle.idp_ledger.specs.Drafts.{Drafts, SameLedger};
 ghost use Rattle.idp_server.specs.Step.{Answers, HasPlace, OwnsDisk, Serves, ServingLeaves};
-ghost use Rattle.idp_server.specs.Serving.{Adds, CanServe};
+ghost use Rattle.idp_server.specs.Serving.{CanServe};
 ghost use Rattle.idp_server.specs.Replies.{CanBeShown, IsPage, IsXmlReply, Wants, record_for};
 
-use crate::answering::{FULL, NO_MEMORY, code_of, refusal_code};
+use crate::answering::refusal_code;
 use crate::node::IdpNode;
 use crate::reply::Reply;
 use crash_disk::Disk;
@@ -23,6 +24,7 @@ use fault_verdicts::Judged;
 use http_wire::{Answer, HttpRequest};
 use idp_ledger::laws::compactions_change_no_answer;
 use idp_ledger::{Draft, DraftFault};
+use node_steps::{FULL, NO_MEMORY, code_of};
 
 impl IdpNode {
     /// Drafts the record of a reply.

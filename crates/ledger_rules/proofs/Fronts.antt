@@ -19,7 +19,7 @@ use Rattle.ledger_rules.specs.Numbers.{has_number, number_text}
 abbrev bytes_of : ℕ → List ℕ
 bytes_of n = to_be_bytes w64 n
 
-high_first_byte : (k n : ℕ) → IsBytes (bytes_high_first k n)
+pub high_first_byte : (k n : ℕ) → IsBytes (bytes_high_first k n)
 high_first_byte zero n i = lit< tt
 high_first_byte (suc zero) n zero = mod-lt n (lit< tt)
 high_first_byte (suc (suc k)) n zero = mod-lt _ (lit< tt)
@@ -29,7 +29,7 @@ length-number_text : (n : ℕ) → length (number_text n) ≡ 17
 length-number_text n = omega (arith, length-encode_with lower_digits (bytes_of n))
 
 -- what stands in front of an ID with this number
-number_front : (n : ℕ) (id : List ℕ) → has_number n id ≡ true → take 17 id ≡ number_text n
+pub number_front : (n : ℕ) (id : List ℕ) → has_number n id ≡ true → take 17 id ≡ number_text n
 unfolding has_number
 number_front n id is = (bytes_eq-Decides (take 17 id) (number_text n)).0 is
 

@@ -1,3 +1,6 @@
 pub mod Numbers
 pub mod Kept
+pub mod RowPlaces
+pub mod Texts
+pub mod Moments
 pub mod Examples

@@ -1,5 +1,5 @@
-//! What the ledgers of both providers have in common: numbers and the IDs that have them, which records are kept where
-//! others are left out, and why no record was drafted.
+//! What the ledgers of both providers have in common: numbers and the IDs that have them, what is checked of each record, which
+//! records are kept where others are left out, and why no record was drafted.
 //!
 //! ```
 //! let mut numbers = Numbers::new(alloc);
@@ -7,18 +7,32 @@
 //! numbers.put(4);                                     // the row at place 0 has an ID of number 4
 //! numbers.place_of("_0000000000000004af..");          // Some(0): no other place can have this ID
 //! let flags = keep(alloc, &[Some(1), None, None], &[true, false, false])?;   // [true, true, false]
+//! let set = TextSet::of(alloc, &texts)?;
+//! set.holds("_a");                                    // whether one of the texts is `_a`
 //! ```
 //!
 //! An ID begins with its number, so IDs of different numbers differ, and a list of rows whose numbers ascend needs no
 //! index: [`Numbers`] finds the place of an ID by halving. [`keep`] follows links between records in linear time.
 //!
-//! Contracts see [`Numbers`] as the list of its numbers and how many more fit in without memory.
+//! The IDs of lesser numbers are less by bytes too, so the order of such rows by their IDs is that of their places:
+//! [`RowPlaces`] shows it. [`TextSet`] says whether a text is among others without going over all of them.
+//!
+//! Contracts see [`Numbers`] as the list of its numbers and how many more fit in without memory, [`RowPlaces`] as how many
+//! places there are and how many more fit in, and [`TextSet`] as its texts.
 #![tactic(auto)]
 
+mod checks;
 mod fault;
 mod kept;
 mod numbers;
+mod row_places;
+mod text_set;
 
+pub use checks::{
+    END_OF_NUMBERS, LAST, LIFE, are_allowed, are_allowed_attributes, is_allowed, is_fresh,
+};
 pub use fault::DraftFault;
 pub use kept::keep;
 pub use numbers::{Numbers, has_number, is_xml_text};
+pub use row_places::RowPlaces;
+pub use text_set::TextSet;

@@ -1,7 +1,8 @@
-pub mod Picking
 pub mod Covered
-pub mod Reading
-pub mod Skipping
-pub mod Shown
-pub mod Outcomes
 mod Examples
+pub mod OneFault
+pub mod Outcomes
+pub mod Picking
+pub mod Reading
+pub mod Shown
+pub mod Skipping

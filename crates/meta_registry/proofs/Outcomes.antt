@@ -90,7 +90,7 @@ no_moment o ms e f = let clash : None ≡ Some ms = sym f ∙ e in cc
 
 -- a tree that is read is refused for no fault of the reader
 module _ (text : List ℕ) (one : (tree other : Nodes) → Spells text tree → Spells text other → tree ≡ other) (tree : Nodes) (read : IsSpelled text tree) where
-  no_tree_fault : (fault : TreeFault) → fault ≢ tree_faults.NoMemory → trees.IsRefused text fault → ⊥
+  pub no_tree_fault : (fault : TreeFault) → fault ≢ tree_faults.NoMemory → trees.IsRefused text fault → ⊥
   no_tree_fault tree_faults.BadXml other is = is tree read.spells
   no_tree_fault tree_faults.XmlLimit other is = is.2 (subst IsWithinLimits (one tree is.0 read.spells is.1) read.limits)
   no_tree_fault tree_faults.BadNames other is = is.3 (subst HasNames (one tree is.0 read.spells is.1) read.names)

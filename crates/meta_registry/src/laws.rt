@@ -1,5 +1,5 @@
 //! Laws of the definitions that the contracts cite. Each function does nothing: what it ensures is the law.
-ghost use Rattle.std.specs.Prelude.{◌≡◌, ℕ, List, Ok, Some};
+ghost use Rattle.std.specs.Prelude.{◌≡◌, ◌≢◌, ℕ, List, Ok, Some};
 ghost use Rattle.xml_spec.specs.Tree.{Nodes};
 ghost use Rattle.xml_spec.specs.Canonical.{canonical};
 ghost use Rattle.metadata.specs.declared.peer.Role.{Role};
@@ -24,12 +24,14 @@ pub fn a_peer_is_read_from_a_listed_descriptor()
         peer_in registry entity role ≡ Ok peer → (d : ℕ) × IsListed key tree entity d × (peer_of tree d role ≡ Ok peer) }
 {}
 
-/// A text gives one registry, under whatever keys it is read, and none that is read under a key is refused under it, want of
-/// memory aside.
+/// A text gives one registry, under whatever keys it is read; none that is read under a key is refused under it, and one that is
+/// refused under a key is refused for one fault, want of memory aside.
 pub fn a_text_has_one_outcome()
     ensures registry { (text key other : List ℕ) (one second : RegistryView) → IsRead text key one → IsRead text other second → one ≡ second }
     ensures never_both { (text key : List ℕ) (registry : RegistryView) (fault : RegistryFault) → IsRead text key registry → IsRefused text key fault →
         fault ≡ RegistryFault.NoMemory }
+    ensures refused { (text key : List ℕ) (one other : RegistryFault) → IsRefused text key one → IsRefused text key other →
+        one ≢ RegistryFault.NoMemory → other ≢ RegistryFault.NoMemory → one ≡ other }
 {
     xml_spec::no_bytes_spell_two_trees();
 }

@@ -12,8 +12,8 @@
 //! children are passed over. A contract sees a registry as these entries and the moment until which they are valid
 //! (`Aggregate.antt`); `IsRead` and `IsRefused` of `Faults.antt` say what the text is of which it was read, or why none was.
 //! That a provider comes from inside the covered element, and that it depends on nothing but the content of that element,
-//! are [`laws`]. Want of memory may come in place of any other answer. Reading is linear in the text, and asking for a
-//! provider in what is kept.
+//! are [`laws`]. Want of memory may come in place of any other answer. Reading is linear in the text and in the canonical
+//! forms that are signed, in which declarations of namespaces are repeated; asking for a provider is linear in what is kept.
 #![tactic(auto)]
 
 mod entry;

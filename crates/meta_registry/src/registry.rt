@@ -140,7 +140,8 @@ fn read_root(alloc: Global, doc: &Doc<'_>, key: &[u8]) -> Result<Registry, Regis
 }
 
 /// Reads a signed aggregate of metadata (SAML Metadata, 2.3.1 and 3.1): the text, of at most `MAX_DOCUMENT_LENGTH` bytes,
-/// and the key of its signature, which may have any length. It takes time in proportion to the text.
+/// and the key of its signature, which may have any length. It takes time in proportion to the text and to the canonical forms
+/// that are signed, in which declarations of namespaces are repeated.
 ///
 /// # Errors
 ///

@@ -1,7 +1,9 @@
 pub mod Completing
+pub mod InOrder
 pub mod Leaving
 pub mod Moments
 pub mod Outgoing
 pub mod Refusing
 pub mod Rounds
 pub mod Taking
+pub mod Telling

@@ -27,9 +27,9 @@ next_comes E (Some link) now before after event bytes long gives same =
     (same link.coming (sym at.0) at.1 ∙ ap (λ (e : LinkEvent). event_of e given.bytes) at.0, at.2)
 
 -- the world once the event has come
-pub next_is : {N : Type 0} (node : N) (disk : Option DiskState) (disk_faults : ℕ) (link after : Option LinkState) (send_faults after_faults : ℕ) (clock : Option (List ℕ)) (event given : Event)
-    → Comes (Some given) link after → event ≡ given → after_faults ≡ send_faults → IsNext (Some event) (world node disk disk_faults link send_faults clock) (world node disk disk_faults after after_faults clock)
-next_is node disk disk_faults link after send_faults after_faults clock event given comes is counted = record {
+pub next_is : {N : Type 0} (node : N) (disk : Option DiskState) (disk_faults moment : ℕ) (link after : Option LinkState) (send_faults after_faults : ℕ) (clock : Option (List ℕ)) (event given : Event)
+    → Comes (Some given) link after → event ≡ given → after_faults ≡ send_faults → IsNext (Some event) (world node disk disk_faults moment link send_faults clock) (world node disk disk_faults moment after after_faults clock)
+next_is node disk disk_faults moment link after send_faults after_faults clock event given comes is counted = record {
   comes = subst (λ (e : Event). Comes (Some e) link after) (sym is) comes;
-  same = ap (λ (n : ℕ). world node disk disk_faults after n clock) counted;
+  same = ap (λ (n : ℕ). world node disk disk_faults moment after n clock) counted;
 }

@@ -1,6 +1,8 @@
 -- The definitions at worked examples.
 use Rattle.std.specs.Prelude.{◌≡◌, ℕ, List, [], ◌∷◌, codes, map, false, None, Some, Ok, refl}
-use Rattle.std.proofs.Common.{lit≤}
+use Rattle.std.proofs.Common.{lit≤, arith, inl, ⊎_elim}
+use Rattle.crash_disk.specs.Disk.{Image, MayLeave, settled_image}
+use Rattle.crash_disk.specs.Soundness.{sound-settled_image}
 use Rattle.event_link.specs.declared.arrival.Arrival.TheVariants as arrivals
 use Rattle.event_link.specs.Links.{LinkState}
 use Rattle.http_wire.specs.declared.answer.Answer.TheVariants as answers
@@ -9,7 +11,7 @@ use Rattle.http_wire.specs.Requests.{Request, Whole}
 use Rattle.http_wire.specs.Requests.{Refused as RefusedReading}
 use Rattle.conn_table.specs.Events.{Started, Piece, Ended}
 use Rattle.node_serve.specs.Laws.{whole_requests}
-use Rattle.node_serve.specs.Serving.{Ends}
+use Rattle.node_serve.specs.Serving.{Ends, LeavesSince}
 use Rattle.node_serve.specs.Turns.{Asked, Turn, Taken, Full, StarvedStart, Over, Unknown, Waiting, Answered, StarvedPiece, history_of, asked_in}
 use Rattle.node_serve.specs.Worlds.{World, Comes, TakesMoment, world}
 
@@ -62,7 +64,26 @@ moment = record { moment = refl; limit = lit≤ tt; later = refl }
 
 -- a budget of one event was used up
 abbrev here : World ℕ
-here = world 0 None 0 (Some link) 0 None
+here = world 0 None 0 0 (Some link) 0 None
 
 ends : Ends 1 (Over 7 ∷ []) here (Ok (record { events = 1; stopped = false })) here
 ends = (refl, (refl, refl))
+
+-- a disk that holds one byte at moment 5, before no request
+abbrev holding : List ℕ → Image
+holding bytes = record { zero = bytes; one = [] }
+
+abbrev point : World ℕ
+point = world 0 (Some (settled_image (holding (1 ∷ [])))) 0 5 None 0 None
+
+-- since then a crash leaves that byte and nothing else,
+stays : LeavesSince (λ _ _ _ _ _. ⊥) (λ t image. MayLeave (settled_image (holding (1 ∷ []))) image) point []
+stays = record { here = λ image may. may; only = λ image left. inl left }
+
+-- so that the byte was not gone in between,
+undone : LeavesSince (λ _ _ _ _ _. ⊥) (λ t image. Unit {0}) point [] → ⊥
+undone since = ⊎_elim (λ may. omega (arith, may.zero.no_shorter)) (λ inside. inside.2) (since.only (holding []) tt)
+
+-- and the byte was there once.
+late : LeavesSince (λ _ _ _ _ _. ⊥) (λ t image. ⊥) point [] → ⊥
+late since = let sound = sound-settled_image (holding (1 ∷ [])) in since.here (holding (1 ∷ [])) (record { zero = sound.zero.reads; one = sound.one.reads })

@@ -8,10 +8,11 @@ use Rattle.node_serve.specs.Worlds.{World, world}
 module _ {N L D C : Type 0} where
   -- the world as the code holds it
   abbrev pub world_in :
-      (D → Option DiskState) → (D → ℕ) → (L → Option LinkState) → (L → ℕ) → (C → Option (List ℕ)) → Serving N L D C → World N
-  world_in disk disk_faults link send_faults clock held =
+      (D → Option DiskState) → (D → ℕ) → (D → ℕ) → (L → Option LinkState) → (L → ℕ) → (C → Option (List ℕ)) → Serving N L D C → World N
+  world_in disk disk_faults moment link send_faults clock held =
       world
-      held.node.now (disk held.disk.now) (disk_faults held.disk.now) (link held.link.now) (send_faults held.link.now) (clock held.clock.now)
+      held.node.now (disk held.disk.now) (disk_faults held.disk.now) (moment held.disk.now) (link held.link.now) (send_faults held.link.now)
+      (clock held.clock.now)
 
   -- it holds the same objects
   pub record SameObjects (old new : Serving N L D C) : Type 0 where

@@ -1,5 +1,6 @@
 -- What serving does at each event, one event after the other.
-use Rattle.std.specs.Prelude.{◌≡◌, ℕ, List, [], ◌∷◌, ◌++◌, Option, Some, IfSome}
+use Rattle.std.specs.Prelude.{◌≡◌, ℕ, ◌≤◌, List, [], ◌∷◌, ◌++◌, Option, Some, IsSome, IfSome}
+use Rattle.std.specs.List.{AllByRecursion}
 use Rattle.std.specs.FinMap as map
 use Rattle.crash_disk.specs.Disk.{DiskState}
 use Rattle.http_wire.specs.declared.answer.Answer.{Answer}
@@ -79,6 +80,11 @@ abbrev pub asked_in : {N : Type 0} → List (Turn N) → List (Asked N)
 asked_in [] = []
 asked_in (turn ∷ past) = asked_in past ++ asked_by turn
 
+-- the disk tells whenever a request comes
+abbrev pub AreTold : {N : Type 0} → List (Turn N) → Type 0
+AreTold [] = Unit {0}
+AreTold (turn ∷ past) = AllByRecursion (λ asked. IsSome asked.disk) (asked_by turn) × AreTold past
+
 -- The page of a code is sent on a connection, and the connection is let go.
 pub record LetsGo {N : Type 0} (conn code : ℕ) (old : Table) (before : World N) (new : Table) (after : World N) : Type 0 where
   pub sends : OnlySends conn (fixed code) before after
@@ -86,11 +92,12 @@ pub record LetsGo {N : Type 0} (conn code : ℕ) (old : Table) (before : World N
 
 -- `step` says what an answer of the node does.
 module _ {N : Type 0} (step : NodeStep N) where
-  -- The node is asked, at one moment of the clock.
+  -- The node is asked, at one moment of the clock, while the disk's moment goes on.
   pub record Asks (asked : Asked N) (before after : World N) : Type 0 where
     pub node : asked.node ≡ before.node
     pub disk : asked.disk ≡ before.disk
     pub moment : TakesMoment before.clock asked.now after.clock
+    pub time : before.moment ≤ after.moment
     pub answers :
         step before.node before.disk asked.request asked.now before.disk_faults after.disk_faults asked.answer after.node after.disk
     pub link : after.link ≡ before.link

@@ -1,5 +1,5 @@
 -- What serving works on, and what its calls do to it.
-use Rattle.std.specs.Prelude.{◌≡◌, ℕ, ◌≤◌, min, List, take, Option, None, Some, IfSome, IsSomeAnd, IsTrue}
+use Rattle.std.specs.Prelude.{◌≡◌, ℕ, ◌≤◌, min, List, take, Option, None, Some, is_some, IfSome, IsSomeAnd, IsTrue}
 use Rattle.std.specs.Option.{option_map}
 use Rattle.saml_time.specs.declared.TheConstants.{LAST}
 use Rattle.crash_disk.specs.Counts.{Rose}
@@ -29,21 +29,25 @@ NodeLeaves N = N → Option DiskState → Request → ℕ → Image → Type 0
 abbrev pub NodeOwns : Type 0 → Type 1
 NodeOwns N = N → Option DiskState → Type 0
 
--- What an answer does, with what a crash may leave: a disk reads as one of the images that a crash might leave when the request
--- came; once it is answered the disk is the node's own, and a crash leaves only what one inside the answer might leave.
+-- What an answer does, with what a crash may leave: a disk reads as one of the images that a crash might leave, when the request
+-- came and once it is answered; then the disk is the node's own, it tells where it told, and a crash leaves only what one inside
+-- the answer might leave.
 pub record IsAnswered {N : Type 0} (own : NodeOwns N) (step : NodeStep N) (leaves : NodeLeaves N) (old : N) (disk : Option DiskState) (request : Request) (now before after : ℕ)
     (answer : Answer) (new : N) (later : Option DiskState) : Type 0 where
   pub does : step old disk request now before after answer new later
   pub reads : IfSome disk (λ d. MayLeave d (image_of d))
+  pub reads_later : IfSome later (λ d. MayLeave d (image_of d))
   pub owns : own new later
+  pub tells : is_some later ≡ is_some disk
   pub left : (image : Image) → Leaves later image → leaves old disk request now image
 
 -- The node, and what the disk, the link and the clock tell.
 pub record World (N : Type 0) : Type 0 where
   pub node : N
-  -- what the disk tells, and its count of faults
+  -- what the disk tells, its count of faults, and its moment
   pub disk : Option DiskState
   pub disk_faults : ℕ
+  pub moment : ℕ
   -- what the link tells, and its count of faults of `send`
   pub link : Option LinkState
   pub send_faults : ℕ
@@ -51,9 +55,9 @@ pub record World (N : Type 0) : Type 0 where
   pub clock : Option (List ℕ)
 
 -- the world of a node and of what was told
-abbrev pub world : {N : Type 0} → N → Option DiskState → ℕ → Option LinkState → ℕ → Option (List ℕ) → World N
-world node disk disk_faults link send_faults clock =
-    record { node = node; disk = disk; disk_faults = disk_faults; link = link; send_faults = send_faults; clock = clock }
+abbrev pub world : {N : Type 0} → N → Option DiskState → ℕ → ℕ → Option LinkState → ℕ → Option (List ℕ) → World N
+world node disk disk_faults moment link send_faults clock =
+    record { node = node; disk = disk; disk_faults = disk_faults; moment = moment; link = link; send_faults = send_faults; clock = clock }
 
 -- An answer that has bytes: a fixed one names a page.
 abbrev pub HasBytes : Answer → Type 0

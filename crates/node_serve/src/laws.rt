@@ -1,5 +1,5 @@
 //! Laws of serving, each the contract of a function that does nothing.
-ghost use Rattle.node_serve.specs.Laws.{RequestsAreCompletions, MomentsComeInOrder};
+ghost use Rattle.node_serve.specs.Laws.{RequestsAreCompletions, MomentsComeInOrder, ADiskThatTellsGoesOnTelling, ADiskGoesOnReadingAnImage};
 ghost use Rattle.node_serve.specs.Worlds.{IsAnswered};
 
 use crate::Node;
@@ -18,3 +18,13 @@ pub fn moments_come_in_order<N: Node>()
 {
     event_link::laws::moments_come_in_order();
 }
+
+/// A disk that tells goes on telling: whenever a request comes, and at the end.
+pub fn a_disk_that_tells_goes_on_telling<N: Node>()
+    ensures { ADiskThatTellsGoesOnTelling N.own N.step N.leaves }
+{}
+
+/// A disk that reads as one of its images goes on doing so.
+pub fn a_disk_goes_on_reading_an_image<N: Node>()
+    ensures { ADiskGoesOnReadingAnImage N.own N.step N.leaves }
+{}

@@ -22,8 +22,10 @@
 //!
 //! A contract sees a list of turns, one for each event (`specs/Turns.antt`). Each is a case with a name, and says what it does to
 //! the connections, the node, the disk, the link and the clock; of the node it cites the node's own `step` and nothing else.
-//! What a crash may leave at some moment of the call is what it may leave at its start, or inside one of the answers. By
-//! the [`laws`] the requests that the node was asked are the whole ones that the events complete, as `conn_table` defines it.
+//! What a crash may leave at some moment of the call is what it may leave at its start, or inside one of the answers; and
+//! since each point between two turns, what it may leave of the disk there, or inside the answer to a later request
+//! (`LeavesInOrder` of `specs/Serving.antt`). By the [`laws`] the requests that the node was asked are the whole ones that
+//! the events complete, as `conn_table` defines it, and a disk that tells goes on telling.
 //!
 //! [`serve`] answers [`ServeFault::LinkFault`] only where the link's count of faults rose, and [`ServeFault::NoMemory`] only
 //! before it began.

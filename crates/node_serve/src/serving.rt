@@ -23,9 +23,10 @@ pub fn serve<N: Node, L: Link, D: Disk, C: Clock>(
     budget: u64,
 ) -> Result<Served, ServeFault>
     requires { N.own node.old (D.told disk.old) }
-    // These turns were done, and a crash at any moment of the call leaves what it may leave at the start or inside an answer.
+    // These turns were done; since each point between them a crash leaves what it may leave of the disk there or inside the answer
+    // to a later request, and so at any moment of the call what it may leave at the start or inside an answer.
     ensures serves { (turns : List (Turn _))
-        × Serves (IsAnswered N.own N.step N.leaves) budget turns (world node.old (D.told disk.old) (D.faults_of disk.old) (L.told link.old) (L.send_faults_of link.old) (C.to_come clock.old)) result (world node.new (D.told disk.new) (D.faults_of disk.new) (L.told link.new) (L.send_faults_of link.new) (C.to_come clock.new))
+        × Serves (IsAnswered N.own N.step N.leaves) N.leaves (D.left_since disk.new) budget turns (world node.old (D.told disk.old) (D.faults_of disk.old) (D.moment disk.old) (L.told link.old) (L.send_faults_of link.old) (C.to_come clock.old)) result (world node.new (D.told disk.new) (D.faults_of disk.new) (D.moment disk.new) (L.told link.new) (L.send_faults_of link.new) (C.to_come clock.new))
         × LeavesOnly D.moment D.left_since disk.old disk.new (MightLeave N.leaves (D.told disk.old) turns) }
     ensures own { N.own node.new (D.told disk.new) }
     ensures faults { D.faults_of disk.old ≤ D.faults_of disk.new }

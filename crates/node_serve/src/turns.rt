@@ -72,7 +72,7 @@ impl<N: Node, L: Link, D: Disk, C: Clock> Serving<'_, '_, '_, '_, '_, N, L, D, C
 
     /// A connection started: where it was kept it had ended.
     fn start(&mut self, conn: u32)
-        ensures does { (turn : Turn _) × (event_at turn ≡ Started conn) × Does (IsAnswered N.own N.step N.leaves) self.old.conns.now (world_in D.told D.faults_of L.told L.send_faults_of C.to_come self.old) turn self.new.conns.now (world_in D.told D.faults_of L.told L.send_faults_of C.to_come self.new) }
+        ensures does { (turn : Turn _) × (event_at turn ≡ Started conn) × Does (IsAnswered N.own N.step N.leaves) self.old.conns.now (world_in D.told D.faults_of D.moment L.told L.send_faults_of C.to_come self.old) turn self.new.conns.now (world_in D.told D.faults_of D.moment L.told L.send_faults_of C.to_come self.new) }
         ensures faults { L.faults_of self.new.link.now ≡ L.faults_of self.old.link.now }
         ensures others { OthersStay self.old self.new }
     {
@@ -87,7 +87,7 @@ impl<N: Node, L: Link, D: Disk, C: Clock> Serving<'_, '_, '_, '_, '_, N, L, D, C
     /// Sends the page of a code on a connection, and lets it go.
     fn refuse(&mut self, conn: u32, code: u16)
         requires { IsTrue (is_fixed code) }
-        ensures lets_go { LetsGo conn code self.old.conns.now (world_in D.told D.faults_of L.told L.send_faults_of C.to_come self.old) self.new.conns.now (world_in D.told D.faults_of L.told L.send_faults_of C.to_come self.new) }
+        ensures lets_go { LetsGo conn code self.old.conns.now (world_in D.told D.faults_of D.moment L.told L.send_faults_of C.to_come self.old) self.new.conns.now (world_in D.told D.faults_of D.moment L.told L.send_faults_of C.to_come self.new) }
         ensures faults { L.faults_of self.new.link.now ≡ L.faults_of self.old.link.now }
         ensures others { OthersStay self.old self.new }
     {
@@ -101,7 +101,7 @@ impl<N: Node, L: Link, D: Disk, C: Clock> Serving<'_, '_, '_, '_, '_, N, L, D, C
         requires own { N.own self.old.node.now (D.told self.old.disk.now) }
         ensures asked { (asked : Asked _) × (asked.conn ≡ conn) × (asked.answer ≡ result)
             × IfSome (map.get self.old.conns.now conn) (λ bytes. Reads bytes (Whole asked.request))
-            × Asks (IsAnswered N.own N.step N.leaves) asked (world_in D.told D.faults_of L.told L.send_faults_of C.to_come self.old) (world_in D.told D.faults_of L.told L.send_faults_of C.to_come self.new)
+            × Asks (IsAnswered N.own N.step N.leaves) asked (world_in D.told D.faults_of D.moment L.told L.send_faults_of C.to_come self.old) (world_in D.told D.faults_of D.moment L.told L.send_faults_of C.to_come self.new)
             × LeavesOnly D.moment D.left_since self.old.disk.now self.new.disk.now (N.leaves asked.node asked.disk asked.request asked.now) }
         ensures has_bytes { HasBytes result }
         ensures own { N.own self.new.node.now (D.told self.new.disk.now) }
@@ -119,7 +119,7 @@ impl<N: Node, L: Link, D: Disk, C: Clock> Serving<'_, '_, '_, '_, '_, N, L, D, C
         requires whole { IsSomeAnd (map.get self.old.conns.now conn) IsWholeRequest }
         requires own { N.own self.old.node.now (D.told self.old.disk.now) }
         ensures answers { (asked : Asked _) × (asked.conn ≡ conn)
-            × Answers (IsAnswered N.own N.step N.leaves) self.old.conns.now (world_in D.told D.faults_of L.told L.send_faults_of C.to_come self.old) asked self.new.conns.now (world_in D.told D.faults_of L.told L.send_faults_of C.to_come self.new)
+            × Answers (IsAnswered N.own N.step N.leaves) self.old.conns.now (world_in D.told D.faults_of D.moment L.told L.send_faults_of C.to_come self.old) asked self.new.conns.now (world_in D.told D.faults_of D.moment L.told L.send_faults_of C.to_come self.new)
             × LeavesOnly D.moment D.left_since self.old.disk.now self.new.disk.now (N.leaves asked.node asked.disk asked.request asked.now) }
         ensures own { N.own self.new.node.now (D.told self.new.disk.now) }
         ensures disk_faults { D.faults_of self.old.disk.now ≤ D.faults_of self.new.disk.now }
@@ -135,7 +135,7 @@ impl<N: Node, L: Link, D: Disk, C: Clock> Serving<'_, '_, '_, '_, '_, N, L, D, C
     fn piece(&mut self, conn: u32, bytes: &[u8])
         requires { N.own self.old.node.now (D.told self.old.disk.now) }
         ensures does { (turn : Turn _) × (event_at turn ≡ Piece conn bytes.now)
-            × Does (IsAnswered N.own N.step N.leaves) self.old.conns.now (world_in D.told D.faults_of L.told L.send_faults_of C.to_come self.old) turn self.new.conns.now (world_in D.told D.faults_of L.told L.send_faults_of C.to_come self.new)
+            × Does (IsAnswered N.own N.step N.leaves) self.old.conns.now (world_in D.told D.faults_of D.moment L.told L.send_faults_of C.to_come self.old) turn self.new.conns.now (world_in D.told D.faults_of D.moment L.told L.send_faults_of C.to_come self.new)
             × LeavesOnly D.moment D.left_since self.old.disk.now self.new.disk.now (MightLeave N.leaves (D.told self.old.disk.now) (turn ∷ [])) }
         ensures own { N.own self.new.node.now (D.told self.new.disk.now) }
         ensures disk_faults { D.faults_of self.old.disk.now ≤ D.faults_of self.new.disk.now }
@@ -155,11 +155,11 @@ impl<N: Node, L: Link, D: Disk, C: Clock> Serving<'_, '_, '_, '_, '_, N, L, D, C
         requires room { length into.old ≡ PIECE_ROOM }
         requires own { N.own self.old.node.now (D.told self.old.disk.now) }
         ensures ok { IfOk result (λ more. MatchBool more
-            ((turn : Turn _) × (given : World _) × IsNext (Some (event_at turn)) (world_in D.told D.faults_of L.told L.send_faults_of C.to_come self.old) given
-            × Does (IsAnswered N.own N.step N.leaves) self.old.conns.now given turn self.new.conns.now (world_in D.told D.faults_of L.told L.send_faults_of C.to_come self.new)
+            ((turn : Turn _) × (given : World _) × IsNext (Some (event_at turn)) (world_in D.told D.faults_of D.moment L.told L.send_faults_of C.to_come self.old) given
+            × Does (IsAnswered N.own N.step N.leaves) self.old.conns.now given turn self.new.conns.now (world_in D.told D.faults_of D.moment L.told L.send_faults_of C.to_come self.new)
             × LeavesOnly D.moment D.left_since self.old.disk.now self.new.disk.now (MightLeave N.leaves (D.told self.old.disk.now) (turn ∷ [])))
-            (IsNext None (world_in D.told D.faults_of L.told L.send_faults_of C.to_come self.old) (world_in D.told D.faults_of L.told L.send_faults_of C.to_come self.new) × (self.new.disk.now ≡ self.old.disk.now))) }
-        ensures err { OnErr result ((world_in D.told D.faults_of L.told L.send_faults_of C.to_come self.new ≡ world_in D.told D.faults_of L.told L.send_faults_of C.to_come self.old) × (self.new.disk.now ≡ self.old.disk.now)) }
+            (IsNext None (world_in D.told D.faults_of D.moment L.told L.send_faults_of C.to_come self.old) (world_in D.told D.faults_of D.moment L.told L.send_faults_of C.to_come self.new) × (self.new.disk.now ≡ self.old.disk.now))) }
+        ensures err { OnErr result ((world_in D.told D.faults_of D.moment L.told L.send_faults_of C.to_come self.new ≡ world_in D.told D.faults_of D.moment L.told L.send_faults_of C.to_come self.old) × (self.new.disk.now ≡ self.old.disk.now)) }
         ensures own { N.own self.new.node.now (D.told self.new.disk.now) }
         ensures disk_faults { D.faults_of self.old.disk.now ≤ D.faults_of self.new.disk.now }
         ensures faults { CountsFaults result (L.faults_of self.old.link.now) (L.faults_of self.new.link.now) }
@@ -188,7 +188,7 @@ impl<N: Node, L: Link, D: Disk, C: Clock> Serving<'_, '_, '_, '_, '_, N, L, D, C
         requires room { length into.old ≡ PIECE_ROOM }
         requires none_kept { self.old.conns.now ≡ map.empty }
         requires own { N.own self.old.node.now (D.told self.old.disk.now) }
-        ensures serves { (turns : List (Turn _)) × Serves (IsAnswered N.own N.step N.leaves) budget turns (world_in D.told D.faults_of L.told L.send_faults_of C.to_come self.old) result (world_in D.told D.faults_of L.told L.send_faults_of C.to_come self.new)
+        ensures serves { (turns : List (Turn _)) × Serves (IsAnswered N.own N.step N.leaves) N.leaves (D.left_since self.new.disk.now) budget turns (world_in D.told D.faults_of D.moment L.told L.send_faults_of C.to_come self.old) result (world_in D.told D.faults_of D.moment L.told L.send_faults_of C.to_come self.new)
             × LeavesOnly D.moment D.left_since self.old.disk.now self.new.disk.now (MightLeave N.leaves (D.told self.old.disk.now) turns) }
         ensures own { N.own self.new.node.now (D.told self.new.disk.now) }
         ensures disk_faults { D.faults_of self.old.disk.now ≤ D.faults_of self.new.disk.now }

@@ -25,6 +25,7 @@ leaves_so moment left_since old new P Q leads only = record {
   later = only.later;
   each = λ image left. leads image (only.each image left);
   before = λ t image le left. elim (only.before t image le left) [ inl past ↦ inl past | inr is ↦ inr (leads image is) ];
+  keeps = only.keeps;
 }
 
 module _ {R S : Type 0} (rules : RecordRules R) (stands : S → List R → Type 0) where

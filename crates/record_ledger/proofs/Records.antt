@@ -162,3 +162,9 @@ module _ {R : Type 0} (rules : RecordRules R) where
 
   pub AreRecords-push : (records : List R) (r : R) → AreRecords rules records → rules.is_record records r ≡ true → AreRecords rules (records ++ r ∷ [])
   AreRecords-push records r are is = records_after-push [] records r are is
+
+  -- a record is one of the ledger behind those before it
+  pub record_there : (front before later : List R) (r : R) → AreRecordsAfter rules front (before ++ r ∷ later) → rules.is_record (front ++ before) r ≡ true
+  record_there front [] later r are = subst (λ b. rules.is_record b r ≡ true) (sym (append-nil front)) are.0
+  record_there front (x ∷ before) later r are =
+      subst (λ b. rules.is_record b r ≡ true) (append_assoc front (x ∷ []) before) (record_there (front ++ x ∷ []) before later r are.1)

@@ -8,3 +8,4 @@ pub mod Choosing
 pub mod Linking
 pub mod Marks
 pub mod Laws
+pub mod Runs

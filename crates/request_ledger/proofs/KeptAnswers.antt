@@ -10,6 +10,7 @@ use Rattle.request_rows.specs.declared.row.LeftRow.{LeftRow}
 use Rattle.request_rows.specs.Rows.{visible, asked_row, is_spent, is_seen, session_row}
 use Rattle.request_ledger.specs.Naming.{has_visible}
 use Rattle.record_ledger.proofs.Words.{each_weaker}
+use Rattle.ledger_rules.proofs.Counted.{find_same, any_same_seen, filter_same}
 use Rattle.record_ledger.proofs.KeptFlags.{are_marked}
 use Rattle.request_ledger.specs.RowsOf.{asked_rows, opened_rows, left_rows}
 use Rattle.request_ledger.specs.Record.{AreRecords, request_rules}
@@ -20,7 +21,7 @@ use Rattle.request_ledger.specs.Laws.{CompactionsChangeNoAnswer}
 use Rattle.request_ledger.proofs.LawWords.{asked_any, spent_any}
 use Rattle.request_ledger.proofs.KeptMarks.{Marked}
 use Rattle.request_ledger.proofs.KeptSpent.{spent_alike}
-use Rattle.request_ledger.proofs.KeptRows.{find_counted, any_counted, filter_counted, asked_seen, opened_seen, left_seen, asked_alike, opened_alike, left_alike}
+use Rattle.request_ledger.proofs.KeptRows.{asked_seen, opened_seen, left_seen, asked_alike, opened_alike, left_alike}
 
 -- what is visible at a moment was visible before
 visible_before : (until now later horizon : ℕ) → now ≤ later → visible until later horizon ≡ true → visible until now horizon ≡ true
@@ -60,17 +61,6 @@ same_seen now later horizon records some first are_kept =
       left = ap (λ l. filter (left_seen later horizon) (left_rows l)) (sym m.are_kept) ∙ left_alike later horizon m.marks keeps m.linked
           ∙ ap (λ l. filter (left_seen later horizon) (left_rows l)) m.are_all;
     }
-
--- lists whose counted ones are alike answer alike
-module _ {X : Type 0} (test counts : X → Bool) (only : (x : X) → test x ≡ true → counts x ≡ true) (xs ys : List X) (same : filter counts xs ≡ filter counts ys) where
-  find_same : find test xs ≡ find test ys
-  find_same = sym (find_counted test counts only xs) ∙ ap (find test) same ∙ find_counted test counts only ys
-
-  any_same_seen : list_any test xs ≡ list_any test ys
-  any_same_seen = sym (any_counted test counts only xs) ∙ ap (list_any test) same ∙ any_counted test counts only ys
-
-  filter_same : filter test xs ≡ filter test ys
-  filter_same = sym (filter_counted test counts only xs) ∙ ap (filter test) same ∙ filter_counted test counts only ys
 
 found_asked : (rows : List AskedRow) (request : List ℕ) (now horizon : ℕ) → IsSome (asked_row rows request now horizon)
     → list_any (λ row. bytes_eq row.request request) rows ≡ true

@@ -13,7 +13,8 @@ use Rattle.record_ledger.proofs.Numbers.{fresh_above}
 use Rattle.request_ledger.specs.Record.{drawn, next_of, is_record, AreRecordsAfter, AreRecords, request_rules}
 use Rattle.request_ledger.specs.Ledger.{Held, next_number, held_with, migrated}
 use Rattle.request_ledger.specs.Compacting.{IsCompacted, Compacts as IsMade}
-use Rattle.request_ledger.specs.Runs.{Event, Adds, Compacts, Opens, Leads, AreDifferent, requests_opened, requests_of_run}
+use Rattle.record_ledger.specs.Runs.{Adds, Compacts, Opens}
+use Rattle.request_ledger.specs.Runs.{Event, Leads, AreDifferent, requests_opened, requests_of_run}
 use Rattle.request_ledger.specs.Laws.{NoRequestOpensTwiceInARun}
 use Rattle.request_ledger.proofs.LawWords.{opens, Each, parts, opens_rightly, push_some}
 use Rattle.request_ledger.proofs.LawNumbers.{HasNumber, number_further, next_push, not_asked, asked_number}

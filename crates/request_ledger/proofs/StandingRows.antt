@@ -19,7 +19,7 @@ use Rattle.request_ledger.specs.RowsOf.{SpRows, is_among, closed_where, confirme
 use Rattle.request_ledger.specs.Record.{is_open, is_waiting, is_free, drawn, texts, moment_of, LAST, is_next}
 use Rattle.request_ledger.specs.Standing.{IsOpenAt, IsWaitingAt}
 use Rattle.request_ledger.proofs.RowLaws.{list_any-push}
-use Rattle.request_ledger.proofs.StandingPlaces.{any_is_at, any_is_nowhere}
+use Rattle.ledger_rules.proofs.Passing.{any_is_at, any_is_nowhere}
 
 eq_back : (a b : List ℕ) → bytes_eq a b ≡ true → bytes_eq b a ≡ true
 eq_back a b e = (bytes_eq-Decides b a).1 (sym ((bytes_eq-Decides a b).0 e))

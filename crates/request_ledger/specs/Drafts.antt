@@ -19,10 +19,8 @@ use Rattle.saml_ids.specs.declared.Kind.TheVariants.{Request, Relay, Cookie, Mes
 use Rattle.request_ledger.specs.RowsOf.{SpRows, is_among, rows_of_kind}
 use Rattle.request_ledger.specs.Standing.{request_row_rules}
 use Rattle.request_ledger.specs.Ledger.{Held, Opened}
-
--- how long a request or a logout may be answered, in milliseconds
-abbrev pub LIFE : ℕ
-LIFE = 600000
+pub use Rattle.ledger_rules.specs.Texts.{is_empty}
+pub use Rattle.ledger_rules.specs.Moments.{LIFE}
 
 -- A request for a login, with the IDs of the next two numbers.
 abbrev pub asked : (key : List ℕ) (next now : ℕ) (target : List ℕ) → SpRecord
@@ -93,11 +91,6 @@ ended key next now tokens request =
 -- A confirmed logout. It draws no number.
 abbrev pub confirmed : (now : ℕ) (request : List ℕ) → SpRecord
 confirmed now request = kinds.Confirmed (record { moment = now; request = request })
-
--- whether there is no text
-abbrev pub is_empty : List (List ℕ) → Bool
-is_empty [] = true
-is_empty (first ∷ others) = false
 
 -- whether a visible logout of a request is not confirmed
 abbrev pub is_waiting_now : List LeftRow → (request : List ℕ) (now horizon : ℕ) → Bool

@@ -1,8 +1,7 @@
 -- Which payloads are records of a service provider's ledger.
-use Rattle.std.specs.Prelude.{ℕ, ◌+◌, nat_le, Bool, true, ◌&&◌, not, List, [], ◌∷◌, ◌++◌, Option, None, Some, Result}
+use Rattle.std.specs.Prelude.{ℕ, ◌+◌, nat_le, Bool, true, ◌&&◌, not, List, [], ◌∷◌, ◌++◌, Result}
 use Rattle.std.specs.List.{flat_map, list_all, list_any}
 use Rattle.std.specs.Str.{bytes_eq}
-use Rattle.owned_values.specs.declared.attributes.Attribute.{Attribute}
 use Rattle.ledger_records.specs.declared.sp_record.SpRecord.{SpRecord}
 use Rattle.ledger_records.specs.declared.sp_record.SpRecord.TheVariants as kinds
 use Rattle.ledger_records.specs.Found.{sp_record}
@@ -16,6 +15,8 @@ use Rattle.record_ledger.specs.Rules.{RecordRules}
 use Rattle.record_ledger.specs.Rules as any
 use Rattle.request_ledger.specs.RowsOf.{SpRows, rows_of, rows_of_kind}
 use Rattle.request_ledger.specs.Naming.{has_visible, names}
+pub use Rattle.ledger_rules.specs.Texts.{of_option, of_attribute}
+pub use Rattle.ledger_rules.specs.Moments.{LAST}
 
 -- whether there is a row of this request
 abbrev pub is_asked : List AskedRow → List ℕ → Bool
@@ -47,13 +48,6 @@ drawn (kinds.Ended r) = record { number = r.first; id = r.message } ∷ []
 drawn (kinds.Confirmed r) = []
 
 -- the texts of a record but a relay state
-abbrev pub of_option : Option (List ℕ) → List (List ℕ)
-of_option None = []
-of_option (Some text) = text ∷ []
-
-abbrev pub of_attribute : Attribute → List (List ℕ)
-of_attribute a = a.name ∷ a.values
-
 abbrev pub texts : SpRecord → List (List ℕ)
 texts (kinds.Asked r) = r.target ∷ r.request ∷ []
 texts (kinds.Opened r) =
@@ -68,10 +62,6 @@ moment_of (kinds.Opened r) = r.moment
 moment_of (kinds.Left r) = r.moment
 moment_of (kinds.Ended r) = r.moment
 moment_of (kinds.Confirmed r) = r.moment
-
--- the last millisecond of the year 9999
-abbrev pub LAST : ℕ
-LAST = 253402300799999
 
 -- A record of the ledger where these are the rows, and this number is above all that were drawn: the rows that it names
 -- are there and free, its numbers are greater than all before and below 2^63, each ID that it draws begins with its number,

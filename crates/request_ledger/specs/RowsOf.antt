@@ -11,6 +11,7 @@ use Rattle.ledger_records.specs.Fields.{key_byte}
 use Rattle.request_rows.specs.declared.row.AskedRow.{AskedRow}
 use Rattle.request_rows.specs.declared.row.OpenedRow.{OpenedRow}
 use Rattle.request_rows.specs.declared.row.LeftRow.{LeftRow}
+pub use Rattle.ledger_rules.specs.Texts.{is_among}
 
 -- the rows of each kind, in the order of their records
 pub record SpRows : Type 0 where
@@ -39,10 +40,6 @@ opened_row closed r = record {
 
 abbrev pub left_row : Bool → Left → LeftRow
 left_row confirmed r = record { request = r.request; until = r.until; confirmed = confirmed }
-
--- whether a text is among these
-abbrev pub is_among : List ℕ → List (List ℕ) → Bool
-is_among text texts = list_any (λ other. bytes_eq other text) texts
 
 -- whether a record closes the session of this token: a Left of it, or an Ended that lists it
 abbrev pub closes : List ℕ → SpRecord → Bool

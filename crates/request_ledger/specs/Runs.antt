@@ -1,28 +1,21 @@
 -- What happens to a ledger over a whole run, with crashes between: records that are added, compactions, and openings, which
 -- make a journal of version 1 anew.
-use Rattle.std.specs.Prelude.{◌≡◌, ◌≢◌, ℕ, ◌<◌, ◌≤◌, true, List, [], ◌∷◌, ◌++◌, length, map, slice_index_or, All}
+use Rattle.std.specs.Prelude.{◌≢◌, ℕ, ◌<◌, List, [], ◌∷◌, ◌++◌, length, map, slice_index_or}
 use Rattle.ledger_records.specs.declared.sp_record.SpRecord.{SpRecord}
 use Rattle.ledger_records.specs.declared.sp_record.SpRecord.TheVariants as kinds
-use Rattle.ledger_rules.specs.Numbers.{Drawn}
 use Rattle.request_rows.specs.declared.row.OpenedRow.{OpenedRow}
 use Rattle.request_ledger.specs.RowsOf.{opened_rows}
-use Rattle.request_ledger.specs.Record.{drawn, is_record}
-use Rattle.request_ledger.specs.Ledger.{Held, next_number, held_with, migrated}
-use Rattle.request_ledger.specs.Compacting.{Compacts as IsMade}
+use Rattle.record_ledger.specs.Runs as any
+use Rattle.record_ledger.specs.Runs.{Adds, Compacts, Opens}
+use Rattle.request_ledger.specs.Record.{request_rules}
+use Rattle.request_ledger.specs.Ledger.{Held}
 
-pub data Event : Type 0 where
-  Adds : SpRecord → Event
-  Compacts : ℕ → Event
-  Opens : Event
+abbrev pub Event : Type 0
+Event = any.Event SpRecord
 
 -- the events that led from one ledger to another, the latest first
 abbrev pub Leads : Held → List Event → Held → Type 0
-Leads start [] held = held ≡ start
-Leads start (Adds r ∷ past) held =
-    (before : Held) × Leads start past before × (is_record before.records r ≡ true)
-    × All (λ (d : Drawn). next_number before ≤ d.number) (drawn r) × (held ≡ held_with r before)
-Leads start (Compacts now ∷ past) held = (before : Held) × Leads start past before × IsMade now before held
-Leads start (Opens ∷ past) held = (before : Held) × Leads start past before × (held ≡ migrated before)
+Leads = any.Leads request_rules
 
 -- the requests for which sessions were opened: those of the records at the start, and of those that were added since, whether
 -- they are still kept or not

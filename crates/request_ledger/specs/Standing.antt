@@ -1,5 +1,5 @@
 -- How the code keeps the rows of records.
-use Rattle.std.specs.Prelude.{◌≡◌, ℕ, ◌<◌, ◌≤◌, max, min, Bool, true, false, List, [], map, length, slice_index, slice_index_or, slice_get, Option, None, Some, Vec}
+use Rattle.std.specs.Prelude.{◌≡◌, ℕ, ◌<◌, ◌≤◌, max, min, Bool, true, false, List, map, length, slice_index, slice_index_or, slice_get, Option, None, Some, Vec}
 use Rattle.request_rows.specs.declared.row.AskedRow.{AskedRow}
 use Rattle.request_rows.specs.declared.row.OpenedRow.{OpenedRow}
 use Rattle.request_rows.specs.declared.row.LeftRow.{LeftRow}
@@ -11,6 +11,7 @@ use Rattle.record_ledger.specs.Rules.{RowRules}
 use Rattle.request_rows.specs.Indexed.{room}
 use Rattle.request_ledger.specs.RowsOf.{SpRows, is_among, rows_of, rows_after}
 use Rattle.request_ledger.specs.Record.{drawn, next_of}
+pub use Rattle.ledger_rules.specs.Texts.{id_at}
 
 -- for how many more rows of each kind there is memory
 pub record RowSpare : Type 0 where
@@ -27,9 +28,6 @@ pub record StandingView : Type 0 where
 
 abbrev pub rows_in : RowsView → SpRows
 rows_in rows = record { asked = rows.asked; opened = rows.opened; left = rows.left }
-
-abbrev pub id_at : List (List ℕ) → ℕ → List ℕ
-id_at ids k = slice_index_or ids k []
 
 -- the IDs of rows begin with these numbers, which are below the next one
 pub record HaveNumbers (next : ℕ) (numbers : List ℕ) (ids : List (List ℕ)) : Type 0 where

@@ -3,7 +3,7 @@ ghost use Rattle.std.specs.Prelude.{◌≡◌, ◌≤◌, ◌⊎◌, ◌&&◌, t
 ghost use Rattle.std.specs.Str.{bytes_eq};
 ghost use Rattle.ledger_rules.specs.Numbers.{is_xml_text};
 ghost use Rattle.request_rows.specs.Rows.{asked_row, is_spent, session_row, visible};
-ghost use Rattle.request_ledger.specs.RowsOf.{is_among};
+ghost use Rattle.ledger_rules.specs.Texts.{IsSetOf};
 ghost use Rattle.request_ledger.specs.Record.{LAST};
 ghost use Rattle.request_ledger.specs.Ledger.{KeepsSpare, next_number, rows_in};
 ghost use Rattle.request_ledger.specs.Draft.{HoldsIds};
@@ -13,14 +13,11 @@ use crate::draft::Draft;
 use crate::ledger::Ledger;
 use ledger_records::sp_record::{Asked, Confirmed, Ended, Left, Opened};
 use ledger_records::{KeyNumber, SpRecord};
-use ledger_rules::DraftFault;
+use ledger_rules::{DraftFault, LIFE, TextSet};
 use owned_values::{NoMemory, Text, Texts};
 use request_rows::{LeftRow, NewSession, OpenedRow};
 use saml_ids::{Id, Kind, id_of};
 use std::alloc::Global;
-
-/// How long a request or a logout may be answered, in milliseconds.
-const LIFE: u64 = 600_000;
 
 impl Ledger {
     /// The tokens of the live sessions of an issuer and a name whose index is listed, or of all of them.
@@ -28,9 +25,10 @@ impl Ledger {
         ensures { IfOk result (λ tokens. tokens ≡ ending now self.now.held.header.horizon issuer.now name.now indexes.now (rows_in self.now).opened) }
     {
         let horizon = self.header().horizon;
+        let set = TextSet::of(self.ledger.allocator(), indexes)?;
         let mut tokens = Texts::new(self.ledger.allocator());
         for row in self.rows().opened() {
-            if is_ending(row, now, horizon, issuer, name, indexes) {
+            if is_ending(row, now, horizon, issuer, name, indexes, &set) {
                 tokens.push(row.token.copy()?)?;
             }
         }
@@ -194,7 +192,8 @@ fn is_waiting_row(row: &LeftRow, request: &str, now: u64, horizon: u64) -> bool
     row.request.as_str() == request && !row.confirmed && now.max(horizon) < row.until
 }
 
-/// Whether a session lives at a moment, is of this issuer and name, and its index is listed or none is.
+/// Whether a session lives at a moment, is of this issuer and name, and its index is listed or none is. `set` has what is
+/// listed.
 fn is_ending(
     row: &OpenedRow,
     now: u64,
@@ -202,35 +201,28 @@ fn is_ending(
     issuer: &str,
     name: &str,
     indexes: &Texts,
+    set: &TextSet,
 ) -> bool
+    requires { IsSetOf set.now indexes.now }
     ensures { result ≡ is_ending now horizon issuer.now name.now indexes.now row.now }
 {
     !row.closed
         && now.max(horizon) < row.until
         && row.issuer.as_str() == issuer
         && row.name.as_str() == name
-        && is_listed(indexes, &row.index)
+        && is_listed(indexes, set, &row.index)
 }
 
-/// Whether a text is among these.
-fn is_among(text: &Text, texts: &Texts) -> bool
-    ensures { result ≡ is_among text.now texts.now }
-{
-    texts
-        .as_slice()
-        .iter()
-        .any(|other| other.as_str() == text.as_str())
-}
-
-/// Whether an index is listed, or none is.
-fn is_listed(indexes: &Texts, index: &Option<Text>) -> bool
+/// Whether an index is listed, or none is. `set` has what is listed.
+fn is_listed(indexes: &Texts, set: &TextSet, index: &Option<Text>) -> bool
+    requires { IsSetOf set.now indexes.now }
     ensures { result ≡ is_listed indexes.now index.now }
 {
     if indexes.is_empty() {
         return true;
     }
     match index {
-        Some(index) => is_among(index, indexes),
+        Some(index) => set.holds(index.as_str()),
         None => false,
     }
 }

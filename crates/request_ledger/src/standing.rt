@@ -12,14 +12,11 @@ ghost use Rattle.request_ledger.specs.Standing.{rows_in, HasMarkRoom, HasRoom, K
 use crate::checks::{are_fresh, are_xml_texts, moment_of};
 use ledger_records::SpRecord;
 use ledger_records::sp_record::{Asked, Confirmed, Ended, Left, Opened};
-use ledger_rules::Numbers;
+use ledger_rules::{LAST, Numbers};
 use owned_values::{NoMemory, Text};
 use request_rows::{AskedRow, KeptRows, LeftRow, OpenedRow, Rows};
 use std::alloc::Global;
 use std::marker::Model;
-
-/// The last millisecond of the year 9999.
-pub(crate) const LAST: u64 = 253_402_300_799_999;
 
 /// The rows of records, the numbers by which they are found, and the least number above all that were drawn.
 #[derive(Debug, Drop)]

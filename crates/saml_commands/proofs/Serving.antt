@@ -1,7 +1,7 @@
 -- How a run of the program ends that serves, and how one ends that does not.
 use Rattle.std.proofs.Common.{◌≡◌, ◌≢◌, ℕ, ◌⊎◌, List, [], Option, Some, None, MatchOption, Ok, Err, append-nil, refl, sym, ap, subst}
 use Rattle.saml_outside.specs.Files.{File}
-use Rattle.crash_disk.specs.Disk.{DiskState}
+use Rattle.crash_disk.specs.Disk.{Image, DiskState}
 use Rattle.node_runs.specs.declared.ended.Ended.{Ended}
 use Rattle.node_runs.specs.declared.ended.Ended.TheVariants as ends
 use Rattle.node_runs.specs.Runs.{Outside, IsServed}
@@ -50,26 +50,26 @@ weaker_after (RanIdp turns (Ok ended)) P Q old new status f h = (h.0, weaker P Q
 weaker_after (RanIdp turns (Err fault)) P Q old new status f h = h
 
 -- a command of the words is what the program does
-pub done : (words : List (List ℕ)) (told : Option (List File)) (command : Command) → command_of words ≡ Some command →
-    (before : Outside) (ran : Ran) (after : Outside) → DoesCommand told command before ran after → Does words told before ran after
-done words told command e before ran after h =
-    subst (λ (o : Option Command). MatchOption o ((ran ≡ Unserved) × (after ≡ before)) (λ c. DoesCommand told c before ran after)) (sym e) h
+pub done : (left : ℕ → Image → Type 0) (words : List (List ℕ)) (told : Option (List File)) (command : Command) → command_of words ≡ Some command →
+    (before : Outside) (ran : Ran) (after : Outside) → DoesCommand left told command before ran after → Does left words told before ran after
+done left words told command e before ran after h =
+    subst (λ (o : Option Command). MatchOption o ((ran ≡ Unserved) × (after ≡ before)) (λ c. DoesCommand left told c before ran after)) (sym e) h
 
 -- and what it carries is carried by the words
-pub carried : (words : List (List ℕ)) (told : Option (List File)) (command : Command) → command_of words ≡ Some command →
-    (before : Outside) (ran : Ran) (after : Outside) → CommandCarries told command before ran after → Carries words told before ran after
-carried words told command e before ran after h =
-    subst (λ (o : Option Command). MatchOption o (Unit {0}) (λ c. CommandCarries told c before ran after)) (sym e) h
+pub carried : (left : ℕ → Image → Type 0) (words : List (List ℕ)) (told : Option (List File)) (command : Command) → command_of words ≡ Some command →
+    (before : Outside) (ran : Ran) (after : Outside) → CommandCarries left told command before ran after → Carries left words told before ran after
+carried left words told command e before ran after h =
+    subst (λ (o : Option Command). MatchOption o (Unit {0}) (λ c. CommandCarries left told c before ran after)) (sym e) h
 
 -- without a command nothing is carried
-pub nothing_carried : (words : List (List ℕ)) (told : Option (List File)) → command_of words ≡ None → (before : Outside) → Carries words told before Unserved before
-nothing_carried words told e before =
-    subst (λ (o : Option Command). MatchOption o (Unit {0}) (λ c. CommandCarries told c before Unserved before)) (sym e) tt
+pub nothing_carried : (left : ℕ → Image → Type 0) (words : List (List ℕ)) (told : Option (List File)) → command_of words ≡ None → (before : Outside) → Carries left words told before Unserved before
+nothing_carried left words told e before =
+    subst (λ (o : Option Command). MatchOption o (Unit {0}) (λ c. CommandCarries left told c before Unserved before)) (sym e) tt
 
 -- without a command nothing is done but to say so
-pub nothing_done : (words : List (List ℕ)) (told : Option (List File)) → command_of words ≡ None → (before : Outside) → Does words told before Unserved before
-nothing_done words told e before =
-    subst (λ (o : Option Command). MatchOption o ((Unserved ≡ Unserved) × (before ≡ before)) (λ c. DoesCommand told c before Unserved before)) (sym e) (refl, refl)
+pub nothing_done : (left : ℕ → Image → Type 0) (words : List (List ℕ)) (told : Option (List File)) → command_of words ≡ None → (before : Outside) → Does left words told before Unserved before
+nothing_done left words told e before =
+    subst (λ (o : Option Command). MatchOption o ((Unserved ≡ Unserved) × (before ≡ before)) (λ c. DoesCommand left told c before Unserved before)) (sym e) (refl, refl)
 
 pub usage_answered : (words : List (List ℕ)) (told : Option (List File)) (ran : Ran) → command_of words ≡ None → (answer : Answer) → answer ≡ Usage →
     Answers words told ran answer
@@ -78,13 +78,13 @@ usage_answered words told ran e answer is =
 
 -- ---- completeness
 
-unserved : (told : Option (List File)) (command : Command) (before : Outside) (ran : Ran) (after : Outside) → (DoesServe (Some command) → ⊥) →
-    DoesCommand told command before ran after → ran ≡ Unserved
-unserved told (Canon file id) before ran after idle h = h.0
-unserved told (Vouch file id key_file) before ran after idle h = h.0
-unserved told (Check config body now) before ran after idle h = h.0
-unserved told (Sp config events) before ran after idle h = absurd (idle tt)
-unserved told (Idp config events) before ran after idle h = absurd (idle tt)
+unserved : (left : ℕ → Image → Type 0) (told : Option (List File)) (command : Command) (before : Outside) (ran : Ran) (after : Outside) → (DoesServe (Some command) → ⊥) →
+    DoesCommand left told command before ran after → ran ≡ Unserved
+unserved left told (Canon file id) before ran after idle h = h.0
+unserved left told (Vouch file id key_file) before ran after idle h = h.0
+unserved left told (Check config body now) before ran after idle h = h.0
+unserved left told (Sp config events) before ran after idle h = absurd (idle tt)
+unserved left told (Idp config events) before ran after idle h = absurd (idle tt)
 
 accepted_idle : (words : List (List ℕ)) (told : Option (List File)) (command : Command) → command_of words ≡ Some command → Accepts words told →
     DoesServe (Some command) → ⊥
@@ -97,12 +97,12 @@ accepted_idle words told (Idp config events) e h serves =
     subst (λ (o : Option Command). MatchOption o (h.answer ≡ Usage) (λ c. OfCommand (Some h.files) Unserved c h.answer)) e h.answered
 
 -- words that are accepted are done, or there was no memory
-pub accepted_done : Laws → (words : List (List ℕ)) (told : Option (List File)) (command : Command) → command_of words ≡ Some command → Accepts words told →
-    (before : Outside) (ran : Ran) (after : Outside) (old new : Option (List ℕ)) (status : Status) → DoesCommand told command before ran after →
+pub accepted_done : Laws → (left : ℕ → Image → Type 0) (words : List (List ℕ)) (told : Option (List File)) (command : Command) → command_of words ≡ Some command → Accepts words told →
+    (before : Outside) (ran : Ran) (after : Outside) (old new : Option (List ℕ)) (status : Status) → DoesCommand left told command before ran after →
     EndsAfter ran (OfCommand told ran command) old new status → (status ≢ statuses.ReadFault) → (status ≢ statuses.WriteFault) →
     (status ≡ statuses.Done) ⊎ (status ≡ statuses.NoMemory)
-accepted_done laws words told command e accepted before ran after old new status does ends no_read no_write =
-    let idle = unserved told command before ran after (accepted_idle words told command e accepted) does in
+accepted_done laws left words told command e accepted before ran after old new status does ends no_read no_write =
+    let idle = unserved left told command before ran after (accepted_idle words told command e accepted) does in
     let plain : EndsWith (OfCommand told Unserved command) old new status =
     subst (λ (r : Ran). EndsAfter r (OfCommand told r command) old new status) idle ends in
     settled (Answers words told Unserved) old new status (accepted_yes laws words told accepted) no_read no_write

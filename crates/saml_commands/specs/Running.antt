@@ -5,7 +5,7 @@ use Rattle.std.specs.Option.{option_map, option_and_then}
 use Rattle.xml_spec.specs.declared.TheConstants.{MAX_DOCUMENT_LENGTH}
 use Rattle.saml_outside.specs.Files.{File}
 use Rattle.verdict_codes.specs.declared.codes.Verdict.{Verdict}
-use Rattle.crash_disk.specs.Disk.{DiskState}
+use Rattle.crash_disk.specs.Disk.{Image, DiskState}
 use Rattle.saml_time.specs.declared.TheConstants.{LAST}
 use Rattle.text_lines.specs.Numbers.{number_of}
 use Rattle.sp_setup.specs.declared.limits.TheConstants.{GREATEST_KEY}
@@ -71,31 +71,33 @@ command_of (word ∷ first ∷ second ∷ []) = of_two word first second
 command_of (word ∷ first ∷ second ∷ third ∷ []) = of_three word first second third
 command_of words = None
 
--- What a command does: `sp` runs a service provider, `idp` an identity provider, and the others leave all that is outside as it is.
-abbrev pub DoesCommand : Option (List File) → Command → Outside → Ran → Outside → Type 0
-DoesCommand told (Sp config events) before (RanSp turns result) after = sp.Runs told config events before turns result after
-DoesCommand told (Sp config events) before ran after = ⊥
-DoesCommand told (Idp config events) before (RanIdp turns result) after = idp.Runs told config events before turns result after
-DoesCommand told (Idp config events) before ran after = ⊥
-DoesCommand told other before ran after = (ran ≡ Unserved) × (after ≡ before)
+-- What a command does: `sp` runs a service provider, `idp` an identity provider, and the others leave all that is outside as it is. `left`
+-- says of each moment of the disk, seen from the end, what a crash since then might have left.
+abbrev pub DoesCommand : (left : ℕ → Image → Type 0) → Option (List File) → Command → Outside → Ran → Outside → Type 0
+DoesCommand left told (Sp config events) before (RanSp turns result) after = sp.Runs left told config events before turns result after
+DoesCommand left told (Sp config events) before ran after = ⊥
+DoesCommand left told (Idp config events) before (RanIdp turns result) after = idp.Runs left told config events before turns result after
+DoesCommand left told (Idp config events) before ran after = ⊥
+DoesCommand left told other before ran after = (ran ≡ Unserved) × (after ≡ before)
 
 -- what the program does for words, by what the files tell
-abbrev pub Does : List (List ℕ) → Option (List File) → Outside → Ran → Outside → Type 0
-Does words told before ran after =
-    MatchOption (command_of words) ((ran ≡ Unserved) × (after ≡ before)) (λ command. DoesCommand told command before ran after)
+abbrev pub Does : (left : ℕ → Image → Type 0) → List (List ℕ) → Option (List File) → Outside → Ran → Outside → Type 0
+Does left words told before ran after =
+    MatchOption (command_of words) ((ran ≡ Unserved) × (after ≡ before)) (λ command. DoesCommand left told command before ran after)
 
 -- What the program carries over what it did. Where it ran a service provider, sessions were opened exactly where a posted form opens
 -- one, each of a login that was signed, and no two of one request; and they were closed exactly where their users left them or the
 -- identity provider ended them, for good. Where it ran an identity provider, each Assertion was issued to a user with a password or a
 -- session, each signed element is one of a record that was durable before it was sent, and sessions were ended exactly where their
--- users left them or a peer ended them, for good.
-abbrev pub CommandCarries : Option (List File) → Command → Outside → Ran → Outside → Type 0
-CommandCarries told (Sp config events) before (RanSp turns result) after = sp_headline.Headline told config before turns after
-CommandCarries told (Idp config events) before (RanIdp turns result) after = idp_headline.Headline told config before turns after
-CommandCarries told command before ran after = Unit {0}
+-- users left them or a peer ended them, for good. What an answer of either acknowledged is from then on, also inside later requests, in
+-- every image that a crash might leave.
+abbrev pub CommandCarries : (left : ℕ → Image → Type 0) → Option (List File) → Command → Outside → Ran → Outside → Type 0
+CommandCarries left told (Sp config events) before (RanSp turns result) after = sp_headline.Headline left told config before turns after
+CommandCarries left told (Idp config events) before (RanIdp turns result) after = idp_headline.Headline left told config before turns after
+CommandCarries left told command before ran after = Unit {0}
 
-abbrev pub Carries : List (List ℕ) → Option (List File) → Outside → Ran → Outside → Type 0
-Carries words told before ran after = MatchOption (command_of words) (Unit {0}) (λ command. CommandCarries told command before ran after)
+abbrev pub Carries : (left : ℕ → Image → Type 0) → List (List ℕ) → Option (List File) → Outside → Ran → Outside → Type 0
+Carries left words told before ran after = MatchOption (command_of words) (Unit {0}) (λ command. CommandCarries left told command before ran after)
 
 -- what a command is answered with: the files are read in the order in which they are named
 abbrev pub OfCommand : Option (List File) → Ran → Command → Answer → Type 0

@@ -221,8 +221,8 @@ fn run_command<L: Link, D: Disk, C: Clock, F: Files, K: Sink>(
 ) -> Status
     requires { HasMoment command }
     ensures ends { (ran : Ran)
-        × DoesCommand (F.holds files.old) (command_view command.entry) (outside (D.told disk.old) (D.faults_of disk.old) (L.told link.old) (L.faults_of link.old) (L.send_faults_of link.old) (C.to_come clock.old)) ran (outside (D.told disk.new) (D.faults_of disk.new) (L.told link.new) (L.faults_of link.new) (L.send_faults_of link.new) (C.to_come clock.new))
-        × CommandCarries (F.holds files.old) (command_view command.entry) (outside (D.told disk.old) (D.faults_of disk.old) (L.told link.old) (L.faults_of link.old) (L.send_faults_of link.old) (C.to_come clock.old)) ran (outside (D.told disk.new) (D.faults_of disk.new) (L.told link.new) (L.faults_of link.new) (L.send_faults_of link.new) (C.to_come clock.new))
+        × DoesCommand (D.left_since disk.new) (F.holds files.old) (command_view command.entry) (outside (D.told disk.old) (D.faults_of disk.old) (D.moment disk.old) (L.told link.old) (L.faults_of link.old) (L.send_faults_of link.old) (C.to_come clock.old)) ran (outside (D.told disk.new) (D.faults_of disk.new) (D.moment disk.new) (L.told link.new) (L.faults_of link.new) (L.send_faults_of link.new) (C.to_come clock.new))
+        × CommandCarries (D.left_since disk.new) (F.holds files.old) (command_view command.entry) (outside (D.told disk.old) (D.faults_of disk.old) (D.moment disk.old) (L.told link.old) (L.faults_of link.old) (L.send_faults_of link.old) (C.to_come clock.old)) ran (outside (D.told disk.new) (D.faults_of disk.new) (D.moment disk.new) (L.told link.new) (L.faults_of link.new) (L.send_faults_of link.new) (C.to_come clock.new))
         × EndsAfter ran (OfCommand (F.holds files.old) ran (command_view command.entry)) (K.taken out.old) (K.taken out.new) result
         × LeavesOnly D.moment D.left_since disk.old disk.new (RanLeaves (D.told disk.old) ran) }
     ensures read_fault { result ≡ Status.ReadFault → Rose (F.faults_of files.old) (F.faults_of files.new) }
@@ -267,11 +267,13 @@ pub fn run<L: Link, D: Disk, C: Clock, F: Files, K: Sink>(
 ) -> Status
     // What was done is what the words ask for: a service provider opened sessions exactly where a posted form opens one, each of a
     // login that was signed, and no two of one request; an identity provider issued each Assertion to a user with a password or a
-    // session, and signed nothing but what its durable records stand for. What was answered is what that asks for, and a crash at
-    // any moment leaves of the disk what one inside the opening of a ledger or inside an answer may leave.
+    // session, and signed nothing but what its durable records stand for. From each point of either's service on, also inside later
+    // requests, each image that a crash might leave has in its history the records for which the answers up to that point stand, where
+    // the disk tells. What was answered is what the words ask for, and a crash at any moment leaves of the disk what one inside the
+    // opening of a ledger or inside an answer may leave.
     ensures ends { (ran : Ran)
-        × Does words.now (F.holds files.old) (outside (D.told disk.old) (D.faults_of disk.old) (L.told link.old) (L.faults_of link.old) (L.send_faults_of link.old) (C.to_come clock.old)) ran (outside (D.told disk.new) (D.faults_of disk.new) (L.told link.new) (L.faults_of link.new) (L.send_faults_of link.new) (C.to_come clock.new))
-        × Carries words.now (F.holds files.old) (outside (D.told disk.old) (D.faults_of disk.old) (L.told link.old) (L.faults_of link.old) (L.send_faults_of link.old) (C.to_come clock.old)) ran (outside (D.told disk.new) (D.faults_of disk.new) (L.told link.new) (L.faults_of link.new) (L.send_faults_of link.new) (C.to_come clock.new))
+        × Does (D.left_since disk.new) words.now (F.holds files.old) (outside (D.told disk.old) (D.faults_of disk.old) (D.moment disk.old) (L.told link.old) (L.faults_of link.old) (L.send_faults_of link.old) (C.to_come clock.old)) ran (outside (D.told disk.new) (D.faults_of disk.new) (D.moment disk.new) (L.told link.new) (L.faults_of link.new) (L.send_faults_of link.new) (C.to_come clock.new))
+        × Carries (D.left_since disk.new) words.now (F.holds files.old) (outside (D.told disk.old) (D.faults_of disk.old) (D.moment disk.old) (L.told link.old) (L.faults_of link.old) (L.send_faults_of link.old) (C.to_come clock.old)) ran (outside (D.told disk.new) (D.faults_of disk.new) (D.moment disk.new) (L.told link.new) (L.faults_of link.new) (L.send_faults_of link.new) (C.to_come clock.new))
         × EndsAfter ran (Answers words.now (F.holds files.old) ran) (K.taken out.old) (K.taken out.new) result
         × LeavesOnly D.moment D.left_since disk.old disk.new (RanLeaves (D.told disk.old) ran) }
 

@@ -1,5 +1,5 @@
 -- What a document that was posted opens, or is refused for.
-use Rattle.std.proofs.Common.{◌≡◌, ℕ, true, List, [], ◌∷◌, Option, None, Some, codes, refl, sym, ◌∙◌, ap, subst}
+use Rattle.std.proofs.Common.{◌≡◌, ℕ, true, List, [], ◌∷◌, Option, None, Some, codes, sym, ◌∙◌, ap, subst}
 use Rattle.std.specs.Prelude.{◌&&◌}
 use Rattle.std.specs.Option.{option_map}
 use Rattle.saml_names.specs.Names.{saml}
@@ -8,38 +8,31 @@ use Rattle.saml_tree.specs.Documents as documents
 use Rattle.saml_tree.specs.declared.node.TreeFault.{TreeFault}
 use Rattle.post_binding.specs.Form.{form}
 use Rattle.tree_read.specs.Children.{children}
-use Rattle.tree_read.specs.Faults.{IsShapeFault}
 use Rattle.tree_read.specs.Texts.{text_of}
-use Rattle.tree_read.specs.declared.fault.ShapeFault.{ShapeFault}
-use Rattle.tree_read.specs.declared.fault.ShapeFault.TheVariants as shapes
 use Rattle.protocol_messages.specs.Messages.{IsResponse}
 use Rattle.protocol_messages.specs.declared.response.ResponseHead.{ResponseHead}
 use Rattle.sig_reference.specs.declared.fault.SigFault.{SigFault}
-use Rattle.assertion_model.specs.Faults.{IsLoginFault}
 use Rattle.assertion_model.specs.Parts.{login_at}
-use Rattle.assertion_model.specs.Places.{name_place}
-use Rattle.assertion_model.specs.declared.fault.LoginFault.{LoginFault}
-use Rattle.assertion_model.specs.declared.fault.LoginFault.TheVariants as logins
 use Rattle.assertion_model.specs.declared.login.Login.{Login}
 use Rattle.assertion_model.proofs.SaidLemmas.{name_said}
 use Rattle.request_rows.specs.declared.row.AskedRow.{AskedRow}
 use Rattle.request_rows.specs.Rows.{RowsView}
 use Rattle.verdict_codes.specs.declared.codes.Verdict.{Verdict}
 use Rattle.verdict_codes.specs.declared.codes.Verdict.TheVariants as verdicts
+use Rattle.fault_verdicts.specs.Judging.{judged_of, IsJudged}
 use Rattle.fault_verdicts.specs.Verdicts.{of_document, of_signature}
+use Rattle.fault_verdicts.specs.declared.judged.Judged.{Judged}
 use Rattle.sp_rules.specs.declared.accepted.Accepted.{Accepted}
 use Rattle.sp_rules.specs.declared.config.SpConfig.{SpConfig}
 use Rattle.sp_rules.specs.declared.cover.Cover.{Cover}
-use Rattle.sp_rules.specs.declared.judged.Judged.{Judged}
 use Rattle.sp_rules.specs.Covering.{IsUncovered}
-use Rattle.sp_rules.specs.Judging.{judged_of, of_shape, of_login, IsJudged}
 use Rattle.sp_rules.specs.Keys.{Key, usable}
 use Rattle.sp_rules.specs.Meant.{consumer, is_from, is_for, is_sent_to, is_in_time}
 use Rattle.sp_rules.specs.Opening.{Carried, Posts, Carries, Asserts, Brought, Brings, Opens}
 use Rattle.sp_rules.specs.Outstanding.{asked_for, is_outstanding, is_unspent, is_unseen, is_relayed}
 use Rattle.sp_rules.specs.Shown.{IsAcceptedOf, IsOpening}
 use Rattle.sp_rules.specs.Verdict.{form_refusal, head_refusal, login_refusal, IsRefused, by_form, by_document, by_root, by_head, by_signature, by_assertion, by_login}
-use Rattle.sp_rules.specs.Views.{IsCoverOf}
+use Rattle.sp_rules.specs.Views.{IsCoverOf, IsNoResponse, HasNoLogin, HasNoName}
 use Rattle.sp_rules.proofs.Refusals.{judged_right, judged_more, all_hold}
 
 -- the Assertion that is covered is the one of the Response
@@ -67,11 +60,11 @@ module _ (config : SpConfig) (rows : RowsView) (horizon now : ℕ) (body : List 
 
   module _ (document : DocumentView) (relay : Option (List ℕ)) (posted : Posts body document.text relay) (spelled : IsSpelled document.text document.tree) where
     -- a document whose root is no Response
-    pub not_response : (k : ℕ) (fault : ShapeFault) → k ≡ 0 → IsShapeFault fault ((head : ResponseHead) → ¬ (IsResponse document.tree k head)) →
-        IsJudged IsRight (judged_of (of_shape fault))
-    not_response k shapes.WrongShape root none =
-        by_root document.text relay document.tree posted spelled (subst (λ (n : ℕ). (head : ResponseHead) → ¬ (IsResponse document.tree n head)) root none) refl
-    not_response k shapes.NoMemory root none = tt
+    pub not_response : (k : ℕ) (judged : Judged) → k ≡ 0 → IsJudged (IsNoResponse document.tree k) judged → IsJudged IsRight judged
+    not_response k judged root h =
+        judged_more (IsNoResponse document.tree k) IsRight judged
+        (λ verdict no. by_root document.text relay document.tree posted spelled
+        (subst (λ (n : ℕ). (head : ResponseHead) → ¬ (IsResponse document.tree n head)) root no.none) no.is) h
 
     module _ (k : ℕ) (head : ResponseHead) (root : k ≡ 0) (response : IsResponse document.tree k head) where
       abbrev carried : Carried
@@ -92,21 +85,21 @@ module _ (config : SpConfig) (rows : RowsView) (horizon now : ℕ) (body : List 
 
         module _ (cover : Cover) (covers : IsCoverOf (usable config now) document p cover) where
           -- it has no login
-          pub no_login : (fault : LoginFault) → IsLoginFault fault (login_at cover.assertion.document.tree cover.assertion.node ≡ None) →
-              IsJudged IsRight (judged_of (of_login fault))
-          no_login logins.BadAssertion none =
-              by_assertion carried p cover.first.0 covers.key carries asserts covers.covered
-              (subst (λ (at : DocumentView × ℕ). login_at at.0.tree at.1 ≡ None) (λ i. (covers.place i, covers.node i)) none) refl
-          no_login logins.NoMemory none = tt
+          pub no_login : (judged : Judged) → IsJudged (HasNoLogin cover.assertion.document.tree cover.assertion.node) judged → IsJudged IsRight judged
+          no_login judged h =
+              judged_more (HasNoLogin cover.assertion.document.tree cover.assertion.node) IsRight judged
+              (λ verdict no. by_assertion carried p cover.first.0 covers.key carries asserts covers.covered
+              (subst (λ (at : DocumentView × ℕ). login_at at.0.tree at.1 ≡ None) (λ i. (covers.place i, covers.node i)) no.none) no.is) h
 
           module _ (login : Login) (read : login_at cover.assertion.document.tree cover.assertion.node ≡ Some login) where
             -- a login has a name, so its place is found
-            pub no_places : (fault : LoginFault) → IsLoginFault fault (name_place cover.assertion.document.tree cover.assertion.node ≡ None) →
-                IsJudged IsRight (judged_of (of_login fault))
-            no_places logins.BadAssertion none =
+            pub no_places : (judged : Judged) → IsJudged (HasNoName cover.assertion.document.tree cover.assertion.node) judged → IsJudged IsRight judged
+            no_places judged h =
                 let tree = cover.assertion.document.tree in
-                let told : None ≡ Some login.name = sym (ap (option_map (text_of tree)) none) ∙ name_said tree cover.assertion.node login read in absurd (cc)
-            no_places logins.NoMemory none = tt
+                judged_more (HasNoName tree cover.assertion.node) IsRight judged
+                (λ verdict no.
+                let told : None ≡ Some login.name = sym (ap (option_map (text_of tree)) no.none) ∙ name_said tree cover.assertion.node login read in absurd (cc))
+                h
 
             abbrev brought : Brought
             brought = record { carried = carried; p = p; e = cover.first.0; key = covers.key; login = login }

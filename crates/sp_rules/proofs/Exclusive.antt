@@ -29,7 +29,7 @@ use Rattle.fault_verdicts.proofs.Faults.{spelled_not_refused, one_refusal}
 use Rattle.sp_rules.proofs.Faults.{covered_not_uncovered, uncovered_one, covered_one}
 use Rattle.fault_verdicts.proofs.Stages.{IsOne, Staged, staged_one, staged_none}
 
-some_one : {X : Type 0} (o : Option X) (x y : X) → o ≡ Some x → o ≡ Some y → x ≡ y
+pub some_one : {X : Type 0} (o : Option X) (x y : X) → o ≡ Some x → o ≡ Some y → x ≡ y
 some_one o x y e h = let both : Some x ≡ Some y = sym e ∙ h in cc
 
 ok_one : {X E : Type 0} (r : Result X E) (x y : X) → r ≡ Ok x → r ≡ Ok y → x ≡ y
@@ -110,12 +110,12 @@ no_document_too message v tree n s = spelled_not_refused message tree n.0 v s n.
 no_form_too : (body : List ℕ) (v : Verdict) (posted : List ℕ × Option (List ℕ)) → form_refusal (form body) ≡ Some v → Posts body posted.0 posted.1 → ⊥
 no_form_too body v posted e p = let both : None ≡ Some v = sym (ap form_refusal p) ∙ e in cc
 
-posts_one : (body : List ℕ) (one other : List ℕ × Option (List ℕ)) → Posts body one.0 one.1 → Posts body other.0 other.1 → one ≡ other
+pub posts_one : (body : List ℕ) (one other : List ℕ × Option (List ℕ)) → Posts body one.0 one.1 → Posts body other.0 other.1 → one ≡ other
 posts_one body one other p q =
     let same = ok_one (form body) (record { field = Response; message = one.0; relay = one.1 }) (record { field = Response; message = other.0; relay = other.1 }) p q in
     λ i. ((same i).message, (same i).relay)
 
-asserts_one : (head : ResponseHead) (p q : ℕ) → Asserts head p → Asserts head q → p ≡ q
+pub asserts_one : (head : ResponseHead) (p q : ℕ) → Asserts head p → Asserts head q → p ≡ q
 asserts_one head p q a b = let both : p ∷ [] ≡ q ∷ [] = sym a.one ∙ b.one in cc
 
 assertion_one : (config : SpConfig) (rows : RowsView) (horizon now : ℕ) (tree : Nodes) (head : ResponseHead) (relay : Option (List ℕ)) (p : ℕ) →

@@ -1,4 +1,5 @@
 pub mod Accepting
+pub mod Alone
 pub mod Covers
 pub mod Deciding
 pub mod Exclusive

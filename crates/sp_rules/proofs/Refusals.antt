@@ -9,9 +9,9 @@ use Rattle.request_rows.specs.Rows.{RowsView}
 use Rattle.verdict_codes.specs.declared.codes.Verdict.{Verdict}
 use Rattle.verdict_codes.specs.declared.codes.Verdict.TheVariants as verdicts
 use Rattle.sp_rules.specs.declared.config.SpConfig.{SpConfig}
-use Rattle.sp_rules.specs.declared.judged.Judged.{Judged}
-use Rattle.sp_rules.specs.declared.judged.Judged.TheVariants as judgements
-use Rattle.sp_rules.specs.Judging.{judged_of, IsJudged}
+use Rattle.fault_verdicts.specs.Judging.{judged_of, IsJudged}
+use Rattle.fault_verdicts.specs.declared.judged.Judged.{Judged}
+use Rattle.fault_verdicts.specs.declared.judged.Judged.TheVariants as judgements
 use Rattle.sp_rules.specs.Meant.{consumer, is_from, is_for, is_sent_to, is_in_time}
 use Rattle.sp_rules.specs.Outstanding.{asked_for, is_outstanding, is_unspent, is_unseen, is_relayed}
 use Rattle.sp_rules.specs.Verdict.{first_failing, login_refusal}

@@ -1,5 +1,5 @@
--- Which signatures cover an assertion of a response: SAML Profiles, 4.1.4.5 ("The <Assertion> element(s) in the <Response> MUST be
--- signed", or the response is), and SAML Core, 5.4.
+-- Which signatures cover an assertion of a response. In the POST binding each assertion is signed: it has a signature, or its
+-- response has one (SAML Profiles, 4.1.3.5 and 4.1.4.5; SAML Core, 5.4).
 use Rattle.std.specs.Prelude.{◌≡◌, ℕ, ◌⊎◌, Bool, List, [], ◌∷◌, ◌++◌, Option, None, Some, if◌then◌else◌, codes}
 use Rattle.std.specs.Str.{bytes_eq}
 use Rattle.hmac_sha256.specs.Hmac.{hmac}

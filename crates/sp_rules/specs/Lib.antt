@@ -1,6 +1,5 @@
 pub mod Covering
 pub mod Examples
-pub mod Judging
 pub mod Keys
 pub mod Meant
 pub mod Opening

@@ -1,5 +1,5 @@
--- Whether a login answers a request that is outstanding and unused: SAML Profiles, 4.1.4.3 ("Verify that any InResponseTo .. matches
--- an outstanding request", "ensure that bearer assertions are not replayed"), and SAML Bindings, 3.5.3 (RelayState).
+-- Whether a login answers a request that is outstanding and unused. InResponseTo is the ID of a request that the provider sent (SAML
+-- Profiles, 4.1.4.3), bearer assertions are not replayed (4.1.4.5), and RelayState comes back as it was given (SAML Bindings, 3.5.3).
 use Rattle.std.specs.Prelude.{ℕ, Bool, false, not, List, Option, None, Some}
 use Rattle.std.specs.Str.{bytes_eq}
 use Rattle.protocol_messages.specs.declared.response.ResponseHead.{ResponseHead}

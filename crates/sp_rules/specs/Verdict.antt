@@ -6,7 +6,6 @@ use Rattle.saml_tree.specs.Documents as documents
 use Rattle.saml_tree.specs.declared.node.TreeFault.{TreeFault}
 use Rattle.post_binding.specs.Form.{form}
 use Rattle.post_binding.specs.declared.fault.FormFault.{FormFault}
-use Rattle.post_binding.specs.declared.fault.FormFault.TheVariants as forms
 use Rattle.post_binding.specs.declared.posted.Field.{Field}
 use Rattle.post_binding.specs.declared.posted.Field.TheVariants.{Request, Response}
 use Rattle.post_binding.specs.declared.posted.Posted.{Posted}
@@ -20,20 +19,13 @@ use Rattle.request_rows.specs.Rows.{RowsView}
 use Rattle.verdict_codes.specs.Codes.{number_of}
 use Rattle.verdict_codes.specs.declared.codes.Verdict.{Verdict}
 use Rattle.verdict_codes.specs.declared.codes.Verdict.TheVariants as verdicts
-use Rattle.fault_verdicts.specs.Verdicts.{of_document, of_signature}
+use Rattle.fault_verdicts.specs.Verdicts.{of_document, of_form, of_signature}
 use Rattle.sp_rules.specs.declared.config.SpConfig.{SpConfig}
 use Rattle.sp_rules.specs.Keys.{Key, usable}
 use Rattle.sp_rules.specs.Covering.{IsCovered, IsUncovered}
 use Rattle.sp_rules.specs.Meant.{consumer, is_from, is_for, is_sent_to, is_in_time}
 use Rattle.sp_rules.specs.Outstanding.{asked_for, is_outstanding, is_unspent, is_unseen, is_relayed}
 use Rattle.sp_rules.specs.Opening.{Carried, Posts, Carries, Asserts, Brought, Brings, Opens}
-
--- the verdict for a form that is not read; none for want of memory
-abbrev pub of_form : FormFault → Option Verdict
-of_form forms.BadForm = Some verdicts.BadForm
-of_form forms.BadBase64 = Some verdicts.BadBase64
-of_form (forms.TooLarge bytes) = Some verdicts.TooLarge
-of_form forms.NoMemory = None
 
 -- 1 to 3: the form is not read, or a request stands in it
 abbrev pub form_refusal : Result Posted FormFault → Option Verdict

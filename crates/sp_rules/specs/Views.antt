@@ -1,8 +1,14 @@
 -- How the definitions see what the code keeps.
-use Rattle.std.specs.Prelude.{◌≡◌, ℕ, List, [], ◌∷◌, ◌++◌, Some}
+use Rattle.std.specs.Prelude.{◌≡◌, ℕ, List, [], ◌∷◌, ◌++◌, None, Some}
+use Rattle.xml_spec.specs.Tree.{Nodes}
 use Rattle.saml_tree.specs.Documents.{DocumentView}
 use Rattle.saml_tree.specs.Elements.{IsElement}
-use Rattle.assertion_model.specs.Parts.{own_signature}
+use Rattle.protocol_messages.specs.Messages.{IsResponse}
+use Rattle.protocol_messages.specs.declared.response.ResponseHead.{ResponseHead}
+use Rattle.assertion_model.specs.Parts.{login_at, own_signature}
+use Rattle.assertion_model.specs.Places.{name_place}
+use Rattle.verdict_codes.specs.declared.codes.Verdict.{Verdict}
+use Rattle.verdict_codes.specs.declared.codes.Verdict.TheVariants as verdicts
 use Rattle.sp_rules.specs.declared.config.TheConstants.{FIRST, SECOND}
 use Rattle.sp_rules.specs.declared.cover.Usable.{Usable}
 use Rattle.sp_rules.specs.declared.cover.Usable.TheVariants as kinds
@@ -42,3 +48,18 @@ pub record IsCoverOf (keys : List Key) (document : DocumentView) (p : ℕ) (cove
   pub same : cover.assertion.signature ≡ cover.signature.0
   pub first_element : IsElement document.tree cover.first.0
   pub signature_element : IsElement document.tree cover.signature.0
+
+-- 8: the element is no Response
+pub record IsNoResponse (tree : Nodes) (k : ℕ) (verdict : Verdict) : Type 0 where
+  pub none : (head : ResponseHead) → ¬ (IsResponse tree k head)
+  pub is : verdict ≡ verdicts.NotResponse
+
+-- 15: the element has no login
+pub record HasNoLogin (tree : Nodes) (k : ℕ) (verdict : Verdict) : Type 0 where
+  pub none : login_at tree k ≡ None
+  pub is : verdict ≡ verdicts.BadAssertion
+
+-- 15: no name of a login stands in the element
+pub record HasNoName (tree : Nodes) (k : ℕ) (verdict : Verdict) : Type 0 where
+  pub none : name_place tree k ≡ None
+  pub is : verdict ≡ verdicts.BadAssertion

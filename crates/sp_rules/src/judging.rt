@@ -8,7 +8,7 @@ ghost use Rattle.saml_tree.specs.Elements.{IsElement};
 ghost use Rattle.post_binding.specs.Form.{form};
 ghost use Rattle.tree_read.specs.Children.{children};
 ghost use Rattle.tree_read.specs.Views.{tree_of};
-ghost use Rattle.sp_rules.specs.Judging.{IsJudged};
+ghost use Rattle.fault_verdicts.specs.Judging.{IsJudged};
 ghost use Rattle.sp_rules.specs.Opening.{Posts, Asserts};
 ghost use Rattle.sp_rules.specs.Outstanding.{asked_for};
 ghost use Rattle.sp_rules.specs.Shown.{IsOpening};
@@ -17,16 +17,17 @@ ghost use Rattle.sp_rules.specs.Verdict.{form_refusal, head_refusal, login_refus
 use crate::accepted::Accepted;
 use crate::config::{GREATEST_SKEW, SpConfig};
 use crate::cover::cover_of;
-use crate::judged::Judged;
 use crate::login::{
     consumer_address, is_for, is_from, is_in_time, is_outstanding, is_relayed, is_sent_to,
     is_unseen, is_unspent,
 };
+use crate::reading::{head_of, login_of, places_of};
 use crate::shown::accepted_of;
-use assertion_model::{Login, read_login, read_places};
+use assertion_model::Login;
+use fault_verdicts::Judged;
 use owned_values::{Blob, Text};
 use post_binding::{Field, MESSAGE_LIMIT, read_form};
-use protocol_messages::{ResponseHead, read_response};
+use protocol_messages::ResponseHead;
 use request_rows::{AskedRow, Rows};
 use saml_time::LAST;
 use saml_tree::{Doc, read_document};
@@ -126,18 +127,22 @@ fn judge_document(
         doc,
         node: doc.root(),
     };
-    let head = read_response(alloc, root)?;
+    let head = head_of(alloc, root)?;
     let assertion = the_assertion(root, &head)?;
     let cover = cover_of(alloc, config, now, root, assertion)?;
-    let login = read_login(alloc, &cover.assertion)?;
+    let login = login_of(alloc, &cover.assertion)?;
     let asked = asked_by(alloc, config, rows, horizon, now, &head, relay, &login)?;
-    let places = read_places(alloc, &cover.assertion)?;
+    let places = places_of(alloc, &cover.assertion)?;
     let target = asked.target.copy()?;
     Ok(accepted_of(alloc, config, now, &cover, login, target, &places)?)
 }
 
-/// Judges a form that was posted to a provider's consumer address at a moment, over the rows that are visible at it and behind
-/// the horizon.
+/// Judges a form that was posted to a provider's consumer address at the moment `now`, over its rows, of which those that ended at
+/// `horizon` or before may have been dropped. Both moments are in milliseconds since 1970-01-01T00:00:00Z.
+///
+/// A row is visible where it ends behind both. `NotOutstanding` and `RelayDiffers` look at the visible row of the request, and
+/// `AssertionSeen` at the opened rows whose assertion may still be presented then; `RequestSpent` looks at every opened row,
+/// visible or not, closed or not.
 ///
 /// # Errors
 ///

@@ -12,7 +12,7 @@
 //! Assertion, signatures cover that Assertion, and its login is meant for this provider, in time, for an outstanding and
 //! unused request with its RelayState. One number stands there for the element that is covered and the element that is
 //! read. Every other form is refused with the verdict of the first condition that fails (`IsRefused` of `Verdict.antt`).
-//! No form has two verdicts ([`laws::a_form_has_one_verdict`]).
+//! No form has two verdicts, and none opens two sessions ([`laws::a_form_has_one_verdict`]).
 //!
 //! What is shown of a login lies inside the Assertion, and [`Accepted`] says where. Want of memory may come in place of
 //! any other answer.
@@ -21,13 +21,13 @@
 mod accepted;
 mod config;
 mod cover;
-mod judged;
 mod judging;
 pub mod laws;
 mod login;
+mod reading;
 mod shown;
 
 pub use accepted::{Accepted, Spans};
 pub use config::{FIRST, GREATEST_SKEW, NextKey, SECOND, SESSION_LENGTH, SpConfig};
-pub use judged::Judged;
+pub use fault_verdicts::Judged;
 pub use judging::judge;

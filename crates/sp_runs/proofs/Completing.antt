@@ -1,7 +1,7 @@
 -- A provider that can be run serves, where no fault keeps it from that.
 use Rattle.std.proofs.Common.{◌≡◌, ◌≢◌, ◌⊎◌, ℕ, List, Option, None, Some, IfSome, IsSomeAnd, IsOk, Result, Ok, Err, inr, refl, sym, subst}
 use Rattle.saml_outside.specs.Files.{File}
-use Rattle.crash_disk.specs.Disk.{DiskState, image_of}
+use Rattle.crash_disk.specs.Disk.{DiskState, Image, image_of}
 use Rattle.gate_journal.specs.Format.{Fault}
 use Rattle.node_serve.specs.Turns.{Turn}
 use Rattle.node_runs.specs.declared.ended.Ended.{Ended}
@@ -15,7 +15,7 @@ use Rattle.provider_config.specs.declared.line.Purpose.{Purpose}
 use Rattle.provider_config.specs.declared.line.Purpose.TheVariants.{Serve}
 use Rattle.request_ledger.specs.Ledger.{Held, ledger_in, taken}
 use Rattle.sp_server.specs.Histories.{IsProviders}
-use Rattle.sp_server.specs.Step.{Provider}
+use Rattle.sp_server.specs.Step.{Provider, StepLeaves}
 use Rattle.sp_setup.specs.Setup.{Setup, IsSetUp, IsBadSetUp}
 use Rattle.sp_runs.specs.Runs.{Begins, IsNotOpened, IsRunnable, OpeningFails, Runs}
 
@@ -46,9 +46,9 @@ module _ (result : Result Ended RunFault) (unread : result ≢ Err faults.ReadFa
   not_opened before after (Err faults.LinkFault) e holds why = absurd why
   not_opened before after (Err faults.NoMemory) e holds why = inr (sym e)
 
-  pub complete : NeverBoth → (told : Option (List File)) (file : List ℕ) (budget : ℕ) (before after : Outside) (turns : List (Turn Provider))
-      → IsRunnable told file before.disk → Runs told file budget before turns result after → IsServed result ⊎ (result ≡ Err faults.NoMemory)
-  complete law told file budget before after turns can runs =
-      complete_by IsProviders (IsBadSetUp told Serve file) (IsNotOpened told file before) (Begins told file before) budget before after turns result unread unlinked
+  pub complete : NeverBoth → (left : ℕ → Image → Type 0) (told : Option (List File)) (file : List ℕ) (budget : ℕ) (before after : Outside) (turns : List (Turn Provider))
+      → IsRunnable told file before.disk → Runs left told file budget before turns result after → IsServed result ⊎ (result ≡ Err faults.NoMemory)
+  complete law left told file budget before after turns can runs =
+      complete_by IsProviders StepLeaves left (IsBadSetUp told Serve file) (IsNotOpened told file before) (Begins told file before) budget before after turns result unread unlinked
       (λ bad line is. law can.files Serve file can.lines can.setup bad line can.set_up (subst (λ (o : Option (List File)). IsBadSetUp o Serve file bad line) can.tells is))
       (λ not. not_opened before after result refl can.holds not.fails) runs

@@ -33,6 +33,8 @@ use Rattle.sp_rules.specs.Outstanding.{asked_for, is_outstanding, is_unspent, is
 use Rattle.sp_rules.specs.Verdict.{form_refusal, number_refusal, first_failing, IsRefused, by_form, by_document, by_root, by_head, by_signature, by_assertion, by_login}
 use Rattle.sp_server.specs.Routes.{Route, Service, App, Consumer, Metadata, Logout, SingleLogout, To, Refused, is_target, is_method, is_typed, at_target, checked, service_at}
 use Rattle.sp_server.specs.Peer.{idp_at, logout_address, second_key}
+use Rattle.node_steps.specs.Step as any
+use Rattle.node_steps.specs.declared.codes.TheConstants as codes
 use Rattle.sp_server.specs.Step as steps
 use Rattle.sp_server.specs.Step.{Setup, Provider, Answers, Steps, REGISTRY_EXPIRED, is_expired}
 
@@ -201,19 +203,19 @@ unexpired setup held request now answer adds none (steps.ByUnknownLogout respons
 
 serves_unexpired : (found : Held) (request : Request) (now : ℕ) (Risen : Type 0) (answer : Answer) (old new : Provider) → old.setup.expiry ≡ None →
     steps.Serves found request now Risen answer old new → answer ≡ Fixed REGISTRY_EXPIRED → ⊥
-serves_unexpired found request now Risen answer old new none (steps.Plain answers whole) e = unexpired old.setup found request now answer None none answers e
-serves_unexpired found request now Risen answer old new none (steps.Recorded r answers place whole) e = unexpired old.setup found request now answer (Some r) none answers e
-serves_unexpired found request now Risen answer old new none (steps.RecordedAfterCompaction held wanted r other wants full made answers place whole) e =
+serves_unexpired found request now Risen answer old new none (any.Plain answers whole) e = unexpired old.setup found request now answer None none answers e
+serves_unexpired found request now Risen answer old new none (any.Recorded r answers place whole) e = unexpired old.setup found request now answer (Some r) none answers e
+serves_unexpired found request now Risen answer old new none (any.RecordedAfterCompaction held r room answers place whole) e =
     unexpired old.setup held request now answer (Some r) none answers e
-serves_unexpired found request now Risen answer old new none (steps.NoPlace held wanted r other another wants full made answers still is whole) e =
-    other_code answer steps.FULL (λ n. omega (arith, n)) is e
-serves_unexpired found request now Risen answer old new none (steps.Failed wanted other wants risen is broken) e = other_code answer steps.DISK_FAULT (λ n. omega (arith, n)) is e
-serves_unexpired found request now Risen answer old new none (steps.Starved held which is whole) e = other_code answer steps.NO_MEMORY (λ n. omega (arith, n)) is e
+serves_unexpired found request now Risen answer old new none (any.NoPlace held r another room answers still is whole) e =
+    other_code answer codes.FULL (λ n. omega (arith, n)) is e
+serves_unexpired found request now Risen answer old new none (any.Failed wanted other wants risen is broken) e = other_code answer codes.DISK_FAULT (λ n. omega (arith, n)) is e
+serves_unexpired found request now Risen answer old new none (any.Starved held which is whole) e = other_code answer codes.NO_MEMORY (λ n. omega (arith, n)) is e
 
 pub step_unexpired : (old : Provider) (disk : Option DiskState) (request : Request) (now : ℕ) (Risen : Type 0) (answer : Answer) (new : Provider) → old.setup.expiry ≡ None →
     Steps old disk request now Risen answer new → answer ≡ Fixed REGISTRY_EXPIRED → ⊥
-step_unexpired old disk request now Risen answer new none (steps.WithLedger whole serves) e = serves_unexpired old.ledger.held request now Risen answer old new none serves e
-step_unexpired old disk request now Risen answer new none (steps.WithOpened found broken is serves) e = serves_unexpired found request now Risen answer old new none serves e
-step_unexpired old disk request now Risen answer new none (steps.NotOpened was risen is broken) e = other_code answer steps.DISK_FAULT (λ n. omega (arith, n)) is e
-step_unexpired old disk request now Risen answer new none (steps.Strange was fault is broken) e = other_code answer steps.FOREIGN (λ n. omega (arith, n)) is e
-step_unexpired old disk request now Risen answer new none (steps.StarvedAtOpening was is broken) e = other_code answer steps.NO_MEMORY (λ n. omega (arith, n)) is e
+step_unexpired old disk request now Risen answer new none (any.WithLedger whole serves) e = serves_unexpired old.ledger.held request now Risen answer old new none serves e
+step_unexpired old disk request now Risen answer new none (any.WithOpened found broken is serves) e = serves_unexpired found request now Risen answer old new none serves e
+step_unexpired old disk request now Risen answer new none (any.NotOpened was risen is broken) e = other_code answer codes.DISK_FAULT (λ n. omega (arith, n)) is e
+step_unexpired old disk request now Risen answer new none (any.Strange was fault is broken) e = other_code answer codes.FOREIGN (λ n. omega (arith, n)) is e
+step_unexpired old disk request now Risen answer new none (any.StarvedAtOpening was is broken) e = other_code answer codes.NO_MEMORY (λ n. omega (arith, n)) is e

@@ -3,7 +3,7 @@ use Rattle.std.specs.Prelude.{List, [], ◌∷◌, Option}
 use Rattle.std.specs.List.{AllByRecursion}
 use Rattle.std.proofs.Common.{◌≡◌, ℕ, subst, sym}
 use Rattle.crash_disk.specs.Counts.{Rose}
-use Rattle.crash_disk.specs.Disk.{DiskState}
+use Rattle.crash_disk.specs.Disk.{Image, DiskState}
 use Rattle.http_wire.specs.declared.answer.Answer.{Answer}
 use Rattle.http_wire.specs.declared.answer.Answer.TheVariants as answers
 use Rattle.http_wire.specs.Requests.{Request}
@@ -15,9 +15,11 @@ use Rattle.sp_server.specs.Logouts.{NothingElseCloses, OnlyWhereAUserLeaves, Onl
 use Rattle.sp_server.specs.Recorded.{WhatIsAnsweredIsRecorded, WhatIsAskedIsRecorded}
 use Rattle.sp_server.specs.Sessions.{OnlyWhereAFormOpens, WhereverAFormOpens}
 use Rattle.sp_server.specs.Step.{Provider, Serves, Steps}
+use Rattle.request_ledger.specs.Laws.{ImagesHoldRecords}
 use Rattle.request_ledger.specs.Ledger.{Held}
 use Rattle.sp_runs.specs.Headline.{ARunCarriesTheHeadline, ClosesExactly, EachGoesExactly, GoesExactly, IsRecordedFirst, OpensExactly, ServedNothing, ServedSo}
 use Rattle.sp_runs.specs.Laws.{EachSessionWasSigned, SessionsStayClosedInARun, WhatARunAcknowledgedIsKeptOnce}
+use Rattle.sp_runs.proofs.Kept.{kept_ever_since}
 
 -- the laws on which it stands
 pub record Laws : Type 0 where
@@ -31,6 +33,7 @@ pub record Laws : Type 0 where
   pub wherever_ended : WhereverSessionsEnd
   pub posted : WhatIsAnsweredIsRecorded
   pub requested : WhatIsAskedIsRecorded
+  pub hold : ImagesHoldRecords
   pub kept : WhatARunAcknowledgedIsKeptOnce
   pub closed : SessionsStayClosedInARun
 
@@ -105,12 +108,13 @@ module _ (laws : Laws) where
   each_goes [] = tt
   each_goes (turn ∷ past) = (of_turn turn, each_goes past)
 
-  pub headline : ARunCarriesTheHeadline
-  headline told file budget before turns result after (BadSetUp bad line is e bare same) = ServedNothing bare
-  headline told file budget before turns result after (NotSetUp why bare same) = ServedNothing bare
-  headline told file budget before turns result after (NotOpened why bare same) = ServedNothing bare
-  headline told file budget before turns result after (Deaf node opened begins e rose bare same) = ServedNothing bare
-  headline told file budget before turns result after (Serving node last opened served begins serves e) =
-      ServedSo node last opened begins (each_goes turns)
-      (λ tells all. laws.kept told file budget before opened after node last turns served tells all begins serves)
-      (λ tells all. laws.closed told file budget before opened after node last turns served tells all begins serves)
+  pub headline : (left : ℕ → Image → Type 0) → ARunCarriesTheHeadline left
+  headline left told file budget before turns result after (BadSetUp bad line is e bare same) = ServedNothing bare
+  headline left told file budget before turns result after (NotSetUp why bare same) = ServedNothing bare
+  headline left told file budget before turns result after (NotOpened why bare same) = ServedNothing bare
+  headline left told file budget before turns result after (Deaf node opened begins e rose bare same) = ServedNothing bare
+  headline left told file budget before turns result after (Serving node last opened served begins serves e) =
+      ServedSo node last opened budget served begins serves (each_goes turns)
+      (λ tells. laws.kept told file budget before opened after node last turns serves.kept serves.last served tells begins serves.run serves.ends)
+      (λ tells. kept_ever_since laws.hold left told file budget before opened after node last turns served tells begins serves)
+      (λ tells. laws.closed told file budget before opened after node last turns serves.kept serves.last served tells begins serves.run serves.ends)

@@ -11,9 +11,12 @@ use Rattle.ledger_records.specs.declared.sp_record.SpRecord.{SpRecord}
 use Rattle.node_serve.specs.Turns.{Asked, Turn, Taken, Full, StarvedStart, Over, Unknown, Waiting, Answered, Refused, StarvedPiece, asked_in, asked_by, Does, Run}
 use Rattle.node_serve.specs.Worlds.{World, OnlySends}
 use Rattle.request_ledger.specs.Ledger.{Held}
+use Rattle.node_steps.specs.Step as any
+use Rattle.node_steps.specs.declared.codes.TheConstants as codes
 use Rattle.sp_server.specs.Step as steps
 use Rattle.sp_server.specs.Step.{Setup, Provider, Answers, Steps, is_expired}
-use Rattle.sp_server.specs.Histories.{IsProviders, Stands, ForRecord, ForNone, ForCode}
+use Rattle.node_steps.specs.Histories.{ForRecord, ForNone, ForCode}
+use Rattle.sp_server.specs.Histories.{IsProviders, Stands}
 use Rattle.sp_setup.specs.Laws.{ARegistryTellsTheProvider, WithoutARegistryNothingEnds}
 use Rattle.sp_runs.specs.Laws.{ARunUsesWhatItsRegistryLists, EachRequestIsServedByTheSameSetup, AnEndedRegistryRecordsNothing, AnEndedRegistryAsksNothing, AsksAndOpensNothing, WithoutARegistryNothingIsExpired}
 use Rattle.sp_setup.specs.Setup as setups
@@ -24,19 +27,19 @@ use Rattle.sp_runs.proofs.Expired.{step_unexpired}
 -- ---- one request
 
 serves_same : (found : Held) (request : Request) (now : ℕ) (Risen : Type 0) (answer : Answer) (old new : Provider) → steps.Serves found request now Risen answer old new → new.setup ≡ old.setup
-serves_same found request now Risen answer old new (steps.Plain answers whole) = whole.setup
-serves_same found request now Risen answer old new (steps.Recorded r answers place whole) = whole.setup
-serves_same found request now Risen answer old new (steps.RecordedAfterCompaction held wanted r other wants none made answers place whole) = whole.setup
-serves_same found request now Risen answer old new (steps.NoPlace held wanted r other another wants none made answers still is whole) = whole.setup
-serves_same found request now Risen answer old new (steps.Failed wanted other wants risen is broken) = broken.setup
-serves_same found request now Risen answer old new (steps.Starved held which is whole) = whole.setup
+serves_same found request now Risen answer old new (any.Plain answers whole) = whole.setup
+serves_same found request now Risen answer old new (any.Recorded r answers place whole) = whole.setup
+serves_same found request now Risen answer old new (any.RecordedAfterCompaction held r room answers place whole) = whole.setup
+serves_same found request now Risen answer old new (any.NoPlace held r another room answers still is whole) = whole.setup
+serves_same found request now Risen answer old new (any.Failed wanted other wants risen is broken) = broken.setup
+serves_same found request now Risen answer old new (any.Starved held which is whole) = whole.setup
 
 step_same : (old : Provider) (disk : Option DiskState) (request : Request) (now : ℕ) (Risen : Type 0) (answer : Answer) (new : Provider) → Steps old disk request now Risen answer new → new.setup ≡ old.setup
-step_same old disk request now Risen answer new (steps.WithLedger whole serves) = serves_same _ request now Risen answer old new serves
-step_same old disk request now Risen answer new (steps.WithOpened found broken is serves) = serves_same found request now Risen answer old new serves
-step_same old disk request now Risen answer new (steps.NotOpened was risen is broken) = broken.setup
-step_same old disk request now Risen answer new (steps.Strange was none is broken) = broken.setup
-step_same old disk request now Risen answer new (steps.StarvedAtOpening was is broken) = broken.setup
+step_same old disk request now Risen answer new (any.WithLedger whole serves) = serves_same _ request now Risen answer old new serves
+step_same old disk request now Risen answer new (any.WithOpened found broken is serves) = serves_same found request now Risen answer old new serves
+step_same old disk request now Risen answer new (any.NotOpened was risen is broken) = broken.setup
+step_same old disk request now Risen answer new (any.Strange was none is broken) = broken.setup
+step_same old disk request now Risen answer new (any.StarvedAtOpening was is broken) = broken.setup
 
 -- ---- one turn
 
@@ -88,8 +91,8 @@ asked_same first last (turn ∷ past) kept asked (old, before, given, run, next,
     which rest (inr now) = asked_here turn old kept given last asked does now ∙ ap setup_in next.same ∙ run_same first before past old run
 
 pub served_by_one : EachRequestIsServedByTheSameSetup
-served_by_one told file budget before opened after provider last turns served asked begins serves there =
-    asked_same (world_of provider opened) serves.last turns serves.kept asked serves.run there ∙ begins.started.serves_by
+served_by_one told file before opened provider turns kept behind asked begins run there =
+    asked_same (world_of provider opened) behind turns kept asked run there ∙ begins.started.serves_by
 
 -- ---- registries
 
@@ -130,8 +133,8 @@ is_over asked until setup by ends late =
     ap (λ (s : Setup). is_expired s.expiry asked.now) by ∙ ap (λ (e : Option ℕ). is_expired e asked.now) ends ∙ at_or_after until asked.now late
 
 pub ended : AnEndedRegistryRecordsNothing
-ended told file budget before opened after provider last turns served asked until r begins serves ends there late stands =
-    let by = served_by_one told file budget before opened after provider last turns served asked begins serves there in
+ended told file before opened provider turns kept behind asked until r begins run ends there late stands =
+    let by = served_by_one told file before opened provider turns kept behind asked begins run there in
     stands_for_none asked (Some r) r (is_over asked until begins.setup by ends late) refl stands
 
 -- what is answered then
@@ -154,22 +157,22 @@ without setup held request now answer adds over (steps.ByUnknownLogout response 
 
 serves_without : (found : Held) (request : Request) (now : ℕ) (Risen : Type 0) (answer : Answer) (old new : Provider) → is_expired old.setup.expiry now ≡ true →
     steps.Serves found request now Risen answer old new → AsksAndOpensNothing old.setup request answer
-serves_without found request now Risen answer old new over (steps.Plain answers whole) = without old.setup found request now answer None over answers
-serves_without found request now Risen answer old new over (steps.Recorded r answers place whole) =
+serves_without found request now Risen answer old new over (any.Plain answers whole) = without old.setup found request now answer None over answers
+serves_without found request now Risen answer old new over (any.Recorded r answers place whole) =
     absurd (ended_adds old.setup found request now answer (Some r) r over refl answers)
-serves_without found request now Risen answer old new over (steps.RecordedAfterCompaction held wanted r other wants none made answers place whole) =
-    absurd (ended_adds old.setup found request now other (Some wanted) wanted over refl wants)
-serves_without found request now Risen answer old new over (steps.NoPlace held wanted r other another wants none made answers still is whole) = inl (steps.FULL, is)
-serves_without found request now Risen answer old new over (steps.Failed wanted other wants risen is broken) = inl (steps.DISK_FAULT, is)
-serves_without found request now Risen answer old new over (steps.Starved held which is whole) = inl (steps.NO_MEMORY, is)
+serves_without found request now Risen answer old new over (any.RecordedAfterCompaction held r room answers place whole) =
+    absurd (ended_adds old.setup found request now room.other (Some room.wanted) room.wanted over refl room.wants)
+serves_without found request now Risen answer old new over (any.NoPlace held r another room answers still is whole) = inl (codes.FULL, is)
+serves_without found request now Risen answer old new over (any.Failed wanted other wants risen is broken) = inl (codes.DISK_FAULT, is)
+serves_without found request now Risen answer old new over (any.Starved held which is whole) = inl (codes.NO_MEMORY, is)
 
 step_without : (old : Provider) (disk : Option DiskState) (request : Request) (now : ℕ) (Risen : Type 0) (answer : Answer) (new : Provider) → is_expired old.setup.expiry now ≡ true →
     Steps old disk request now Risen answer new → AsksAndOpensNothing old.setup request answer
-step_without old disk request now Risen answer new over (steps.WithLedger whole serves) = serves_without old.ledger.held request now Risen answer old new over serves
-step_without old disk request now Risen answer new over (steps.WithOpened found broken is serves) = serves_without found request now Risen answer old new over serves
-step_without old disk request now Risen answer new over (steps.NotOpened was risen is broken) = inl (steps.DISK_FAULT, is)
-step_without old disk request now Risen answer new over (steps.Strange was fault is broken) = inl (steps.FOREIGN, is)
-step_without old disk request now Risen answer new over (steps.StarvedAtOpening was is broken) = inl (steps.NO_MEMORY, is)
+step_without old disk request now Risen answer new over (any.WithLedger whole serves) = serves_without old.ledger.held request now Risen answer old new over serves
+step_without old disk request now Risen answer new over (any.WithOpened found broken is serves) = serves_without found request now Risen answer old new over serves
+step_without old disk request now Risen answer new over (any.NotOpened was risen is broken) = inl (codes.DISK_FAULT, is)
+step_without old disk request now Risen answer new over (any.Strange was fault is broken) = inl (codes.FOREIGN, is)
+step_without old disk request now Risen answer new over (any.StarvedAtOpening was is broken) = inl (codes.NO_MEMORY, is)
 
 -- ---- without a registry
 
@@ -203,16 +206,16 @@ did first last (turn ∷ past) kept asked (old, before, given, run, next, does) 
     which rest (inr now) = did_here turn old kept given last asked does now
 
 pub asks_nothing : AnEndedRegistryAsksNothing
-asks_nothing told file budget before opened after provider last turns served asked until begins serves ends there late =
-    let by = served_by_one told file budget before opened after provider last turns served asked begins serves there in
-    let here = did (world_of provider opened) serves.last turns serves.kept asked serves.run there in
+asks_nothing told file before opened provider turns kept behind asked until begins run ends there late =
+    let by = served_by_one told file before opened provider turns kept behind asked begins run there in
+    let here = did (world_of provider opened) behind turns kept asked run there in
     subst (λ (s : Setup). AsksAndOpensNothing s asked.request asked.answer) by
     (step_without asked.node here.disk asked.request asked.now (Rose here.faults here.later) asked.answer here.new (is_over asked until begins.setup by ends late) here.step)
 
 pub never_expired : WithoutARegistryNothingEnds → WithoutARegistryNothingIsExpired
-never_expired endless told file budget before opened after provider last turns served asked begins serves none there =
-    let by = served_by_one told file budget before opened after provider last turns served asked begins serves there in
+never_expired endless told file before opened provider turns kept behind asked begins run none there =
+    let by = served_by_one told file before opened provider turns kept behind asked begins run there in
     let no_end : asked.node.setup.expiry ≡ None =
     ap (λ (s : Setup). s.expiry) by ∙ endless told _ file begins.lines begins.setup begins.set_up none in
-    let here = did (world_of provider opened) serves.last turns serves.kept asked serves.run there in
+    let here = did (world_of provider opened) behind turns kept asked run there in
     step_unexpired asked.node here.disk asked.request asked.now (Rose here.faults here.later) asked.answer here.new no_end here.step

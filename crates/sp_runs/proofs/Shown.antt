@@ -10,8 +10,10 @@ use Rattle.ledger_records.specs.declared.sp_record.SpRecord.{SpRecord}
 use Rattle.request_ledger.specs.Ledger.{Held}
 use Rattle.request_rows.specs.declared.row.OpenedRow.{OpenedRow}
 use Rattle.sp_server.specs.Routes.{App, To, route}
+use Rattle.node_steps.specs.Step as any
+use Rattle.node_steps.specs.declared.codes.TheConstants.{NO_MEMORY}
 use Rattle.sp_server.specs.Step as steps
-use Rattle.sp_server.specs.Step.{Setup, Provider, Answers, Steps, session_for, shown_to, NO_MEMORY}
+use Rattle.sp_server.specs.Step.{Setup, Provider, Answers, Steps, session_for, shown_to}
 use Rattle.sp_runs.specs.Laws.{ASessionIsShownByItsRow, EqualRowsAreShownAlike}
 
 -- a live session has the page, and nothing is recorded
@@ -48,25 +50,25 @@ no_record setup held request now answer r row app live answers = let e = (shown 
 serves_shown : (found : Held) (request : Request) (now : ℕ) (Risen : Type 0) (answer : Answer) (old new : Provider) (row : OpenedRow) → route request ≡ To App →
     session_for found now request ≡ Some row → steps.Serves found request now Risen answer old new →
     (answer ≡ Full (shown_to old.setup.policy request.path row)) ⊎ (answer ≡ Fixed NO_MEMORY)
-serves_shown found request now Risen answer old new row app live (steps.Plain answers whole) = inl (shown old.setup found request now answer None row app live answers).page
-serves_shown found request now Risen answer old new row app live (steps.Recorded r answers place whole) = absurd (no_record old.setup found request now answer r row app live answers)
-serves_shown found request now Risen answer old new row app live (steps.RecordedAfterCompaction held wanted r other wants none made answers place whole) =
+serves_shown found request now Risen answer old new row app live (any.Plain answers whole) = inl (shown old.setup found request now answer None row app live answers).page
+serves_shown found request now Risen answer old new row app live (any.Recorded r answers place whole) = absurd (no_record old.setup found request now answer r row app live answers)
+serves_shown found request now Risen answer old new row app live (any.RecordedAfterCompaction held r room answers place whole) =
+    absurd (no_record old.setup found request now room.other room.wanted row app live room.wants)
+serves_shown found request now Risen answer old new row app live (any.NoPlace held r another room answers still is whole) =
+    absurd (no_record old.setup found request now room.other room.wanted row app live room.wants)
+serves_shown found request now Risen answer old new row app live (any.Failed wanted other wants risen is broken) =
     absurd (no_record old.setup found request now other wanted row app live wants)
-serves_shown found request now Risen answer old new row app live (steps.NoPlace held wanted r other another wants none made answers still is whole) =
-    absurd (no_record old.setup found request now other wanted row app live wants)
-serves_shown found request now Risen answer old new row app live (steps.Failed wanted other wants risen is broken) =
-    absurd (no_record old.setup found request now other wanted row app live wants)
-serves_shown found request now Risen answer old new row app live (steps.Starved held which is whole) = inr is
+serves_shown found request now Risen answer old new row app live (any.Starved held which is whole) = inr is
 
 pub shown_by_row : ASessionIsShownByItsRow
 shown_by_row old new disk request now faults later answer row whole app live step = which step
   where
     which : Steps old disk request now (Rose faults later) answer new → (answer ≡ Full (shown_to old.setup.policy request.path row)) ⊎ (answer ≡ Fixed NO_MEMORY)
-    which (steps.WithLedger unbroken serves) = serves_shown old.ledger.held request now (Rose faults later) answer old new row app live serves
-    which (steps.WithOpened found broken is serves) = absurd (let e = sym whole ∙ broken in cc)
-    which (steps.NotOpened was risen is broken) = absurd (let e = sym whole ∙ was in cc)
-    which (steps.Strange was none is broken) = absurd (let e = sym whole ∙ was in cc)
-    which (steps.StarvedAtOpening was is broken) = absurd (let e = sym whole ∙ was in cc)
+    which (any.WithLedger unbroken serves) = serves_shown old.ledger.held request now (Rose faults later) answer old new row app live serves
+    which (any.WithOpened found broken is serves) = absurd (let e = sym whole ∙ broken in cc)
+    which (any.NotOpened was risen is broken) = absurd (let e = sym whole ∙ was in cc)
+    which (any.Strange was none is broken) = absurd (let e = sym whole ∙ was in cc)
+    which (any.StarvedAtOpening was is broken) = absurd (let e = sym whole ∙ was in cc)
 
 either : (one second page : Answer) → (one ≡ page) ⊎ (one ≡ Fixed NO_MEMORY) → (second ≡ page) ⊎ (second ≡ Fixed NO_MEMORY) →
     (one ≡ second) ⊎ ((one ≡ Fixed NO_MEMORY) ⊎ (second ≡ Fixed NO_MEMORY))

@@ -5,6 +5,7 @@ use Rattle.std.specs.Prelude.{◌≡◌, ◌⊎◌, ℕ, true, false, List, [], 
 use Rattle.std.specs.List.{AllByRecursion}
 use Rattle.saml_outside.specs.Files.{File}
 use Rattle.crash_disk.specs.Counts.{Rose}
+use Rattle.crash_disk.specs.Disk.{Image}
 use Rattle.http_wire.specs.declared.answer.Answer.TheVariants.{Fixed, Full}
 use Rattle.ledger_records.specs.declared.sp_record.Ended.{Ended as EndedRecord}
 use Rattle.ledger_records.specs.declared.sp_record.Left.{Left as LeftRecord}
@@ -14,22 +15,28 @@ use Rattle.ledger_records.specs.declared.sp_record.SpRecord.TheVariants as kinds
 use Rattle.login_origin.specs.Signed.{Signed, IsSigned}
 use Rattle.login_origin.specs.Premises.{Unforged, NoCollision}
 use Rattle.login_origin.specs.Origin.{IsLoginOf}
+use Rattle.node_serve.specs.declared.served.Served.{Served}
+use Rattle.node_serve.specs.declared.served.ServeFault.{ServeFault}
+use Rattle.node_serve.specs.Serving as node_serving
 use Rattle.node_serve.specs.Turns.{Asked, Asks, Turn, asked_by}
 use Rattle.node_serve.specs.Worlds.{World}
 use Rattle.protocol_messages.specs.declared.logout.LogoutRequest.{LogoutRequest}
 use Rattle.request_ledger.specs.Ledger.{Held, held_with}
-use Rattle.request_ledger.specs.Record.{AreRecords}
+use Rattle.request_ledger.specs.Record.{AreRecords, request_rules}
 use Rattle.request_ledger.specs.RowsOf.{is_among, rows_of}
 use Rattle.request_rows.specs.declared.row.AskedRow.{AskedRow}
 use Rattle.request_rows.specs.declared.row.OpenedRow.{OpenedRow}
 use Rattle.request_rows.specs.Rows.{session_row}
 use Rattle.sp_rules.specs.Opening.{Brought}
-use Rattle.sp_server.specs.Histories.{IsProviders, AreTold, AreKeptOnce}
-use Rattle.sp_server.specs.Logouts.{EndsOver, IsClosed, IsClosedWith, IsEndedBy, IsLeftBy, LeavesOver, StayClosed, points}
+use Rattle.sp_server.specs.Histories.{IsProviders, AreKeptOnce}
+use Rattle.sp_server.specs.Logouts.{EndsOver, IsClosed, IsClosedWith, IsEndedBy, IsLeftBy, LeavesOver, StayClosed}
 use Rattle.sp_server.specs.Recorded.{IsRecorded, TakesPosts}
 use Rattle.sp_server.specs.Routes.{App, To, route}
 use Rattle.sp_server.specs.Sessions.{GivesSession, OpensOver, record_of}
-use Rattle.sp_server.specs.Step.{Provider, Answers, HasPlace, NO_MEMORY, Serves, Steps, ended_by, ended_record, left_record, session_for}
+use Rattle.node_steps.specs.declared.codes.TheConstants.{NO_MEMORY}
+use Rattle.node_steps.specs.Lasting.{AreKeptSince}
+use Rattle.node_steps.specs.Points.{points}
+use Rattle.sp_server.specs.Step.{Provider, Answers, HasPlace, Serves, StepLeaves, Steps, ended_by, ended_record, left_record, session_for}
 use Rattle.node_runs.specs.Runs.{Outside, world_of}
 use Rattle.node_runs.specs.declared.ended.Ended.{Ended}
 use Rattle.node_runs.specs.declared.ended.RunFault.{RunFault}
@@ -45,10 +52,11 @@ pub record OpensExactly (asked : Asked Provider) (before after : World Provider)
   pub wherever : (found : Held) (b : Brought) (row : AskedRow)
       → Serves found asked.request asked.now (Rose before.disk_faults after.disk_faults) asked.answer asked.node after.node
       → OpensOver asked.node.setup found asked.request asked.now b row
-      → ((other : Brought) (for_other : AskedRow) → OpensOver asked.node.setup found asked.request asked.now other for_other → HasPlace found (record_of asked.node.setup found asked.now other))
+      → HasPlace found (record_of asked.node.setup found asked.now b)
       → ¬ (Rose before.disk_faults after.disk_faults)
       → (asked.answer ≡ Fixed NO_MEMORY)
-      ⊎ ((r : SpRecord) × GivesSession asked.node.setup found asked.request asked.now r asked.answer × (after.node.ledger.held ≡ held_with r found))
+      ⊎ (GivesSession asked.node.setup found asked.request asked.now (record_of asked.node.setup found asked.now b) asked.answer
+      × (after.node.ledger.held ≡ held_with (record_of asked.node.setup found asked.now b) found))
 
 -- A session is closed with its answer only by a Left of its token, which a POST to /logout with its cookie adds while it lives, or by an
 -- Ended that lists it, which a request with a LogoutRequest of the identity provider that is obeyed adds; nothing else closes one. And
@@ -110,18 +118,22 @@ EachGoesExactly (turn ∷ past) = AllByRecursion GoesExactly (asked_by turn) × 
 
 -- A run that served nothing, or one that served: each request opened and closed sessions exactly, those that it opened of logins that were
 -- signed, and was answered once its record was durable; and where the disk tells, what the answers acknowledged is in the history of every
--- ledger that a crash may leave behind the run, no two sessions are of one request, those at the start and those that were let go included,
--- and a session that is closed is live at no later request, and in no ledger that a crash may leave since.
-pub data Headline (told : Option (List File)) (file : List ℕ) (before : Outside) (turns : List (Turn Provider)) (after : Outside) : Type 0 where
-  ServedNothing : turns ≡ [] → Headline told file before turns after
-  ServedSo : (provider last : Provider) (opened : Outside) → Begins told file before provider opened
+-- ledger that a crash may leave behind the run, no two sessions are of one request, those at the start and those that were let go included;
+-- from each point of the run on, also inside later requests, what was acknowledged by then is in the history of every ledger that a crash
+-- might leave; and a session that is closed is live at no later request, and in no ledger that a crash may leave since. `left` says of each
+-- moment, seen from the end of the run, what a crash since then might have left.
+pub data Headline (left : ℕ → Image → Type 0) (told : Option (List File)) (file : List ℕ) (before : Outside) (turns : List (Turn Provider)) (after : Outside) : Type 0 where
+  ServedNothing : turns ≡ [] → Headline left told file before turns after
+  ServedSo : (provider last : Provider) (opened : Outside) (budget : ℕ) (served : Result Served ServeFault) → Begins told file before provider opened
+      → (serves : node_serving.Serves IsProviders StepLeaves left budget turns (world_of provider opened) served (world_of last after))
       → EachGoesExactly turns
-      → (IsSome before.disk → AreTold turns → AreKeptOnce (world_of provider opened) (world_of last after) turns)
-      → (IsSome before.disk → AreTold turns → StayClosed (points (world_of provider opened) turns (world_of last after)))
-      → Headline told file before turns after
+      → (IsSome before.disk → AreKeptOnce (world_of provider opened) (world_of last after) turns)
+      → (IsSome before.disk → AreKeptSince request_rules Answers left (world_of provider opened) turns serves.kept serves.last serves.run)
+      → (IsSome before.disk → StayClosed (points (world_of provider opened) turns (world_of last after)))
+      → Headline left told file before turns after
 
 -- The headline holds of each run.
-abbrev pub ARunCarriesTheHeadline : Type 0
-ARunCarriesTheHeadline =
+abbrev pub ARunCarriesTheHeadline : (left : ℕ → Image → Type 0) → Type 0
+ARunCarriesTheHeadline left =
     (told : Option (List File)) (file : List ℕ) (budget : ℕ) (before : Outside) (turns : List (Turn Provider)) (result : Result Ended RunFault) (after : Outside)
-    → Runs told file budget before turns result after → Headline told file before turns after
+    → Runs left told file budget before turns result after → Headline left told file before turns after

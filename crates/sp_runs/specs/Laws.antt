@@ -4,6 +4,7 @@ use Rattle.std.specs.List.{AllByRecursion}
 use Rattle.saml_outside.specs.Files.{File}
 use Rattle.crash_disk.specs.Counts.{Rose}
 use Rattle.crash_disk.specs.Disk.{Image, DiskState}
+use Rattle.conn_table.specs.Table.{Table}
 use Rattle.http_wire.specs.declared.answer.Answer.{Answer}
 use Rattle.http_wire.specs.declared.answer.Answer.TheVariants.{Fixed, Full}
 use Rattle.http_wire.specs.Requests.{Request}
@@ -13,19 +14,24 @@ use Rattle.login_origin.specs.Premises.{Unforged, NoCollision}
 use Rattle.login_origin.specs.Origin.{IsLoginOf}
 use Rattle.node_serve.specs.declared.served.Served.{Served}
 use Rattle.node_serve.specs.declared.served.ServeFault.{ServeFault}
-use Rattle.node_serve.specs.Serving.{Serves}
-use Rattle.node_serve.specs.Turns.{Asked, Turn, asked_in}
+use Rattle.node_serve.specs.Serving.{Ends}
+use Rattle.node_serve.specs.Turns.{Asked, Run, Turn, asked_in}
+use Rattle.node_serve.specs.Worlds.{World}
 use Rattle.provider_config.specs.declared.config.RegistryLine.{RegistryLine}
 use Rattle.provider_config.specs.declared.config.SpFile.TheVariants.{Registry}
 use Rattle.request_ledger.specs.Ledger.{Held, ledger_in}
+use Rattle.request_ledger.specs.Record.{request_rules}
 use Rattle.request_ledger.specs.Runs.{AreDifferent, requests_opened}
 use Rattle.request_rows.specs.declared.row.OpenedRow.{OpenedRow}
 use Rattle.sp_answers.specs.Answers.{metadata_answer}
 use Rattle.sp_server.specs.Routes.{App, To, route}
-use Rattle.sp_server.specs.Step.{Provider, Setup, Steps, session_for, shown_to, NO_MEMORY, REGISTRY_EXPIRED}
+use Rattle.node_steps.specs.declared.codes.TheConstants.{NO_MEMORY}
+use Rattle.node_steps.specs.Points.{points}
+use Rattle.node_steps.specs.Starts.{IsServed}
+use Rattle.sp_server.specs.Step.{Provider, Answers, Setup, Steps, session_for, shown_to, REGISTRY_EXPIRED}
 use Rattle.sp_server.specs.Sessions.{GivesSession}
-use Rattle.sp_server.specs.Histories.{IsProviders, Stands, AreTold, AreKeptOnce}
-use Rattle.sp_server.specs.Logouts.{StayClosed, points}
+use Rattle.sp_server.specs.Histories.{IsProviders, Stands, AreKeptOnce}
+use Rattle.sp_server.specs.Logouts.{StayClosed}
 use Rattle.sp_setup.specs.Laws.{IsFromRegistry}
 use Rattle.node_runs.specs.Runs.{Outside, world_of}
 use Rattle.sp_runs.specs.Runs.{Begins, served_by}
@@ -38,17 +44,26 @@ NoImageHasARequestTwice = (image : Image) (held : Held) → ledger_in image ≡ 
 -- crash may leave behind the run, and no two sessions are of one request.
 abbrev pub WhatARunAcknowledgedIsKeptOnce : Type 0
 WhatARunAcknowledgedIsKeptOnce =
-    (told : Option (List File)) (file : List ℕ) (budget : ℕ) (before opened after : Outside) (provider last : Provider) (turns : List (Turn Provider)) (served : Result Served ServeFault)
-    → IsSome before.disk → AreTold turns → Begins told file before provider opened
-    → Serves IsProviders budget turns (world_of provider opened) served (world_of last after)
+    (told : Option (List File)) (file : List ℕ) (budget : ℕ) (before opened after : Outside) (provider last : Provider) (turns : List (Turn Provider)) (kept : Table) (behind : World Provider) (served : Result Served ServeFault)
+    → IsSome before.disk → Begins told file before provider opened
+    → Run IsProviders (world_of provider opened) turns kept behind → Ends budget turns behind served (world_of last after)
     → AreKeptOnce (world_of provider opened) (world_of last after) turns
+
+-- A run that served, on a disk that tells, is a start of the provider: its ledger was opened from what the disk held, and then its turns
+-- were done. So what several runs acknowledged, each on what a crash of the one before it may have left, is kept once, and what is closed
+-- stays so, by the laws of starts.
+abbrev pub ARunIsAStart : Type 0
+ARunIsAStart =
+    (told : Option (List File)) (file : List ℕ) (before opened : Outside) (provider : Provider) (turns : List (Turn Provider)) (kept : Table) (behind : World Provider)
+    → IsSome before.disk → Begins told file before provider opened → Run IsProviders (world_of provider opened) turns kept behind
+    → IsServed request_rules Answers before.disk (world_of provider opened) turns kept behind
 
 -- And a session that is closed is live at no later request of such a run, and in no ledger that a crash may leave since.
 abbrev pub SessionsStayClosedInARun : Type 0
 SessionsStayClosedInARun =
-    (told : Option (List File)) (file : List ℕ) (budget : ℕ) (before opened after : Outside) (provider last : Provider) (turns : List (Turn Provider)) (served : Result Served ServeFault)
-    → IsSome before.disk → AreTold turns → Begins told file before provider opened
-    → Serves IsProviders budget turns (world_of provider opened) served (world_of last after)
+    (told : Option (List File)) (file : List ℕ) (budget : ℕ) (before opened after : Outside) (provider last : Provider) (turns : List (Turn Provider)) (kept : Table) (behind : World Provider) (served : Result Served ServeFault)
+    → IsSome before.disk → Begins told file before provider opened
+    → Run IsProviders (world_of provider opened) turns kept behind → Ends budget turns behind served (world_of last after)
     → StayClosed (points (world_of provider opened) turns (world_of last after))
 
 -- If only the identity provider makes HMACs that match, and no other text has the hash of one that it signed, then each session that
@@ -71,18 +86,18 @@ ARunUsesWhatItsRegistryLists =
 -- And so at each request of the run: the provider serves by what it was started with.
 abbrev pub EachRequestIsServedByTheSameSetup : Type 0
 EachRequestIsServedByTheSameSetup =
-    (told : Option (List File)) (file : List ℕ) (budget : ℕ) (before opened after : Outside) (provider last : Provider) (turns : List (Turn Provider)) (served : Result Served ServeFault)
+    (told : Option (List File)) (file : List ℕ) (before opened : Outside) (provider : Provider) (turns : List (Turn Provider)) (kept : Table) (behind : World Provider)
     (asked : Asked Provider) → (begins : Begins told file before provider opened)
-    → Serves IsProviders budget turns (world_of provider opened) served (world_of last after)
+    → Run IsProviders (world_of provider opened) turns kept behind
     → Contains (asked_in turns) asked → asked.node.setup ≡ served_by begins.setup
 
 -- From the moment on at which its registry ends no answer of a run stands for a record: no login is asked for, no session is opened, and
 -- none is left or ended.
 abbrev pub AnEndedRegistryRecordsNothing : Type 0
 AnEndedRegistryRecordsNothing =
-    (told : Option (List File)) (file : List ℕ) (budget : ℕ) (before opened after : Outside) (provider last : Provider) (turns : List (Turn Provider)) (served : Result Served ServeFault)
+    (told : Option (List File)) (file : List ℕ) (before opened : Outside) (provider : Provider) (turns : List (Turn Provider)) (kept : Table) (behind : World Provider)
     (asked : Asked Provider) (until : ℕ) (r : SpRecord) → (begins : Begins told file before provider opened)
-    → Serves IsProviders budget turns (world_of provider opened) served (world_of last after)
+    → Run IsProviders (world_of provider opened) turns kept behind
     → begins.setup.expiry ≡ Some until → Contains (asked_in turns) asked → until ≤ asked.now → ¬ (Stands asked (Some r))
 
 -- an answer that is no form which asks for a login, and gives no session: a code, the metadata, or the page of a session that lives
@@ -94,18 +109,18 @@ AsksAndOpensNothing setup request answer =
 -- And each is such an answer.
 abbrev pub AnEndedRegistryAsksNothing : Type 0
 AnEndedRegistryAsksNothing =
-    (told : Option (List File)) (file : List ℕ) (budget : ℕ) (before opened after : Outside) (provider last : Provider) (turns : List (Turn Provider)) (served : Result Served ServeFault)
+    (told : Option (List File)) (file : List ℕ) (before opened : Outside) (provider : Provider) (turns : List (Turn Provider)) (kept : Table) (behind : World Provider)
     (asked : Asked Provider) (until : ℕ) → (begins : Begins told file before provider opened)
-    → Serves IsProviders budget turns (world_of provider opened) served (world_of last after)
+    → Run IsProviders (world_of provider opened) turns kept behind
     → begins.setup.expiry ≡ Some until → Contains (asked_in turns) asked → until ≤ asked.now
     → AsksAndOpensNothing (served_by begins.setup) asked.request asked.answer
 
 -- The code for an ended registry is answered in no run whose config has none.
 abbrev pub WithoutARegistryNothingIsExpired : Type 0
 WithoutARegistryNothingIsExpired =
-    (told : Option (List File)) (file : List ℕ) (budget : ℕ) (before opened after : Outside) (provider last : Provider) (turns : List (Turn Provider)) (served : Result Served ServeFault)
+    (told : Option (List File)) (file : List ℕ) (before opened : Outside) (provider : Provider) (turns : List (Turn Provider)) (kept : Table) (behind : World Provider)
     (asked : Asked Provider) → (begins : Begins told file before provider opened)
-    → Serves IsProviders budget turns (world_of provider opened) served (world_of last after)
+    → Run IsProviders (world_of provider opened) turns kept behind
     → ((line : RegistryLine) → ¬ (Contains begins.lines.files (Registry line))) → Contains (asked_in turns) asked → asked.answer ≢ Fixed REGISTRY_EXPIRED
 
 -- POLICIES

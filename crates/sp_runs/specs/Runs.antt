@@ -1,8 +1,9 @@
 -- What a run of a service provider does: it is set up by its config, opens its ledger, listens, and serves.
 use Rattle.std.specs.Prelude.{◌≡◌, ℕ, false, List, Option, Some, IfSome, IsSomeAnd, IsOk, Result, Ok, Err}
+use Rattle.std.specs.Option.{is_some}
 use Rattle.saml_outside.specs.Files.{File}
 use Rattle.crash_disk.specs.Counts.{Rose}
-use Rattle.crash_disk.specs.Disk.{Image, DiskState, image_of}
+use Rattle.crash_disk.specs.Disk.{Image, DiskState, MayLeave, image_of}
 use Rattle.node_serve.specs.Turns.{Turn}
 use Rattle.node_runs.specs.Runs.{Outside, RunsBy, RunLeavesBy}
 use Rattle.node_runs.specs.declared.ended.Ended.{Ended}
@@ -32,14 +33,16 @@ pub record IsStarted (setup : Setup) (disk : Option DiskState) (provider : Provi
   pub holds : IfSome disk (λ d. taken (ledger_in (image_of d)) ≡ Ok provider.ledger.held)
 
 -- The config in this file sets such a provider up, its ledger was opened, and else all is as it was. From then on the disk is the
--- provider's own.
+-- provider's own; it tells as it did, and reads as an image that it may leave.
 pub record Begins (told : Option (List File)) (file : List ℕ) (before : Outside) (provider : Provider) (opened : Outside) : Type 0 where
   pub lines : Config
   pub setup : Setup
   pub set_up : IsSetUp told Serve file lines setup
   pub started : IsStarted setup before.disk provider
   pub own : OwnsDisk provider opened.disk
-  pub same : opened ≡ record before { disk = opened.disk; disk_faults = opened.disk_faults }
+  pub tells : is_some opened.disk ≡ is_some before.disk
+  pub reads : IfSome opened.disk (λ d. MayLeave d (image_of d))
+  pub same : opened ≡ record before { disk = opened.disk; disk_faults = opened.disk_faults; disk_moment = opened.disk_moment }
 
 -- Why no ledger was opened: what the disk holds is none, and this is the fault that it has, as far as the disk tells; the disk
 -- failed; there was no memory.
@@ -59,10 +62,11 @@ pub record IsNotOpened (told : Option (List File)) (file : List ℕ) (before aft
 
 -- A RUN
 
--- How a run by the config in this file goes, with this budget of events: the turns of its provider, and what the run comes to.
-abbrev pub Runs : (told : Option (List File)) (file : List ℕ) (budget : ℕ) (before : Outside) (turns : List (Turn Provider)) (result : Result Ended RunFault) (after : Outside) → Type 0
-Runs told file budget before turns result after =
-    RunsBy IsProviders (IsBadSetUp told Serve file) (IsNotOpened told file before) (Begins told file before) budget before turns result after
+-- How a run by the config in this file goes, with this budget of events: the turns of its provider, and what the run comes to. `left` says of
+-- each moment, seen from the end of the run, what a crash since then might have left.
+abbrev pub Runs : (left : ℕ → Image → Type 0) (told : Option (List File)) (file : List ℕ) (budget : ℕ) (before : Outside) (turns : List (Turn Provider)) (result : Result Ended RunFault) (after : Outside) → Type 0
+Runs left told file budget before turns result after =
+    RunsBy IsProviders StepLeaves left (IsBadSetUp told Serve file) (IsNotOpened told file before) (Begins told file before) budget before turns result after
 
 -- What a crash at a moment of a run may leave: what one inside the opening of the ledger may, or one inside the answer to a request.
 abbrev pub RunLeaves : Option DiskState → List (Turn Provider) → Image → Type 0

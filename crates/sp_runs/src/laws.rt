@@ -1,7 +1,8 @@
 //! The laws of whole runs, each the contract of a function that does nothing.
 ghost use Rattle.sp_runs.specs.Headline.{ARunCarriesTheHeadline};
-ghost use Rattle.sp_runs.specs.Laws.{AnEndedRegistryAsksNothing, AnEndedRegistryRecordsNothing, ARunUsesWhatItsRegistryLists, ASessionIsShownByItsRow, EachRequestIsServedByTheSameSetup, EachSessionWasSigned, EqualRowsAreShownAlike, NoImageHasARequestTwice, SessionsStayClosedInARun, WhatARunAcknowledgedIsKeptOnce, WithoutARegistryNothingIsExpired};
+ghost use Rattle.sp_runs.specs.Laws.{AnEndedRegistryAsksNothing, AnEndedRegistryRecordsNothing, ARunIsAStart, ARunUsesWhatItsRegistryLists, ASessionIsShownByItsRow, EachRequestIsServedByTheSameSetup, EachSessionWasSigned, EqualRowsAreShownAlike, NoImageHasARequestTwice, SessionsStayClosedInARun, WhatARunAcknowledgedIsKeptOnce, WithoutARegistryNothingIsExpired};
 
+use request_ledger::Disk;
 use request_ledger::laws::{images_hold_records, no_request_opens_twice};
 
 /// Whatever image a crash leaves at a moment of a run, where it stands for a ledger no two of its sessions answer one request.
@@ -28,6 +29,14 @@ pub fn sessions_stay_closed_in_a_run()
 {
     images_hold_records();
     sp_server::laws::sessions_stay_closed_in_a_service();
+}
+
+/// A run that served is a start of its provider. So by the laws of starts of `sp_server` what several runs acknowledged is kept, once,
+/// over restarts with crashes between them.
+pub fn a_run_is_a_start()
+    ensures { ARunIsAStart }
+{
+    images_hold_records();
 }
 
 /// If only the identity provider makes HMACs that match, and no other text has the hash of one that it signed: each session
@@ -61,10 +70,12 @@ pub fn a_session_is_shown_by_its_row()
 /// A run opens sessions exactly where a posted form opens one, each of a login that was signed where only the identity provider
 /// makes HMACs that match, and no two sessions are of one request, wherever a crash stops. It closes sessions exactly where their
 /// users leave them or the identity provider ends them, and one that is closed is never live again. No message of a logout is sent
-/// before its record is durable.
-pub fn a_run_carries_the_headline()
-    ensures { ARunCarriesTheHeadline }
+/// before its record is durable. From each point of the run on, also inside later requests, what was acknowledged by then is in the
+/// history of each ledger that a crash might leave.
+pub fn a_run_carries_the_headline<D: Disk>()
+    ensures { (disk : D) → ARunCarriesTheHeadline (D.left_since disk) }
 {
+    images_hold_records();
     sp_server::laws::a_session_opens_exactly();
     sp_server::laws::a_session_is_closed_exactly();
     sp_server::laws::what_is_answered_is_recorded();

@@ -80,8 +80,8 @@ fn listen_and_serve<L: Link, D: Disk, C: Clock>(
     requires { OwnsDisk node.old (D.told disk.old) }
     // Where it was set up and started so, this is how the run goes.
     ensures runs { (turns : List (Turn Provider))
-        × ((told : Option (List File)) (file : List ℕ) (before : Outside) → Begins told file before node.old (outside (D.told disk.old) (D.faults_of disk.old) (L.told link.old) (L.faults_of link.old) (L.send_faults_of link.old) (C.to_come clock.old)) →
-        Runs told file budget before turns result (outside (D.told disk.new) (D.faults_of disk.new) (L.told link.new) (L.faults_of link.new) (L.send_faults_of link.new) (C.to_come clock.new)))
+        × ((told : Option (List File)) (file : List ℕ) (before : Outside) → Begins told file before node.old (outside (D.told disk.old) (D.faults_of disk.old) (D.moment disk.old) (L.told link.old) (L.faults_of link.old) (L.send_faults_of link.old) (C.to_come clock.old)) →
+        Runs (D.left_since disk.new) told file budget before turns result (outside (D.told disk.new) (D.faults_of disk.new) (D.moment disk.new) (L.told link.new) (L.faults_of link.new) (L.send_faults_of link.new) (C.to_come clock.new)))
         × LeavesOnly D.moment D.left_since disk.old disk.new (MightLeave StepLeaves (D.told disk.old) turns) }
     ensures disk_never_falls { D.faults_of disk.old ≤ D.faults_of disk.new }
     ensures link_never_falls { L.faults_of link.old ≤ L.faults_of link.new }
@@ -106,7 +106,7 @@ fn run_by<L: Link, D: Disk, C: Clock>(
     // Where it was set up so, this is how the run goes.
     ensures runs { (turns : List (Turn Provider))
         × ((told : Option (List File)) (file : List ℕ) (lines : Config) → IsSetUp told purposes.Serve file lines (setup_view setup) →
-        Runs told file budget (outside (D.told disk.old) (D.faults_of disk.old) (L.told link.old) (L.faults_of link.old) (L.send_faults_of link.old) (C.to_come clock.old)) turns result (outside (D.told disk.new) (D.faults_of disk.new) (L.told link.new) (L.faults_of link.new) (L.send_faults_of link.new) (C.to_come clock.new)))
+        Runs (D.left_since disk.new) told file budget (outside (D.told disk.old) (D.faults_of disk.old) (D.moment disk.old) (L.told link.old) (L.faults_of link.old) (L.send_faults_of link.old) (C.to_come clock.old)) turns result (outside (D.told disk.new) (D.faults_of disk.new) (D.moment disk.new) (L.told link.new) (L.faults_of link.new) (L.send_faults_of link.new) (C.to_come clock.new)))
         × LeavesOnly D.moment D.left_since disk.old disk.new (RunLeaves (D.told disk.old) turns) }
     ensures disk_never_falls { D.faults_of disk.old ≤ D.faults_of disk.new }
     ensures link_never_falls { L.faults_of link.old ≤ L.faults_of link.new }
@@ -138,11 +138,12 @@ pub fn run_sp<F: Files, L: Link, D: Disk, C: Clock>(
     budget: u64,
 ) -> Result<Ended, RunFault>
     // The run goes so; it opens sessions exactly where a posted form opens one, each of a login that was signed, and no two of one
-    // request; it closes them exactly where their users leave them or the identity provider ends them, for good; and a crash at any
-    // moment of it leaves what one inside the opening or inside an answer may leave.
+    // request; it closes them exactly where their users leave them or the identity provider ends them, for good; what its answers
+    // acknowledged is from then on in every image that a crash might leave; and a crash at any moment of it leaves what one inside the
+    // opening or inside an answer may leave.
     ensures runs { (turns : List (Turn Provider))
-        × Runs (F.holds files.old) config.now budget (outside (D.told disk.old) (D.faults_of disk.old) (L.told link.old) (L.faults_of link.old) (L.send_faults_of link.old) (C.to_come clock.old)) turns result (outside (D.told disk.new) (D.faults_of disk.new) (L.told link.new) (L.faults_of link.new) (L.send_faults_of link.new) (C.to_come clock.new))
-        × Headline (F.holds files.old) config.now (outside (D.told disk.old) (D.faults_of disk.old) (L.told link.old) (L.faults_of link.old) (L.send_faults_of link.old) (C.to_come clock.old)) turns (outside (D.told disk.new) (D.faults_of disk.new) (L.told link.new) (L.faults_of link.new) (L.send_faults_of link.new) (C.to_come clock.new))
+        × Runs (D.left_since disk.new) (F.holds files.old) config.now budget (outside (D.told disk.old) (D.faults_of disk.old) (D.moment disk.old) (L.told link.old) (L.faults_of link.old) (L.send_faults_of link.old) (C.to_come clock.old)) turns result (outside (D.told disk.new) (D.faults_of disk.new) (D.moment disk.new) (L.told link.new) (L.faults_of link.new) (L.send_faults_of link.new) (C.to_come clock.new))
+        × Headline (D.left_since disk.new) (F.holds files.old) config.now (outside (D.told disk.old) (D.faults_of disk.old) (D.moment disk.old) (L.told link.old) (L.faults_of link.old) (L.send_faults_of link.old) (C.to_come clock.old)) turns (outside (D.told disk.new) (D.faults_of disk.new) (D.moment disk.new) (L.told link.new) (L.faults_of link.new) (L.send_faults_of link.new) (C.to_come clock.new))
         × LeavesOnly D.moment D.left_since disk.old disk.new (RunLeaves (D.told disk.old) turns) }
 
     // Each fault has a cause.
@@ -162,7 +163,7 @@ pub fn run_sp<F: Files, L: Link, D: Disk, C: Clock>(
     ensures link_never_falls { L.faults_of link.old ≤ L.faults_of link.new }
 {
     sp_setup::laws::a_config_has_one_outcome();
-    a_run_carries_the_headline();
+    a_run_carries_the_headline::<D>();
     match set_up(alloc, files, config, Purpose::Serve) {
         Ok(setup) => run_by(alloc, setup, link, disk, clock, budget),
         Err(SetupFault::BadFile { file, line }) => Ok(Ended::BadFile { file, line }),

@@ -22,14 +22,15 @@ use Rattle.request_ledger.specs.Record.{is_open}
 use Rattle.request_ledger.specs.RowsOf.{SpRows, closed_where, is_among, rows_of}
 use Rattle.record_ledger.proofs.Words.{other_way, same_text}
 use Rattle.request_ledger.proofs.RowLaws.{rows_of-push}
-use Rattle.request_ledger.proofs.RowTexts.{found, any_more}
+use Rattle.ledger_rules.proofs.Passing.{found, any_more}
 use Rattle.logout_profile.specs.declared.logout.Logout.{Logout}
 use Rattle.logout_profile.specs.Verdict.{IsAccepted, IsRefused}
 use Rattle.sp_rules.specs.declared.config.SpConfig.{SpConfig}
+use Rattle.node_steps.specs.Step as any
 use Rattle.sp_server.specs.Step as steps
 use Rattle.sp_server.specs.Step.{Setup, Answers, HasPlace, ended_by, ended_record, left_record}
 use Rattle.sp_server.specs.Logouts.{LeavesOver, EndsOver, IsClosed, OnlyWhereAUserLeaves, OnlyWhereSessionsEnd, WhereverAUserLeaves, WhereverSessionsEnd}
-use Rattle.sp_server.proofs.Changes.{token_is}
+use Rattle.sp_server.proofs.Replies.{token_is}
 
 -- ---- only there
 
@@ -187,18 +188,18 @@ wanted_is setup held request now answer wanted row over answers =
     same_record (Some wanted) _ wanted (left_added setup held request now answer (Some wanted) row over answers) refl
 
 pub wherever_left : WhereverAUserLeaves
-wherever_left found request now faults later answer old new row over room calm (steps.Plain answers whole) =
+wherever_left found request now faults later answer old new row over room calm (any.Plain answers whole) =
     absurd (let e = left_added old.setup found request now answer None row over answers in cc)
-wherever_left found request now faults later answer old new row over room calm (steps.Recorded r answers place whole) =
+wherever_left found request now faults later answer old new row over room calm (any.Recorded r answers place whole) =
     let same = wanted_is old.setup found request now answer r row over answers in
     inr (subst (λ (h : Held). IsClosed h row.token) (sym whole.is)
     (subst (λ (x : SpRecord). IsClosed (held_with x found) row.token) same (left_closes old.setup.config found now request row over.live)))
-wherever_left found request now faults later answer old new row over room calm (steps.RecordedAfterCompaction held wanted r other wants none made answers place whole) =
-    absurd (none (subst (HasPlace found) (wanted_is old.setup found request now other wanted row over wants) room))
-wherever_left found request now faults later answer old new row over room calm (steps.NoPlace held wanted r other another wants none made answers still is whole) =
-    absurd (none (subst (HasPlace found) (wanted_is old.setup found request now other wanted row over wants) room))
-wherever_left found request now faults later answer old new row over room calm (steps.Failed wanted other wants risen is broken) = absurd (calm risen)
-wherever_left found request now faults later answer old new row over room calm (steps.Starved held which is whole) = inl is
+wherever_left found request now faults later answer old new row over room calm (any.RecordedAfterCompaction held r made answers place whole) =
+    absurd (made.none (subst (HasPlace found) (wanted_is old.setup found request now made.other made.wanted row over made.wants) room))
+wherever_left found request now faults later answer old new row over room calm (any.NoPlace held r another made answers still is whole) =
+    absurd (made.none (subst (HasPlace found) (wanted_is old.setup found request now made.other made.wanted row over made.wants) room))
+wherever_left found request now faults later answer old new row over room calm (any.Failed wanted other wants risen is broken) = absurd (calm risen)
+wherever_left found request now faults later answer old new row over room calm (any.Starved held which is whole) = inl is
 
 -- a form that is obeyed asks one thing, and is not refused
 pub record IsOneLogout : Type 0 where
@@ -246,15 +247,15 @@ module _ (law : IsOneLogout) where
       same_record (Some wanted) _ wanted (ended_added setup held request now answer (Some wanted) asked relay token over among answers) refl
 
   pub wherever_ended : WhereverSessionsEnd
-  wherever_ended found request now faults later answer old new asked relay token over among room calm (steps.Plain answers whole) =
+  wherever_ended found request now faults later answer old new asked relay token over among room calm (any.Plain answers whole) =
       absurd (let e = ended_added old.setup found request now answer None asked relay token over among answers in cc)
-  wherever_ended found request now faults later answer old new asked relay token over among room calm (steps.Recorded r answers place whole) =
+  wherever_ended found request now faults later answer old new asked relay token over among room calm (any.Recorded r answers place whole) =
       let same = ended_is old.setup found request now answer r asked relay token over among answers in
       inr (subst (λ (h : Held). IsClosed h token) (sym whole.is)
       (subst (λ (x : SpRecord). IsClosed (held_with x found) token) same (ended_closes old.setup.config found now asked token among)))
-  wherever_ended found request now faults later answer old new asked relay token over among room calm (steps.RecordedAfterCompaction held wanted r other wants none made answers place whole) =
-      absurd (none (subst (HasPlace found) (ended_is old.setup found request now other wanted asked relay token over among wants) room))
-  wherever_ended found request now faults later answer old new asked relay token over among room calm (steps.NoPlace held wanted r other another wants none made answers still is whole) =
-      absurd (none (subst (HasPlace found) (ended_is old.setup found request now other wanted asked relay token over among wants) room))
-  wherever_ended found request now faults later answer old new asked relay token over among room calm (steps.Failed wanted other wants risen is broken) = absurd (calm risen)
-  wherever_ended found request now faults later answer old new asked relay token over among room calm (steps.Starved held which is whole) = inl is
+  wherever_ended found request now faults later answer old new asked relay token over among room calm (any.RecordedAfterCompaction held r made answers place whole) =
+      absurd (made.none (subst (HasPlace found) (ended_is old.setup found request now made.other made.wanted asked relay token over among made.wants) room))
+  wherever_ended found request now faults later answer old new asked relay token over among room calm (any.NoPlace held r another made answers still is whole) =
+      absurd (made.none (subst (HasPlace found) (ended_is old.setup found request now made.other made.wanted asked relay token over among made.wants) room))
+  wherever_ended found request now faults later answer old new asked relay token over among room calm (any.Failed wanted other wants risen is broken) = absurd (calm risen)
+  wherever_ended found request now faults later answer old new asked relay token over among room calm (any.Starved held which is whole) = inl is

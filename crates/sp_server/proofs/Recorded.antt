@@ -8,12 +8,14 @@ use Rattle.http_wire.specs.declared.answer.Answer.{Answer}
 use Rattle.http_wire.specs.declared.answer.Answer.TheVariants.{Fixed, Full}
 use Rattle.http_wire.specs.Requests.{Request}
 use Rattle.ledger_records.specs.declared.sp_record.SpRecord.{SpRecord}
+use Rattle.request_ledger.specs.Record.{request_rules}
 use Rattle.request_ledger.specs.Ledger.{Held, held_with, ledger_in}
 use Rattle.sp_server.specs.Routes.{App, Metadata, Route, To, route}
+use Rattle.node_steps.specs.Step as any
 use Rattle.sp_server.specs.Step as steps
 use Rattle.sp_server.specs.Step.{Setup, Provider, Answers, IsWhole, OwnsDisk, Serves, Steps, session_for}
 use Rattle.sp_server.specs.Recorded.{IsRecorded, TakesPosts, WhatIsAnsweredIsRecorded, WhatIsAskedIsRecorded}
-use Rattle.sp_server.proofs.Serving.{settled}
+use Rattle.node_steps.proofs.Serving.{settled}
 
 -- nothing is posted there
 not_posted_app : (to : Route) → to ≡ To App → TakesPosts to → ⊥
@@ -68,24 +70,24 @@ unasked setup held request now answer adds bytes nothing shown app none (steps.B
 -- a step whose answer is a page: it stands for no record, or its record is kept
 module _ (request : Request) (now : ℕ) (answer : Answer) (bytes : List ℕ) (shown : answer ≡ Full bytes) (old new : Provider) (later : Option DiskState) (own : OwnsDisk new later) where
   kept : (held : Held) → IsWhole old new held → (image : Image) → Leaves later image → ledger_in image ≡ Ok (Some held)
-  kept held whole image left = subst (λ (h : Held). ledger_in image ≡ Ok (Some h)) whole.is (settled later new.ledger image whole.unbroken own left)
+  kept held whole image left = subst (λ (h : Held). ledger_in image ≡ Ok (Some h)) whole.is (settled request_rules later new.ledger image whole.unbroken own left)
 
   served : (found : Held) (Risen : Type 0) → (Answers old.setup found request now answer None → ⊥) → Serves found request now Risen answer old new → IsRecorded old.setup request now answer later
-  served found Risen never (steps.Plain answers whole) = absurd (never answers)
-  served found Risen never (steps.Recorded r answers place whole) = record { held = found; r = r; stands = answers; kept = kept (held_with r found) whole }
-  served found Risen never (steps.RecordedAfterCompaction held wanted r other wants full made answers place whole) =
+  served found Risen never (any.Plain answers whole) = absurd (never answers)
+  served found Risen never (any.Recorded r answers place whole) = record { held = found; r = r; stands = answers; kept = kept (held_with r found) whole }
+  served found Risen never (any.RecordedAfterCompaction held r room answers place whole) =
       record { held = held; r = r; stands = answers; kept = kept (held_with r held) whole }
-  served found Risen never (steps.NoPlace held wanted r other another wants full made answers unplaced is whole) = absurd (no_page answer _ bytes is shown)
-  served found Risen never (steps.Failed wanted other wants risen is broken) = absurd (no_page answer _ bytes is shown)
-  served found Risen never (steps.Starved held which is whole) = absurd (no_page answer _ bytes is shown)
+  served found Risen never (any.NoPlace held r another room answers unplaced is whole) = absurd (no_page answer _ bytes is shown)
+  served found Risen never (any.Failed wanted other wants risen is broken) = absurd (no_page answer _ bytes is shown)
+  served found Risen never (any.Starved held which is whole) = absurd (no_page answer _ bytes is shown)
 
   stepped : (disk : Option DiskState) (Risen : Type 0) → ((found : Held) → Answers old.setup found request now answer None → ⊥) → Steps old disk request now Risen answer new
       → IsRecorded old.setup request now answer later
-  stepped disk Risen never (steps.WithLedger whole serves) = served old.ledger.held Risen (never old.ledger.held) serves
-  stepped disk Risen never (steps.WithOpened found broken is serves) = served found Risen (never found) serves
-  stepped disk Risen never (steps.NotOpened was risen is broken) = absurd (no_page answer _ bytes is shown)
-  stepped disk Risen never (steps.Strange was fault is broken) = absurd (no_page answer _ bytes is shown)
-  stepped disk Risen never (steps.StarvedAtOpening was is broken) = absurd (no_page answer _ bytes is shown)
+  stepped disk Risen never (any.WithLedger whole serves) = served old.ledger.held Risen (never old.ledger.held) serves
+  stepped disk Risen never (any.WithOpened found broken is serves) = served found Risen (never found) serves
+  stepped disk Risen never (any.NotOpened was risen is broken) = absurd (no_page answer _ bytes is shown)
+  stepped disk Risen never (any.Strange was fault is broken) = absurd (no_page answer _ bytes is shown)
+  stepped disk Risen never (any.StarvedAtOpening was is broken) = absurd (no_page answer _ bytes is shown)
 
 pub answered_recorded : WhatIsAnsweredIsRecorded
 answered_recorded old new disk later request now before after bytes step own posts =

@@ -13,16 +13,18 @@ use Rattle.request_rows.specs.Rows.{session_row, visible}
 use Rattle.request_ledger.specs.Compacting.{Compacts as IsMade}
 use Rattle.request_ledger.specs.Laws.{CompactionsChangeNoAnswer}
 use Rattle.request_ledger.specs.Ledger.{Held, held_with, migrated, next_number}
-use Rattle.request_ledger.specs.Record.{drawn, is_open, is_record, next_of, AreRecords, AreRecordsAfter}
+use Rattle.request_ledger.specs.Record.{drawn, is_open, is_record, next_of, request_rules, AreRecords, AreRecordsAfter}
 use Rattle.request_ledger.specs.RowsOf.{SpRows, closed_where, is_among, opened_rows, opened_row, rows_of, rows_after}
-use Rattle.request_ledger.specs.Runs.{Event, Adds, Compacts, Opens, Leads}
+use Rattle.record_ledger.specs.Runs.{Adds, Compacts, Opens}
+use Rattle.request_ledger.specs.Runs.{Event, Leads}
 use Rattle.record_ledger.proofs.Words.{same_text}
 use Rattle.record_ledger.proofs.Numbers.{all_fresh, one_number}
 use Rattle.request_ledger.proofs.LawNumbers.{HasNumber, next_cons, next_push, number_further}
 use Rattle.request_ledger.proofs.LawWords.{parts}
 use Rattle.request_ledger.proofs.RowLaws.{rows_of-push}
 use Rattle.sp_server.specs.Logouts.{IsClosed, AClosedSessionStaysClosed}
-use Rattle.sp_server.proofs.Histories.{run_records}
+use Rattle.node_steps.proofs.Runs.{run_records}
+use Rattle.request_ledger.proofs.KeptRecords.{kept_are_records}
 
 -- ---- none is found
 
@@ -182,7 +184,7 @@ run_never start held [] token law are never leads = subst (λ (h : Held). Never 
 run_never start held (Adds r ∷ past) token law are never leads =
     subst (λ (h : Held). Never h token) (sym leads.4) (added leads.0 r token leads.2 leads.3 (run_never start leads.0 past token law are never leads.1))
 run_never start held (Compacts now ∷ past) token law are never leads =
-    compacted now leads.0 held token law (run_records start leads.0 past are leads.1) leads.2 (run_never start leads.0 past token law are never leads.1)
+    compacted now leads.0 held token law (run_records request_rules kept_are_records start leads.0 past are leads.1) leads.2 (run_never start leads.0 past token law are never leads.1)
 run_never start held (Opens ∷ past) token law are never leads =
     subst (λ (h : Held). Never h token) (sym leads.2) (opened_anew leads.0 token (run_never start leads.0 past token law are never leads.1))
 

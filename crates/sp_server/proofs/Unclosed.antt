@@ -1,6 +1,6 @@
 -- What closes no session: whatever is added without closing it, and a compaction.
 use Rattle.std.specs.Prelude.{Option, None, Some}
-use Rattle.std.proofs.Common.{◌≡◌, ◌⊎◌, inl, inr, ℕ, Bool, true, false, ◌&&◌, ◌||◌, not, if◌then◌else◌, List, [], ◌∷◌, ◌++◌, sym, subst, refl, ap, ◌∙◌}
+use Rattle.std.proofs.Common.{⊎_elim, ◌≡◌, ◌⊎◌, inl, inr, ℕ, Bool, true, false, ◌&&◌, ◌||◌, not, if◌then◌else◌, List, [], ◌∷◌, ◌++◌, sym, subst, refl, ap, ◌∙◌}
 use Rattle.std.specs.Str.{bytes_eq}
 use Rattle.std.proofs.lemmas.Bool.{cases_Bool}
 use Rattle.http_wire.specs.declared.answer.Answer.{Answer}
@@ -16,8 +16,8 @@ use Rattle.request_ledger.specs.Record.{AreRecords}
 use Rattle.request_ledger.specs.RowsOf.{SpRows, closed_if, closed_where, closes, is_among, opened_row, rows_of, rows_after}
 use Rattle.record_ledger.proofs.Words.{same_text}
 use Rattle.request_ledger.proofs.RowLaws.{rows_of-push}
-use Rattle.sp_server.specs.Step as steps
-use Rattle.sp_server.specs.Step.{Setup, Provider, Answers, IsWhole, Serves}
+use Rattle.node_steps.specs.Step as any
+use Rattle.sp_server.specs.Step.{Provider, Answers, IsWhole}
 use Rattle.sp_server.specs.Logouts.{IsClosedWith, NothingElseCloses}
 use Rattle.sp_server.proofs.Alike.{alike}
 
@@ -114,15 +114,15 @@ module _ (law : CompactionsChangeNoAnswer) where
     }
 
   pub nothing_else : NothingElseCloses
-  nothing_else found request now faults later answer old new token row are (steps.Plain answers whole) unbroken live none =
+  nothing_else found request now faults later answer old new token row are (any.Plain answers whole) unbroken live none =
       absurd (still found request now answer old new token row are live none found (inl refl) whole)
-  nothing_else found request now faults later answer old new token row are (steps.Recorded r answers place whole) unbroken live none =
+  nothing_else found request now faults later answer old new token row are (any.Recorded r answers place whole) unbroken live none =
       recorded found request now answer old new token row are live none found r (inl refl) answers whole
-  nothing_else found request now faults later answer old new token row are (steps.RecordedAfterCompaction held wanted r other wants full made answers place whole) unbroken live none =
-      recorded found request now answer old new token row are live none held r (inr made) answers whole
-  nothing_else found request now faults later answer old new token row are (steps.NoPlace held wanted r other another wants full made answers unplaced is whole) unbroken live none =
-      absurd (still found request now answer old new token row are live none held (inr made) whole)
-  nothing_else found request now faults later answer old new token row are (steps.Failed wanted other wants risen is broken) unbroken live none =
+  nothing_else found request now faults later answer old new token row are (any.RecordedAfterCompaction held r room answers place whole) unbroken live none =
+      recorded found request now answer old new token row are live none held r (inr room.made) answers whole
+  nothing_else found request now faults later answer old new token row are (any.NoPlace held r another room answers unplaced is whole) unbroken live none =
+      absurd (still found request now answer old new token row are live none held (inr room.made) whole)
+  nothing_else found request now faults later answer old new token row are (any.Failed wanted other wants risen is broken) unbroken live none =
       absurd (let clash : true ≡ false = sym broken.is_broken ∙ unbroken in cc)
-  nothing_else found request now faults later answer old new token row are (steps.Starved held which is whole) unbroken live none =
-      absurd (still found request now answer old new token row are live none held which whole)
+  nothing_else found request now faults later answer old new token row are (any.Starved held which is whole) unbroken live none =
+      absurd (still found request now answer old new token row are live none held (⊎_elim inl (λ room. inr room.made) which) whole)

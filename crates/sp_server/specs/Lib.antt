@@ -3,10 +3,11 @@ pub mod Peer
 pub mod Step
 pub mod Node
 pub mod Serving
-pub mod Changes
+pub mod Replies
 pub mod Views
 pub mod Histories
 pub mod Sessions
 pub mod Verdicts
 pub mod Logouts
 pub mod Recorded
+pub mod Starts

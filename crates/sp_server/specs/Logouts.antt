@@ -1,11 +1,9 @@
 -- When a session is closed: exactly where its user leaves it or the identity provider ends it; and it stays closed.
-use Rattle.std.specs.Prelude.{◌≡◌, ◌⊎◌, ℕ, true, false, List, [], ◌∷◌, ◌++◌, map, Option, None, Some, Ok}
-use Rattle.std.specs.List.{AllByRecursion, list_any}
+use Rattle.std.specs.Prelude.{◌≡◌, ◌⊎◌, ℕ, true, false, List, Option, IsSome, None, Some}
+use Rattle.std.specs.List.{list_any}
 use Rattle.std.specs.Str.{bytes_eq}
 use Rattle.conn_table.specs.Table.{Table}
 use Rattle.crash_disk.specs.Counts.{Rose}
-use Rattle.crash_disk.specs.Disk.{Image, DiskState}
-use Rattle.crash_disk.specs.Moments.{Leaves}
 use Rattle.http_wire.specs.declared.answer.Answer.{Answer}
 use Rattle.http_wire.specs.declared.answer.Answer.TheVariants.{Fixed}
 use Rattle.http_wire.specs.Requests.{Request}
@@ -13,21 +11,23 @@ use Rattle.ledger_records.specs.declared.sp_record.Left.{Left}
 use Rattle.ledger_records.specs.declared.sp_record.Ended.{Ended}
 use Rattle.ledger_records.specs.declared.sp_record.SpRecord.{SpRecord}
 use Rattle.ledger_records.specs.declared.sp_record.SpRecord.TheVariants as kinds
-use Rattle.node_serve.specs.Turns.{Asked, Turn, asked_by, Run}
+use Rattle.node_serve.specs.Turns.{Turn, Run}
 use Rattle.node_serve.specs.Worlds.{World}
 use Rattle.protocol_messages.specs.declared.logout.LogoutRequest.{LogoutRequest}
 use Rattle.request_rows.specs.declared.row.OpenedRow.{OpenedRow}
 use Rattle.request_rows.specs.Rows.{session_row}
 use Rattle.request_ledger.specs.Compacting.{Compacts}
 use Rattle.request_ledger.specs.RowsOf.{closes, is_among, rows_of}
-use Rattle.request_ledger.specs.Record.{is_open, AreRecords}
-use Rattle.request_ledger.specs.Ledger.{Held, ledger_in}
-use Rattle.request_ledger.specs.Runs.{Event, Leads}
+use Rattle.request_ledger.specs.Record.{is_open, request_rules, AreRecords}
+use Rattle.request_ledger.specs.Ledger.{Held}
 use Rattle.logout_profile.specs.declared.logout.Logout.TheVariants as logouts
-use Rattle.sp_server.specs.Histories.{IsProviders, IsAtStart, AreTold}
+use Rattle.node_steps.specs.Points as any
+use Rattle.node_steps.specs.Points.{Point, points}
+use Rattle.sp_server.specs.Histories.{IsProviders, IsAtStart}
+use Rattle.node_steps.specs.declared.codes.TheConstants.{NO_MEMORY}
 use Rattle.sp_server.specs.Routes.{Logout, SingleLogout, To, route}
 use Rattle.sp_server.specs.Peer.{IsObeyed}
-use Rattle.sp_server.specs.Step.{Setup, Provider, Answers, HasPlace, Serves, NO_MEMORY, ended_by, ended_record, is_expired, left_record, session_for}
+use Rattle.sp_server.specs.Step.{Setup, Provider, Answers, HasPlace, Serves, ended_by, ended_record, is_expired, left_record, session_for}
 
 -- Over a ledger, at a moment, the user of a request leaves the session of this row: the session lives, and the request has its cookie.
 pub record LeavesOver (setup : Setup) (held : Held) (request : Request) (now : ℕ) (row : OpenedRow) : Type 0 where
@@ -105,50 +105,17 @@ IsOver held token = (now : ℕ) → session_row (rows_of held.records).opened to
 
 -- A session that is closed is never found live again, whatever is recorded, compacted and opened since.
 abbrev pub AClosedSessionStaysClosed : Type 0
-AClosedSessionStaysClosed =
-    (start held : Held) (events : List Event) (token : List ℕ) → AreRecords start.records → IsClosed start token → Leads start events held → IsOver held token
+AClosedSessionStaysClosed = any.AClosedSessionStaysClosed request_rules IsClosed IsOver
 
 -- ---- over a service
 
--- a provider and its disk at a point of a service: when it begins, when a request comes, or behind all requests
-pub record Point : Type 0 where
-  pub node : Provider
-  pub disk : Option DiskState
-
-abbrev pub point : Provider → Option DiskState → Point
-point node disk = record { node = node; disk = disk }
-
-abbrev pub point_of : Asked Provider → Point
-point_of asked = point asked.node asked.disk
-
-abbrev pub point_in : World Provider → Point
-point_in world = point world.node world.disk
-
--- the points up to the latest request, and all of them, the latest first
-abbrev pub points_asked : World Provider → List (Turn Provider) → List Point
-points_asked first [] = point_in first ∷ []
-points_asked first (turn ∷ past) = map point_of (asked_by turn) ++ points_asked first past
-
-abbrev pub points : World Provider → List (Turn Provider) → World Provider → List Point
-points first turns last = point_in last ∷ points_asked first turns
-
--- at a point the provider's ledger is whole, and the session of this token is closed in it
-pub record IsClosedAt (token : List ℕ) (point : Point) : Type 0 where
-  pub whole : point.node.ledger.broken ≡ false
-  pub closed : IsClosed point.node.ledger.held token
-
--- at a point no session of this token lives in the provider's ledger, nor in one that a crash may leave there
-pub record IsOverAt (token : List ℕ) (point : Point) : Type 0 where
-  pub in_ledger : point.node.ledger.broken ≡ false → IsOver point.node.ledger.held token
-  pub on_disk : (image : Image) (held : Held) → Leaves point.disk image → ledger_in image ≡ Ok (Some held) → IsOver held token
-
--- a session that is closed at one point is over at each later one; the latest comes first
-abbrev pub StayClosed : List Point → Type 0
-StayClosed [] = Unit {0}
-StayClosed (point ∷ earlier) = AllByRecursion (λ before. (token : List ℕ) → IsClosedAt token before → IsOverAt token point) earlier × StayClosed earlier
+-- a session that is closed at one point of a service is over at each later one: in the provider's ledger, and in each that a crash may
+-- leave there; the latest point comes first
+abbrev pub StayClosed : List (Point Provider) → Type 0
+StayClosed = any.StayClosed request_rules IsClosed IsOver
 
 -- A session that is closed in a service is never live again, neither at a later request nor in what a crash may leave.
 abbrev pub SessionsStayClosedInAService : Type 0
 SessionsStayClosedInAService =
-    (first last : World Provider) (turns : List (Turn Provider)) (kept : Table) → IsAtStart first → AreTold turns → Run IsProviders first turns kept last
+    (first last : World Provider) (turns : List (Turn Provider)) (kept : Table) → IsAtStart first → IsSome first.disk → Run IsProviders first turns kept last
     → StayClosed (points first turns last)

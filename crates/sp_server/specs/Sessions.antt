@@ -14,8 +14,9 @@ use Rattle.request_ledger.specs.Drafts.{opened}
 use Rattle.sp_rules.specs.Opening.{Brought, Opens}
 use Rattle.sp_rules.specs.Shown.{session_of}
 use Rattle.sp_answers.specs.Answers.{opened_answer}
+use Rattle.node_steps.specs.declared.codes.TheConstants.{NO_MEMORY}
 use Rattle.sp_server.specs.Routes.{Consumer, To, route}
-use Rattle.sp_server.specs.Step.{Setup, Provider, Answers, HasPlace, HasToken, Serves, NO_MEMORY, is_expired, rows_seen}
+use Rattle.sp_server.specs.Step.{Setup, Provider, Answers, HasPlace, HasToken, Serves, is_expired, rows_seen}
 
 -- Over a ledger, at a moment, the form that a request posts opens a session: the login that it brings answers this asked row.
 pub record OpensOver (setup : Setup) (held : Held) (request : Request) (now : ℕ) (b : Brought) (row : AskedRow) : Type 0 where
@@ -48,7 +49,7 @@ OnlyWhereAFormOpens =
 abbrev pub WhereverAFormOpens : Type 0
 WhereverAFormOpens =
     (found : Held) (request : Request) (now faults later : ℕ) (answer : Answer) (old new : Provider) (b : Brought) (row : AskedRow)
-    → OpensOver old.setup found request now b row → ((other : Brought) (asked : AskedRow) → OpensOver old.setup found request now other asked → HasPlace found (record_of old.setup found now other))
+    → OpensOver old.setup found request now b row → HasPlace found (record_of old.setup found now b)
     → ¬ (Rose faults later) → Serves found request now (Rose faults later) answer old new
     → (answer ≡ Fixed NO_MEMORY)
-    ⊎ ((r : SpRecord) × GivesSession old.setup found request now r answer × (new.ledger.held ≡ held_with r found))
+    ⊎ (GivesSession old.setup found request now (record_of old.setup found now b) answer × (new.ledger.held ≡ held_with (record_of old.setup found now b) found))

@@ -1,7 +1,7 @@
 -- What a service provider does at one request.
-use Rattle.std.specs.Prelude.{◌≡◌, ◌⊎◌, ℕ, nat_le, Bool, true, false, List, codes, Option, None, Some, IfSome, Ok, Err, if◌then◌else◌}
+use Rattle.std.specs.Prelude.{◌≡◌, ◌⊎◌, ℕ, nat_le, Bool, true, false, List, codes, Option, None, Some, if◌then◌else◌}
 use Rattle.std.specs.Option.{option_and_then, option_to_list}
-use Rattle.crash_disk.specs.Disk.{Image, DiskState, image_of}
+use Rattle.crash_disk.specs.Disk.{Image, DiskState}
 use Rattle.http_wire.specs.declared.answer.Answer.{Answer}
 use Rattle.http_wire.specs.declared.answer.Answer.TheVariants.{Fixed, Full}
 use Rattle.http_wire.specs.Requests.{Request}
@@ -20,16 +20,17 @@ use Rattle.request_rows.specs.declared.row.AskedRow.{AskedRow}
 use Rattle.request_rows.specs.declared.row.OpenedRow.{OpenedRow}
 use Rattle.request_rows.specs.Rows.{RowsView, session_row}
 use Rattle.request_ledger.specs.RowsOf.{SpRows, rows_of}
-use Rattle.gate_journal.specs.Format.{Fault}
-use Rattle.request_ledger.specs.Ledger.{Held, Opened, IsFitting, IsOwn, LeftByOpening, ledger_in, taken, next_number, held_with}
+use Rattle.request_ledger.specs.Ledger.{Held, next_number}
+use Rattle.request_ledger.specs.Record.{request_rules}
+use Rattle.request_ledger.specs.Standing.{StandingView}
 use Rattle.request_ledger.specs.Draft.{drawn_id}
-use Rattle.request_ledger.specs.Drafts.{asked, opened, left, ended, confirmed, ending, is_empty, is_waiting_now, is_full}
-use Rattle.request_ledger.specs.Compacting.{Compacts}
+use Rattle.request_ledger.specs.Drafts.{asked, opened, left, ended, confirmed, ending, is_empty, is_waiting_now}
 use Rattle.sp_rules.specs.declared.config.SpConfig.{SpConfig}
 use Rattle.sp_rules.specs.Opening.{Brought, Opens}
 use Rattle.sp_rules.specs.Shown.{session_of}
 use Rattle.sp_rules.specs.Verdict.{IsRefused}
 use Rattle.sp_answers.specs.Answers.{IsAskAnswer, user_answer, denied_answer, opened_answer, metadata_answer}
+use Rattle.node_steps.specs.Step as any
 use Rattle.sp_server.specs.Routes.{App, Consumer, Metadata, Logout, SingleLogout, To, Refused, route}
 use Rattle.sp_server.specs.Peer.{idp_at, is_partial, IsObeyed, IsNotObeyed}
 
@@ -39,11 +40,6 @@ pub record Setup : Type 0 where
   pub config : SpConfig
   pub policy : Option (List Rule)
   pub expiry : Option ℕ
-
--- a provider: what it is set up with, and its ledger
-pub record Provider : Type 0 where
-  pub setup : Setup
-  pub ledger : Opened
 
 -- whether the registry has ended
 abbrev pub is_expired : Option ℕ → ℕ → Bool
@@ -157,87 +153,42 @@ pub data Answers (setup : Setup) (held : Held) (request : Request) (now : ℕ) (
       → IsObeyed setup.config now request.body (logouts.Reply response 0) → is_awaited held now response.request ≡ false
       → answer ≡ Fixed (number_of UnknownLogout) → adds ≡ None → Answers setup held request now answer adds
 
+-- A provider: what it is set up with, and its ledger. What it does with what it answers is said of each provider.
+abbrev pub Provider : Type 0
+Provider = any.Provider Setup SpRecord StandingView
+
 -- there is room for a record: fewer rows of its kind are kept than may be, and it fits
-pub record HasPlace (held : Held) (r : SpRecord) : Type 0 where
-  pub few : is_full (rows_of held.records) r ≡ false
-  pub fits : IsFitting held r
+abbrev pub HasPlace : Held → SpRecord → Type 0
+HasPlace = any.HasPlace request_rules
 
--- after a request the ledger is whole and holds this
-pub record IsWhole (old new : Provider) (held : Held) : Type 0 where
-  pub setup : new.setup ≡ old.setup
-  pub key : new.ledger.key ≡ old.ledger.key
-  pub unbroken : new.ledger.broken ≡ false
-  pub is : new.ledger.held ≡ held
+-- after a request the ledger is whole and holds this, or it is broken
+abbrev pub IsWhole : (old new : Provider) → Held → Type 0
+IsWhole = any.IsWhole
 
--- after a request the ledger is broken
-pub record IsBroken (old new : Provider) : Type 0 where
-  pub setup : new.setup ≡ old.setup
-  pub key : new.ledger.key ≡ old.ledger.key
-  pub is_broken : new.ledger.broken ≡ true
+abbrev pub IsBroken : (old new : Provider) → Type 0
+IsBroken = any.IsBroken
 
--- the codes that a provider answers where it can't go on
-abbrev pub DISK_FAULT : ℕ
-DISK_FAULT = 50
-
-abbrev pub FULL : ℕ
-FULL = 51
-
-abbrev pub NO_MEMORY : ℕ
-NO_MEMORY = 52
-
-abbrev pub FOREIGN : ℕ
-FOREIGN = 53
+-- A record was to be added, there was no place for it, and one compaction made this of the ledger.
+abbrev pub MakesRoom : Setup → (found : Held) → Request → (now : ℕ) → (held : Held) → Type 0
+MakesRoom = any.MakesRoom request_rules Answers
 
 -- What is done at a request over the ledger that it finds: the request and the moment; whether the disk's count of faults rose;
 -- the answer; the provider before and after.
-pub data Serves (found : Held) (request : Request) (now : ℕ) (Risen : Type 0) (answer : Answer) (old new : Provider) : Type 0 where
-  -- nothing is recorded
-  Plain : Answers old.setup found request now answer None → IsWhole old new found → Serves found request now Risen answer old new
-  -- a record is added
-  Recorded : (r : SpRecord) → Answers old.setup found request now answer (Some r) → HasPlace found r → IsWhole old new (held_with r found)
-      → Serves found request now Risen answer old new
-  -- there was no place for it, and after one compaction there is
-  RecordedAfterCompaction : (held : Held) (wanted r : SpRecord) (other : Answer) → Answers old.setup found request now other (Some wanted)
-      → ¬ (HasPlace found wanted) → Compacts now found held → Answers old.setup held request now answer (Some r) → HasPlace held r
-      → IsWhole old new (held_with r held) → Serves found request now Risen answer old new
-  -- there is none after it either
-  NoPlace : (held : Held) (wanted r : SpRecord) (other another : Answer) → Answers old.setup found request now other (Some wanted)
-      → ¬ (HasPlace found wanted) → Compacts now found held → Answers old.setup held request now another (Some r) → ¬ (HasPlace held r)
-      → answer ≡ Fixed FULL → IsWhole old new held → Serves found request now Risen answer old new
-  -- a record was to be added, and the disk failed in the compaction or while the record was written
-  Failed : (wanted : SpRecord) (other : Answer) → Answers old.setup found request now other (Some wanted) → Risen → answer ≡ Fixed DISK_FAULT
-      → IsBroken old new → Serves found request now Risen answer old new
-  -- there was no memory: nothing is recorded, and one compaction may have been made
-  Starved : (held : Held) → (held ≡ found) ⊎ Compacts now found held → answer ≡ Fixed NO_MEMORY → IsWhole old new held
-      → Serves found request now Risen answer old new
+abbrev pub Serves : (found : Held) → Request → (now : ℕ) → (Risen : Type 0) → Answer → (old new : Provider) → Type 0
+Serves = any.Serves request_rules Answers
 
 -- The step of a provider at one request. A ledger that is broken is opened again first.
-pub data Steps (old : Provider) (disk : Option DiskState) (request : Request) (now : ℕ) (Risen : Type 0) (answer : Answer) (new : Provider) : Type 0 where
-  WithLedger : old.ledger.broken ≡ false → Serves old.ledger.held request now Risen answer old new → Steps old disk request now Risen answer new
-  WithOpened : (found : Held) → old.ledger.broken ≡ true → IfSome disk (λ d. taken (ledger_in (image_of d)) ≡ Ok found)
-      → Serves found request now Risen answer old new → Steps old disk request now Risen answer new
-  -- the disk failed, it stands for no ledger, or there was no memory: the ledger stays broken
-  NotOpened : old.ledger.broken ≡ true → Risen → answer ≡ Fixed DISK_FAULT → IsBroken old new → Steps old disk request now Risen answer new
-  Strange : old.ledger.broken ≡ true → IfSome disk (λ d. (fault : Fault) × (taken (ledger_in (image_of d)) ≡ Err fault)) → answer ≡ Fixed FOREIGN
-      → IsBroken old new → Steps old disk request now Risen answer new
-  StarvedAtOpening : old.ledger.broken ≡ true → answer ≡ Fixed NO_MEMORY → IsBroken old new → Steps old disk request now Risen answer new
+abbrev pub Steps : (old : Provider) → Option DiskState → Request → (now : ℕ) → (Risen : Type 0) → Answer → (new : Provider) → Type 0
+Steps = any.Steps request_rules Answers
 
--- What a crash while a request is served over a ledger may leave: this ledger, or it after one compaction, and either with the record
--- that the request adds.
-pub data ServingLeaves (setup : Setup) (found : Held) (request : Request) (now : ℕ) (image : Image) : Type 0 where
-  Same : ledger_in image ≡ Ok (Some found) → ServingLeaves setup found request now image
-  Compacted : (held : Held) → Compacts now found held → ledger_in image ≡ Ok (Some held) → ServingLeaves setup found request now image
-  With : (held : Held) (r : SpRecord) (answer : Answer) → (held ≡ found) ⊎ Compacts now found held → Answers setup held request now answer (Some r)
-      → HasPlace held r → ledger_in image ≡ Ok (Some (held_with r held)) → ServingLeaves setup found request now image
+-- What a crash while a request is served over a ledger may leave.
+abbrev pub ServingLeaves : Setup → (found : Held) → Request → (now : ℕ) → Image → Type 0
+ServingLeaves = any.ServingLeaves request_rules Answers
 
--- What a crash at a moment of a request may leave: that, and while a broken ledger is opened again what the disk stood for, or what is
--- opened from it.
-pub data StepLeaves (old : Provider) (disk : Option DiskState) (request : Request) (now : ℕ) (image : Image) : Type 0 where
-  InLedger : old.ledger.broken ≡ false → ServingLeaves old.setup old.ledger.held request now image → StepLeaves old disk request now image
-  InOpened : (found : Held) → old.ledger.broken ≡ true → IfSome disk (λ d. taken (ledger_in (image_of d)) ≡ Ok found)
-      → ServingLeaves old.setup found request now image → StepLeaves old disk request now image
-  InOpening : old.ledger.broken ≡ true → LeftByOpening disk image → StepLeaves old disk request now image
+-- What a crash at a moment of a request may leave.
+abbrev pub StepLeaves : (old : Provider) → Option DiskState → Request → (now : ℕ) → Image → Type 0
+StepLeaves = any.StepLeaves request_rules Answers
 
 -- the disk is the provider's own
 abbrev pub OwnsDisk : Provider → Option DiskState → Type 0
-OwnsDisk provider disk = IsOwn disk provider.ledger
+OwnsDisk = any.OwnsDisk request_rules

@@ -1,11 +1,11 @@
 //! One step: the answer to a request.
-ghost use Rattle.std.specs.Prelude.{◌≡◌, ◌≤◌};
+ghost use Rattle.std.specs.Prelude.{◌≤◌};
 ghost use Rattle.crash_disk.specs.Counts.{Rose};
 ghost use Rattle.crash_disk.specs.Moments.{LeavesOnly};
 ghost use Rattle.http_wire.specs.Views.{request_view};
 ghost use Rattle.node_serve.specs.Worlds.{HasBytes};
 ghost use Rattle.sp_server.specs.Step.{OwnsDisk, Serves, ServingLeaves};
-ghost use Rattle.sp_server.specs.Serving.{CanServe, code_of};
+ghost use Rattle.sp_server.specs.Serving.{CanServe};
 
 use crate::node::SpNode;
 use crate::route::{Route, route_of};
@@ -13,30 +13,11 @@ use crash_disk::Disk;
 use gate_journal::OpenFault;
 use http_wire::{Answer, HttpRequest};
 use node_serve::Node;
+use node_steps::{NO_MEMORY, code_of};
 use sp_answers::metadata_answer;
-
-/// The codes that are answered where a provider can't go on.
-pub(crate) const DISK_FAULT: u16 = 50;
-
-pub(crate) const FULL: u16 = 51;
-
-pub(crate) const NO_MEMORY: u16 = 52;
-
-pub(crate) const FOREIGN: u16 = 53;
 
 /// The code that is answered where the registry of metadata has ended.
 pub(crate) const REGISTRY_EXPIRED: u16 = 70;
-
-/// The code of a fault of an opening or a compaction.
-pub(crate) fn code_of(fault: OpenFault) -> u16
-    ensures { result ≡ code_of fault }
-{
-    match fault {
-        OpenFault::DiskFault => DISK_FAULT,
-        OpenFault::Foreign { .. } => FOREIGN,
-        OpenFault::NoMemory => NO_MEMORY,
-    }
-}
 
 impl SpNode {
     /// Answers a request over a ledger that is whole.

@@ -3,6 +3,7 @@ ghost use Rattle.sp_server.specs.Histories.{WhatIsAcknowledgedIsKeptOnce};
 ghost use Rattle.sp_server.specs.Logouts.{OnlyWhereAUserLeaves, OnlyWhereSessionsEnd, NothingElseCloses, WhereverAUserLeaves, WhereverSessionsEnd, AClosedSessionStaysClosed, SessionsStayClosedInAService};
 ghost use Rattle.sp_server.specs.Recorded.{WhatIsAnsweredIsRecorded, WhatIsAskedIsRecorded};
 ghost use Rattle.sp_server.specs.Sessions.{OnlyWhereAFormOpens, WhereverAFormOpens};
+ghost use Rattle.sp_server.specs.Starts.{SessionsStayClosedOverStarts, WhatIsAcknowledgedIsKeptOnceOverStarts};
 ghost use Rattle.sp_server.specs.Verdicts.{CompactionsChangeNoVerdict};
 
 /// Over each list of events, moments, disk faults and openings: what an answer acknowledged is in the history of every
@@ -10,10 +11,25 @@ ghost use Rattle.sp_server.specs.Verdicts.{CompactionsChangeNoVerdict};
 pub fn what_is_acknowledged_is_kept_once()
     ensures { WhatIsAcknowledgedIsKeptOnce }
 {
-    canon_laws::a_spelled_tree_is_writable();
-    assertion_model::laws::the_texts_of_a_login_are_texts();
-    logout_profile::laws::what_an_obeyed_form_says();
+    request_ledger::laws::images_hold_records();
     request_ledger::laws::no_request_opens_twice_in_a_run();
+}
+
+/// Over each list of starts of a provider, each of which opens what a crash of the one before it may have left: what an answer
+/// acknowledged is in the history of every ledger that may be opened behind them, and no two sessions are of one request.
+pub fn what_is_acknowledged_is_kept_once_over_starts()
+    ensures { WhatIsAcknowledgedIsKeptOnceOverStarts }
+{
+    request_ledger::laws::images_hold_records();
+    request_ledger::laws::no_request_opens_twice_in_a_run();
+}
+
+/// And a session that was closed is live in no ledger that may be opened behind them.
+pub fn sessions_stay_closed_over_starts()
+    ensures { SessionsStayClosedOverStarts }
+{
+    request_ledger::laws::images_hold_records();
+    a_closed_session_stays_closed();
 }
 
 /// A session is recorded only where a posted form opens it, and wherever one does, where there is room, the disk does not
@@ -50,9 +66,7 @@ pub fn a_closed_session_stays_closed()
 pub fn sessions_stay_closed_in_a_service()
     ensures { SessionsStayClosedInAService }
 {
-    canon_laws::a_spelled_tree_is_writable();
-    assertion_model::laws::the_texts_of_a_login_are_texts();
-    logout_profile::laws::what_an_obeyed_form_says();
+    request_ledger::laws::images_hold_records();
     a_closed_session_stays_closed();
 }
 

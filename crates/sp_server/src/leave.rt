@@ -11,13 +11,14 @@ ghost use Rattle.node_serve.specs.Worlds.{HasBytes};
 ghost use Rattle.sp_server.specs.Routes.{Logout, To, route};
 ghost use Rattle.sp_server.specs.Step.{OwnsDisk, Serves, ServingLeaves};
 ghost use Rattle.sp_server.specs.Serving.{CanServe};
-ghost use Rattle.sp_server.specs.Changes.{Leaves};
+ghost use Rattle.sp_server.specs.Replies.{Leaves};
 
-use crate::answering::{NO_MEMORY, REGISTRY_EXPIRED};
-use crate::change::Change;
+use crate::answering::REGISTRY_EXPIRED;
 use crate::node::SpNode;
+use crate::reply::Reply;
 use crash_disk::Disk;
 use http_wire::{Answer, HttpRequest};
+use node_steps::NO_MEMORY;
 use owned_values::{NoMemory, Text, Texts};
 use request_rows::OpenedRow;
 use std::alloc::Global;
@@ -44,14 +45,14 @@ fn indexes_of(alloc: Global, row: &OpenedRow) -> Result<Texts, NoMemory>
     }
 }
 
-/// What changes where a user leaves the session of a row.
-fn leaving(alloc: Global, row: &OpenedRow) -> Result<Change, NoMemory>
+/// The reply to a user who leaves the session of a row.
+fn leaving(alloc: Global, row: &OpenedRow) -> Result<Reply, NoMemory>
     requires name { is_xml_text row.now.name ≡ true }
     requires index { ForSome row.now.index (λ index. is_xml_text index ≡ true) }
     ensures { IfOk result (Leaves row.now) }
 {
     let name = row.name.as_str();
-    Ok(Change::Leave {
+    Ok(Reply::Leave {
         token: row.token.copy()?,
         name: Text::of(alloc, name)?,
         indexes: indexes_of(alloc, row)?,
@@ -81,9 +82,9 @@ impl SpNode {
         let Some(row) = self.session_for(request, now) else {
             return Answer::Fixed(Verdict::NoSuchSession.number());
         };
-        let Ok(change) = leaving(self.alloc, row) else {
+        let Ok(reply) = leaving(self.alloc, row) else {
             return Answer::Fixed(NO_MEMORY);
         };
-        self.change(request, &change, now, disk)
+        self.serve(request, &reply, now, disk)
     }
 }

@@ -27,14 +27,14 @@
 
 mod answering;
 mod app;
-mod change;
-mod changing;
 mod consumer;
 pub mod laws;
 mod leave;
 mod node;
 mod peer;
 mod recording;
+mod reply;
+mod replying;
 mod route;
 mod single_logout;
 

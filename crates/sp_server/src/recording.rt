@@ -8,12 +8,12 @@ ghost use Rattle.request_ledger.specs.Ledger.{CanCommit, IsWithOrWithout};
 ghost use Rattle.request_ledger.specs.Compacting.{IsOldOrCompacted};
 ghost use Rattle.sp_server.specs.Step.{OwnsDisk};
 ghost use Rattle.sp_server.specs.Node.{CompactsFound};
-ghost use Rattle.sp_server.specs.Serving.{Commits};
+ghost use Rattle.node_steps.specs.Serving.{Commits};
 
-use crate::answering::DISK_FAULT;
 use crate::node::SpNode;
 use crash_disk::Disk;
 use http_wire::Answer;
+use node_steps::DISK_FAULT;
 use owned_values::Blob;
 use request_ledger::{Draft, OpenFault};
 

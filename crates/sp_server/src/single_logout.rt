@@ -9,25 +9,26 @@ ghost use Rattle.sp_server.specs.Routes.{SingleLogout, To, route};
 ghost use Rattle.sp_server.specs.Peer.{IsNotObeyed};
 ghost use Rattle.sp_server.specs.Step.{OwnsDisk, Serves, ServingLeaves};
 ghost use Rattle.sp_server.specs.Serving.{CanServe};
-ghost use Rattle.sp_server.specs.Changes.{IsOfForm};
+ghost use Rattle.sp_server.specs.Replies.{IsOfForm};
 
-use crate::answering::{NO_MEMORY, REGISTRY_EXPIRED};
-use crate::change::Change;
+use crate::answering::REGISTRY_EXPIRED;
 use crate::node::SpNode;
 use crate::peer::{idp_at, logout_address, second_key};
+use crate::reply::Reply;
 use crash_disk::Disk;
 use http_wire::{Answer, HttpRequest};
 use logout_profile::laws::what_an_obeyed_form_says;
 use logout_profile::{Judged, Logout, judge_logout_with};
+use node_steps::NO_MEMORY;
 use saml_time::LAST;
 
 impl SpNode {
-    /// What a posted form asks to change.
+    /// The reply to a posted message of a logout.
     ///
     /// # Errors
     ///
     /// The verdict of the first condition of a logout that fails.
-    fn change_of(&self, now: u64, body: &[u8]) -> Result<Change, Judged>
+    fn reply_to(&self, now: u64, body: &[u8]) -> Result<Reply, Judged>
         requires { now ≤ LAST }
         ensures ok { IfOk result (IsOfForm self.now.setup.config now body.now) }
         ensures err { IfErr result (IsJudged (IsNotObeyed self.now.setup.config now body.now)) }
@@ -47,11 +48,11 @@ impl SpNode {
             body,
         )?;
         match logout {
-            Logout::Ask { request, relay, .. } => Ok(Change::End {
+            Logout::Ask { request, relay, .. } => Ok(Reply::End {
                 asked: request,
                 relay,
             }),
-            Logout::Reply { response, .. } => Ok(Change::Confirm { response }),
+            Logout::Reply { response, .. } => Ok(Reply::Confirm { response }),
         }
     }
 
@@ -73,8 +74,8 @@ impl SpNode {
         if self.is_expired(now) {
             return Answer::Fixed(REGISTRY_EXPIRED);
         }
-        match self.change_of(now, request.body) {
-            Ok(change) => self.change(request, &change, now, disk),
+        match self.reply_to(now, request.body) {
+            Ok(reply) => self.serve(request, &reply, now, disk),
             Err(Judged::Code(verdict)) => Answer::Fixed(verdict.number()),
             Err(Judged::NoMemory) => Answer::Fixed(NO_MEMORY),
         }

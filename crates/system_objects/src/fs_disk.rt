@@ -1,5 +1,5 @@
 //! The disk of the system.
-ghost use Rattle.std.specs.Prelude.{◌≡◌, ◌<◌, ◌≤◌, length, take, None, true, false, IfOk, MatchResult};
+ghost use Rattle.std.specs.Prelude.{◌≡◌, ◌<◌, ◌≤◌, length, take, None, true, false, refl, IfOk, MatchResult};
 ghost use Rattle.std.specs.Io.KnownBytes.{Consumes, IsAtEnd};
 
 use crate::faults::counted;
@@ -149,11 +149,15 @@ impl<'a, R: rt::Files> FsDisk<'a, R> {
 impl<R: rt::Files> Disk for FsDisk<'_, R> {
     ghost told = { λ _. None };
 
+    ghost tells = { false };
+
     ghost moment = { λ _. 0 };
 
     ghost left_since = { λ _ _ _. ⊥ };
 
     ghost faults_of = { λ d. d.faults };
+
+    ghost tells_always = { λ _. refl };
 
     ghost reads_an_image = { λ _. tt };
 

@@ -2,7 +2,7 @@ use Rattle.idp_runs.proofs.Headlines.{headline}
 use Rattle.idp_runs.proofs.laws.a_run_carries_the_headline.Goals as goal
 
 pub returns : goal.returns
-returns c =
+returns g c = λ disk.
     headline (record {
       users = c.each_issue_has_a_password_or_a_session.ensures.answers;
       signed = c.each_signed_element_is_of_a_record.ensures;
@@ -14,4 +14,5 @@ returns c =
       wherever_ended = c.a_session_is_ended_exactly.ensures.wherever_ended;
       hold = c.images_hold_records.ensures;
       kept = c.what_is_acknowledged_is_kept.ensures;
-    })
+      ended = c.sessions_stay_ended_in_a_service.ensures;
+    }) (g.D.Disk.left_since disk)

@@ -16,10 +16,11 @@ returns-in_err-listen-clause-runs g c =
     let heard = c.listen.new.self in
     let told = g.D.Disk.told c.args.disk.now in
     let count = g.D.Disk.faults_of c.args.disk.now in
+    let moment = g.D.Disk.moment c.args.disk.now in
     let clock = g.C.Clock.to_come c.args.clock.now in
-    let opened = outside told count (g.L.Link.told link) (g.L.Link.faults_of link) (g.L.Link.send_faults_of link) clock in
+    let opened = outside told count moment (g.L.Link.told link) (g.L.Link.faults_of link) (g.L.Link.send_faults_of link) clock in
     let is : c.from_residual.result ≡ Err faults.LinkFault = search rules in
-    let only = only_listened told count (g.L.Link.told link) (g.L.Link.told heard) (g.L.Link.faults_of link) (g.L.Link.faults_of heard)
+    let only = only_listened told count moment (g.L.Link.told link) (g.L.Link.told heard) (g.L.Link.faults_of link) (g.L.Link.faults_of heard)
     (g.L.Link.send_faults_of link) (g.L.Link.send_faults_of heard) clock c.in_err-listen.ensures.same c.in_err-listen.ensures.send_faults in (
       [],
       λ files file before begins. Deaf c.args.node.now opened begins is c.in_err-listen.ensures.faults.failed refl only,
@@ -32,17 +33,18 @@ returns-clause-runs g c =
     let heard = c.listen.new.self in
     let told = g.D.Disk.told c.args.disk.now in
     let count = g.D.Disk.faults_of c.args.disk.now in
+    let moment = g.D.Disk.moment c.args.disk.now in
     let clock = g.C.Clock.to_come c.args.clock.now in
-    let opened = outside told count (g.L.Link.told link) (g.L.Link.faults_of link) (g.L.Link.send_faults_of link) clock in
-    let listening = outside told count (g.L.Link.told heard) (g.L.Link.faults_of heard) (g.L.Link.send_faults_of heard) clock in
+    let opened = outside told count moment (g.L.Link.told link) (g.L.Link.faults_of link) (g.L.Link.send_faults_of link) clock in
+    let listening = outside told count moment (g.L.Link.told heard) (g.L.Link.faults_of heard) (g.L.Link.send_faults_of heard) clock in
     let now = c.serve.new in
-    let after = outside (g.D.Disk.told now.disk) (g.D.Disk.faults_of now.disk) (g.L.Link.told now.link) (g.L.Link.faults_of now.link)
+    let after = outside (g.D.Disk.told now.disk) (g.D.Disk.faults_of now.disk) (g.D.Disk.moment now.disk) (g.L.Link.told now.link) (g.L.Link.faults_of now.link)
     (g.L.Link.send_faults_of now.link) (g.C.Clock.to_come now.clock) in
-    let only = only_listened told count (g.L.Link.told link) (g.L.Link.told heard) (g.L.Link.faults_of link) (g.L.Link.faults_of heard)
+    let only = only_listened told count moment (g.L.Link.told link) (g.L.Link.told heard) (g.L.Link.faults_of link) (g.L.Link.faults_of heard)
     (g.L.Link.send_faults_of link) (g.L.Link.send_faults_of heard) clock c.in_ok-listen.ensures.same c.in_ok-listen.ensures.send_faults in
     let (turns, serves, leaves) = c.serve.ensures.serves in (
       turns,
-      λ files file before begins. served_so IsProviders (IsBadSetUp files file) (IsNotOpened files file before) (Begins files file before) c.args.budget turns c.serve.result c.ended_of.result
+      λ files file before begins. served_so IsProviders StepLeaves (g.D.Disk.left_since now.disk) (IsBadSetUp files file) (IsNotOpened files file before) (Begins files file before) c.args.budget turns c.serve.result c.ended_of.result
           c.args.node.now now.node before opened listening after only serves c.ended_of.ensures begins,
       leaves,
     )

@@ -10,6 +10,7 @@ use Rattle.saml_commands.proofs.top_call.run.Goals as goal
 pub returns-in-Some-clause-ends : goal.returns-in-Some-clause-ends
 returns-in-Some-clause-ends g c =
     let words = c.args.words.now in
+    let left = g.D.Disk.left_since c.run_command.new.disk in
     let told = g.F.Files.holds c.args.files.now in
     let old = g.K.Sink.taken c.args.out.now in
     let new = g.K.Sink.taken c.run_command.new.out in
@@ -17,8 +18,8 @@ returns-in-Some-clause-ends g c =
     let is : command_of words ≡ Some command = sym c.command_of.ensures.command ∙ ap (option_map command_view) c.in-Some.is in
     let (ran, does, carries, ends, leaves) = c.run_command.ensures.ends in (
       ran,
-      done words told command is _ ran _ does,
-      carried words told command is _ ran _ carries,
+      done left words told command is _ ran _ does,
+      carried left words told command is _ ran _ carries,
       weaker_after ran (OfCommand told ran command) (Answers words told ran) old new c.run_command.result (answered words told ran command is) ends,
       leaves,
     )
@@ -31,11 +32,12 @@ returns-in-Some-clause-complete g c = λ accepted no_read no_write.
       never_both = c.a_config_has_one_outcome.ensures.never_both;
     } in
     let words = c.args.words.now in
+    let left = g.D.Disk.left_since c.run_command.new.disk in
     let told = g.F.Files.holds c.args.files.now in
     let old = g.K.Sink.taken c.args.out.now in
     let new = g.K.Sink.taken c.run_command.new.out in
     let command = command_view c.in-Some.command in
     let is : command_of words ≡ Some command = sym c.command_of.ensures.command ∙ ap (option_map command_view) c.in-Some.is in
     let (ran, does, carries, ends, leaves) = c.run_command.ensures.ends in
-    accepted_done laws words told command is accepted _ ran _ old new c.run_command.result does ends
+    accepted_done laws left words told command is accepted _ ran _ old new c.run_command.result does ends
     (λ e. no_read (c.run_command.ensures.read_fault e)) (λ e. no_write (c.run_command.ensures.write_fault e))

@@ -1,8 +1,8 @@
 use Rattle.std.proofs.Common.{◌≡◌, ℕ, List, Some, Result, Ok, Err, sym, ◌∙◌, ap, subst}
 use Rattle.std.specs.Prelude.{IfOk, IfErr, OnOk}
 use Rattle.request_rows.specs.Rows.{asked_row}
-use Rattle.sp_rules.specs.declared.judged.Judged.TheVariants as judgements
-use Rattle.sp_rules.specs.Judging.{IsJudged}
+use Rattle.fault_verdicts.specs.Judging.{IsJudged}
+use Rattle.fault_verdicts.specs.declared.judged.Judged.TheVariants as judgements
 use Rattle.sp_rules.specs.Meant.{is_sent_to}
 use Rattle.sp_rules.specs.Outstanding.{asked_for, is_outstanding, is_relayed}
 use Rattle.sp_rules.specs.Verdict.{login_refusal}

@@ -3,7 +3,7 @@ use Rattle.std.specs.Prelude.{IfOk, IfErr}
 use Rattle.saml_tree.specs.Documents.{IsSpelled}
 use Rattle.saml_tree.specs.Documents as documents
 use Rattle.fault_verdicts.specs.Verdicts.{of_document}
-use Rattle.sp_rules.specs.Judging.{judged_of, IsJudged}
+use Rattle.fault_verdicts.specs.Judging.{judged_of, IsJudged}
 use Rattle.sp_rules.specs.Opening.{Posts}
 use Rattle.sp_rules.specs.Shown.{IsOpening}
 use Rattle.sp_rules.specs.Verdict.{IsRefused}

@@ -1,13 +1,13 @@
 use Rattle.std.proofs.Common.{ℕ, List, Option, sym}
-use Rattle.sp_rules.specs.Judging.{judged_of, of_shape, of_login, IsJudged}
+use Rattle.fault_verdicts.specs.Judging.{judged_of, IsJudged}
 use Rattle.fault_verdicts.specs.Verdicts.{of_signature}
 use Rattle.sp_rules.specs.Keys.{usable}
 use Rattle.sp_rules.specs.Opening.{Posts}
 use Rattle.sp_rules.specs.Verdict.{IsRefused}
 use Rattle.sp_rules.specs.declared.config.SpConfig.{SpConfig}
 use Rattle.request_rows.specs.Rows.{RowsView}
-use Rattle.sp_rules.specs.declared.judged.Judged.{Judged}
-use Rattle.sp_rules.specs.declared.judged.Judged.TheVariants as judgements
+use Rattle.fault_verdicts.specs.declared.judged.Judged.{Judged}
+use Rattle.fault_verdicts.specs.declared.judged.Judged.TheVariants as judgements
 use Rattle.sp_rules.proofs.Refusals.{handed_on}
 use Rattle.sp_rules.proofs.Deciding.{not_response, not_asserted, not_covered, child_of_cover, no_login, no_places, not_meant, opening}
 use Rattle.sp_rules.proofs.judging.judge_document.Goals as goal
@@ -20,8 +20,8 @@ IsRightFor config rows horizon now message relay judged =
 pub returns-in_err-head-clause-refused : goal.returns-in_err-head-clause-refused
 returns-in_err-head-clause-refused c =
     handed_on (IsRightFor c.args.config.now c.args.rows.now c.args.horizon c.args.now c.args.doc.now.text c.args.relay.now)
-    c.from_residual.result (judged_of (of_shape c.in_err-head.field-0.0)) c.from_residual.ensures.1
-    (λ body posted. not_response c.args.config.now c.args.rows.now c.args.horizon c.args.now body c.args.doc.now c.args.relay.now posted c.requires.spelled c.root.result.0 c.in_err-head.field-0.0 c.root.ensures.number c.in_err-head.ensures.other)
+    c.from_residual.result c.in_err-head.field-0.0 c.from_residual.ensures.1
+    (λ body posted. not_response c.args.config.now c.args.rows.now c.args.horizon c.args.now body c.args.doc.now c.args.relay.now posted c.requires.spelled c.root.result.0 c.in_err-head.field-0.0 c.root.ensures.number c.in_err-head.ensures.refused)
 
 pub returns-in_err-assertion-clause-refused : goal.returns-in_err-assertion-clause-refused
 returns-in_err-assertion-clause-refused c =
@@ -40,10 +40,10 @@ returns-in_err-cover-clause-refused c =
 pub returns-in_err-login-clause-refused : goal.returns-in_err-login-clause-refused
 returns-in_err-login-clause-refused c =
     handed_on (IsRightFor c.args.config.now c.args.rows.now c.args.horizon c.args.now c.args.doc.now.text c.args.relay.now)
-    c.from_residual-in_err-login.result (judged_of (of_login c.in_err-login.field-0.0)) c.from_residual-in_err-login.ensures.1
+    c.from_residual-in_err-login.result c.in_err-login.field-0.0 c.from_residual-in_err-login.ensures.1
     (λ body posted. no_login c.args.config.now c.args.rows.now c.args.horizon c.args.now body c.args.doc.now c.args.relay.now posted c.requires.spelled c.root.result.0 c.in_ok-head.head c.root.ensures.number c.in_ok-head.ensures.ok
     c.in_ok-assertion.assertion.node.0 c.in_ok-assertion.ensures.asserts c.in_ok-cover.cover c.in_ok-cover.ensures.ok
-    c.in_err-login.field-0.0 c.in_err-login.ensures.bad)
+    c.in_err-login.field-0.0 c.in_err-login.ensures.refused)
 
 pub returns-in_err-asked-clause-refused : goal.returns-in_err-asked-clause-refused
 returns-in_err-asked-clause-refused c =
@@ -56,10 +56,10 @@ returns-in_err-asked-clause-refused c =
 pub returns-in_err-places-clause-refused : goal.returns-in_err-places-clause-refused
 returns-in_err-places-clause-refused c =
     handed_on (IsRightFor c.args.config.now c.args.rows.now c.args.horizon c.args.now c.args.doc.now.text c.args.relay.now)
-    c.from_residual-in_err-places.result (judged_of (of_login c.in_err-places.field-0.0)) c.from_residual-in_err-places.ensures.1
+    c.from_residual-in_err-places.result c.in_err-places.field-0.0 c.from_residual-in_err-places.ensures.1
     (λ body posted. no_places c.args.config.now c.args.rows.now c.args.horizon c.args.now body c.args.doc.now c.args.relay.now posted c.requires.spelled c.root.result.0 c.in_ok-head.head c.root.ensures.number c.in_ok-head.ensures.ok
     c.in_ok-assertion.assertion.node.0 c.in_ok-assertion.ensures.asserts c.in_ok-cover.cover c.in_ok-cover.ensures.ok c.in_ok-login.login c.in_ok-login.ensures.read
-    c.in_err-places.field-0.0 c.in_err-places.ensures.bad)
+    c.in_err-places.field-0.0 c.in_err-places.ensures.refused)
 
 pub returns-in_err-target-clause-refused : goal.returns-in_err-target-clause-refused
 returns-in_err-target-clause-refused c =

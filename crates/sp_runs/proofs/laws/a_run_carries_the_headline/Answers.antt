@@ -2,7 +2,7 @@ use Rattle.sp_runs.proofs.Headlines.{headline}
 use Rattle.sp_runs.proofs.laws.a_run_carries_the_headline.Goals as goal
 
 pub returns : goal.returns
-returns c =
+returns g c = λ disk.
     headline (record {
       opens_only = c.a_session_opens_exactly.ensures.only;
       opens_wherever = c.a_session_opens_exactly.ensures.wherever;
@@ -14,6 +14,7 @@ returns c =
       wherever_ended = c.a_session_is_closed_exactly.ensures.wherever_ended;
       posted = c.what_is_answered_is_recorded.ensures.posted;
       requested = c.what_is_answered_is_recorded.ensures.asked;
+      hold = c.images_hold_records.ensures;
       kept = c.what_a_run_acknowledged_is_kept_once.ensures;
       closed = c.sessions_stay_closed_in_a_run.ensures;
-    })
+    }) (g.D.Disk.left_since disk)

@@ -1,4 +1,4 @@
-use Rattle.std.proofs.Common.{[], Err, refl, ap}
+use Rattle.std.proofs.Common.{[], Err, refl, ap, sym, ◌∙◌}
 use Rattle.sp_setup.specs.Views.{setup_view}
 use Rattle.node_runs.specs.Runs.{NotOpened, outside}
 use Rattle.node_runs.proofs.Moments.{opened, served}
@@ -10,7 +10,7 @@ pub returns-in-Ok-clause-runs : goal.returns-in-Ok-clause-runs
 returns-in-Ok-clause-runs g c =
     let link = c.args.link.now in
     let disk = c.args.disk.now in
-    let before = outside (g.D.Disk.told disk) (g.D.Disk.faults_of disk) (g.L.Link.told link) (g.L.Link.faults_of link) (g.L.Link.send_faults_of link)
+    let before = outside (g.D.Disk.told disk) (g.D.Disk.faults_of disk) (g.D.Disk.moment disk) (g.L.Link.told link) (g.L.Link.faults_of link) (g.L.Link.send_faults_of link)
     (g.C.Clock.to_come c.args.clock.now) in
     let starts = c.in-Ok.ensures in
     let (turns, goes, leaves) = c.listen_and_serve.ensures.runs in (
@@ -21,6 +21,8 @@ returns-in-Ok-clause-runs g c =
         set_up = set_up;
         started = record { serves_by = starts.serves_by; key = starts.key; whole = starts.whole; holds = starts.gives };
         own = starts.own;
+        tells = g.met.D.Disk.tells_always c.start.new.disk ∙ sym (g.met.D.Disk.tells_always disk);
+        reads = g.met.D.Disk.reads_an_image c.start.new.disk;
         same = refl;
       }),
       served g.D.Disk.moment g.D.Disk.left_since g.D.Disk.told LeftByOpening StepLeaves g.met.D.Disk.counts_now disk c.start.new.disk c.listen_and_serve.new.disk turns starts.moments leaves,

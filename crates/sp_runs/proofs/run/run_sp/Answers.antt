@@ -16,7 +16,7 @@ returns-in-Ok-clause-runs g c =
     let from = c.in-Ok.ensures.ok in
     let told = g.F.Files.holds c.args.files.now in
     let runs = goes told c.args.config.now from.lines from.is in
-    (turns, runs, c.a_run_carries_the_headline.ensures told c.args.config.now c.args.budget _ turns c.run_by.result _ runs, leaves)
+    (turns, runs, c.a_run_carries_the_headline.ensures c.run_by.new.disk told c.args.config.now c.args.budget _ turns c.run_by.result _ runs, leaves)
 
 pub returns-in-Ok-clause-complete : goal.returns-in-Ok-clause-complete
 returns-in-Ok-clause-complete g c = λ can no_read no_link no_disk.
@@ -26,7 +26,7 @@ returns-in-Ok-clause-complete g c = λ can no_read no_link no_disk.
     let result = c.run_by.result in
     let unread : result ≢ Err faults.ReadFault = λ e. c.run_by.ensures.set_up (subst IsNotSetUp (sym e) tt) in
     let unlinked : result ≢ Err faults.LinkFault = λ e. no_link (c.run_by.ensures.link_fault e) in
-    complete result unread no_disk unlinked c.a_config_has_one_outcome.ensures.never_both told c.args.config.now c.args.budget _ _ turns can
+    complete result unread no_disk unlinked c.a_config_has_one_outcome.ensures.never_both (g.D.Disk.left_since c.run_by.new.disk) told c.args.config.now c.args.budget _ _ turns can
     (goes told c.args.config.now from.lines from.is)
 
 pub returns-in-Ok-clause-untouched : goal.returns-in-Ok-clause-untouched

@@ -3,7 +3,7 @@ use Rattle.idp_ledger.specs.declared.row.PendingRow.{PendingRow}
 use Rattle.std.specs.List.{list_any}
 use Rattle.std.proofs.Math.Seq.{map-set_same}
 use Rattle.idp_ledger.specs.RowsOf.{used_if}
-use Rattle.idp_ledger.specs.Standing.{HaveNumbers}
+use Rattle.idp_ledger.specs.Standing.{HaveNumbers, ComeInOrder}
 use Rattle.idp_ledger.proofs.RowPlaces.{marked_or, unmarked_or, same_so, differs_so, marked_at, marked_nowhere}
 use Rattle.idp_ledger.proofs.pendings.Pendings.use_id.Goals as goal
 
@@ -26,8 +26,10 @@ stays id row differs = λ i. record row { used = unmarked_or row.used (Rattle.st
 pub invariant_of-self : goal.invariant_of-self
 invariant_of-self c =
     let row = c.index_mut.result.now in
-    subst (HaveNumbers c.self.inside.numbers.listed)
-    (sym (map-set_same key c.self.inside.rows.items c.in-Some.place (record row { used = true }) row (ap key c.index_mut.ensures.value))) c.self.invariant
+    let same = sym (map-set_same key c.self.inside.rows.items c.in-Some.place (record row { used = true }) row (ap key c.index_mut.ensures.value)) in (
+      subst (HaveNumbers c.self.inside.numbers.listed) same c.self.invariant.0,
+      subst (λ ids. ComeInOrder ids c.self.inside.places.count) same c.self.invariant.1,
+    )
 
 pub returns-in-Some-clause-rows : goal.returns-in-Some-clause-rows
 returns-in-Some-clause-rows c =

@@ -1,9 +1,12 @@
-use Rattle.std.proofs.Common.{◌≡◌, ◌∙◌, ◌<◌, ◌++◌, ◌∷◌, [], false, List, ℕ, ap, sym, subst, length}
+use Rattle.std.proofs.Common.{◌≡◌, ◌∙◌, ◌<◌, ◌++◌, ◌∷◌, [], false, List, ℕ, ap, sym, subst, map, suc, ◌+◌, length, arith}
 use Rattle.std.specs.List.{list_any}
+use Rattle.std.proofs.lemmas.List.{length-map, map_push, get_or-map}
+use Rattle.ledger_rules.specs.Numbers.{AreBelow}
 use Rattle.std.specs.Str.{bytes_eq}
-use Rattle.idp_ledger.specs.Standing.{AreLast, HaveNumbers, SessionsView, cookies, last_place}
+use Rattle.idp_ledger.specs.Standing.{AreLast, HaveNumbers, ComeInOrder, SessionsView, cookies, session_indexes, last_place}
 use Rattle.idp_ledger.specs.declared.row.SessionRow.{SessionRow}
 use Rattle.idp_ledger.proofs.RowPlaces.{have_more, fresh_id}
+use Rattle.idp_ledger.proofs.RowOrders.{order_more}
 use Rattle.idp_ledger.proofs.IssueLaws.{last_begun}
 use Rattle.idp_ledger.proofs.sessions.Sessions.begin.Goals as goal
 use Rattle.idp_ledger.proofs.sessions.Sessions.begin.Goals.{After-self}
@@ -17,6 +20,19 @@ fresh c =
     (λ k within. subst (λ (v : SessionsView). (k : ℕ) → k < length v.numbers → Rattle.std.specs.List.slice_index v.numbers k < c.args.number) (sym c.self.view_is) c.requires.below k within)
     c.requires.end c.requires.has
 
+followed_more : (numbers followed : List ℕ) (number : ℕ) → followed ≡ map suc numbers → followed ++ (number + 1) ∷ [] ≡ map suc (numbers ++ number ∷ [])
+followed_more numbers followed number are =
+    let next : number + 1 ≡ suc number = omega arith in
+    ap (λ ns. ns ++ (number + 1) ∷ []) are ∙ ap (λ n. map suc numbers ++ n ∷ []) next ∙ sym (map_push suc numbers number)
+
+-- the numbers of the indexes are less too
+below_followed : (numbers followed : List ℕ) (number : ℕ) → followed ≡ map suc numbers → AreBelow number numbers → AreBelow (number + 1) followed
+below_followed numbers followed number are below = subst (AreBelow (number + 1)) (sym are) (λ k within.
+    let size = length-map numbers suc in
+    let here : k < length numbers = omega (arith, within, size) in
+    let read = get_or-map suc numbers k 0 0 here in
+    omega (arith, read, below k here))
+
 pub put-requires-clause-previous : goal.put-requires-clause-previous
 put-requires-clause-previous c =
     sym (ap (last_place c.self.inside.issues.rows) c.requires.same ∙ c.self.invariant.1.none c.args.row.cookie (fresh (goal.at.put-requires-clause-previous c).After-self))
@@ -24,6 +40,11 @@ put-requires-clause-previous c =
 pub put-requires-2-clause-below : goal.put-requires-2-clause-below
 put-requires-2-clause-below c =
     subst (λ (v : SessionsView). (k : ℕ) → k < length v.numbers → Rattle.std.specs.List.slice_index v.numbers k < c.args.number) (sym c.self.view_is) c.requires.below
+
+pub put-requires-3-clause-below : goal.put-requires-3-clause-below
+put-requires-3-clause-below c =
+    below_followed c.self.inside.numbers.listed c.self.inside.indexes.listed c.args.number c.self.invariant.4
+    (subst (λ (v : SessionsView). AreBelow c.args.number v.numbers) (sym c.self.view_is) c.requires.below)
 
 pub invariant_of-self : goal.invariant_of-self
 invariant_of-self c =
@@ -34,9 +55,17 @@ invariant_of-self c =
     let last = c.in-Ok-push.ensures.items ∙ ap (λ n. c.self.inside.last.items ++ n ∷ []) (ap length c.rows.ensures) in
     let more = rows ++ c.args.row ∷ [] in
     let places = c.self.inside.last.items ++ length issues ∷ [] in
-    let its = c.self.inside.numbers.listed ++ c.args.number ∷ [] in (
+    let its = c.self.inside.numbers.listed ++ c.args.number ∷ [] in
+    let following = c.self.inside.indexes.listed ++ (c.args.number + 1) ∷ [] in (
       subst (λ ns. HaveNumbers ns (cookies c.push.new.self.items)) (sym c.put-2.ensures.listed)
           (subst (λ rows. HaveNumbers its (cookies rows)) (sym c.in-Ok.ensures.items) numbers),
       subst (λ rows. AreLast rows c.push-2.new.self.items c.put.new.self.rows) (sym c.in-Ok.ensures.items)
           (subst (λ ls. AreLast more ls c.put.new.self.rows) (sym last) (subst (AreLast more places) (sym c.put.ensures.rows) begun)),
+      subst (λ rows. ComeInOrder (cookies rows) c.put_next.new.self.count) (sym c.in-Ok.ensures.items)
+          (order_more key rows c.self.inside.numbers.listed c.self.inside.places.count c.put_next.new.self.count c.self.invariant.0 c.self.invariant.2 c.args.number c.args.row
+          (subst (λ (v : SessionsView). (k : ℕ) → k < length v.numbers → Rattle.std.specs.List.slice_index v.numbers k < c.args.number) (sym c.self.view_is) c.requires.below) (omega (arith, c.requires.end)) c.requires.has c.put_next.ensures.count),
+      subst (λ ns. HaveNumbers ns (session_indexes c.push.new.self.items)) (sym c.put-3.ensures.listed)
+          (subst (λ rows. HaveNumbers following (session_indexes rows)) (sym c.in-Ok.ensures.items)
+          (have_more (λ (row : SessionRow). row.index) rows c.self.inside.indexes.listed c.self.invariant.3 (c.args.number + 1) c.args.row c.requires.has_index)),
+      c.put-3.ensures.listed ∙ followed_more c.self.inside.numbers.listed c.self.inside.indexes.listed c.args.number c.self.invariant.4 ∙ ap (map suc) (sym c.put-2.ensures.listed),
     )

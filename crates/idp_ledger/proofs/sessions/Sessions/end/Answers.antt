@@ -2,9 +2,9 @@ use Rattle.std.proofs.Common.{◌≡◌, ◌∙◌, ◌<◌, ◌&&◌, ◌||◌,
 use Rattle.idp_ledger.specs.declared.row.SessionRow.{SessionRow}
 use Rattle.std.specs.List.{list_any}
 use Rattle.idp_ledger.specs.RowsOf.{ended_if, ended_where}
-use Rattle.idp_ledger.specs.Standing.{HaveNumbers, AreLast, SessionsView, cookies}
+use Rattle.idp_ledger.specs.Standing.{HaveNumbers, ComeInOrder, AreLast, SessionsView, cookies, session_indexes}
 use Rattle.idp_ledger.proofs.RowPlaces.{marked_or, unmarked_or, same_so, differs_so, marked_at, marked_nowhere}
-use Rattle.idp_ledger.proofs.IssueLaws.{ended_cookies, last_ended}
+use Rattle.idp_ledger.proofs.IssueLaws.{ended_cookies, ended_indexes, last_ended}
 use Rattle.idp_ledger.proofs.sessions.Sessions.end.Goals as goal
 
 abbrev key : SessionRow → List ℕ
@@ -36,6 +36,11 @@ invariant_of-self c =
           (subst (HaveNumbers c.self.inside.numbers.listed) (sym (ended_cookies test rows)) c.self.invariant.0),
       subst (λ rows. AreLast rows c.self.inside.last.items c.self.inside.issues.rows) (sym is)
           (last_ended test rows c.self.inside.last.items c.self.inside.issues.rows c.self.invariant.1),
+      subst (λ rows. ComeInOrder (cookies rows) c.self.inside.places.count) (sym is)
+          (subst (λ ids. ComeInOrder ids c.self.inside.places.count) (sym (ended_cookies test rows)) c.self.invariant.2),
+      subst (λ rows. HaveNumbers c.self.inside.indexes.listed (session_indexes rows)) (sym is)
+          (subst (HaveNumbers c.self.inside.indexes.listed) (sym (ended_indexes test rows)) c.self.invariant.3),
+      c.self.invariant.4,
     )
 
 pub returns-in-Some : goal.returns-in-Some

@@ -16,4 +16,7 @@ invariant_of-self c =
       c.self.invariant.0,
       subst (λ is. AreLast rows (set c.self.inside.last.items c.in-Some.session (length c.rows.result.now)) is) (sym c.put.ensures.rows)
           (subst (λ n. AreLast rows (set c.self.inside.last.items c.in-Some.session n) (issues ++ c.args.issue ∷ [])) (sym place) issued),
+      c.self.invariant.2,
+      c.self.invariant.3,
+      c.self.invariant.4,
     )

@@ -37,6 +37,13 @@ begin-requires-clause-has c =
     let s = (goal.at.begin-requires-clause-has c).In-Some in
     ap (λ (row : SessionRow). has_number (c.args.r.first + 2) row.cookie) (begins s).2 ∙ (cookie_fresh s).has
 
+pub begin-requires-clause-has_index : goal.begin-requires-clause-has_index
+begin-requires-clause-has_index c =
+    let s = (goal.at.begin-requires-clause-has_index c).In-Some in
+    let next : c.args.r.first + 2 + 1 ≡ c.args.r.first + 3 = omega arith in
+    ap (λ n. has_number n c.in-Some.session.index) next
+    ∙ ap (λ (row : SessionRow). has_number (c.args.r.first + 3) row.index) (begins s).2 ∙ (index_fresh s).has
+
 pub begin-requires-clause-same : goal.begin-requires-clause-same
 begin-requires-clause-same c = sym (ap (λ (row : SessionRow). row.cookie) (begins (goal.at.begin-requires-clause-same c).In-Some).2)
 

@@ -1,6 +1,7 @@
 use Rattle.std.proofs.Common.{refl, sym}
 use Rattle.http_wire.specs.Views.{request_view}
-use Rattle.idp_server.specs.Step.{ByStatus, Plain}
+use Rattle.node_steps.specs.Step.{Plain}
+use Rattle.idp_server.specs.Step.{ByStatus}
 use Rattle.idp_server.proofs.Judged.{serves_metadata}
 use Rattle.idp_server.proofs.node.IdpNode.answer_whole.Goals as goal
 

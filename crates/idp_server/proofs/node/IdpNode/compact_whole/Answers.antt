@@ -1,7 +1,7 @@
 use Rattle.std.proofs.Common.{ap, subst, refl, ◌∙◌}
+use Rattle.node_steps.proofs.Serving.{compacts_found}
 use Rattle.idp_server.specs.Step.{Provider}
 use Rattle.idp_server.specs.Node.{CompactsFound}
-use Rattle.idp_server.proofs.Serving.{compacts_found}
 use Rattle.idp_server.proofs.node.IdpNode.compact_whole.Goals as goal
 
 pub returns-clause-compacts : goal.returns-clause-compacts

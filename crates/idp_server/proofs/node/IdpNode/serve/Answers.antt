@@ -2,12 +2,15 @@ use Rattle.std.proofs.Common.{inl, refl}
 use Rattle.crash_disk.specs.Steps.{started, weaker}
 use Rattle.http_wire.specs.Views.{request_view}
 use Rattle.idp_ledger.specs.Ledger.{IsWithOrWithout}
-use Rattle.idp_server.specs.Step.{Same, ServingLeaves}
-use Rattle.idp_server.proofs.Behind.{serves_behind, starved_behind}
-use Rattle.idp_server.proofs.Drafting.{can_behind, own_same, whole_behind}
+use Rattle.idp_ledger.specs.Record.{idp_rules}
+use Rattle.node_steps.specs.Step.{Same}
+use Rattle.node_steps.proofs.Behind.{serves_behind, starved_behind}
+use Rattle.node_steps.proofs.Drafting.{own_same, whole_behind}
+use Rattle.node_steps.proofs.Serving.{settled}
+use Rattle.idp_server.specs.Step.{ServingLeaves}
+use Rattle.idp_server.proofs.Drafting.{can_behind}
 use Rattle.idp_server.proofs.Recorded.{IsDrafted, asked_of, drafted, reply_leaves, serves_reply, shown_in, stands_for}
 use Rattle.idp_server.proofs.Replies.{reply_allowed}
-use Rattle.idp_server.proofs.Serving.{settled}
 use Rattle.idp_server.proofs.node.IdpNode.serve.Given.{Over}
 use Rattle.idp_server.proofs.node.IdpNode.serve.Goals as goal
 
@@ -64,13 +67,13 @@ returns-in-Err-NoMemory-clause-serves g c =
     (whole_behind c.args.self.now c.draft.new.self c.requires.can.whole c.draft.ensures.setup c.draft.ensures.same)
 
 pub returns-in-Err-NoMemory-clause-own : goal.returns-in-Err-NoMemory-clause-own
-returns-in-Err-NoMemory-clause-own g c = own_same (g.D.Disk.told c.args.disk.now) c.args.self.now.ledger c.draft.new.self.ledger c.draft.ensures.same c.requires.can.own
+returns-in-Err-NoMemory-clause-own g c = own_same idp_rules (g.D.Disk.told c.args.disk.now) c.args.self.now.ledger c.draft.new.self.ledger c.draft.ensures.same c.requires.can.own
 
 pub returns-in-Err-NoMemory-clause-moments : goal.returns-in-Err-NoMemory-clause-moments
 returns-in-Err-NoMemory-clause-moments g c =
     let old = c.args.self.now in
     started g.D.Disk.moment g.D.Disk.left_since c.args.disk.now (ServingLeaves old.setup old.ledger.held (request_view c.args.request.now) c.args.now)
-    (λ image left. Same (settled (g.D.Disk.told c.args.disk.now) old.ledger image c.requires.can.whole c.requires.can.own (g.met.D.Disk.only_now c.args.disk.now image left)))
+    (λ image left. Same (settled idp_rules (g.D.Disk.told c.args.disk.now) old.ledger image c.requires.can.whole c.requires.can.own (g.met.D.Disk.only_now c.args.disk.now image left)))
 
 pub serve_again-requires-clause-can : goal.serve_again-requires-clause-can
 serve_again-requires-clause-can g c =

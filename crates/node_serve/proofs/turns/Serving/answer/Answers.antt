@@ -13,11 +13,11 @@ use Rattle.node_serve.proofs.turns.Serving.answer.Goals as goal
 
 pub returns-clause-answers : goal.returns-clause-answers
 returns-clause-answers g c =
-    let told = world_in g.D.Disk.told g.D.Disk.faults_of g.L.Link.told g.L.Link.send_faults_of g.C.Clock.to_come c.ask-answer.new.self in
-    let now = world_in g.D.Disk.told g.D.Disk.faults_of g.L.Link.told g.L.Link.send_faults_of g.C.Clock.to_come c.send_answer.new.self in
+    let told = world_in g.D.Disk.told g.D.Disk.faults_of g.D.Disk.moment g.L.Link.told g.L.Link.send_faults_of g.C.Clock.to_come c.ask-answer.new.self in
+    let now = world_in g.D.Disk.told g.D.Disk.faults_of g.D.Disk.moment g.L.Link.told g.L.Link.send_faults_of g.C.Clock.to_come c.send_answer.new.self in
     let others = c.send_answer.ensures.others in
     let a = c.ask-answer.ensures.asked in
-    let sends : OnlySends c.args.conn (answer_bytes c.ask-answer.result) told now = only_sends g.D.Disk.told g.D.Disk.faults_of g.L.Link.told g.L.Link.send_faults_of g.C.Clock.to_come c.ask-answer.new.self c.send_answer.new.self others.node others.disk others.clock c.args.conn (answer_bytes c.ask-answer.result) c.send_answer.ensures.sends in (
+    let sends : OnlySends c.args.conn (answer_bytes c.ask-answer.result) told now = only_sends g.D.Disk.told g.D.Disk.faults_of g.D.Disk.moment g.L.Link.told g.L.Link.send_faults_of g.C.Clock.to_come c.ask-answer.new.self c.send_answer.new.self others.node others.disk others.clock c.args.conn (answer_bytes c.ask-answer.result) c.send_answer.ensures.sends in (
       a.0,
       a.1,
       record {

@@ -1,4 +1,4 @@
-use Rattle.std.proofs.Common.{refl, arith}
+use Rattle.std.proofs.Common.{refl, sym, ◌∙◌, arith}
 use Rattle.http_wire.specs.Views.{request_view}
 use Rattle.node_serve.proofs.Taking.{clocked}
 use Rattle.node_serve.proofs.turns.Serving.ask.Goals as goal
@@ -18,10 +18,13 @@ returns-clause-asked g c =
           limit = omega (arith, c.min-now.ensures);
           later = c.now.ensures.later;
         };
+        time = c.answer.ensures.moments.later;
         answers = record {
           does = c.answer.ensures.step;
           reads = g.met.D.Disk.reads_an_image before.disk.now;
+          reads_later = g.met.D.Disk.reads_an_image c.answer.new.disk;
           owns = c.answer.ensures.own;
+          tells = g.met.D.Disk.tells_always c.answer.new.disk ∙ sym (g.met.D.Disk.tells_always before.disk.now);
           left = λ image left. c.answer.ensures.moments.each image (g.met.D.Disk.counts_now c.answer.new.disk (g.D.Disk.moment before.disk.now) image c.answer.ensures.moments.later left);
         };
         link = refl;

@@ -7,6 +7,7 @@ use Rattle.node_serve.specs.declared.turns.Serving.{Serving}
 use Rattle.node_serve.specs.Serving.{Ends}
 use Rattle.node_serve.specs.Held.{world_in}
 use Rattle.node_serve.specs.Worlds.{IsAnswered}
+use Rattle.node_serve.proofs.InOrder.{at_end}
 use Rattle.node_serve.proofs.Rounds.{none_done, one_more_done, same_objects, rose_before, ended}
 use Rattle.node_serve.proofs.turns.Serving.run.Goals as goal
 
@@ -15,7 +16,9 @@ loop-events-init g c =
     let first = c.args.self.now in
     record {
       since = none_done (IsAnswered g.N.Node.own g.N.Node.step g.N.Node.leaves) g.N.Node.leaves g.D.Disk.moment g.D.Disk.left_since first.disk.now
-          (world_in g.D.Disk.told g.D.Disk.faults_of g.L.Link.told g.L.Link.send_faults_of g.C.Clock.to_come first) first.conns.now c.requires.none_kept (g.met.D.Disk.only_now first.disk.now);
+          (world_in g.D.Disk.told g.D.Disk.faults_of g.D.Disk.moment g.L.Link.told g.L.Link.send_faults_of g.C.Clock.to_come first) first.conns.now c.requires.none_kept refl
+          (at_end g.N.Node.leaves g.D.Disk.moment g.D.Disk.left_since g.D.Disk.told g.met.D.Disk.counts_now g.met.D.Disk.only_now first.disk.now (world_in g.D.Disk.told g.D.Disk.faults_of g.D.Disk.moment g.L.Link.told g.L.Link.send_faults_of g.C.Clock.to_come first) refl refl)
+          (g.met.D.Disk.only_now first.disk.now);
       own = c.requires.own;
       faults = omega arith;
       link_faults = omega arith;
@@ -28,12 +31,13 @@ loop-events-preserved g c =
     let first = c.args.self.now in
     let old = c.loop-events.self in
     let new = c.turn.new.self in
-    let at = λ (held : Serving g.row.N.Denot g.row.L.Denot g.row.D.Denot g.row.C.Denot). world_in g.D.Disk.told g.D.Disk.faults_of g.L.Link.told g.L.Link.send_faults_of g.C.Clock.to_come held in
+    let at = λ (held : Serving g.row.N.Denot g.row.L.Denot g.row.D.Denot g.row.C.Denot). world_in g.D.Disk.told g.D.Disk.faults_of g.D.Disk.moment g.L.Link.told g.L.Link.send_faults_of g.C.Clock.to_come held in
     let held = c.loop-events.invariant in
     let turn = rw c.if-not-branch.false at c.in_ok-turn.ensures.ok in
     record {
       since = one_more_done (IsAnswered g.N.Node.own g.N.Node.step g.N.Node.leaves) g.N.Node.leaves g.D.Disk.moment g.D.Disk.left_since first.disk.now (at first) c.loop-events.events old.conns.now new.conns.now old.disk.now new.disk.now (at old) turn.1 (at new) turn.0 held.since turn.2 turn.3
-          (λ image later left. g.met.D.Disk.counts_now old.disk.now (g.D.Disk.moment first.disk.now) image later left) turn.4;
+          (g.met.D.Disk.counts_now old.disk.now) turn.4 refl
+          (at_end g.N.Node.leaves g.D.Disk.moment g.D.Disk.left_since g.D.Disk.told g.met.D.Disk.counts_now g.met.D.Disk.only_now new.disk.now (at new) refl refl);
       own = c.turn.ensures.own;
       faults = omega (arith, held.faults, c.turn.ensures.disk_faults);
       link_faults = omega (arith, held.link_faults, c.turn.ensures.faults.never_falls);
@@ -46,7 +50,7 @@ returns-in_err-turn g c =
     let first = c.args.self.now in
     let old = c.loop-events.self in
     let new = c.turn.new.self in
-    let at = λ (held : Serving g.row.N.Denot g.row.L.Denot g.row.D.Denot g.row.C.Denot). world_in g.D.Disk.told g.D.Disk.faults_of g.L.Link.told g.L.Link.send_faults_of g.C.Clock.to_come held in
+    let at = λ (held : Serving g.row.N.Denot g.row.L.Denot g.row.D.Denot g.row.C.Denot). world_in g.D.Disk.told g.D.Disk.faults_of g.D.Disk.moment g.L.Link.told g.L.Link.send_faults_of g.C.Clock.to_come held in
     let held = c.loop-events.invariant in
     let same = c.in_err-turn.ensures.err in
     let counts = c.in_err-turn.ensures.faults in
@@ -67,7 +71,7 @@ returns-then-not-branch g c =
     let first = c.args.self.now in
     let old = c.loop-events.self in
     let new = c.turn.new.self in
-    let at = λ (held : Serving g.row.N.Denot g.row.L.Denot g.row.D.Denot g.row.C.Denot). world_in g.D.Disk.told g.D.Disk.faults_of g.L.Link.told g.L.Link.send_faults_of g.C.Clock.to_come held in
+    let at = λ (held : Serving g.row.N.Denot g.row.L.Denot g.row.D.Denot g.row.C.Denot). world_in g.D.Disk.told g.D.Disk.faults_of g.D.Disk.moment g.L.Link.told g.L.Link.send_faults_of g.C.Clock.to_come held in
     let held = c.loop-events.invariant in
     let stop = rw c.if-not-branch.true at c.in_ok-turn.ensures.ok in
     let more : length held.since.turns < c.args.budget = omega (arith, held.since.counted, c.loop-events-test.true) in
@@ -87,7 +91,7 @@ returns g c =
     let first = c.args.self.now in
     let last = c.loop-events.self in
     let held = c.loop-events.invariant in
-    let at = λ (held : Serving g.row.N.Denot g.row.L.Denot g.row.D.Denot g.row.C.Denot). world_in g.D.Disk.told g.D.Disk.faults_of g.L.Link.told g.L.Link.send_faults_of g.C.Clock.to_come held in
+    let at = λ (held : Serving g.row.N.Denot g.row.L.Denot g.row.D.Denot g.row.C.Denot). world_in g.D.Disk.told g.D.Disk.faults_of g.D.Disk.moment g.L.Link.told g.L.Link.send_faults_of g.C.Clock.to_come held in
     let all : length held.since.turns ≡ c.args.budget = omega (arith, held.since.counted, c.loop-events-test.false, c.loop-events.auto.events-end) in
     let result : Result Served ServeFault = Ok (record { events = c.args.budget; stopped = false }) in
     record {

@@ -20,8 +20,8 @@ returns-in-Started-clause-ok g c =
     let comes = next_comes Failed link after c.args.into.now c.next.new.into (events.Started c.in-Started.conn) [] c.requires.room gives (λ coming is front. refl) in
     let does = c.start.ensures.does in (
       does.0,
-      world old.node.now (g.D.Disk.told old.disk.now) (g.D.Disk.faults_of old.disk.now) after (g.L.Link.send_faults_of c.next.new.self) (g.C.Clock.to_come old.clock.now),
-      next_is old.node.now (g.D.Disk.told old.disk.now) (g.D.Disk.faults_of old.disk.now) link after (g.L.Link.send_faults_of old.link.now) (g.L.Link.send_faults_of c.next.new.self) (g.C.Clock.to_come old.clock.now) _ event comes does.1 c.next.ensures.send_faults,
+      world old.node.now (g.D.Disk.told old.disk.now) (g.D.Disk.faults_of old.disk.now) (g.D.Disk.moment old.disk.now) after (g.L.Link.send_faults_of c.next.new.self) (g.C.Clock.to_come old.clock.now),
+      next_is old.node.now (g.D.Disk.told old.disk.now) (g.D.Disk.faults_of old.disk.now) (g.D.Disk.moment old.disk.now) link after (g.L.Link.send_faults_of old.link.now) (g.L.Link.send_faults_of c.next.new.self) (g.C.Clock.to_come old.clock.now) _ event comes does.1 c.next.ensures.send_faults,
       does.2,
       untouched g.N.Node.leaves g.D.Disk.moment g.D.Disk.left_since g.D.Disk.told g.met.D.Disk.only_now old.disk.now c.start.new.self.disk.now (does.0 ∷ []) c.start.ensures.others.disk,
     )
@@ -41,8 +41,8 @@ returns-in-Piece-clause-ok g c =
     (λ coming is at. ap (λ (b : List ℕ). Some (Piece conn b)) (ap (take count) at ∙ front 65536 conn count coming c.args.into.now is)) in
     let does = c.piece.ensures.does in (
       does.0,
-      world old.node.now (g.D.Disk.told old.disk.now) (g.D.Disk.faults_of old.disk.now) after (g.L.Link.send_faults_of c.next.new.self) (g.C.Clock.to_come old.clock.now),
-      next_is old.node.now (g.D.Disk.told old.disk.now) (g.D.Disk.faults_of old.disk.now) link after (g.L.Link.send_faults_of old.link.now) (g.L.Link.send_faults_of c.next.new.self) (g.C.Clock.to_come old.clock.now) _ (Piece conn bytes) comes does.1 c.next.ensures.send_faults,
+      world old.node.now (g.D.Disk.told old.disk.now) (g.D.Disk.faults_of old.disk.now) (g.D.Disk.moment old.disk.now) after (g.L.Link.send_faults_of c.next.new.self) (g.C.Clock.to_come old.clock.now),
+      next_is old.node.now (g.D.Disk.told old.disk.now) (g.D.Disk.faults_of old.disk.now) (g.D.Disk.moment old.disk.now) link after (g.L.Link.send_faults_of old.link.now) (g.L.Link.send_faults_of c.next.new.self) (g.C.Clock.to_come old.clock.now) _ (Piece conn bytes) comes does.1 c.next.ensures.send_faults,
       does.2,
       does.3,
     )
@@ -56,8 +56,8 @@ returns-in-Ended-clause-ok g c =
     let gives = subst (λ (e : LinkEvent). Gives {E = Failed} link c.args.into.now (Ok e) c.next.new.into after) c.in-Ended.is c.in_ok-conn.ensures.gives in
     let comes = next_comes Failed link after c.args.into.now c.next.new.into (events.Ended conn) [] c.requires.room gives (λ coming is front. refl) in (
       Over conn,
-      world old.node.now (g.D.Disk.told old.disk.now) (g.D.Disk.faults_of old.disk.now) after (g.L.Link.send_faults_of c.next.new.self) (g.C.Clock.to_come old.clock.now),
-      next_is old.node.now (g.D.Disk.told old.disk.now) (g.D.Disk.faults_of old.disk.now) link after (g.L.Link.send_faults_of old.link.now) (g.L.Link.send_faults_of c.next.new.self) (g.C.Clock.to_come old.clock.now) (Ended conn) (Ended conn) comes refl c.next.ensures.send_faults,
+      world old.node.now (g.D.Disk.told old.disk.now) (g.D.Disk.faults_of old.disk.now) (g.D.Disk.moment old.disk.now) after (g.L.Link.send_faults_of c.next.new.self) (g.C.Clock.to_come old.clock.now),
+      next_is old.node.now (g.D.Disk.told old.disk.now) (g.D.Disk.faults_of old.disk.now) (g.D.Disk.moment old.disk.now) link after (g.L.Link.send_faults_of old.link.now) (g.L.Link.send_faults_of c.next.new.self) (g.C.Clock.to_come old.clock.now) (Ended conn) (Ended conn) comes refl c.next.ensures.send_faults,
       (c.gone.ensures, refl),
       untouched g.N.Node.leaves g.D.Disk.moment g.D.Disk.left_since g.D.Disk.told g.met.D.Disk.only_now old.disk.now old.disk.now (Over conn ∷ []) refl,
     )

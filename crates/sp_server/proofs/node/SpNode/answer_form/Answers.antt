@@ -1,18 +1,24 @@
-use Rattle.std.proofs.Common.{inl, refl, sym, ap, subst}
+use Rattle.std.proofs.Common.{rules, inl, refl, sym, ap, subst}
 use Rattle.gate_journal.specs.declared.header.Header.{Header}
 use Rattle.http_wire.specs.declared.answer.Answer.TheVariants.{Fixed}
 use Rattle.request_ledger.specs.RowsOf.{rows_of}
-use Rattle.sp_rules.specs.Judging.{IsJudged}
+use Rattle.fault_verdicts.specs.Judging.{IsJudged}
 use Rattle.sp_rules.specs.Verdict.{IsRefused}
-use Rattle.sp_server.specs.Step.{Provider, ByVerdict, Plain, Starved, rows_seen}
+use Rattle.node_steps.specs.Step.{Plain, Starved}
+use Rattle.sp_server.specs.Step.{Provider, ByVerdict, rows_seen}
 use Rattle.sp_server.proofs.Rows.{refused_seen}
 use Rattle.sp_server.proofs.Texts.{its_texts}
 use Rattle.sp_server.proofs.node.SpNode.answer_form.Goals as goal
 
-pub open-requires-clause-texts : goal.open-requires-clause-texts
-open-requires-clause-texts g c =
-    its_texts c.self.inside.config c.rows.result.now c.header-horizon.result.horizon c.args.now c.args.request.now.body.now c.in-Ok.accepted
-    c.a_spelled_tree_is_writable.ensures c.the_texts_of_a_login_are_texts.ensures c.in-Ok.ensures.accepted
+pub serve-requires-clause-wants : goal.serve-requires-clause-wants
+serve-requires-clause-wants g c = record {
+  to = c.requires.route;
+  unexpired = sym c.if-is_expired.ensures;
+  opens = search rules;
+  texts =
+      its_texts c.self.inside.config c.rows.result.now c.header-horizon.result.horizon c.args.now c.args.request.now.body.now c.in-Ok.accepted
+      c.a_spelled_tree_is_writable.ensures c.the_texts_of_a_login_are_texts.ensures c.in-Ok.ensures.accepted;
+}
 
 pub returns-in-Err-Code-clause-serves : goal.returns-in-Err-Code-clause-serves
 returns-in-Err-Code-clause-serves g c =

@@ -1,7 +1,8 @@
 use Rattle.std.proofs.Common.{inl, refl, sym, subst}
 use Rattle.http_wire.specs.Views.{request_view}
 use Rattle.request_ledger.specs.Record.{AreRecords}
-use Rattle.sp_server.specs.Step.{Provider, Starved}
+use Rattle.node_steps.specs.Step.{Starved}
+use Rattle.sp_server.specs.Step.{Provider}
 use Rattle.sp_server.proofs.Live.{session_texts}
 use Rattle.sp_server.proofs.node.SpNode.answer_leave.Goals as goal
 

@@ -2,7 +2,8 @@ use Rattle.std.proofs.Common.{inl, refl, sym, ap, subst}
 use Rattle.fault_verdicts.specs.Judging.{IsJudged}
 use Rattle.http_wire.specs.declared.answer.Answer.TheVariants.{Fixed}
 use Rattle.sp_server.specs.Peer.{IsNotObeyed}
-use Rattle.sp_server.specs.Step.{ByLogoutVerdict, Plain, Starved}
+use Rattle.node_steps.specs.Step.{Plain, Starved}
+use Rattle.sp_server.specs.Step.{ByLogoutVerdict}
 use Rattle.sp_server.proofs.node.SpNode.answer_logout.Goals as goal
 
 pub returns-in-Err-Code-clause-serves : goal.returns-in-Err-Code-clause-serves

@@ -1,7 +1,8 @@
 use Rattle.std.proofs.Common.{inl, refl, sym, ap, ◌∙◌}
 use Rattle.http_wire.specs.declared.answer.Answer.TheVariants.{Full}
 use Rattle.sp_answers.specs.Answers.{metadata_answer}
-use Rattle.sp_server.specs.Step.{Provider, ByMetadata, ByStatus, IsWhole, Plain, Starved}
+use Rattle.node_steps.specs.Step.{Plain, Starved}
+use Rattle.sp_server.specs.Step.{Provider, ByMetadata, ByStatus, IsWhole}
 use Rattle.sp_server.proofs.node.SpNode.answer_whole.Goals as goal
 use Rattle.sp_server.proofs.node.SpNode.answer_whole.Goals.{in-Ok, in-Err}
 

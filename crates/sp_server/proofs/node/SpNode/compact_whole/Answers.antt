@@ -1,7 +1,7 @@
 use Rattle.std.proofs.Common.{ap, subst, refl, ◌∙◌}
 use Rattle.sp_server.specs.Step.{Setup, Provider}
 use Rattle.sp_server.specs.Node.{CompactsFound}
-use Rattle.sp_server.proofs.Serving.{compacts_found}
+use Rattle.node_steps.proofs.Serving.{compacts_found}
 use Rattle.sp_server.proofs.node.SpNode.compact_whole.Goals as goal
 
 pub returns-clause-compacts : goal.returns-clause-compacts

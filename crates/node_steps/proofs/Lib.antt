@@ -1,0 +1,9 @@
+pub mod Serving
+pub mod Behind
+pub mod Drafting
+pub mod Reopening
+pub mod Histories
+pub mod Points
+pub mod Runs
+pub mod Starts
+pub mod Lasting

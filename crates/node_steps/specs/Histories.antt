@@ -1,0 +1,71 @@
+-- What became of a ledger over a service: the histories of what its disk may hold, and what was acknowledged on the way.
+use Rattle.std.specs.Prelude.{◌≡◌, ℕ, false, List, [], ◌∷◌, ◌++◌, Option, None, Some, IfSome, Ok}
+use Rattle.crash_disk.specs.Counts.{Rose}
+use Rattle.crash_disk.specs.Disk.{Image, MayLeave, image_of}
+use Rattle.crash_disk.specs.Moments.{Leaves}
+use Rattle.http_wire.specs.declared.answer.Answer.TheVariants.{Fixed}
+use Rattle.node_serve.specs.Worlds.{World, NodeStep, IsAnswered}
+use Rattle.node_serve.specs.Turns.{Asked, Turn, asked_by}
+use Rattle.record_ledger.specs.Rules.{RecordRules, AreRecords}
+use Rattle.record_ledger.specs.Ledger.{Held, ledger_in}
+use Rattle.record_ledger.specs.Linking.{as_list}
+use Rattle.record_ledger.specs.Runs.{Event, Adds, Leads}
+use Rattle.node_steps.specs.Step.{AnswersBy, Provider, OwnsDisk, Steps, StepLeaves}
+
+-- what an answer of a provider does, and what a crash may leave
+abbrev pub StepOf : {Setup R S : Type 0} → RecordRules R → AnswersBy Setup R → NodeStep (Provider Setup R S)
+StepOf rules Answers old disk request now before after answer new later = Steps rules Answers old disk request now (Rose before after) answer new
+
+abbrev pub IsProviders : {Setup R S : Type 0} → RecordRules R → AnswersBy Setup R → NodeStep (Provider Setup R S)
+IsProviders rules Answers = IsAnswered (OwnsDisk rules) (StepOf rules Answers) (StepLeaves rules Answers)
+
+-- WHAT IS ACKNOWLEDGED
+
+-- The answer to a request stands for a record that is added with it, or for none.
+pub data Stands {Setup R S : Type 0} (Answers : AnswersBy Setup R) (asked : Asked (Provider Setup R S)) : Option R → Type 0 where
+  ForRecord : (held : Held R) (r : R) → Answers asked.node.setup held asked.request asked.now asked.answer (Some r) → Stands Answers asked (Some r)
+  ForNone : (held : Held R) → Answers asked.node.setup held asked.request asked.now asked.answer None → Stands Answers asked None
+  ForCode : (code : ℕ) → asked.answer ≡ Fixed code → Stands Answers asked None
+
+-- the records for which the answers of some turns stand, the latest first
+module _ {Setup R S : Type 0} (Answers : AnswersBy Setup R) where
+  abbrev pub AreBehind : List (Asked (Provider Setup R S)) → (earlier records : List R) → Type 0
+  AreBehind [] earlier records = records ≡ earlier
+  AreBehind (asked ∷ others) earlier records = (r : Option R) × Stands Answers asked r × (records ≡ as_list r ++ earlier)
+
+  abbrev pub AreAcknowledged : List (Turn (Provider Setup R S)) → List R → Type 0
+  AreAcknowledged [] records = records ≡ []
+  AreAcknowledged (turn ∷ past) records = (earlier : List R) × AreAcknowledged past earlier × AreBehind (asked_by turn) earlier records
+
+-- HISTORIES
+
+-- each of these records was added by one of these events, in order
+pub data Includes {R : Type 0} : List (Event R) → List R → Type 0 where
+  Nothing : Includes [] []
+  This : {r : R} {past : List (Event R)} {records : List R} → Includes past records → Includes (Adds r ∷ past) (r ∷ records)
+  Another : {event : Event R} {past : List (Event R)} {records : List R} → Includes past records → Includes (event ∷ past) records
+
+-- a ledger that came from another one by events, in which these records were added
+pub record CameFrom {R : Type 0} (rules : RecordRules R) (start : Held R) (records : List R) (held : Held R) : Type 0 where
+  pub events : List (Event R)
+  pub leads : Leads rules start events held
+  pub includes : Includes events records
+
+-- the image stands for such a ledger
+abbrev pub HoldsWhatCame : {R : Type 0} → RecordRules R → Held R → List R → Image → Type 0
+HoldsWhatCame {R} rules start records image = (held : Held R) × (ledger_in rules image ≡ Ok (Some held)) × CameFrom rules start records held
+
+-- a provider whose ledger is whole, on its own disk
+pub record IsAtStart {Setup R S : Type 0} (rules : RecordRules R) (first : World (Provider Setup R S)) : Type 0 where
+  pub whole : first.node.ledger.broken ≡ false
+  pub records : AreRecords rules first.node.ledger.held.records
+  pub own : OwnsDisk rules first.node first.disk
+  pub reads : IfSome first.disk (λ d. MayLeave d (image_of d))
+
+-- WHAT IS KEPT
+
+-- Of the records for which the answers of a service stand: each is in the history of every ledger that a crash may leave behind it.
+pub record AreKept {Setup R S : Type 0} (rules : RecordRules R) (Answers : AnswersBy Setup R) (first last : World (Provider Setup R S)) (turns : List (Turn (Provider Setup R S))) : Type 0 where
+  pub records : List R
+  pub are : AreAcknowledged Answers turns records
+  pub kept : (image : Image) → Leaves last.disk image → HoldsWhatCame rules first.node.ledger.held records image

@@ -1,0 +1,7 @@
+pub mod Step
+pub mod Node
+pub mod Serving
+pub mod Histories
+pub mod Points
+pub mod Starts
+pub mod Lasting

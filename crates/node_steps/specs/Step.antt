@@ -1,0 +1,109 @@
+-- What a provider that keeps a ledger does at one request. What it answers, and which record it adds with an answer, is a definition of
+-- its own, which stands in the place of `Answers`.
+use Rattle.std.specs.Prelude.{◌≡◌, ◌⊎◌, ℕ, true, false, Option, None, Some, IfSome, Ok, Err}
+use Rattle.crash_disk.specs.Disk.{Image, DiskState, image_of}
+use Rattle.gate_journal.specs.Format.{Fault}
+use Rattle.http_wire.specs.declared.answer.Answer.{Answer}
+use Rattle.http_wire.specs.declared.answer.Answer.TheVariants.{Fixed}
+use Rattle.http_wire.specs.Requests.{Request}
+use Rattle.record_ledger.specs.Rules.{RecordRules}
+use Rattle.record_ledger.specs.Ledger.{Held, Opened, IsFitting, IsOwn, LeftByOpening, ledger_in, taken, held_with}
+use Rattle.record_ledger.specs.Drafts.{is_full}
+use Rattle.record_ledger.specs.Compacting.{Compacts}
+use Rattle.node_steps.specs.declared.codes.TheConstants.{DISK_FAULT, FOREIGN, FULL, NO_MEMORY}
+
+-- a provider: what it is set up with, and its ledger
+pub record Provider (Setup R S : Type 0) : Type 0 where
+  pub setup : Setup
+  pub ledger : Opened R S
+
+-- What says what is answered to a request where nothing fails: by this setup, over this ledger, at this moment, with the record that is
+-- added.
+abbrev pub AnswersBy : (Setup R : Type 0) → Type 1
+AnswersBy Setup R = Setup → Held R → Request → ℕ → Answer → Option R → Type 0
+
+-- there is room for a record: fewer rows of its kind are kept than may be, and it fits
+pub record HasPlace {R : Type 0} (rules : RecordRules R) (held : Held R) (r : R) : Type 0 where
+  pub few : is_full rules held.records r ≡ false
+  pub fits : IsFitting rules held r
+
+-- after a request the ledger is whole and holds this
+pub record IsWhole {Setup R S : Type 0} (old new : Provider Setup R S) (held : Held R) : Type 0 where
+  pub setup : new.setup ≡ old.setup
+  pub key : new.ledger.key ≡ old.ledger.key
+  pub unbroken : new.ledger.broken ≡ false
+  pub is : new.ledger.held ≡ held
+
+-- after a request the ledger is broken
+pub record IsBroken {Setup R S : Type 0} (old new : Provider Setup R S) : Type 0 where
+  pub setup : new.setup ≡ old.setup
+  pub key : new.ledger.key ≡ old.ledger.key
+  pub is_broken : new.ledger.broken ≡ true
+
+-- A record was to be added to the ledger that was found, there was no place for it, and one compaction made this of the ledger.
+pub record MakesRoom {Setup R : Type 0} (rules : RecordRules R) (Answers : AnswersBy Setup R) (setup : Setup) (found : Held R) (request : Request) (now : ℕ)
+    (held : Held R) : Type 0 where
+  pub wanted : R
+  pub other : Answer
+  pub wants : Answers setup found request now other (Some wanted)
+  pub none : ¬ (HasPlace rules found wanted)
+  pub made : Compacts rules now found held
+
+-- What is done at a request over the ledger that it finds: the request and the moment; whether the disk's count of faults rose;
+-- the answer; the provider before and after.
+pub data Serves {Setup R S : Type 0} (rules : RecordRules R) (Answers : AnswersBy Setup R) (found : Held R) (request : Request) (now : ℕ) (Risen : Type 0)
+    (answer : Answer) (old new : Provider Setup R S) : Type 0 where
+  -- nothing is recorded
+  Plain : Answers old.setup found request now answer None → IsWhole old new found → Serves rules Answers found request now Risen answer old new
+  -- a record is added
+  Recorded : (r : R) → Answers old.setup found request now answer (Some r) → HasPlace rules found r → IsWhole old new (held_with r found)
+      → Serves rules Answers found request now Risen answer old new
+  -- there was no place for it, and after one compaction there is
+  RecordedAfterCompaction : (held : Held R) (r : R) → MakesRoom rules Answers old.setup found request now held → Answers old.setup held request now answer (Some r)
+      → HasPlace rules held r → IsWhole old new (held_with r held) → Serves rules Answers found request now Risen answer old new
+  -- there is none after it either
+  NoPlace : (held : Held R) (r : R) (another : Answer) → MakesRoom rules Answers old.setup found request now held → Answers old.setup held request now another (Some r)
+      → ¬ (HasPlace rules held r) → answer ≡ Fixed FULL → IsWhole old new held → Serves rules Answers found request now Risen answer old new
+  -- a record was to be added, and the disk failed in the compaction or while the record was written
+  Failed : (wanted : R) (other : Answer) → Answers old.setup found request now other (Some wanted) → Risen → answer ≡ Fixed DISK_FAULT
+      → IsBroken old new → Serves rules Answers found request now Risen answer old new
+  -- there was no memory: nothing is recorded, and where there was no place for a record one compaction may have been made
+  Starved : (held : Held R) → (held ≡ found) ⊎ MakesRoom rules Answers old.setup found request now held → answer ≡ Fixed NO_MEMORY → IsWhole old new held
+      → Serves rules Answers found request now Risen answer old new
+
+-- The step of a provider at one request. A ledger that is broken is opened again first.
+pub data Steps {Setup R S : Type 0} (rules : RecordRules R) (Answers : AnswersBy Setup R) (old : Provider Setup R S) (disk : Option DiskState) (request : Request) (now : ℕ)
+    (Risen : Type 0) (answer : Answer) (new : Provider Setup R S) : Type 0 where
+  WithLedger : old.ledger.broken ≡ false → Serves rules Answers old.ledger.held request now Risen answer old new
+      → Steps rules Answers old disk request now Risen answer new
+  WithOpened : (found : Held R) → old.ledger.broken ≡ true → IfSome disk (λ d. taken (ledger_in rules (image_of d)) ≡ Ok found)
+      → Serves rules Answers found request now Risen answer old new → Steps rules Answers old disk request now Risen answer new
+  -- the disk failed, it stands for no ledger, or there was no memory: the ledger stays broken
+  NotOpened : old.ledger.broken ≡ true → Risen → answer ≡ Fixed DISK_FAULT → IsBroken old new → Steps rules Answers old disk request now Risen answer new
+  Strange : old.ledger.broken ≡ true → IfSome disk (λ d. (fault : Fault) × (taken (ledger_in rules (image_of d)) ≡ Err fault)) → answer ≡ Fixed FOREIGN
+      → IsBroken old new → Steps rules Answers old disk request now Risen answer new
+  StarvedAtOpening : old.ledger.broken ≡ true → answer ≡ Fixed NO_MEMORY → IsBroken old new → Steps rules Answers old disk request now Risen answer new
+
+-- What a crash while a request is served over a ledger may leave: this ledger, or it after the one compaction, and either with the record
+-- that the request adds.
+pub data ServingLeaves {Setup R : Type 0} (rules : RecordRules R) (Answers : AnswersBy Setup R) (setup : Setup) (found : Held R) (request : Request) (now : ℕ)
+    (image : Image) : Type 0 where
+  Same : ledger_in rules image ≡ Ok (Some found) → ServingLeaves rules Answers setup found request now image
+  Compacted : (held : Held R) → MakesRoom rules Answers setup found request now held → ledger_in rules image ≡ Ok (Some held)
+      → ServingLeaves rules Answers setup found request now image
+  With : (held : Held R) (r : R) (answer : Answer) → (held ≡ found) ⊎ MakesRoom rules Answers setup found request now held → Answers setup held request now answer (Some r)
+      → HasPlace rules held r → ledger_in rules image ≡ Ok (Some (held_with r held)) → ServingLeaves rules Answers setup found request now image
+
+-- What a crash at a moment of a request may leave: that, and while a broken ledger is opened again what the disk stood for, or what is
+-- opened from it.
+pub data StepLeaves {Setup R S : Type 0} (rules : RecordRules R) (Answers : AnswersBy Setup R) (old : Provider Setup R S) (disk : Option DiskState) (request : Request)
+    (now : ℕ) (image : Image) : Type 0 where
+  InLedger : old.ledger.broken ≡ false → ServingLeaves rules Answers old.setup old.ledger.held request now image
+      → StepLeaves rules Answers old disk request now image
+  InOpened : (found : Held R) → old.ledger.broken ≡ true → IfSome disk (λ d. taken (ledger_in rules (image_of d)) ≡ Ok found)
+      → ServingLeaves rules Answers old.setup found request now image → StepLeaves rules Answers old disk request now image
+  InOpening : old.ledger.broken ≡ true → LeftByOpening rules disk image → StepLeaves rules Answers old disk request now image
+
+-- the disk is the provider's own
+abbrev pub OwnsDisk : {Setup R S : Type 0} → RecordRules R → Provider Setup R S → Option DiskState → Type 0
+OwnsDisk rules provider disk = IsOwn rules disk provider.ledger

@@ -1,0 +1,182 @@
+-- How the code answers with a record: what a request wants, the record of it, and the answer.
+use Rattle.std.specs.Prelude.{◌≡◌, ◌⊎◌, ℕ, Bool, true, false, not, List, Option, None, Some, IfSome, IsSome}
+use Rattle.std.specs.List.{AllByRecursion}
+use Rattle.std.specs.Option.{option_to_list}
+use Rattle.xml_spec.specs.Characters.{IsText}
+use Rattle.http_wire.specs.declared.answer.Answer.{Answer}
+use Rattle.http_wire.specs.declared.answer.Answer.TheVariants.{Full}
+use Rattle.http_wire.specs.Requests.{Request}
+use Rattle.verdict_codes.specs.Codes.{number_of}
+use Rattle.verdict_codes.specs.declared.codes.Verdict.TheVariants.{NoSuchSession, UnknownLogout}
+use Rattle.ledger_records.specs.declared.sp_record.SpRecord.{SpRecord}
+use Rattle.ledger_rules.specs.Numbers.{is_xml_text}
+use Rattle.request_rows.specs.declared.row.OpenedRow.{OpenedRow}
+use Rattle.request_rows.specs.declared.row.NewSession.{NewSession}
+use Rattle.request_rows.specs.Rows.{asked_row, is_spent, session_row}
+use Rattle.request_ledger.specs.RowsOf.{rows_of}
+use Rattle.request_ledger.specs.Ledger.{Held, Opened, next_number}
+use Rattle.request_ledger.specs.Draft.{IsDrawn}
+use Rattle.request_ledger.specs.Drafts.{asked, opened, left, ended, confirmed, is_empty, AreSessionTexts, IsDraftOf}
+use Rattle.logout_profile.specs.declared.logout.Logout.{Logout}
+use Rattle.logout_profile.specs.declared.logout.Logout.TheVariants as logouts
+use Rattle.logout_answers.specs.Answers.{Leaving, Ending, end_answer}
+use Rattle.sp_rules.specs.declared.config.SpConfig.{SpConfig}
+use Rattle.sp_rules.specs.declared.accepted.Accepted.{Accepted}
+use Rattle.sp_rules.specs.Shown.{IsOpening}
+use Rattle.sp_answers.specs.Answers.{HoldsTexts, IsAskAnswer, opened_answer}
+use Rattle.sp_server.specs.declared.reply.Reply.{Reply}
+use Rattle.sp_server.specs.declared.reply.Reply.TheVariants as replies
+use Rattle.sp_server.specs.declared.reply.Drafted.{Drafted}
+use Rattle.sp_server.specs.declared.reply.Drafted.TheVariants as drafts
+use Rattle.sp_server.specs.Routes.{App, Consumer, Logout as ToLogout, SingleLogout, To, route}
+use Rattle.sp_server.specs.Peer.{idp_at, is_partial, IsObeyed}
+use Rattle.sp_server.specs.Step.{Setup, HasId, HasIds, HasPlace, HasToken, ended_by, is_awaited, is_expired, rows_seen, session_for}
+
+-- ---- what is wanted
+
+-- a page is asked for without a live session: a login is asked for, with the path as the target
+pub record IsAsking (setup : Setup) (held : Held) (request : Request) (now : ℕ) (target : List ℕ) : Type 0 where
+  pub to : route request ≡ To App
+  pub unexpired : is_expired setup.expiry now ≡ false
+  pub none : session_for held now request ≡ None
+  pub target_is : target ≡ request.path
+
+-- a posted form opens a session
+pub record OpensSession (setup : Setup) (held : Held) (request : Request) (now : ℕ) (accepted : Accepted) : Type 0 where
+  pub to : route request ≡ To Consumer
+  pub unexpired : is_expired setup.expiry now ≡ false
+  pub opens : IsOpening setup.config (rows_seen (rows_of held.records)) held.header.horizon now request.body accepted
+  pub texts : AreSessionTexts accepted.session
+
+-- a user leaves the session of this token, which the identity provider knows by this name and these indexes
+pub record IsLeaving (setup : Setup) (held : Held) (request : Request) (now : ℕ) (token name : List ℕ) (indexes : List (List ℕ)) : Type 0 where
+  pub to : route request ≡ To ToLogout
+  pub unexpired : is_expired setup.expiry now ≡ false
+  pub row : OpenedRow
+  pub live : session_for held now request ≡ Some row
+  pub token_is : token ≡ row.token
+  pub name_is : name ≡ row.name
+  pub indexes_are : indexes ≡ option_to_list row.index
+  pub name_text : IsText name
+  pub index_texts : AllByRecursion IsText indexes
+
+-- the identity provider asks or replies this
+pub record IsPosted (setup : Setup) (request : Request) (now : ℕ) (logout : Logout) : Type 0 where
+  pub to : route request ≡ To SingleLogout
+  pub unexpired : is_expired setup.expiry now ≡ false
+  pub obeyed : IsObeyed setup.config now request.body logout
+
+-- a request wants a reply
+abbrev pub Wants : Setup → Held → Request → ℕ → Reply → Type 0
+Wants setup held request now (replies.Ask target) = IsAsking setup held request now target
+Wants setup held request now (replies.Open accepted) = OpensSession setup held request now accepted
+Wants setup held request now (replies.Leave token name indexes) = IsLeaving setup held request now token name indexes
+Wants setup held request now (replies.End asked relay) = IsPosted setup request now (logouts.Ask asked 0 relay) × IsText asked.id
+Wants setup held request now (replies.Confirm response) = IsPosted setup request now (logouts.Reply response 0)
+
+-- the session of a row is left
+pub record IsLeaveOf (row : OpenedRow) (token name : List ℕ) (indexes : List (List ℕ)) : Type 0 where
+  pub token_is : token ≡ row.token
+  pub name_is : name ≡ row.name
+  pub indexes_are : indexes ≡ option_to_list row.index
+  pub name_text : IsText name
+  pub index_texts : AllByRecursion IsText indexes
+
+abbrev pub Leaves : OpenedRow → Reply → Type 0
+Leaves row (replies.Leave token name indexes) = IsLeaveOf row token name indexes
+Leaves row other = ⊥
+
+-- the reply to a posted message of a logout
+abbrev pub IsOfForm : SpConfig → (now : ℕ) → (body : List ℕ) → Reply → Type 0
+IsOfForm config now body (replies.End asked relay) = IsObeyed config now body (logouts.Ask asked 0 relay) × IsText asked.id
+IsOfForm config now body (replies.Confirm response) = IsObeyed config now body (logouts.Reply response 0)
+IsOfForm config now body other = ⊥
+
+-- ---- its record
+
+-- whether there is nothing to record, and the code that says so
+abbrev pub is_nothing : SpConfig → Held → (now : ℕ) → Reply → Bool
+is_nothing config held now (replies.End asked relay) = is_empty (ended_by config held now asked)
+is_nothing config held now (replies.Confirm response) = not (is_awaited held now response.request)
+is_nothing config held now other = false
+
+abbrev pub refusal_of : Reply → ℕ
+refusal_of (replies.Confirm response) = number_of UnknownLogout
+refusal_of other = number_of NoSuchSession
+
+-- what is recorded of it
+abbrev pub record_for : (key : List ℕ) → SpConfig → Held → (now : ℕ) → Reply → SpRecord
+record_for key config held now (replies.Ask target) = asked key (next_number held) now target
+record_for key config held now (replies.Open accepted) = opened key (next_number held) now accepted.session
+record_for key config held now (replies.Leave token name indexes) = left key (next_number held) now token
+record_for key config held now (replies.End asked relay) = ended key (next_number held) now (ended_by config held now asked) asked.id
+record_for key config held now (replies.Confirm response) = confirmed now response.request
+
+-- the session of an accepted form can be recorded
+pub record CanOpen (held : Held) (now : ℕ) (session : NewSession) : Type 0 where
+  pub texts : AreSessionTexts session
+  pub key : (session.key ≡ 1) ⊎ (session.key ≡ 2)
+  pub asked : IsSome (asked_row (rows_of held.records).asked session.request now held.header.horizon)
+  pub unspent : is_spent (rows_of held.records).opened session.request ≡ false
+
+-- it can be drafted
+abbrev pub CanDraft : Held → (now : ℕ) → Reply → Type 0
+CanDraft held now (replies.Ask target) = is_xml_text target ≡ true
+CanDraft held now (replies.Open accepted) = CanOpen held now accepted.session
+CanDraft held now (replies.Leave token name indexes) = IsSome (session_row (rows_of held.records).opened token now held.header.horizon)
+CanDraft held now (replies.End asked relay) = is_xml_text asked.id ≡ true
+CanDraft held now (replies.Confirm response) = Unit {0}
+
+-- what became of the draft of a record, where there may be nothing to record
+abbrev pub IsDrafted : Opened → Opened → (nothing : Bool) → SpRecord → Drafted → Type 0
+IsDrafted old new nothing r (drafts.Ready draft) = (nothing ≡ false) × IsDraftOf old new r draft
+IsDrafted old new nothing r drafts.Nothing = nothing ≡ true
+IsDrafted old new nothing r drafts.NoRoom = (nothing ≡ false) × ¬ (HasPlace old.held r)
+IsDrafted old new nothing r drafts.NoMemory = Unit {0}
+
+-- ---- its answer
+
+-- the texts with which it is answered
+pub record HoldsAddresses (config : SpConfig) : Type 0 where
+  pub texts : HoldsTexts config
+  pub logout : IfSome config.idp.logout IsText
+
+abbrev pub IsAnswerable : SpRecord → Reply → Type 0
+IsAnswerable r (replies.Ask target) = IsDrawn r 0 × IsDrawn r 1
+IsAnswerable r (replies.Open accepted) = IsDrawn r 0
+IsAnswerable r (replies.Leave token name indexes) = IsDrawn r 0 × IsText name × AllByRecursion IsText indexes
+IsAnswerable r (replies.End asked relay) = IsDrawn r 0 × IsText asked.id
+IsAnswerable r (replies.Confirm response) = Unit {0}
+
+pub record IsAskingAnswer (config : SpConfig) (r : SpRecord) (now : ℕ) (bytes : List ℕ) : Type 0 where
+  pub id : List ℕ
+  pub relay : List ℕ
+  pub has : HasIds r id relay
+  pub asks : IsAskAnswer config id relay now bytes
+
+pub record IsOpeningAnswer (accepted : Accepted) (r : SpRecord) (bytes : List ℕ) : Type 0 where
+  pub token : List ℕ
+  pub has : HasToken r token
+  pub is : bytes ≡ opened_answer accepted.target token
+
+pub record IsLeavingAnswer (config : SpConfig) (r : SpRecord) (now : ℕ) (name : List ℕ) (indexes : List (List ℕ)) (bytes : List ℕ) : Type 0 where
+  pub id : List ℕ
+  pub has : HasId r id
+  pub leaves : Leaving (idp_at config now) id config.entity now name indexes bytes
+
+pub record IsEndingAnswer (config : SpConfig) (r : SpRecord) (now : ℕ) (request : List ℕ) (relay : Option (List ℕ)) (bytes : List ℕ) : Type 0 where
+  pub id : List ℕ
+  pub has : HasId r id
+  pub ends : Ending (idp_at config now) id config.entity now request false relay bytes
+
+abbrev pub IsAnswerTo : SpConfig → SpRecord → (now : ℕ) → Reply → (bytes : List ℕ) → Type 0
+IsAnswerTo config r now (replies.Ask target) bytes = IsAskingAnswer config r now bytes
+IsAnswerTo config r now (replies.Open accepted) bytes = IsOpeningAnswer accepted r bytes
+IsAnswerTo config r now (replies.Leave token name indexes) bytes = IsLeavingAnswer config r now name indexes bytes
+IsAnswerTo config r now (replies.End asked relay) bytes = IsEndingAnswer config r now asked.id relay bytes
+IsAnswerTo config r now (replies.Confirm response) bytes = bytes ≡ end_answer (is_partial response.outcome)
+
+pub record IsReplyPage (config : SpConfig) (now : ℕ) (reply : Reply) (r : SpRecord) (answer : Answer) : Type 0 where
+  pub bytes : List ℕ
+  pub answers : IsAnswerTo config r now reply bytes
+  pub is : answer ≡ Full bytes

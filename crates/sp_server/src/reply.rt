@@ -1,0 +1,237 @@
+//! How a request is replied to with a record.
+ghost use Rattle.std.specs.Prelude.{◌≡◌, ◌≤◌, Bool, IfOk, IfSome};
+ghost use Rattle.std.specs.Option.{option_map};
+ghost use Rattle.ledger_records.specs.declared.sp_record.SpRecord.{SpRecord};
+ghost use Rattle.request_ledger.specs.Ledger.{Opened};
+ghost use Rattle.request_ledger.specs.Draft.{IsDrawn};
+ghost use Rattle.request_ledger.specs.Drafts.{DraftsSome, SameLedger};
+ghost use Rattle.sp_answers.specs.Answers.{HoldsTexts};
+ghost use Rattle.xml_spec.specs.Characters.{IsText};
+ghost use Rattle.sp_server.specs.Peer.{is_partial};
+ghost use Rattle.sp_server.specs.Replies.{CanDraft, HoldsAddresses, IsAnswerable, IsAnswerTo, IsAskingAnswer, IsDrafted, IsEndingAnswer, IsOpeningAnswer, is_nothing, record_for, refusal_of};
+
+use crate::peer::idp_at;
+use logout_answers::{end_answer, ending_answer, leaving_answer};
+use owned_values::{Blob, NoMemory, Text, Texts};
+use protocol_messages::{LogoutRequest, LogoutResponse, Outcome};
+use request_ledger::{Draft, DraftFault, Ledger};
+use saml_time::LAST;
+use sp_answers::{ask_answer, opened_answer};
+use sp_rules::{Accepted, SpConfig};
+use std::alloc::Global;
+use verdict_codes::Verdict;
+
+/// A reply that stands for a record.
+#[derive(Drop)]
+pub(crate) enum Reply {
+    /// A form that asks the identity provider for a login (SAML Profiles, 4.1.3.3).
+    Ask {
+        /// The path to which the user is sent once it is answered.
+        target: Text,
+    },
+    /// The session that a posted form opens (SAML Profiles, 4.1.3.6).
+    Open {
+        /// What the form was accepted for.
+        accepted: Accepted,
+    },
+    /// A user leaves a session (SAML Profiles, 4.4.3.1).
+    Leave {
+        /// The token of the session.
+        token: Text,
+        /// The name of the user.
+        name: Text,
+        /// The index of the session at the identity provider, where it gave one.
+        indexes: Texts,
+    },
+    /// The identity provider asks to end sessions (SAML Core, 3.7.1).
+    End {
+        /// What it asks.
+        asked: LogoutRequest,
+        /// The relay state that the response has to repeat, where there was one.
+        relay: Option<Text>,
+    },
+    /// The identity provider replies to a logout that began here (SAML Core, 3.7.2).
+    Confirm {
+        /// What it replies.
+        response: LogoutResponse,
+    },
+}
+
+/// What became of a draft.
+#[derive(Drop)]
+pub(crate) enum Drafted {
+    /// It can be committed.
+    Ready(Draft),
+    /// There is nothing to record.
+    Nothing,
+    /// There is no room for the record.
+    NoRoom,
+    /// There was no memory.
+    NoMemory,
+}
+
+/// What became of a draft, from what the ledger says of it.
+fn drafted_of(outcome: Result<Option<Draft>, DraftFault>) -> Drafted
+    ensures { (old new : Opened) (nothing : Bool) (r : SpRecord) → DraftsSome old new nothing r outcome → IsDrafted old new nothing r result }
+{
+    match outcome {
+        Ok(Some(draft)) => Drafted::Ready(draft),
+        Ok(None) => Drafted::Nothing,
+        Err(DraftFault::LedgerFull { .. }) => Drafted::NoRoom,
+        Err(DraftFault::JournalFull { .. }) => Drafted::NoRoom,
+        Err(DraftFault::NoMemory) => Drafted::NoMemory,
+    }
+}
+
+/// Whether a logout ended in part at most (SAML Core, 3.2.2.2).
+fn is_partial(outcome: Outcome) -> bool
+    ensures { result ≡ is_partial outcome }
+{
+    match outcome {
+        Outcome::Success => false,
+        Outcome::Partial | Outcome::Other => true,
+    }
+}
+
+/// A relay state, where there is one.
+fn relay_of(relay: &Option<Text>) -> Option<&str>
+    ensures { option_map (λ text. text.now) result ≡ relay.now }
+{
+    match relay {
+        Some(relay) => Some(relay.as_str()),
+        None => None,
+    }
+}
+
+impl Reply {
+    /// Drafts the record of the reply; none where there is nothing to record.
+    fn draft_in(
+        &self,
+        config: &SpConfig,
+        ledger: &mut Ledger,
+        now: u64,
+    ) -> Result<Option<Draft>, DraftFault>
+        requires moment { now ≤ LAST }
+        requires can { CanDraft ledger.old.held now self.now }
+        ensures drafts { DraftsSome ledger.old ledger.new (is_nothing config.now ledger.old.held now self.now) (record_for ledger.old.key config.now ledger.old.held now self.now) result }
+        ensures same { SameLedger ledger.old ledger.new }
+    {
+        match self {
+            Reply::Ask { target } => {
+                let draft = ledger.draft_ask(now, target.as_str())?;
+                Ok(Some(draft))
+            }
+            Reply::Open { accepted } => {
+                let draft = ledger.draft_session(now, &accepted.session)?;
+                Ok(Some(draft))
+            }
+            Reply::Leave { token, .. } => {
+                let draft = ledger.draft_leave(now, token.as_str())?;
+                Ok(Some(draft))
+            }
+            Reply::End { asked, .. } => ledger.draft_end(
+                now,
+                config.idp.entity.as_str(),
+                asked.name.as_str(),
+                &asked.indexes,
+                asked.id.as_str(),
+            ),
+            Reply::Confirm { response } => ledger.draft_confirm(now, response.request.as_str()),
+        }
+    }
+
+    /// Drafts the record of the reply.
+    pub(crate) fn draft(&self, config: &SpConfig, ledger: &mut Ledger, now: u64) -> Drafted
+        requires moment { now ≤ LAST }
+        requires can { CanDraft ledger.old.held now self.now }
+        ensures drafts { IsDrafted ledger.old ledger.new (is_nothing config.now ledger.old.held now self.now) (record_for ledger.old.key config.now ledger.old.held now self.now) result }
+        ensures same { SameLedger ledger.old ledger.new }
+    {
+        drafted_of(self.draft_in(config, ledger, now))
+    }
+
+    /// The code that says that there is nothing to record. A login is always asked for, and a session that a form opens always
+    /// opened: for these it is never asked.
+    pub(crate) fn refusal(&self) -> u16
+        ensures { result ≡ refusal_of self.now }
+    {
+        match self {
+            Reply::Confirm { .. } => Verdict::UnknownLogout.number(),
+            _ => Verdict::NoSuchSession.number(),
+        }
+    }
+
+    /// The answer that asks for a login, whose request was drafted.
+    fn asking(alloc: Global, config: &SpConfig, draft: &Draft, now: u64) -> Result<Blob, NoMemory>
+        requires moment { now ≤ LAST }
+        requires texts { HoldsTexts config.now }
+        requires drawn { IsDrawn draft.now 0 × IsDrawn draft.now 1 }
+        ensures { IfOk result (IsAskingAnswer config.now draft.now now) }
+    {
+        let id = draft.first().as_str();
+        let relay = draft.second().as_str();
+        ask_answer(alloc, config, id, relay, now)
+    }
+
+    /// The answer to a form that opens a session, whose record was drafted.
+    fn opening(alloc: Global, accepted: &Accepted, draft: &Draft) -> Result<Blob, NoMemory>
+        requires { IsDrawn draft.now 0 }
+        ensures { IfOk result (IsOpeningAnswer accepted.now draft.now) }
+    {
+        let token = draft.first().as_str();
+        opened_answer(alloc, accepted.target.as_str(), token)
+    }
+
+    /// The answer to the identity provider that asked to end sessions, whose end was drafted.
+    fn ending(
+        alloc: Global,
+        config: &SpConfig,
+        draft: &Draft,
+        now: u64,
+        asked: &LogoutRequest,
+        relay: &Option<Text>,
+    ) -> Result<Blob, NoMemory>
+        requires moment { now ≤ LAST }
+        requires addresses { HoldsAddresses config.now }
+        requires times { IfSome config.now.next_in (λ next. next.from ≤ next.until) }
+        requires answerable { IsDrawn draft.now 0 × IsText asked.now.id }
+        ensures { IfOk result (IsEndingAnswer config.now draft.now now asked.now.id relay.now) }
+    {
+        let idp = idp_at(alloc, config, now)?;
+        let id = draft.first().as_str();
+        let entity = config.entity.as_str();
+        let relay = relay_of(relay);
+        let request = asked.id.as_str();
+        ending_answer(alloc, &idp, id, entity, now, request, false, relay)
+    }
+
+    /// The answer of the reply, whose record was drafted.
+    pub(crate) fn answer(
+        &self,
+        alloc: Global,
+        config: &SpConfig,
+        draft: &Draft,
+        now: u64,
+    ) -> Result<Blob, NoMemory>
+        requires moment { now ≤ LAST }
+        requires addresses { HoldsAddresses config.now }
+        requires times { IfSome config.now.next_in (λ next. next.from ≤ next.until) }
+        requires answerable { IsAnswerable draft.now self.now }
+        ensures { IfOk result (IsAnswerTo config.now draft.now now self.now) }
+    {
+        match self {
+            Reply::Ask { .. } => Reply::asking(alloc, config, draft, now),
+            Reply::Open { accepted } => Reply::opening(alloc, accepted, draft),
+            Reply::Leave { name, indexes, .. } => {
+                let idp = idp_at(alloc, config, now)?;
+                let id = draft.first().as_str();
+                let entity = config.entity.as_str();
+                leaving_answer(alloc, &idp, id, entity, now, name.as_str(), indexes)
+            }
+            Reply::End { asked, relay } => {
+                Reply::ending(alloc, config, draft, now, asked, relay)
+            }
+            Reply::Confirm { response } => end_answer(alloc, is_partial(response.outcome)),
+        }
+    }
+}
