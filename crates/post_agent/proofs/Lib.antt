@@ -1,0 +1,13 @@
+mod Answered
+mod Cutting
+mod Forms
+mod Heads
+mod Joining
+mod Lines
+mod Options
+mod Readings
+mod Refusals
+mod Showing
+mod Statuses
+mod Telling
+mod Texts

@@ -1,0 +1,11 @@
+pub mod Agents
+pub mod Cuts
+pub mod Examples
+pub mod Laws
+pub mod Pages
+pub mod Reading
+pub mod Received
+pub mod Requests
+pub mod Sites
+pub mod States
+pub mod Views

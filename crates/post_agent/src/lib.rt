@@ -1,0 +1,34 @@
+//! A scripted user agent: exactly what a user's browser sends to the two nodes of a deployment.
+//!
+//! ```
+//! let mut agent = Agent::new(alloc);
+//! if let Some(request) = agent.visit("/app")? {
+//!     let answer = serve(request.site, &request.bytes);
+//!     let seen = agent.receive(request.site, answer.as_slice())?; // Form(Request)
+//! }
+//! if let Some(request) = agent.submit()? { /* the form of that page, posted to the identity provider */ }
+//! ```
+//!
+//! An [`Agent`] keeps a cookie for each node, the form of the last page that had one, the last login page and the last
+//! Location. What it sends is defined by these alone (`Requests` and `Agents` of specs/), and its calls for that change
+//! nothing. [`Agent::receive`] reads an answer, as `http_wire` writes it, and the page that its body is, as
+//! `post_binding` makes it: a page is one of these exactly where some texts give these bytes, and bytes are one page at
+//! most ([`laws::each_answer_has_one_reading`]).
+//!
+//! Each call that takes memory may answer `NoMemory`, and the agent is then as it was.
+#![tactic(auto)]
+
+mod agent;
+mod answer;
+mod cut;
+mod escaped;
+mod form;
+pub mod laws;
+mod page;
+mod request;
+mod seen;
+mod site;
+
+pub use agent::Agent;
+pub use seen::{AutoForm, Location, LoginPage, Outgoing, Page, Seen, What};
+pub use site::Site;
