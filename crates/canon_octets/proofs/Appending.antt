@@ -4,6 +4,10 @@ use Rattle.std.proofs.lemmas.List.{take-append-le, take_min, take_all}
 use Rattle.std.proofs.Math.Seq.{take-append-add}
 use Rattle.canon_octets.specs.Places.{IsAppending, AppendsPart}
 
+pub on_ok : {T E P : Type 0} (r : Result T E) → P → OnOk r P
+on_ok (Ok x) p = p
+on_ok (Err e) p = tt
+
 pub on_err : {T E P : Type 0} (r : Result T E) → P → OnErr r P
 on_err (Ok x) p = tt
 on_err (Err e) p = p

@@ -13,21 +13,25 @@ appends_to_view view = record {
       then ∙ ap (λ xs. xs ++ back) first ∙ append_assoc (view before) front back;
 }
 
--- a place that is known by the bytes that it has taken
-pub appends_by_taking : {S K : Type 0} → (taken : S → K → List ℕ → Type 0) →
-    IsAppending {S = S} (λ before after bytes. (key : K) (front : List ℕ) → taken before key front → taken after key (front ++ bytes))
+-- a place that takes so many bytes, and is known by those that were put into it
+pub appends_by_taking : {S : Type 0} → (taken : S → ℕ → List ℕ → Type 0) →
+    IsAppending {S = S} (λ before after bytes. (limit : ℕ) (front : List ℕ) →
+    taken before limit front → taken after limit (front ++ bytes))
 appends_by_taking taken = record {
-  nothing = λ place key front has. subst (taken place key) (sym (append-nil front)) has;
+  nothing = λ place limit front has. subst (taken place limit) (sym (append-nil front)) has;
   joined =
-      λ before between after front back first then key bytes has.
-      subst (taken after key) (append_assoc bytes front back) (then key (bytes ++ front) (first key bytes has));
+      λ before between after front back first then limit bytes has.
+      subst (taken after limit) (append_assoc bytes front back) (then limit (bytes ++ front) (first limit bytes has));
 }
 
-pub appends_by_taking_plainly : {S : Type 0} → (taken : S → List ℕ → Type 0) →
-    IsAppending {S = S} (λ before after bytes. (front : List ℕ) → taken before front → taken after (front ++ bytes))
-appends_by_taking_plainly taken = record {
-  nothing = λ place front has. subst (taken place) (sym (append-nil front)) has;
+-- the same under a key
+pub appends_by_taking_under : {S K : Type 0} → (taken : S → ℕ → K → List ℕ → Type 0) →
+    IsAppending {S = S} (λ before after bytes. (limit : ℕ) (key : K) (front : List ℕ) →
+    taken before limit key front → taken after limit key (front ++ bytes))
+appends_by_taking_under taken = record {
+  nothing = λ place limit key front has. subst (taken place limit key) (sym (append-nil front)) has;
   joined =
-      λ before between after front back first then bytes has.
-      subst (taken after) (append_assoc bytes front back) (then (bytes ++ front) (first bytes has));
+      λ before between after front back first then limit key bytes has.
+      subst (taken after limit key) (append_assoc bytes front back)
+      (then limit key (bytes ++ front) (first limit key bytes has));
 }

@@ -108,7 +108,7 @@ fn escape<O: Octets>(place: Place, bytes: &[u8], out: &mut O) -> Result<(), NoMe
 ///
 /// # Errors
 ///
-/// `NoMemory`, where the place has none: a part of it from the first byte on may have been appended.
+/// `NoMemory`, where the place refuses a piece: a part of it from the first byte on may have been appended.
 pub fn escape_text<O: Octets>(text: &str, out: &mut O) -> Result<(), NoMemory>
     ensures ok { OnOk result (O.appends out.old out.new (escape_text text.now)) }
     ensures err { OnErr result (AppendsPart O.appends out.old out.new (escape_text text.now)) }
@@ -121,7 +121,7 @@ pub fn escape_text<O: Octets>(text: &str, out: &mut O) -> Result<(), NoMemory>
 ///
 /// # Errors
 ///
-/// `NoMemory`, where the place has none: a part of it from the first byte on may have been appended.
+/// `NoMemory`, where the place refuses a piece: a part of it from the first byte on may have been appended.
 pub fn escape_value<O: Octets>(value: &str, out: &mut O) -> Result<(), NoMemory>
     ensures ok { OnOk result (O.appends out.old out.new (escape_value value.now)) }
     ensures err { OnErr result (AppendsPart O.appends out.old out.new (escape_value value.now)) }

@@ -2,7 +2,7 @@
 //! them (Canonical XML 1.0, 2.3).
 //!
 //! ```
-//! let mut hash = HashOctets::new();
+//! let mut hash = HashOctets::within(1024);
 //! put_start(QualifiedName { prefix: "p", local: "a" }, &mut hash)?;
 //! put_declaration("p", "urn:u", &mut hash)?;
 //! hash.put(b">")?;
@@ -11,13 +11,15 @@
 //! ```
 //!
 //! No call takes memory but a `put` into a [`ByteList`] or a `Vec`, and no piece is longer than what it comes from. Contracts see
-//! which bytes were appended from one state of a place to the next: all that a call says, or, where the place has no
-//! memory, a part of them from the first on.
+//! which bytes were appended from one state of a place to the next: all that a call says, or, where the place refuses a
+//! piece, a part of them from the first on. The places that keep a hash take so many bytes and no more: a piece that
+//! passes the limit is counted and refused, and not hashed; then [`HashOctets::finish`] gives nothing.
 #![tactic(auto)]
 
 mod escape;
 mod hash;
 mod octets;
+mod room;
 mod tags;
 
 pub use escape::{escape_text, escape_value};

@@ -13,10 +13,15 @@ pub trait Octets {
     /// From the earlier state to the later one, these bytes were appended.
     ghost appends: { Self → Self → List ℕ → Type 0 };
 
-    /// Whether it may refuse a piece, for want of memory.
+    /// Whether it may refuse a piece, for want of memory or of room.
     ghost may_refuse: { Bool };
 
-    /// Appends all of `bytes`. Where memory runs out, a part of them from the first on may have been appended.
+    /// Appends all of `bytes`.
+    ///
+    /// # Errors
+    ///
+    /// `NoMemory`, where memory runs out, or the room of a place that takes so many bytes and no more: a part of them
+    /// from the first on may have been appended.
     fn put(&mut self, bytes: &[u8]) -> Result<(), NoMemory>
         ensures ok { OnOk result (appends self.old self.new bytes.now) }
         ensures err { OnErr result (AppendsPart appends self.old self.new bytes.now) }

@@ -98,7 +98,7 @@ fn put_quoted<O: Octets>(value: &str, out: &mut O) -> Result<(), NoMemory>
 ///
 /// # Errors
 ///
-/// `NoMemory`, where the place has none, here and below: a part from the first byte on may have been appended.
+/// `NoMemory`, where the place refuses a piece, here and below: a part from the first byte on may have been appended.
 pub fn put_start<O: Octets>(name: QualifiedName<'_>, out: &mut O) -> Result<(), NoMemory>
     ensures ok { OnOk result (O.appends out.old out.new (less_than ∷ joined_name name.entry.prefix.now name.entry.local.now)) }
     ensures err { OnErr result (AppendsPart O.appends out.old out.new (less_than ∷ joined_name name.entry.prefix.now name.entry.local.now)) }

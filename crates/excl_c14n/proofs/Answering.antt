@@ -10,7 +10,3 @@ on_ok_too (Err e) s same f h = tt
 pub on_ok_holds : {A E : Type 0} {P : Type 0} (r : Result A E) → true ≡ is_ok r → OnOk r P → P
 on_ok_holds (Ok a) same h = h
 on_ok_holds (Err e) same h = absurd (let clash : true ≡ false = same in cc)
-
-pub on_ok_anyway : {A E : Type 0} {P : Type 0} (r : Result A E) → P → OnOk r P
-on_ok_anyway (Ok a) h = h
-on_ok_anyway (Err e) h = tt

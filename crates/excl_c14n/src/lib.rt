@@ -1,7 +1,7 @@
 //! The canonical form of elements: Exclusive XML Canonicalization 1.0, without comments.
 //!
 //! ```
-//! let mut hash = HashOctets::new();
+//! let mut hash = HashOctets::within(1024);
 //! canon_into(alloc, &doc, doc.root(), None, &Texts::new(alloc), &mut hash)?;
 //! let digest = hash.finish();
 //! ```

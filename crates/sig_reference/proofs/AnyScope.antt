@@ -17,7 +17,7 @@ use Rattle.element_make.proofs.Forms.{given, added, prefix_is}
 use Rattle.sig_reference.proofs.MadeScopes.{Has, has_none, none_rendered, has_more, has_inside, own_bound}
 
 -- what is written of nodes below elements that rendered these namespaces
-abbrev form_below : List Ns → MadeNodes → List ℕ
+abbrev pub form_below : List Ns → MadeNodes → List ℕ
 form_below outside NothingMade = []
 form_below outside (MadeElement ns local attributes kids rest) =
     print_start (qualified ns local) (added (list_any (same ns) outside) ns) (by_name attributes)
@@ -117,7 +117,7 @@ text_in_front scope rendered (b ∷ t) (Text other rest) =
 text_in_front scope rendered (b ∷ t) (Comment other rest) = refl
 text_in_front scope rendered (b ∷ t) (Instruction target value rest) = refl
 
-form_of : (nodes : MadeNodes) (declared : List Ns) (scope : Scope) → Has declared scope → (outside : List Ns) (rendered : Scope) → Has outside rendered →
+pub form_of : (nodes : MadeNodes) (declared : List Ns) (scope : Scope) → Has declared scope → (outside : List Ns) (rendered : Scope) → Has outside rendered →
     AreMade nodes → canonical_nodes [] scope rendered (nodes_of declared nodes) ≡ form_below outside nodes
 form_of NothingMade declared scope has outside rendered had made = refl
 form_of (MadeElement ns local attributes kids rest) declared scope has outside rendered had made =

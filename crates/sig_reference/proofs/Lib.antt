@@ -1,7 +1,9 @@
 mod AnyScope
+mod Checking
 mod Digests
 mod Examples
 mod Judging
+mod Lengths
 mod MadeNames
 mod MadeScopes
 pub mod OneSignature
@@ -14,4 +16,5 @@ mod SignedNodes
 mod SignedPlace
 mod SignedVouched
 mod Standing
+pub mod Tagging
 mod Writable

@@ -1,5 +1,6 @@
 -- When an element is vouched for with a key: SAML Core 5.4, XML Signature, 3.2 (core validation).
-use Rattle.std.specs.Prelude.{◌≡◌, ◌≢◌, ℕ, List, [], ◌∷◌, codes, None, Some}
+use Rattle.std.specs.Prelude.{◌≡◌, ◌≢◌, ℕ, ◌≤◌, Bool, ◌&&◌, List, [], ◌∷◌, length, codes, None, Some, nat_le}
+use Rattle.std.specs.Str.{bytes_eq}
 use Rattle.sha2.specs.Sha256.{sha256}
 use Rattle.hmac_sha256.specs.Hmac.{hmac}
 use Rattle.xml_spec.specs.Tree.{Nodes}
@@ -7,6 +8,7 @@ use Rattle.xml_spec.specs.Identifiers.{IsSingle}
 use Rattle.xml_spec.specs.Canonical.{canonical}
 use Rattle.tree_read.specs.Texts.{attribute_text}
 use Rattle.sig_reference.specs.Form.{Parts, HasForm, HasFirstForm}
+use Rattle.sig_reference.specs.declared.limits.TheConstants.{MAX_CHECKED_FORM_LENGTH}
 use Rattle.sig_reference.specs.declared.fault.SigFault.{SigFault}
 use Rattle.sig_reference.specs.declared.fault.SigFault.TheVariants as faults
 
@@ -21,13 +23,33 @@ pub record IsReferredTo (tree : Nodes) (e : ℕ) (parts : Parts) : Type 0 where
   pub some : id ≢ []
   pub uri : parts.uri ≡ Some (number_sign ∷ id)
 
--- XML Signature, 3.2.2 and 6.3.1: the SignatureValue is the HMAC of the canonical form of SignedInfo
-abbrev pub IsTagged : List ℕ → Nodes → Parts → Type 0
-IsTagged key tree parts = parts.tag ≡ hmac key (canonical tree parts.signed_info None parts.info_prefixes)
+-- XML Signature, 3.1.2: the canonical form of SignedInfo, over which the SignatureValue is checked
+abbrev pub info_form : Nodes → Parts → List ℕ
+info_form tree parts = canonical tree parts.signed_info None parts.info_prefixes
 
--- XML Signature, 3.2.1: the DigestValue is the hash of the canonical form of the element without its Signature
-abbrev pub IsDigested : Nodes → ℕ → Parts → Type 0
-IsDigested tree e parts = parts.digest ≡ sha256 (canonical tree e (Some parts.signature) parts.element_prefixes)
+-- XML Signature, 3.1.1: the canonical form of the element without its Signature, over which the DigestValue is checked
+abbrev pub element_form : Nodes → ℕ → Parts → List ℕ
+element_form tree e parts = canonical tree e (Some parts.signature) parts.element_prefixes
+
+-- a form that a signature is checked over has at most so many bytes (profile)
+abbrev pub IsCheckable : List ℕ → Type 0
+IsCheckable form = length form ≤ MAX_CHECKED_FORM_LENGTH
+
+-- XML Signature, 3.2.2 and 6.3.1: the SignatureValue is the HMAC of the canonical form of SignedInfo, which is not too long
+pub record IsTagged (key : List ℕ) (tree : Nodes) (parts : Parts) : Type 0 where
+  pub checkable : IsCheckable (info_form tree parts)
+  pub tag : parts.tag ≡ hmac key (info_form tree parts)
+
+-- the same as a test
+abbrev pub is_tagged : List ℕ → Nodes → Parts → Bool
+is_tagged key tree parts =
+    nat_le (length (info_form tree parts)) MAX_CHECKED_FORM_LENGTH && bytes_eq parts.tag (hmac key (info_form tree parts))
+
+-- XML Signature, 3.2.1: the DigestValue is the hash of the canonical form of the element without its Signature, which is not
+-- too long
+pub record IsDigested (tree : Nodes) (e : ℕ) (parts : Parts) : Type 0 where
+  pub checkable : IsCheckable (element_form tree e parts)
+  pub digest : parts.digest ≡ sha256 (element_form tree e parts)
 
 -- what a signature of a good form has to say of the element: XML Signature, 3.2
 pub record IsValid (key : List ℕ) (tree : Nodes) (e : ℕ) (parts : Parts) : Type 0 where

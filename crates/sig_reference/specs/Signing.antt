@@ -10,7 +10,7 @@ use Rattle.element_make.specs.declared.names.Ns.TheVariants.{Saml, Ds}
 use Rattle.element_make.specs.Prefixes.{same}
 use Rattle.element_make.specs.Made.{MadeNodes, NothingMade, MadeElement, MadeText, Made, alone, joined, with_second, value_of, written}
 use Rattle.sig_reference.specs.Algorithms.{exclusive, enveloped, hmac_sha256, sha256_digest}
-use Rattle.sig_reference.specs.Signature.{number_sign}
+use Rattle.sig_reference.specs.Signature.{number_sign, IsCheckable}
 
 -- an element of XML Signature
 abbrev pub part : List ℕ → List Attribute → MadeNodes → MadeNodes
@@ -76,3 +76,8 @@ pub record CanBeSigned (made : Made) : Type 0 where
   pub id : id_of made ≢ []
   pub issuer : IsTrue (begins_with_issuer made.kids)
   pub unsigned : IsTrue (has_no_signature made.kids)
+
+-- the two forms that the signature of a made element is checked over are not too long: that of the element and that of SignedInfo
+pub record CanBeChecked (made : Made) : Type 0 where
+  pub element : IsCheckable (written made)
+  pub info : IsCheckable (written (signed_info (id_of made) (sha256 (written made))))

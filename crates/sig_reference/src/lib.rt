@@ -5,6 +5,7 @@ mod encoded;
 mod fault;
 mod form;
 pub mod laws;
+mod limits;
 mod methods;
 mod signing;
 mod uris;
@@ -13,6 +14,7 @@ mod vouched;
 mod words;
 
 pub use fault::SigFault;
+pub use limits::MAX_CHECKED_FORM_LENGTH;
 pub use signing::sign;
 pub use validation::{verify, verify_first};
 pub use vouched::{Vouched, within};

@@ -9,6 +9,7 @@ ghost use Rattle.sig_reference.specs.Vouching.{IsVouchedWith, IsVouchedFirstWith
 
 use crate::fault::SigFault;
 use crate::form::{Signature, read_first_form, read_form};
+use crate::limits::MAX_CHECKED_FORM_LENGTH;
 use crate::vouched::Vouched;
 use excl_c14n::{HashOctets, MacOctets, canon_into};
 use hmac_sha256::same_tag;
@@ -40,7 +41,8 @@ fn is_referred_to(alloc: Global, at: At<'_, '_>, signature: &Signature) -> Resul
     }
 }
 
-/// Whether the SignatureValue is the HMAC of SignedInfo under the key (XML Signature, 3.2.2).
+/// Whether the SignatureValue is the HMAC of SignedInfo under the key (XML Signature, 3.2.2). The form of SignedInfo is put no
+/// further than it is checked: a longer one is of no signature.
 fn is_tagged(
     alloc: Global,
     doc: &Doc<'_>,
@@ -51,12 +53,17 @@ fn is_tagged(
     ensures { IfOk result (λ is. IsTrue is ↔ IsTagged key.now doc.now.tree (parts_of signature.now)) }
 {
     let info = &signature.info;
-    let mut code = MacOctets::new(key);
-    canon_into(alloc, doc, info.node, None, &info.prefixes, &mut code)?;
-    Ok(same_tag(&signature.tag, &code.finish()))
+    let mut code = MacOctets::within(MAX_CHECKED_FORM_LENGTH, key);
+    let put = canon_into(alloc, doc, info.node, None, &info.prefixes, &mut code);
+    let Some(tag) = code.finish() else {
+        return Ok(false);
+    };
+    put?;
+    Ok(same_tag(&signature.tag, &tag))
 }
 
-/// Whether the DigestValue is the hash of the element without its Signature (XML Signature, 3.2.1).
+/// Whether the DigestValue is the hash of the element without its Signature (XML Signature, 3.2.1). Its form is put no further
+/// than it is checked.
 fn is_digested(
     alloc: Global,
     doc: &Doc<'_>,
@@ -68,16 +75,20 @@ fn is_digested(
     ensures { IfOk result (λ is. IsTrue is ↔ IsDigested doc.now.tree node.0 (parts_of signature.now)) }
 {
     let reference = &signature.info.reference;
-    let mut hash = HashOctets::new();
-    canon_into(
+    let mut hash = HashOctets::within(MAX_CHECKED_FORM_LENGTH);
+    let put = canon_into(
         alloc,
         doc,
         node,
         Some(signature.node),
         &reference.prefixes,
         &mut hash,
-    )?;
-    Ok(same_tag(&reference.digest, &hash.finish()))
+    );
+    let Some(digest) = hash.finish() else {
+        return Ok(false);
+    };
+    put?;
+    Ok(same_tag(&reference.digest, &digest))
 }
 
 /// Asks that what a signature says holds of an element.

@@ -7,10 +7,9 @@ use Rattle.saml_tree.specs.declared.node.NodeNo.{NodeNo}
 use Rattle.saml_tree.specs.Elements.{name_in, attributes_in}
 use Rattle.canon_octets.specs.Places.{AppendsPart}
 use Rattle.canon_octets.proofs.Underway.{same_rest, underway, complete}
-use Rattle.canon_octets.proofs.Appending.{on_err, no_part, part_of_first, part_of_second, last_ok, last_err}
+use Rattle.canon_octets.proofs.Appending.{on_ok, on_err, no_part, part_of_first, part_of_second, last_ok, last_err}
 use Rattle.excl_c14n.specs.Levels.{RenderedView, in_force}
 use Rattle.excl_c14n.specs.NodeByNode.{scope_inside, written_in, start_in, node_form, nodes_form}
-use Rattle.excl_c14n.proofs.Answering.{on_ok_anyway}
 use Rattle.excl_c14n.proofs.Below.{IsInside, kids_inside, next_inside}
 use Rattle.excl_c14n.proofs.Nesting.{kept_below}
 use Rattle.excl_c14n.proofs.Opening.{rendered_below, level_below, ended}
@@ -272,7 +271,7 @@ pub returns-clause-same : goal.returns-clause-same
 returns-clause-same g t c =
     let nodes = from_node c.args.self.now.doc.now.tree c.args.n.0 in
     let before = c.args.rendered.now in
-    on_ok_anyway c.put_end.result
+    on_ok c.put_end.result
     (ended before c.loop-next.rendered c.leave.new.self
     (written_in c.args.self.now.listed (scope_at outermost c.args.self.now.doc.now.tree c.args.n.0) (in_force before.levels) (name_in nodes) (attributes_in nodes))
     (c.loop-next.invariant.same ∙ c.in_ok-begin.ensures.shown) c.leave.ensures)

@@ -1,11 +1,10 @@
 use Rattle.std.proofs.Common.{sym, ap, ◌∙◌, subst}
 use Rattle.std.proofs.lemmas.Result.{on_ok_weaker}
 use Rattle.canon_octets.specs.Places.{AppendsPart}
-use Rattle.canon_octets.proofs.Appending.{on_err, no_part, all_part}
+use Rattle.canon_octets.proofs.Appending.{on_ok, on_err, no_part, all_part}
 use Rattle.excl_c14n.specs.Levels.{RenderedView}
 use Rattle.excl_c14n.specs.Pairs.{AreDeclared, AreThere}
 use Rattle.excl_c14n.specs.NodeByNode.{scope_inside}
-use Rattle.excl_c14n.proofs.Answering.{on_ok_anyway}
 use Rattle.excl_c14n.proofs.Opening.{level_in, rendered_in, start_is, all_rendered}
 use Rattle.excl_c14n.proofs.Pairs.{there_are}
 use Rattle.excl_c14n.proofs.walk.Walk.begin.Goals as goal
@@ -45,7 +44,7 @@ returns-in_err-put_start-clause-err g c =
 
 pub returns-clause-start : goal.returns-clause-start
 returns-clause-start g c =
-    on_ok_anyway c.render_all.result
+    on_ok c.render_all.result
     (subst (g.O.Octets.appends c.args.out.now c.put_start.new.out)
     (start_is c.args.self.now.listed c.args.self.now.doc.now.tree c.args.n.0 c.args.rendered.now c.enter.new.self c.in_ok-wanted.wanted c.in_ok-enter.ensures
     c.in_ok-wanted.ensures.prefixes c.in_ok-wanted.ensures.placed) c.in_ok-put_start.ensures.ok)

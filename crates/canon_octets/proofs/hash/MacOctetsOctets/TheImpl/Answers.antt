@@ -1,0 +1,14 @@
+use Rattle.std.proofs.Common.{refl}
+use Rattle.canon_octets.specs.Composing.{appends_by_taking_under}
+use Rattle.canon_octets.specs.Hashed.{HasTakenUnder}
+use Rattle.canon_octets.proofs.Appending.{on_ok, on_err, all_part}
+use Rattle.canon_octets.proofs.hash.MacOctetsOctets.TheImpl.Goals as goal
+
+pub put-tells : goal.put-tells
+put-tells c = record {
+  ok = on_ok c.result c.ensures.taken;
+  err =
+      on_err c.result
+      (all_part (appends_by_taking_under HasTakenUnder) c.args.self.now c.new.self.now c.args.bytes.now c.ensures.taken);
+  refusing = on_err c.result refl;
+}
