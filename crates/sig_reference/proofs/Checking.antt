@@ -1,14 +1,21 @@
 -- A form that was put into a place that takes so many bytes: whole, or where the call failed, in part.
-use Rattle.std.proofs.Common.{◌≡◌, ℕ, ◌≤◌, List, length, take, Option, None, Some, Result, Ok, Err, OnOk, OnErr, arith}
+use Rattle.std.proofs.Common.{◌≡◌, ℕ, ◌≤◌, List, length, take, Option, None, Result, Ok, Err, OnOk, OnErr, subst, arith}
 use Rattle.std.specs.Option.{SomeIff}
 use Rattle.std.proofs.lemmas.List.{length-take}
 
-module _ {A E : Type 0} (Took : List ℕ → Type 0) (limit : ℕ) (gives : List ℕ → List ℕ) (form : List ℕ) (answer : Option (List ℕ))
-  (finish : (bytes : List ℕ) → Took bytes → SomeIff answer (length bytes ≤ limit) (gives bytes)) where
+module _ {A E : Type 0} (Took : List ℕ → Type 0) (limit : ℕ) (gives : List ℕ → List ℕ) (form : List ℕ) (r : Result A E)
+    (whole : OnOk r (Took form)) (part : OnErr r ((n : ℕ) × Took (take n form))) where
   -- where it gives no answer, the form is too long
-  pub too_long : (r : Result A E) → OnOk r (Took form) → OnErr r ((n : ℕ) × Took (take n form)) → answer ≡ None → ¬ (length form ≤ limit)
-  too_long r whole part none = ?
+  pub too_long : (answer : Option (List ℕ)) →
+      ((bytes : List ℕ) → Took bytes → SomeIff answer (length bytes ≤ limit) (gives bytes)) →
+      answer ≡ None → ¬ (length form ≤ limit)
+  too_long answer finish none = by_call r whole part
+    where
+      none_of : (bytes : List ℕ) → Took bytes → ¬ (length bytes ≤ limit)
+      none_of bytes took =
+          subst (λ (o : Option (List ℕ)). SomeIff o (length bytes ≤ limit) (gives bytes)) none (finish bytes took)
 
-  -- where it gives one and the call went well, that is of the form
-  pub of_all : (r : Result A E) → OnOk r (Took form) → (a : A) → r ≡ Ok a → (x : List ℕ) → answer ≡ Some x → (length form ≤ limit) × (gives form ≡ x)
-  of_all r whole a went x some = ?
+      by_call : (s : Result A E) → OnOk s (Took form) → OnErr s ((n : ℕ) × Took (take n form)) → ¬ (length form ≤ limit)
+      by_call (Ok a) whole part = none_of form whole
+      by_call (Err e) whole part =
+          λ short. none_of (take part.0 form) part.1 (omega (arith, short, length-take part.0 form))

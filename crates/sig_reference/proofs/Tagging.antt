@@ -9,12 +9,14 @@ use Rattle.sig_reference.specs.declared.limits.TheConstants.{MAX_CHECKED_FORM_LE
 use Rattle.sig_reference.specs.Form.{Parts}
 use Rattle.sig_reference.specs.Signature.{info_form, IsTagged, is_tagged}
 
-pub tagged_test : (key : List ℕ) (tree : Nodes) (parts : Parts) → IsTagged key tree parts → is_tagged key tree parts ≡ true
+pub tagged_test : (key : List ℕ) (tree : Nodes) (parts : Parts) → IsTagged key tree parts →
+    is_tagged key tree parts ≡ true
 tagged_test key tree parts is =
     and_true _ _ (le-leb (length (info_form tree parts)) MAX_CHECKED_FORM_LENGTH is.checkable)
     ((bytes_eq-Decides parts.tag (hmac key (info_form tree parts))).1 is.tag)
 
-pub test_tagged : (key : List ℕ) (tree : Nodes) (parts : Parts) → is_tagged key tree parts ≡ true → IsTagged key tree parts
+pub test_tagged : (key : List ℕ) (tree : Nodes) (parts : Parts) → is_tagged key tree parts ≡ true →
+    IsTagged key tree parts
 test_tagged key tree parts is =
     let both = both_true _ _ is in
     record {

@@ -35,7 +35,8 @@ element_form tree e parts = canonical tree e (Some parts.signature) parts.elemen
 abbrev pub IsCheckable : List ℕ → Type 0
 IsCheckable form = length form ≤ MAX_CHECKED_FORM_LENGTH
 
--- XML Signature, 3.2.2 and 6.3.1: the SignatureValue is the HMAC of the canonical form of SignedInfo, which is not too long
+-- XML Signature, 3.2.2 and 6.3.1: the SignatureValue is the HMAC of the canonical form of SignedInfo, and that is not
+-- too long
 pub record IsTagged (key : List ℕ) (tree : Nodes) (parts : Parts) : Type 0 where
   pub checkable : IsCheckable (info_form tree parts)
   pub tag : parts.tag ≡ hmac key (info_form tree parts)
@@ -43,10 +44,11 @@ pub record IsTagged (key : List ℕ) (tree : Nodes) (parts : Parts) : Type 0 whe
 -- the same as a test
 abbrev pub is_tagged : List ℕ → Nodes → Parts → Bool
 is_tagged key tree parts =
-    nat_le (length (info_form tree parts)) MAX_CHECKED_FORM_LENGTH && bytes_eq parts.tag (hmac key (info_form tree parts))
+    nat_le (length (info_form tree parts)) MAX_CHECKED_FORM_LENGTH
+    && bytes_eq parts.tag (hmac key (info_form tree parts))
 
--- XML Signature, 3.2.1: the DigestValue is the hash of the canonical form of the element without its Signature, which is not
--- too long
+-- XML Signature, 3.2.1: the DigestValue is the hash of the canonical form of the element without its Signature, and
+-- that is not too long
 pub record IsDigested (tree : Nodes) (e : ℕ) (parts : Parts) : Type 0 where
   pub checkable : IsCheckable (element_form tree e parts)
   pub digest : parts.digest ≡ sha256 (element_form tree e parts)

@@ -77,7 +77,8 @@ pub record CanBeSigned (made : Made) : Type 0 where
   pub issuer : IsTrue (begins_with_issuer made.kids)
   pub unsigned : IsTrue (has_no_signature made.kids)
 
--- the two forms that the signature of a made element is checked over are not too long: that of the element and that of SignedInfo
+-- the two forms that the signature of a made element is checked over are not too long: that of the element, and that of
+-- SignedInfo
 pub record CanBeChecked (made : Made) : Type 0 where
   pub element : IsCheckable (written made)
   pub info : IsCheckable (written (signed_info (id_of made) (sha256 (written made))))

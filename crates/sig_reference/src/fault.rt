@@ -10,11 +10,11 @@ pub enum SigFault {
     BadSignatureForm,
     /// The element has no ID, or the Reference is to something else.
     BadReference,
-    /// The SignatureValue is not the HMAC of SignedInfo under the key, or the canonical form of SignedInfo is longer than
-    /// `MAX_CHECKED_FORM_LENGTH`.
+    /// The SignatureValue is not the HMAC of SignedInfo under the key, or the canonical form of SignedInfo is longer
+    /// than `MAX_CHECKED_FORM_LENGTH`.
     TagDiffers,
-    /// The DigestValue is not the hash of the element without its Signature, or the canonical form of that is longer than
-    /// `MAX_CHECKED_FORM_LENGTH`.
+    /// The DigestValue is not the hash of the element without its Signature, or the canonical form of that is longer
+    /// than `MAX_CHECKED_FORM_LENGTH`.
     DigestDiffers,
     /// Memory ran out.
     NoMemory,

@@ -41,8 +41,8 @@ fn is_referred_to(alloc: Global, at: At<'_, '_>, signature: &Signature) -> Resul
     }
 }
 
-/// Whether the SignatureValue is the HMAC of SignedInfo under the key (XML Signature, 3.2.2). The form of SignedInfo is put no
-/// further than it is checked: a longer one is of no signature.
+/// Whether the SignatureValue is the HMAC of SignedInfo under the key (XML Signature, 3.2.2). Its form is put no
+/// further than it is checked.
 fn is_tagged(
     alloc: Global,
     doc: &Doc<'_>,
@@ -62,8 +62,8 @@ fn is_tagged(
     Ok(same_tag(&signature.tag, &tag))
 }
 
-/// Whether the DigestValue is the hash of the element without its Signature (XML Signature, 3.2.1). Its form is put no further
-/// than it is checked.
+/// Whether the DigestValue is the hash of the element without its Signature (XML Signature, 3.2.1). Its form is put no
+/// further than it is checked.
 fn is_digested(
     alloc: Global,
     doc: &Doc<'_>,

@@ -7,21 +7,21 @@ use Rattle.sig_reference.specs.Placing.{place_in}
 use Rattle.sig_reference.specs.Signing.{signed}
 use Rattle.sig_reference.proofs.PutInside.{IsPut, put_in, put_is_element}
 use Rattle.sig_reference.proofs.SignatureMade.{unsigned_made}
-use Rattle.sig_reference.proofs.SignedVouched.{vouched_as_made}
+use Rattle.sig_reference.proofs.SignedVouched.{signed_as_made, vouches_as_made}
 use Rattle.sig_reference.proofs.Standing.{signature_below}
 use Rattle.sig_reference.proofs.laws.what_is_signed_inside_is_vouched_for.Goals as goal
 
 pub returns : goal.returns
-returns c key around outer made tree holds is can spells single =
+returns c key around outer made tree holds is can short spells single =
     let spelled = c.a_made_element_spells_its_tree.ensures in
     let one : tree ≡ tree_of outer = one_tree (written outer) tree (tree_of outer) spells (spelled.spells outer is) in
     let e = place_in outer around in
     let put : IsPut tree e (signed key made) = subst (λ (t : Nodes). IsPut t e (signed key made)) (sym one) (put_in around outer (signed key made) holds is) in
     let inner = unsigned_made key made put.is in
-    let vouched = vouched_as_made key made tree e put can single in (
-      vouched.parts,
-      vouched.vouches,
-      c.equal_forms_have_equal_contents.ensures (written outer) (written made) tree (tree_of made) e 0 (Some vouched.parts.signature) None [] []
+    let read = signed_as_made key made tree e put can in (
+      read.parts,
+      vouches_as_made key made tree e read short single,
+      c.equal_forms_have_equal_contents.ensures (written outer) (written made) tree (tree_of made) e 0 (Some read.parts.signature) None [] []
           spells (subst HasNames (sym one) (spelled.names outer is)) (spelled.spells made inner) (spelled.names made inner)
-          (put_is_element put) refl (signature_below tree e vouched.parts vouched.vouches.form) tt vouched.same,
+          (put_is_element put) refl (signature_below tree e read.parts read.form) tt read.element,
     )
