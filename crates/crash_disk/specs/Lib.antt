@@ -8,3 +8,4 @@ pub mod Torn
 pub mod InMemory
 pub mod Memory
 pub mod Moments
+pub mod Plans

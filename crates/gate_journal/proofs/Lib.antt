@@ -12,6 +12,7 @@ pub mod Lifting
 pub mod Opened
 pub mod Owning
 pub mod Payloads
+pub mod Planned
 pub mod Running
 pub mod Scanning
 pub mod Standing

@@ -1,6 +1,8 @@
 -- The format at worked examples.
-use Rattle.std.specs.Prelude.{◌≡◌, ℕ, List, [], ◌∷◌, ◌++◌, None, Some, Ok, Err, replicate, refl}
+use Rattle.std.specs.Prelude.{◌≡◌, ℕ, List, [], ◌∷◌, ◌++◌, None, Some, Ok, Err, replicate, refl, take, drop}
 use Rattle.crash_disk.specs.declared.file_no.FileNo.TheVariants.{Zero, One}
+use Rattle.crash_disk.specs.declared.change.Change.TheVariants.{Write, Cut, Sync}
+use Rattle.gate_journal.specs.Calls.{appending, clearing, making_first}
 use Rattle.gate_journal.specs.Format.{letters, file_of, committed_of, payloads_in, journal, body_of, bodies_of, gate_of, gate_place, end_of}
 use Rattle.gate_journal.specs.Journal.{made_anew}
 use Rattle.gate_journal.specs.Making.{first_journal}
@@ -50,3 +52,15 @@ bodies = (refl, refl, refl)
 -- a compaction of the first journal
 anew : made_anew [] 600000 3 (record { file = Zero; holds = first_journal }) ≡ record { file = One; holds = record { version = 2; header = record { generation = 2; horizon = 600000; next = 3 }; payloads = [] } }
 anew = refl
+
+-- the calls that make the first journal in an empty file: they leave the header of `empty`
+first_calls : making_first [] ≡ Cut Zero 0 ∷ Sync Zero ∷ Write Zero 0 ((0 ∷ []) ++ drop 1 (take 71 (head 1 1 2 0))) ∷ Sync Zero ∷ Write Zero 71 (0 ∷ []) ∷ Sync Zero ∷ Write Zero 0 (1 ∷ []) ∷ Sync Zero ∷ []
+first_calls = refl
+
+-- the four calls of an append: the record abc in the first journal
+append_calls : appending (record { file = Zero; holds = first_journal }) (97 ∷ 98 ∷ 99 ∷ []) ≡ Write Zero 72 (0 ∷ 0 ∷ 0 ∷ 3 ∷ 97 ∷ 98 ∷ 99 ∷ 0 ∷ []) ∷ Sync Zero ∷ Write Zero 70 (1 ∷ []) ∷ Sync Zero ∷ []
+append_calls = refl
+
+-- a file that holds a journal loses its commit before it is made anew, and one that was not committed is not written for that
+clear_calls : (clearing One [] (head 1 1 2 0) ≡ Write One 0 (0 ∷ []) ∷ Sync One ∷ []) × (clearing One [] (head 0 1 2 0) ≡ [])
+clear_calls = (refl, refl)

@@ -1,6 +1,8 @@
 //! How a journal is made anew in its other file: with fewer records, or in version 2.
 ghost use Rattle.std.specs.Prelude.{◌≡◌, ◌+◌, ◌-◌, ◌<◌, ◌^◌, None, false, true, OnOk, IfErr, IsErrOf};
 ghost use Rattle.crash_disk.specs.Moments.{LeavesOnly};
+ghost use Rattle.crash_disk.specs.Plans.{Follows};
+ghost use Rattle.gate_journal.specs.Calls.{remaking};
 ghost use Rattle.gate_journal.specs.Journal.{Fits, IsOwn, IsOldOrNew, made_anew};
 ghost use Rattle.gate_journal.specs.Making.{IsWritable};
 ghost use Rattle.gate_journal.specs.Opening.{open_fault_of, CausesFaults};
@@ -32,6 +34,8 @@ impl Journal {
         ensures own { IsOwn (D.told disk.new) self.new }
         ensures moments { LeavesOnly D.moment D.left_since disk.old disk.new (IsOldOrNew self.old.kept (made_anew kept.now header.horizon header.next self.old.kept)) }
         ensures faults { CausesFaults result (D.faults_of disk.old) (D.faults_of disk.new) }
+        ensures calls { Follows D.told D.moment D.left_since
+            (remaking (made_anew kept.now header.horizon header.next self.old.kept)) disk.old disk.new result }
     {
         let alloc = self.allocator();
         let records = records_of(alloc, kept)?;
@@ -78,6 +82,8 @@ impl Journal {
         // A crash at any moment of the call leaves the journal from before it, or the new one.
         ensures moments { LeavesOnly D.moment D.left_since disk.old disk.new (IsOldOrNew self.old.kept (made_anew kept.now horizon next self.old.kept)) }
         ensures faults { CausesFaults result (D.faults_of disk.old) (D.faults_of disk.new) }
+        ensures calls { Follows D.told D.moment D.left_since
+            (remaking (made_anew kept.now horizon next self.old.kept)) disk.old disk.new result }
     {
         let generation = self.header.generation + 1;
         let header = Header {
@@ -103,6 +109,8 @@ impl Journal {
         // A crash at any moment of the call leaves the journal from before it, or the new one.
         ensures moments { LeavesOnly D.moment D.left_since disk.old disk.new (IsOldOrNew self.old.kept (made_anew kept.now self.old.kept.holds.header.horizon self.old.kept.holds.header.next self.old.kept)) }
         ensures faults { CausesFaults result (D.faults_of disk.old) (D.faults_of disk.new) }
+        ensures calls { Follows D.told D.moment D.left_since
+            (remaking (made_anew kept.now self.old.kept.holds.header.horizon self.old.kept.holds.header.next self.old.kept)) disk.old disk.new result }
     {
         let header = Header {
             generation: self.header.generation + 1,

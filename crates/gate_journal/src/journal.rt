@@ -2,6 +2,8 @@
 ghost use Rattle.std.specs.Prelude.{◌≡◌, ◌+◌, ◌-◌, ◌<◌, ◌≤◌, ◌^◌, ◌++◌, ◌∷◌, [], None, Some, true, false, length, take, vec_capacity, OnOk, OnErr, IfSome, IsSomeAnd};
 ghost use Rattle.crash_disk.specs.Counts.{CountsFaults};
 ghost use Rattle.crash_disk.specs.Moments.{LeavesOnly};
+ghost use Rattle.crash_disk.specs.Plans.{Follows};
+ghost use Rattle.gate_journal.specs.Calls.{appending};
 ghost use Rattle.gate_journal.specs.Format.{end_of, gate_place, sizes};
 ghost use Rattle.gate_journal.specs.Journal.{Fits, FitsVersion, IsOwn, IsBeforeOrAfter, kept_with, room_of};
 
@@ -198,6 +200,7 @@ impl Journal {
         // A crash at any moment of the call leaves the records from before it, with the new one or without.
         ensures moments { LeavesOnly D.moment D.left_since disk.old disk.new (IsBeforeOrAfter payload.now self.old.kept) }
         ensures faults { CountsFaults result (D.faults_of disk.old) (D.faults_of disk.new) }
+        ensures calls { Follows D.told D.moment D.left_since (λ _. appending self.old.kept payload.now) disk.old disk.new result }
     {
         let gate = gate_before(self.end, &self.records);
         self.broken = true;

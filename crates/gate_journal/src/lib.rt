@@ -13,6 +13,8 @@
 //! that, with the room that was reserved and whether a call has failed. Each call that changes the disk says what a
 //! crash at any moment of it may leave: `append` the records from before with the new one or without, `open_journal`
 //! and `reopen` what an image at their start stood for, `compact` and `migrate` the journal from before or the new one.
+//! Its clause `calls` says which changing calls it makes, in their order and no other (`specs/Calls.antt`): an opening
+//! writes nothing but the first journal where there is none.
 //!
 //! [`Failed`] and [`OpenFault::DiskFault`] come only where the disk's count of faults rose. After [`Failed`] the journal
 //! is broken, and is opened again by `reopen`. [`OpenFault::Foreign`] comes exactly where the files stand for no list

@@ -4,6 +4,8 @@ ghost use Rattle.crash_disk.specs.Counts.{CountsFaults};
 ghost use Rattle.crash_disk.specs.Disk.{overwritten, reads_of};
 ghost use Rattle.crash_disk.specs.Moments.{LeavesOnly};
 ghost use Rattle.crash_disk.specs.Torn.{other_file};
+ghost use Rattle.crash_disk.specs.Plans.{Follows};
+ghost use Rattle.gate_journal.specs.Calls.{beginning, committing, lengthening, putting_header};
 ghost use Rattle.gate_journal.specs.Format.{Committed, letters};
 ghost use Rattle.gate_journal.specs.Making.{IsAt, IsShort, IsUnfinished, IsBlankBeside, IsMadeOrBlank, IsWritten, IsMade, IsClosed, IsFilling, Changing, fields_bytes};
 
@@ -51,6 +53,7 @@ pub(crate) fn commit<D: Disk>(disk: &mut D, file: FileNo) -> Result<(), Failed>
     ensures moments { (holds : Committed) (other : List ℕ) → IfSome (D.told disk.old) (IsWritten file holds other) → LeavesOnly D.moment D.left_since disk.old disk.new (IsMadeOrBlank file holds other) }
     ensures ok { OnOk result ((holds : Committed) (other : List ℕ) → IfSome (D.told disk.old) (IsWritten file holds other) → IfSome (D.told disk.new) (IsMade file holds other)) }
     ensures faults { CountsFaults result (D.faults_of disk.old) (D.faults_of disk.new) }
+    ensures calls { Follows D.told D.moment D.left_since (λ _. committing file) disk.old disk.new result }
 {
     disk.sync(file)?;
     disk.write_at(file, 0, &[COMMITTED])?;
@@ -63,6 +66,7 @@ fn lengthen<D: Disk>(disk: &mut D, file: FileNo, head: &[u8]) -> Result<(), Fail
     ensures moments { (other : List ℕ) → IfSome (D.told disk.old) (IsShort file other) → LeavesOnly D.moment D.left_since disk.old disk.new (IsBlankBeside file other) }
     ensures ok { OnOk result ((other : List ℕ) → IfSome (D.told disk.old) (IsShort file other) → IfSome (D.told disk.new) (IsAt file head.now other)) }
     ensures faults { CountsFaults result (D.faults_of disk.old) (D.faults_of disk.new) }
+    ensures calls { Follows D.told D.moment D.left_since (λ _. lengthening file head.now) disk.old disk.new result }
 {
     disk.cut(file, 0)?;
     disk.sync(file)?;
@@ -78,6 +82,7 @@ pub(crate) fn put_head<D: Disk>(disk: &mut D, file: FileNo, head: &[u8]) -> Resu
     ensures moments { (other : List ℕ) → IfSome (D.told disk.old) (IsShort file other) → LeavesOnly D.moment D.left_since disk.old disk.new (IsBlankBeside file other) }
     ensures ok { OnOk result ((other : List ℕ) → IfSome (D.told disk.old) (IsShort file other) → IfSome (D.told disk.new) (Changing (IsBlankBeside file other) file (overwritten head.now 71 (0 ∷ [])) other)) }
     ensures faults { CountsFaults result (D.faults_of disk.old) (D.faults_of disk.new) }
+    ensures calls { Follows D.told D.moment D.left_since (λ _. putting_header file head.now) disk.old disk.new result }
 {
     lengthen(disk, file, head)?;
     disk.write_at(file, HEAD_END, &[0])
@@ -90,6 +95,7 @@ pub(crate) fn begin_anew<D: Disk>(disk: &mut D, file: FileNo, fields: &[u8]) -> 
     ensures moments { (other : List ℕ) → IfSome (D.told disk.old) (IsClosed file other) → LeavesOnly D.moment D.left_since disk.old disk.new (IsBlankBeside file other) }
     ensures ok { OnOk result ((other : List ℕ) → IfSome (D.told disk.old) (IsClosed file other) → IfSome (D.told disk.new) (IsFilling file fields.now [] other)) }
     ensures faults { CountsFaults result (D.faults_of disk.old) (D.faults_of disk.new) }
+    ensures calls { Follows D.told D.moment D.left_since (λ _. beginning file fields.now) disk.old disk.new result }
 {
     disk.cut(file, HEAD)?;
     disk.sync(file)?;

@@ -6,6 +6,8 @@ ghost use Rattle.crash_disk.specs.Counts.{CountsFaults};
 ghost use Rattle.crash_disk.specs.Disk.{image_of, reads_of, settled_image};
 ghost use Rattle.crash_disk.specs.Moments.{Leaves, LeavesOnly};
 ghost use Rattle.crash_disk.specs.Torn.{IsQuietDisk};
+ghost use Rattle.crash_disk.specs.Plans.{Follows};
+ghost use Rattle.gate_journal.specs.Calls.{making_first, opening, preparing_first, syncing_both};
 ghost use Rattle.gate_journal.specs.Format.{file_of, joined, journal};
 ghost use Rattle.gate_journal.specs.Making.{IsBlankBeside, IsMadeOrBlank, IsWritten, IsMade, fields_bytes, head_bytes, first_journal, read_of};
 ghost use Rattle.gate_journal.specs.Journal.{IsOwn};
@@ -28,6 +30,7 @@ fn sync_both<D: Disk>(disk: &mut D) -> Result<(), Failed>
     ensures ok { OnOk result (D.told disk.new ≡ option_map (λ d. settled_image (image_of d)) (D.told disk.old)) }
     ensures moments { LeavesOnly D.moment D.left_since disk.old disk.new (Leaves (D.told disk.old)) }
     ensures faults { CountsFaults result (D.faults_of disk.old) (D.faults_of disk.new) }
+    ensures calls { Follows D.told D.moment D.left_since (λ _. syncing_both) disk.old disk.new result }
 {
     disk.sync(FileNo::Zero)?;
     disk.sync(FileNo::One)
@@ -108,6 +111,7 @@ fn prepare_first<D: Disk>(disk: &mut D, head: &[u8], fields: &[u8]) -> Result<()
     ensures moments { LeavesOnly D.moment D.left_since disk.old disk.new (IsBlankBeside FileNo.Zero (read_of (D.told disk.old) FileNo.One)) }
     ensures ok { OnOk result (IfSome (D.told disk.new) (IsWritten FileNo.Zero first_journal (read_of (D.told disk.old) FileNo.One))) }
     ensures faults { CountsFaults result (D.faults_of disk.old) (D.faults_of disk.new) }
+    ensures calls { Follows D.told D.moment D.left_since (λ d. preparing_first (reads_of d FileNo.Zero)) disk.old disk.new result }
 {
     if disk.length(FileNo::Zero)? < HEAD_LENGTH {
         put_head(disk, FileNo::Zero, head)
@@ -124,6 +128,7 @@ fn make_first<D: Disk>(alloc: Global, disk: &mut D) -> Result<(), OpenFault>
     ensures ok { OnOk result (IfSome (D.told disk.new) (IsMade FileNo.Zero first_journal (read_of (D.told disk.old) FileNo.One))) }
     ensures no_fault { IfErr result (λ e. open_fault_of e ≡ None) }
     ensures faults { CausesFaults result (D.faults_of disk.old) (D.faults_of disk.new) }
+    ensures calls { Follows D.told D.moment D.left_since (λ d. making_first (reads_of d FileNo.Zero)) disk.old disk.new result }
 {
     let fields = fields_of(alloc, &FIRST, CLOSED)?;
     let head = head_of(alloc, &fields)?;
@@ -146,6 +151,7 @@ pub fn open_journal<D: Disk>(alloc: Global, disk: &mut D) -> Result<Journal, Ope
     // Of a disk that does not tell, none is told but of an empty journal that is made.
     ensures untold { IfNone (D.told disk.old) (LeavesOnly D.moment D.left_since disk.old disk.new IsEmptyOrNone) }
     ensures faults { CausesFaults result (D.faults_of disk.old) (D.faults_of disk.new) }
+    ensures calls { Follows D.told D.moment D.left_since opening disk.old disk.new result }
 {
     sync_both(disk)?;
     let zero = load(alloc, disk, FileNo::Zero)?;
@@ -169,6 +175,7 @@ impl Journal {
         // A crash at any moment of the call leaves what an image of the disk at its start stood for.
         ensures moments { IfSome (D.told disk.old) (λ d. LeavesOnly D.moment D.left_since disk.old disk.new (Opens d)) }
         ensures faults { CausesFaults result (D.faults_of disk.old) (D.faults_of disk.new) }
+        ensures calls { Follows D.told D.moment D.left_since opening disk.old disk.new result }
     {
         let alloc = self.allocator();
         match open_journal(alloc, disk) {

@@ -4,6 +4,8 @@ ghost use Rattle.crash_disk.specs.Counts.{CountsFaults};
 ghost use Rattle.crash_disk.specs.Disk.{reads_of};
 ghost use Rattle.crash_disk.specs.Moments.{LeavesOnly};
 ghost use Rattle.crash_disk.specs.Torn.{other_file};
+ghost use Rattle.crash_disk.specs.Plans.{Follows};
+ghost use Rattle.gate_journal.specs.Calls.{clearing, closing, filling, making_beside};
 ghost use Rattle.gate_journal.specs.declared.header.Header.{Header};
 ghost use Rattle.gate_journal.specs.Format.{Committed, bodies_of, gate_of};
 ghost use Rattle.gate_journal.specs.Journal.{Fits};
@@ -75,6 +77,7 @@ fn close<D: Disk>(disk: &mut D, file: FileNo) -> Result<(), Failed>
     ensures moments { (before : Option Committed) (other : List ℕ) → IfSome (D.told disk.old) (IsHolding file before other) → LeavesOnly D.moment D.left_since disk.old disk.new (IsBeforeOrBlank file before other) }
     ensures ok { OnOk result ((before : Option Committed) (other : List ℕ) → IfSome (D.told disk.old) (IsHolding file before other) → IfSome (D.told disk.new) (IsClosed file other)) }
     ensures faults { CountsFaults result (D.faults_of disk.old) (D.faults_of disk.new) }
+    ensures calls { Follows D.told D.moment D.left_since (λ d. closing file (reads_of d file)) disk.old disk.new result }
 {
     let mut first = [0];
     disk.read_at(file, 0, &mut first)?;
@@ -92,6 +95,7 @@ fn clear<D: Disk>(disk: &mut D, file: FileNo, head: &[u8]) -> Result<(), Failed>
     ensures moments { (before : Option Committed) (other : List ℕ) → IfSome (D.told disk.old) (IsHolding file before other) → LeavesOnly D.moment D.left_since disk.old disk.new (IsBeforeOrBlank file before other) }
     ensures ok { OnOk result ((before : Option Committed) (other : List ℕ) → IfSome (D.told disk.old) (IsHolding file before other) → IfSome (D.told disk.new) (IsClosed file other)) }
     ensures faults { CountsFaults result (D.faults_of disk.old) (D.faults_of disk.new) }
+    ensures calls { Follows D.told D.moment D.left_since (λ d. clearing file head.now (reads_of d file)) disk.old disk.new result }
 {
     if disk.length(file)? >= HEAD {
         return close(disk, file);
@@ -116,6 +120,7 @@ fn fill<D: Disk>(
     ensures moments { (other : List ℕ) → IfSome (D.told disk.old) (IsClosed file other) → LeavesOnly D.moment D.left_since disk.old disk.new (IsBlankBeside file other) }
     ensures ok { OnOk result ((other : List ℕ) → IfSome (D.told disk.old) (IsClosed file other) → IfSome (D.told disk.new) (IsFilling file fields.now (bodies_of records.now) other)) }
     ensures faults { CountsFaults result (D.faults_of disk.old) (D.faults_of disk.new) }
+    ensures calls { Follows D.told D.moment D.left_since (λ _. filling file fields.now records.now) disk.old disk.new result }
 {
     begin_anew(disk, file, fields)?;
     let mut at = HEAD;
@@ -147,6 +152,8 @@ pub(crate) fn make_beside<D: Disk>(
     ensures moments { (before : Option Committed) (header : Header) (other : List ℕ) → fields.now ≡ fields_bytes header (gate_of records.now) → IsWritable header → IfSome (D.told disk.old) (IsHolding file before other) → LeavesOnly D.moment D.left_since disk.old disk.new (IsBeforeOrMade file before (record { version = 2; header = header; payloads = records.now }) other) }
     ensures ok { OnOk result ((before : Option Committed) (header : Header) (other : List ℕ) → fields.now ≡ fields_bytes header (gate_of records.now) → IsWritable header → IfSome (D.told disk.old) (IsHolding file before other) → IfSome (D.told disk.new) (IsMade file (record { version = 2; header = header; payloads = records.now }) other)) }
     ensures faults { CountsFaults result (D.faults_of disk.old) (D.faults_of disk.new) }
+    ensures calls { Follows D.told D.moment D.left_since
+        (λ d. making_beside file head.now fields.now records.now (reads_of d file)) disk.old disk.new result }
 {
     clear(disk, file, head)?;
     fill(disk, file, fields, records, body)?;

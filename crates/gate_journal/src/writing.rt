@@ -2,7 +2,9 @@
 ghost use Rattle.std.specs.Prelude.{◌≡◌, ◌+◌, ◌<◌, ◌≤◌, ◌^◌, ◌++◌, ◌∷◌, [], None, length, vec_capacity, OnOk, IfSome, IsSomeAnd, MatchOption};
 ghost use Rattle.crash_disk.specs.Counts.{CountsFaults};
 ghost use Rattle.crash_disk.specs.Moments.{LeavesOnly};
+ghost use Rattle.crash_disk.specs.Plans.{Follows};
 ghost use Rattle.std.specs.Int.{w32, to_be_bytes};
+ghost use Rattle.gate_journal.specs.Calls.{writing_record};
 ghost use Rattle.gate_journal.specs.Journal.{IsReadyFor, WithOrWithout, Gained};
 
 use crash_disk::{Disk, Failed, FileNo};
@@ -41,6 +43,7 @@ pub(crate) fn write_record<D: Disk>(
     ensures ok { OnOk result (MatchOption (D.told disk.old) (D.told disk.new ≡ None) (λ d. IsSomeAnd (D.told disk.new) (Gained payload.now d))) }
     ensures faults { CountsFaults result (D.faults_of disk.old) (D.faults_of disk.new) }
     ensures capacity { vec_capacity body.old ≤ vec_capacity body.new }
+    ensures calls { Follows D.told D.moment D.left_since (λ _. writing_record file end gate payload.now) disk.old disk.new result }
 {
     fill_body(body, payload, CLOSED);
     disk.write_at(file, end, body)?;

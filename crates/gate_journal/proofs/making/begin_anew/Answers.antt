@@ -1,8 +1,9 @@
 use Rattle.std.specs.Prelude.{IfSome}
-use Rattle.std.proofs.Common.{List, ℕ, []}
+use Rattle.std.proofs.Common.{List, ℕ, [], ◌∷◌}
 use Rattle.crash_disk.specs.declared.file_no.FileNo.{FileNo}
 use Rattle.crash_disk.specs.declared.change.Change.TheVariants.{Write, Cut, Sync}
 use Rattle.crash_disk.specs.Disk.{DiskState}
+use Rattle.crash_disk.proofs.Following as calls
 use Rattle.gate_journal.specs.Making.{IsBlankBeside, IsClosed, IsFilling}
 use Rattle.gate_journal.proofs.Lifting.{done, on_ok}
 use Rattle.gate_journal.proofs.Running.{Run, begins, tries, does}
@@ -52,3 +53,18 @@ returns-clause-ok g c = on_ok c.write_at.result _ (λ x is other closed.
     let run = was_synced g at.In_ok-sync other (was_cut g at.In_ok-cut other closed) in
     done (Write c.args.file 8 c.args.fields.now) (g.D.Disk.told c.sync.new.self) (g.D.Disk.told c.write_at.new.self) (IsSynced c.args.file other) (IsFilling c.args.file c.args.fields.now [] other) (rw is at c.write_at.ensures.changes)
     (g.met.D.Disk.reads_an_image c.sync.new.self) run.state (λ d reads is. anew_end c.args.file other c.args.fields.now c.requires.fields d is))
+
+-- THE CHANGING CALLS
+
+pub returns-clause-calls : goal.returns-clause-calls
+returns-clause-calls g c =
+    let d0 = c.args.disk.now in
+    let d1 = c.cut.new.self in
+    let d2 = c.sync.new.self in
+    let file = c.args.file in
+    let one = calls.does (Cut file 72) (λ _. []) d0 d0 d1 (calls.begins d0 (g.met.D.Disk.only_now d0)) (g.met.D.Disk.only_now d0) (g.met.D.Disk.reads_an_image d0)
+    c.in_ok-cut.ensures.changes c.cut.ensures.time in
+    let two = calls.does (Sync file) (λ _. Cut file 72 ∷ []) d0 d1 d2 one (g.met.D.Disk.only_now d1) (g.met.D.Disk.reads_an_image d1)
+    c.in_ok-sync.ensures.changes c.sync.ensures.time in
+    calls.tries (Write file 8 c.args.fields.now) c.write_at.result (λ _. Cut file 72 ∷ Sync file ∷ []) d0 d2 c.write_at.new.self two (g.met.D.Disk.only_now d2)
+    (g.met.D.Disk.reads_an_image d2) c.write_at.ensures.changes c.write_at.ensures.time

@@ -1,8 +1,10 @@
 use Rattle.std.specs.Prelude.{IfSome}
-use Rattle.std.proofs.Common.{List, ℕ, []}
+use Rattle.std.proofs.Common.{List, ℕ, [], ◌∷◌}
 use Rattle.crash_disk.specs.declared.file_no.FileNo.{FileNo}
 use Rattle.crash_disk.specs.declared.change.Change.TheVariants.{Write, Cut, Sync}
+use Rattle.crash_disk.specs.declared.change.Change.{Change}
 use Rattle.crash_disk.specs.Disk.{DiskState}
+use Rattle.crash_disk.proofs.Following as calls
 use Rattle.gate_journal.specs.Making.{IsAt, IsShort, IsBlankBeside, Changing}
 use Rattle.gate_journal.proofs.Lifting.{done, on_ok}
 use Rattle.gate_journal.proofs.Running.{Run, begins, tries, does}
@@ -67,3 +69,46 @@ returns-clause-ok g c = on_ok c.sync-2.result _ (λ x is other short.
     let run = was_written g at.In_ok-write_at other (was_synced g at.In_ok-sync other (was_cut g at.In_ok-cut other short)) in
     done (Sync c.args.file) (g.D.Disk.told c.write_at.new.self) (g.D.Disk.told c.sync-2.new.self) (Changed g c.args.file other c.args.head.now) (IsAt c.args.file c.args.head.now other) (rw is at c.sync-2.ensures.changes)
     (g.met.D.Disk.reads_an_image c.write_at.new.self) run.state (λ d reads is. changing-sync (IsBlankBeside c.args.file other) c.args.file c.args.head.now other d is))
+
+-- THE CHANGING CALLS
+
+abbrev Makes : (g : Over) → (DiskState → List Change) → (old new : g.row.D.Denot) → Type 0
+Makes g = calls.Made g.D.Disk.told g.D.Disk.moment g.D.Disk.left_since
+
+first_made : (g : Over) (c : In_ok-cut g) → Makes g (λ _. Cut c.args.file 0 ∷ []) c.args.disk.now c.cut.new.self
+first_made g c =
+    let d0 = c.args.disk.now in
+    calls.does (Cut c.args.file 0) (λ _. []) d0 d0 c.cut.new.self (calls.begins d0 (g.met.D.Disk.only_now d0)) (g.met.D.Disk.only_now d0) (g.met.D.Disk.reads_an_image d0)
+    c.in_ok-cut.ensures.changes c.cut.ensures.time
+
+second_made : (g : Over) (c : In_ok-sync g) → Makes g (λ _. Cut c.args.file 0 ∷ []) c.args.disk.now c.cut.new.self →
+    Makes g (λ _. Cut c.args.file 0 ∷ Sync c.args.file ∷ []) c.args.disk.now c.sync.new.self
+second_made g c one =
+    let d1 = c.cut.new.self in
+    calls.does (Sync c.args.file) (λ _. Cut c.args.file 0 ∷ []) c.args.disk.now d1 c.sync.new.self one (g.met.D.Disk.only_now d1) (g.met.D.Disk.reads_an_image d1)
+    c.in_ok-sync.ensures.changes c.sync.ensures.time
+
+third_made : (g : Over) (c : In_ok-write_at g) → Makes g (λ _. Cut c.args.file 0 ∷ Sync c.args.file ∷ []) c.args.disk.now c.sync.new.self →
+    Makes g (λ _. Cut c.args.file 0 ∷ Sync c.args.file ∷ Write c.args.file 0 c.args.head.now ∷ []) c.args.disk.now c.write_at.new.self
+third_made g c two =
+    let d2 = c.sync.new.self in
+    calls.does (Write c.args.file 0 c.args.head.now) (λ _. Cut c.args.file 0 ∷ Sync c.args.file ∷ []) c.args.disk.now d2 c.write_at.new.self two (g.met.D.Disk.only_now d2)
+    (g.met.D.Disk.reads_an_image d2) c.in_ok-write_at.ensures.changes c.write_at.ensures.time
+
+pub returns-in_err-write_at-clause-calls : goal.returns-in_err-write_at-clause-calls
+returns-in_err-write_at-clause-calls g c =
+    let at = goal.at.returns-in_err-write_at-clause-calls g c in
+    let two = second_made g at.In_ok-sync (first_made g at.In_ok-cut) in
+    let d2 = c.sync.new.self in
+    calls.fails _ c.in_err-write_at.field-0.0 c.from_residual-in_err-write_at.result (Write c.args.file 0 c.args.head.now)
+    (λ _. Cut c.args.file 0 ∷ Sync c.args.file ∷ []) (λ _. Sync c.args.file ∷ []) c.args.disk.now d2 c.write_at.new.self
+    c.from_residual-in_err-write_at.ensures.1 two (g.met.D.Disk.only_now d2) (g.met.D.Disk.reads_an_image d2) c.in_err-write_at.ensures.changes
+    c.write_at.ensures.time
+
+pub returns-clause-calls : goal.returns-clause-calls
+returns-clause-calls g c =
+    let at = goal.at.returns-clause-calls g c in
+    let three = third_made g at.In_ok-write_at (second_made g at.In_ok-sync (first_made g at.In_ok-cut)) in
+    let d3 = c.write_at.new.self in
+    calls.tries (Sync c.args.file) c.sync-2.result (λ _. Cut c.args.file 0 ∷ Sync c.args.file ∷ Write c.args.file 0 c.args.head.now ∷ []) c.args.disk.now d3 c.sync-2.new.self three
+    (g.met.D.Disk.only_now d3) (g.met.D.Disk.reads_an_image d3) c.sync-2.ensures.changes c.sync-2.ensures.time

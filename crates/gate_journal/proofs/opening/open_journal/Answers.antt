@@ -1,14 +1,19 @@
-use Rattle.std.specs.Prelude.{IfSome, Option, None, Some, Ok}
+use Rattle.std.specs.Prelude.{IfSome, Option, None, Some, Ok, Err}
 use Rattle.std.specs.Option.{option_map}
-use Rattle.std.proofs.Common.{◌≡◌, sym, ◌∙◌, ap, subst, rules}
+use Rattle.std.proofs.Common.{◌≡◌, sym, ◌∙◌, ap, subst, rules, List, ◌++◌, Result}
 use Rattle.crash_disk.specs.declared.file_no.FileNo.TheVariants.{Zero, One}
 use Rattle.crash_disk.specs.Disk.{DiskState, image_of, reads_of, settled_image}
 use Rattle.crash_disk.specs.Moments.{Leaves, LeavesOnly}
 use Rattle.crash_disk.specs.Steps.{then, weaker}
+use Rattle.crash_disk.proofs.Following as calls
 use Rattle.gate_journal.specs.Format.{file_of, joined}
 use Rattle.gate_journal.specs.Making.{IsMadeOrBlank, first_journal, read_of}
 use Rattle.gate_journal.specs.Opening.{Opens, IsEmptyOrNone}
 use Rattle.gate_journal.proofs.Opened.{if_some, if_none, leaves_nothing, untold_making, no_journal_told, opens_now, opens_synced, opens_making, own_found, own_made, synced_told}
+use Rattle.crash_disk.specs.declared.change.Change.{Change}
+use Rattle.gate_journal.specs.declared.fault.OpenFault.{OpenFault}
+use Rattle.gate_journal.specs.Calls.{syncing_both, making_first, opening}
+use Rattle.gate_journal.proofs.Planned.{nothing_there}
 use Rattle.gate_journal.proofs.opening.open_journal.Goals as goal
 use Rattle.gate_journal.proofs.opening.open_journal.Goals.{After-sync_both, After-load, After-load-2, In_ok-one, After-make_first}
 use Rattle.gate_journal.proofs.opening.open_journal.Given.{Over}
@@ -156,3 +161,32 @@ returns-in_ok-make_first-in-None-clause-untold g c =
     let one = untold_load g at.After-load is in
     let two = untold_loads g at.After-load-2 one.1 one.0 in
     then g.D.Disk.moment g.D.Disk.left_since c.args.disk.now c.load-2.new.disk c.make_first.new.disk IsEmptyOrNone (IsMadeOrBlank Zero first_journal (read_of (g.D.Disk.told c.load-2.new.disk) One)) IsEmptyOrNone two.1 c.make_first.ensures.moments (λ i p. p) (untold_making (g.D.Disk.told c.load-2.new.disk) two.0))
+
+-- THE CHANGING CALLS
+
+-- both files were synced and read, and no more
+both_synced : (g : Over) (c : In_ok-one g) → calls.Made g.D.Disk.told g.D.Disk.moment g.D.Disk.left_since (λ _. syncing_both) c.args.disk.now c.load-2.new.disk
+both_synced g c =
+    let plan : DiskState → List Change = λ _. syncing_both in
+    let d0 = c.args.disk.now in
+    let d1 = c.sync_both.new.disk in
+    let d2 = c.load.new.disk in
+    let one = calls.made c.in_ok-sync_both.field-0 plan d0 d1 c.in_ok-sync_both.ensures.calls in
+    let two = calls.waits plan d0 d1 d2 one c.load.ensures.same c.load.ensures.moments in
+    calls.waits plan d0 d2 c.load-2.new.disk two c.load-2.ensures.same c.load-2.ensures.moments
+
+pub returns-in_err-make_first-in-None-clause-calls : goal.returns-in_err-make_first-in-None-clause-calls
+returns-in_err-make_first-in-None-clause-calls g c =
+    let at = goal.at.returns-in_err-make_first-in-None-clause-calls g c in
+    let a = at.After-load-2 in
+    let d0 = c.args.disk.now in
+    let d3 = c.load-2.new.disk in
+    let new = c.make_first.new.disk in
+    let other = c.from_residual-in_err-make_first-in-None.result in
+    let failed : Result (Unit {0}) OpenFault = Err c.in_err-make_first-in-None.field-0.0 in
+    let first : DiskState → List Change = λ d. making_first (reads_of d Zero) in
+    calls.follows_same other (λ d. syncing_both ++ first d) opening d0 new
+    (nothing_there (g.D.Disk.told d0) (g.D.Disk.told d3) c.in_ok-zero.zero c.in_ok-one.one (if_some (g.D.Disk.told d0) _ (λ d is. same g a ∙ synced g a d is))
+    (zero_is g at.In_ok-one) (one_is g at.In_ok-one) (none_is g at.After-make_first))
+    (calls.hands_on {T = Unit {0}} _ c.in_err-make_first-in-None.field-0.0 other _ d0 new c.from_residual-in_err-make_first-in-None.ensures.1
+    (calls.then_follows failed (λ _. syncing_both) first d0 d3 new (both_synced g at.In_ok-one) c.in_err-make_first-in-None.ensures.calls))

@@ -2,11 +2,15 @@ use Rattle.std.specs.Prelude.{IfSome, Option, None}
 use Rattle.std.proofs.Common.{◌≡◌, ℕ, ◌<◌, ◌≤◌, List, [], ◌∷◌, length, refl, subst, sym}
 use Rattle.crash_disk.specs.declared.file_no.FileNo.TheVariants.{Zero, One}
 use Rattle.crash_disk.specs.Disk.{DiskState, overwritten, reads_of}
+use Rattle.crash_disk.proofs.Following as calls
 use Rattle.gate_journal.specs.Making.{IsBlankBeside, IsClosed, IsFilling, IsHolding, IsShort, IsWritten, Changing, read_of, first_journal}
 use Rattle.gate_journal.proofs.Lifting.{weaken, on_ok}
 use Rattle.gate_journal.proofs.Running.{Run, begins, looks, joins}
 use Rattle.gate_journal.proofs.Holding.{holding_none, holding_now, holding_short, none_blank, none_closed}
 use Rattle.gate_journal.proofs.First.{first_over, first_made}
+use Rattle.crash_disk.specs.declared.change.Change.{Change}
+use Rattle.gate_journal.specs.Calls.{putting_header, beginning, preparing_first}
+use Rattle.gate_journal.proofs.Planned.{first_short, first_long}
 use Rattle.gate_journal.proofs.opening.prepare_first.Goals as goal
 use Rattle.gate_journal.proofs.opening.prepare_first.Goals.{After-length}
 use Rattle.gate_journal.proofs.opening.prepare_first.Given.{Over}
@@ -63,3 +67,29 @@ returns-else-branch-lt-HEAD_LENGTH-clause-ok g c =
     let a = (goal.at.returns-else-branch-lt-HEAD_LENGTH-clause-ok g c).After-length in
     on_ok c.begin_anew.result _ (λ x is. weaken (g.D.Disk.told c.begin_anew.new.disk) (IsFilling Zero c.args.fields.now [] (other g a)) (IsWritten Zero first_journal (other g a))
     ((rw is at c.begin_anew.ensures.ok) (other g a) (closed g a c.in_ok-length.field-0 c.in_ok-length.ensures.length c.if-branch-lt-HEAD_LENGTH.false)) (λ d filling. first_over c.args.fields.now (other g a) d c.requires.fields filling))
+
+-- THE CHANGING CALLS
+
+-- once the length was asked for, nothing was changed
+asked : (g : Over) (c : After-length g) → calls.Made g.D.Disk.told g.D.Disk.moment g.D.Disk.left_since (λ _. []) c.args.disk.now c.length.new.self
+asked g c =
+    let d0 = c.args.disk.now in
+    calls.looks (λ _. []) d0 d0 c.length.new.self (calls.begins d0 (g.met.D.Disk.only_now d0)) (g.met.D.Disk.only_now d0) c.length.ensures.same c.length.ensures.time
+
+pub returns-then-branch-lt-HEAD_LENGTH-clause-calls : goal.returns-then-branch-lt-HEAD_LENGTH-clause-calls
+returns-then-branch-lt-HEAD_LENGTH-clause-calls g c =
+    let a = (goal.at.returns-then-branch-lt-HEAD_LENGTH-clause-calls g c).After-length in
+    let d0 = c.args.disk.now in
+    let plan : DiskState → List Change = λ _. putting_header Zero c.args.head.now in
+    calls.follows_same c.put_head.result plan (λ d. preparing_first (reads_of d Zero)) d0 c.put_head.new.disk
+    (first_short c.args.head.now c.in_ok-length.field-0 (g.D.Disk.told d0) c.in_ok-length.ensures.length c.if-branch-lt-HEAD_LENGTH.true c.requires.head)
+    (calls.then_follows c.put_head.result (λ _. []) plan d0 c.length.new.self c.put_head.new.disk (asked g a) c.put_head.ensures.calls)
+
+pub returns-else-branch-lt-HEAD_LENGTH-clause-calls : goal.returns-else-branch-lt-HEAD_LENGTH-clause-calls
+returns-else-branch-lt-HEAD_LENGTH-clause-calls g c =
+    let a = (goal.at.returns-else-branch-lt-HEAD_LENGTH-clause-calls g c).After-length in
+    let d0 = c.args.disk.now in
+    let plan : DiskState → List Change = λ _. beginning Zero c.args.fields.now in
+    calls.follows_same c.begin_anew.result plan (λ d. preparing_first (reads_of d Zero)) d0 c.begin_anew.new.disk
+    (first_long c.args.fields.now c.in_ok-length.field-0 (g.D.Disk.told d0) c.in_ok-length.ensures.length c.if-branch-lt-HEAD_LENGTH.false c.requires.fields)
+    (calls.then_follows c.begin_anew.result (λ _. []) plan d0 c.length.new.self c.begin_anew.new.disk (asked g a) c.begin_anew.ensures.calls)

@@ -1,13 +1,17 @@
 use Rattle.std.specs.Prelude.{IfSome, Option}
-use Rattle.std.proofs.Common.{◌≡◌, ℕ, ◌<◌, List, [], ◌∷◌, length, subst, sym}
+use Rattle.std.proofs.Common.{◌≡◌, ℕ, ◌<◌, List, [], ◌∷◌, length, subst, sym, ◌++◌}
 use Rattle.crash_disk.specs.declared.change.Change.TheVariants.{Sync}
 use Rattle.crash_disk.specs.Disk.{DiskState, overwritten, reads_of}
+use Rattle.crash_disk.proofs.Following as calls
 use Rattle.gate_journal.specs.Format.{Committed}
 use Rattle.gate_journal.specs.Making.{IsBeforeOrBlank, IsBlankBeside, IsClosed, IsHolding, IsShort, Changing}
 use Rattle.gate_journal.proofs.Lifting.{done, on_ok}
 use Rattle.gate_journal.proofs.Running.{Run, begins, looks, tries, joins}
 use Rattle.gate_journal.proofs.Holding.{holding_now, holding_short, blank_before}
 use Rattle.gate_journal.proofs.Heads.{head_synced}
+use Rattle.crash_disk.specs.declared.change.Change.{Change}
+use Rattle.gate_journal.specs.Calls.{putting_header, clearing}
+use Rattle.gate_journal.proofs.Planned.{cleared_short}
 use Rattle.gate_journal.proofs.remaking.clear.Goals as goal
 use Rattle.gate_journal.proofs.remaking.clear.Goals.{After-length, In_ok-put_head}
 use Rattle.gate_journal.proofs.remaking.clear.Given.{Over}
@@ -57,3 +61,37 @@ returns-clause-ok g c = on_ok c.sync.result _ (λ x is before other holding.
     let run = put g at.In_ok-put_head before other (looked g at.After-length before other holding) (short g at.After-length before other holding c.in_ok-length.field-0 c.in_ok-length.ensures.length c.if-branch-ge-HEAD.false) in
     done (Sync c.args.file) (g.D.Disk.told c.put_head.new.disk) (g.D.Disk.told c.sync.new.self) (Changing (IsBlankBeside c.args.file other) c.args.file (overwritten c.args.head.now 71 (0 ∷ [])) other) (IsClosed c.args.file other)
     (rw is at c.sync.ensures.changes) (g.met.D.Disk.reads_an_image c.put_head.new.disk) run.state (λ d reads is. head_synced c.args.file other c.args.head.now c.requires.head d is))
+
+-- THE CHANGING CALLS
+
+-- once the length was asked for, nothing was changed
+asked : (g : Over) (c : After-length g) → calls.Made g.D.Disk.told g.D.Disk.moment g.D.Disk.left_since (λ _. []) c.args.disk.now c.length.new.self
+asked g c =
+    let d0 = c.args.disk.now in
+    calls.looks (λ _. []) d0 d0 c.length.new.self (calls.begins d0 (g.met.D.Disk.only_now d0)) (g.met.D.Disk.only_now d0) c.length.ensures.same c.length.ensures.time
+
+pub returns-in_err-put_head-clause-calls : goal.returns-in_err-put_head-clause-calls
+returns-in_err-put_head-clause-calls g c =
+    let a = (goal.at.returns-in_err-put_head-clause-calls g c).After-length in
+    let d0 = c.args.disk.now in
+    let file = c.args.file in
+    let other = c.from_residual-in_err-put_head.result in
+    let plan : DiskState → List Change = λ _. putting_header file c.args.head.now in
+    calls.follows_same other (λ _. putting_header file c.args.head.now ++ Sync file ∷ []) (λ d. clearing file c.args.head.now (reads_of d file)) d0 c.put_head.new.disk
+    (cleared_short file c.args.head.now c.in_ok-length.field-0 (g.D.Disk.told d0) c.in_ok-length.ensures.length c.if-branch-ge-HEAD.false)
+    (calls.then_follows other (λ _. []) (λ _. putting_header file c.args.head.now ++ Sync file ∷ []) d0 c.length.new.self c.put_head.new.disk (asked g a)
+    (calls.breaks_off {T = Unit {0}} _ c.in_err-put_head.field-0.0 other plan (λ _. Sync file ∷ []) c.length.new.self c.put_head.new.disk
+    c.from_residual-in_err-put_head.ensures.1 c.in_err-put_head.ensures.calls))
+
+pub returns-clause-calls : goal.returns-clause-calls
+returns-clause-calls g c =
+    let a = (goal.at.returns-clause-calls g c).After-length in
+    let d0 = c.args.disk.now in
+    let d1 = c.length.new.self in
+    let d2 = c.put_head.new.disk in
+    let file = c.args.file in
+    let plan : DiskState → List Change = λ _. putting_header file c.args.head.now in
+    let put = calls.then_follows _ (λ _. []) plan d0 d1 d2 (asked g a) (calls.made c.in_ok-put_head.field-0 plan d1 d2 c.in_ok-put_head.ensures.calls) in
+    calls.follows_same c.sync.result (λ _. putting_header file c.args.head.now ++ Sync file ∷ []) (λ d. clearing file c.args.head.now (reads_of d file)) d0 c.sync.new.self
+    (cleared_short file c.args.head.now c.in_ok-length.field-0 (g.D.Disk.told d0) c.in_ok-length.ensures.length c.if-branch-ge-HEAD.false)
+    (calls.tries (Sync file) c.sync.result plan d0 d2 c.sync.new.self put (g.met.D.Disk.only_now d2) (g.met.D.Disk.reads_an_image d2) c.sync.ensures.changes c.sync.ensures.time)

@@ -1,5 +1,8 @@
 use Rattle.std.specs.Prelude.{All, IfSome, vec_capacity}
 use Rattle.std.proofs.Common.{◌≡◌, ℕ, ◌+◌, ◌^◌, ◌<◌, ◌≤◌, List, ◌++◌, length}
+use Rattle.crash_disk.specs.declared.change.Change.{Change}
+use Rattle.crash_disk.proofs.Following.{Made}
+use Rattle.gate_journal.specs.Calls.{filling, writing_bodies}
 use Rattle.gate_journal.specs.Format.{bodies_of}
 use Rattle.gate_journal.specs.Making.{IsBlankBeside, IsClosed, IsFilling}
 use Rattle.gate_journal.proofs.Running.{Run}
@@ -9,6 +12,8 @@ abbrev pub invariant-loop-record : goal.invariant-loop-record
 invariant-loop-record g l = record {
   written : (front : List ℕ) × (front ++ bodies_of l.left ≡ bodies_of l.records) × (l.at ≡ 72 + length front) × ((other : List ℕ) → IfSome (g.D.Disk.told l.fn.disk) (IsClosed l.file other)
       → Run g.D.Disk.told g.D.Disk.moment g.D.Disk.left_since (IsBlankBeside l.file other) l.fn.disk l.disk (IsFilling l.file l.fields front other));
+  calls : (front : List Change) × (front ++ writing_bodies l.file l.at l.left ≡ filling l.file l.fields l.records)
+      × Made g.D.Disk.told g.D.Disk.moment g.D.Disk.left_since (λ _. front) l.fn.disk l.disk;
   each : All (λ payload. length payload ≤ 1048576) l.left;
   room : All (λ payload. length payload + 5 ≤ vec_capacity l.body) l.left;
   never_falls : g.D.Disk.faults_of l.fn.disk ≤ g.D.Disk.faults_of l.disk;

@@ -1,9 +1,12 @@
-use Rattle.std.proofs.Common.{◌≡◌, ◌∙◌}
+use Rattle.std.proofs.Common.{◌≡◌, ◌∙◌, [], ◌∷◌}
 use Rattle.crash_disk.specs.Disk.{Image}
 use Rattle.crash_disk.specs.Moments.{Leaves, LeavesOnly}
 use Rattle.crash_disk.specs.Steps.{started, goes_on}
+use Rattle.crash_disk.proofs.Following as calls
 use Rattle.gate_journal.specs.Format.{body_of}
 use Rattle.gate_journal.proofs.Written.{Left, at_start, first_place, at_first, at_sync, second_place, at_second, at_return}
+use Rattle.crash_disk.specs.declared.change.Change.{Change}
+use Rattle.crash_disk.specs.declared.change.Change.TheVariants.{Write, Sync}
 use Rattle.gate_journal.proofs.writing.write_record.Goals as goal
 use Rattle.gate_journal.proofs.writing.write_record.Goals.{After-write_at, After-sync, After-write_at-2}
 use Rattle.gate_journal.proofs.writing.write_record.Given.{Over}
@@ -85,3 +88,23 @@ returns-clause-ok g c =
     let wrote = rw is at c.in_ok-write_at.ensures.changes in
     at_return c.args.file c.args.end c.args.gate c.args.payload.now (g.D.Disk.told c.args.disk.now) (g.D.Disk.told c.write_at.new.self) (g.D.Disk.told c.sync.new.self) (g.met.D.Disk.reads_an_image c.args.disk.now) c.requires.ready wrote
     c.in_ok-sync.ensures.changes (g.D.Disk.told c.write_at-2.new.self) (g.D.Disk.told c.sync-2.new.self) c.sync-2.result c.in_ok-write_at-2.ensures.changes c.sync-2.ensures.changes
+
+-- THE CHANGING CALLS
+
+pub returns-clause-calls : goal.returns-clause-calls
+returns-clause-calls g c =
+    let d0 = c.args.disk.now in
+    let d1 = c.write_at.new.self in
+    let d2 = c.sync.new.self in
+    let d3 = c.write_at-2.new.self in
+    let file = c.args.file in
+    let body : c.deref.result.now ≡ body_of c.args.payload.now = c.deref.ensures.value ∙ c.fill_body.ensures.body in
+    let first : Change = Write file c.args.end (body_of c.args.payload.now) in
+    let one = calls.does first (λ _. []) d0 d0 d1 (calls.begins d0 (g.met.D.Disk.only_now d0)) (g.met.D.Disk.only_now d0) (g.met.D.Disk.reads_an_image d0)
+    (rw body at c.in_ok-write_at.ensures.changes) c.write_at.ensures.time in
+    let two = calls.does (Sync file) (λ _. first ∷ []) d0 d1 d2 one (g.met.D.Disk.only_now d1) (g.met.D.Disk.reads_an_image d1)
+    c.in_ok-sync.ensures.changes c.sync.ensures.time in
+    let three = calls.does (Write file c.args.gate (1 ∷ [])) (λ _. first ∷ Sync file ∷ []) d0 d2 d3 two (g.met.D.Disk.only_now d2) (g.met.D.Disk.reads_an_image d2)
+    c.in_ok-write_at-2.ensures.changes c.write_at-2.ensures.time in
+    calls.tries (Sync file) c.sync-2.result (λ _. first ∷ Sync file ∷ Write file c.args.gate (1 ∷ []) ∷ []) d0 d3 c.sync-2.new.self three
+    (g.met.D.Disk.only_now d3) (g.met.D.Disk.reads_an_image d3) c.sync-2.ensures.changes c.sync-2.ensures.time

@@ -1,14 +1,19 @@
 use Rattle.std.specs.Prelude.{IfSome, Option, None, Some, Ok}
-use Rattle.std.proofs.Common.{◌≡◌, false, true, ℕ, ◌<◌, List, refl, sym, ◌∙◌, ap, subst, arith}
+use Rattle.std.proofs.Common.{◌≡◌, false, true, ℕ, ◌<◌, List, refl, sym, ◌∙◌, ap, subst, arith, [], ◌∷◌, ◌++◌}
 use Rattle.crash_disk.specs.declared.file_no.FileNo.{FileNo}
-use Rattle.crash_disk.specs.Disk.{IsSettled, image_of, reads_of}
+use Rattle.crash_disk.specs.Disk.{IsSettled, image_of, reads_of, DiskState}
 use Rattle.crash_disk.specs.Moments.{LeavesOnly}
 use Rattle.crash_disk.specs.Torn.{other_file}
-use Rattle.gate_journal.specs.Format.{Committed, Kept, journal, gate_of}
+use Rattle.crash_disk.proofs.Following as calls
+use Rattle.gate_journal.specs.Format.{Committed, Kept, journal, gate_of, letters}
 use Rattle.gate_journal.specs.Journal.{Opened, IsOwn, IsOldOrNew, made_anew}
-use Rattle.gate_journal.specs.Making.{IsBeforeOrMade, IsHolding, IsMade, fields_bytes}
+use Rattle.gate_journal.specs.Making.{IsBeforeOrMade, IsHolding, IsMade, fields_bytes, head_bytes}
 use Rattle.gate_journal.proofs.Owning.{own_is, own_broken, left_now_stands, old_or_new_ok}
 use Rattle.gate_journal.proofs.Beside.{holding_own, remade_moments, remade_own}
+use Rattle.crash_disk.specs.declared.change.Change.{Change}
+use Rattle.gate_journal.specs.Calls.{making_beside, remaking}
+use Rattle.gate_journal.specs.declared.header.Header.{Header}
+use Rattle.gate_journal.proofs.Lifting.{always}
 use Rattle.gate_journal.proofs.journal.Journal.make_anew.Goals as goal
 use Rattle.gate_journal.proofs.journal.Journal.make_anew.Goals.{After-make_beside, In_ok-make_beside}
 use Rattle.gate_journal.proofs.journal.Journal.make_anew.Given.{Over}
@@ -84,3 +89,52 @@ returns-clause-own g c =
     (subst (λ (f : FileNo). (before : Option Committed) (other : List ℕ) → IfSome told (IsHolding f before other) → IfSome now (IsMade f (holds g a) other)) (file_is g a)
     (λ before other holding. subst (λ (h : Committed). IfSome now (IsMade c.other_of-file.result h other)) (holds_is g a c.deref-6.result.now (payloads_are g a))
     (c.in_ok-make_beside.ensures.ok before c.args.header other (fields_are g a) c.requires.writable holding))))
+
+-- THE CHANGING CALLS
+
+module _ (g : Over) (c : After-make_beside g) where
+  abbrev made_header : Header
+  made_header = (holds g c).header
+
+  header_is : c.args.header ≡ made_header
+  header_is = λ i. record { generation = c.requires.generation i; horizon = c.args.header.horizon; next = c.args.header.next }
+
+  made_fields : c.deref-5.result.now ≡ fields_bytes made_header (gate_of c.args.kept.now)
+  made_fields = fields_are g c ∙ (λ i. fields_bytes (header_is i) (gate_of (payloads_are g c i)))
+
+  made_head : c.deref-4.result.now ≡ head_bytes made_header (gate_of c.args.kept.now)
+  made_head =
+      c.deref-4.ensures.value ∙ c.in_ok-head.ensures
+      ∙ ap (λ (fields : List ℕ). (0 ∷ []) ++ letters ++ fields) (c.deref-3.ensures.value ∙ sym c.deref-5.ensures.value ∙ made_fields)
+
+  -- the plan of the code, and that of the journal that is made
+  abbrev code_plan : DiskState → List Change
+  code_plan d =
+      making_beside c.other_of-file.result c.deref-4.result.now c.deref-5.result.now c.deref-6.result.now (reads_of d c.other_of-file.result)
+
+  abbrev made_plan : DiskState → List Change
+  made_plan = remaking (record { file = other_file (old g c).file; holds = holds g c })
+
+  plan_is : IfSome (g.D.Disk.told c.args.disk.now) (λ d. code_plan d ≡ made_plan d)
+  plan_is =
+      always (g.D.Disk.told c.args.disk.now) (λ d. code_plan d ≡ made_plan d)
+      (λ d i. making_beside (file_is g c i) (made_head i) (made_fields i) (payloads_are g c i) (reads_of d (file_is g c i)))
+
+pub returns-in_err-make_beside-clause-calls : goal.returns-in_err-make_beside-clause-calls
+returns-in_err-make_beside-clause-calls g c =
+    let a = (goal.at.returns-in_err-make_beside-clause-calls g c).After-make_beside in
+    let d0 = c.args.disk.now in
+    let new = c.make_beside.new.disk in
+    let other = c.from_residual-in_err-make_beside.result in
+    calls.follows_same other (code_plan g a) (made_plan g a) d0 new (plan_is g a)
+    (calls.hands_on {T = Unit {0}} _ c.in_err-make_beside.field-0.0 other (code_plan g a) d0 new c.from_residual-in_err-make_beside.ensures.1
+    c.in_err-make_beside.ensures.calls)
+
+pub returns-clause-calls : goal.returns-clause-calls
+returns-clause-calls g c =
+    let a = (goal.at.returns-clause-calls g c).After-make_beside in
+    let d0 = c.args.disk.now in
+    let new = c.make_beside.new.disk in
+    calls.answers tt (made_plan g a) d0 new
+    (calls.follows_same _ (code_plan g a) (made_plan g a) d0 new (plan_is g a)
+    (calls.made c.in_ok-make_beside.field-0 (code_plan g a) d0 new c.in_ok-make_beside.ensures.calls))

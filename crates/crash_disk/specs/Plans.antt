@@ -1,0 +1,33 @@
+-- Plans: changing calls in an order, and how far a run of calls of a disk went in one.
+use Rattle.std.specs.Prelude.{◌≡◌, ◌⊎◌, ℕ, List, [], ◌∷◌, Option, IfSome, IsSomeAnd, Result, Ok, Err}
+use Rattle.crash_disk.specs.declared.change.Change.{Change}
+use Rattle.crash_disk.specs.Disk.{Image, DiskState, MayLeave, LeavesAtMost, after, begun}
+use Rattle.crash_disk.specs.Moments.{LeavesOnly}
+
+-- the disk after all calls of a plan, each of which succeeded
+abbrev pub after_all : List Change → DiskState → DiskState
+after_all [] disk = disk
+after_all (change ∷ plan) disk = after_all plan (after change disk)
+
+-- A plan was begun: its calls were made in their order up to one, which was the last that succeeded, or failed.
+abbrev pub IsBegun : List Change → DiskState → DiskState → Type 0
+IsBegun [] disk now = now ≡ disk
+IsBegun (change ∷ plan) disk now = (now ≡ disk) ⊎ LeavesAtMost (begun change disk) now ⊎ IsBegun plan (after change disk) now
+
+-- A plan was carried out: all of it where the answer is Ok, and else a beginning.
+abbrev pub IsCarriedOut : {T E : Type 0} → Result T E → List Change → DiskState → DiskState → Type 0
+IsCarriedOut (Ok _) plan disk now = now ≡ after_all plan disk
+IsCarriedOut (Err _) plan disk now = IsBegun plan disk now
+
+-- A crash amid a plan may leave this image: before its first call, or in or behind one of its calls.
+abbrev pub LeftAmid : List Change → DiskState → Image → Type 0
+LeftAmid [] disk image = MayLeave disk image
+LeftAmid (change ∷ plan) disk image = MayLeave disk image ⊎ MayLeave (begun change disk) image ⊎ LeftAmid plan (after change disk) image
+
+-- From the old disk to the new one no changing calls were made but those of the plan for what the old disk tells: all of them,
+-- in their order, where the answer is Ok, and else a beginning of them. A crash at any moment leaves what one amid them leaves,
+-- so a call more shows even where it writes what stood there already.
+pub record Follows {D T E : Type 0} (told : D → Option DiskState) (moment : D → ℕ) (left_since : D → ℕ → Image → Type 0)
+    (plan : DiskState → List Change) (old new : D) (result : Result T E) : Type 0 where
+  pub ends : IfSome (told old) (λ disk. IsSomeAnd (told new) (IsCarriedOut result (plan disk) disk))
+  pub moments : IfSome (told old) (λ disk. LeavesOnly moment left_since old new (LeftAmid (plan disk) disk))
