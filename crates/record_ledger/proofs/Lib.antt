@@ -2,6 +2,7 @@ pub mod Words
 pub mod Numbers
 pub mod Records
 pub mod Committing
+pub mod Planned
 pub mod LoadLaws
 pub mod OpenLaws
 pub mod LinkRows

@@ -41,10 +41,10 @@ version_of image kept e =
     (λ c is. (committed-inverse image.zero c is).one_of) (λ c is. (committed-inverse image.one c is).one_of) e
 
 -- what was opened stands there, or is the first journal
-abbrev first : Kept
+abbrev pub first : Kept
 first = record { file = Zero; holds = first_journal }
 
-opened_cases : (found : Result (Option Kept) Fault) (kept : Kept) → opened found ≡ Ok kept → (found ≡ Ok (Some kept)) ⊎ ((found ≡ Ok None) × (first ≡ kept))
+pub opened_cases : (found : Result (Option Kept) Fault) (kept : Kept) → opened found ≡ Ok kept → (found ≡ Ok (Some kept)) ⊎ ((found ≡ Ok None) × (first ≡ kept))
 opened_cases (Ok None) kept e = inr (refl, cc)
 opened_cases (Ok (Some k)) kept e = inl (let same : k ≡ kept = cc in ap (λ (k : Kept). Ok (Some k)) same)
 opened_cases (Err fault) kept e = absurd (cc)
@@ -80,7 +80,7 @@ module _ {R : Type 0} (rules : RecordRules R) where
 
   -- ---- what is opened
 
-  held_first : held_of rules first ≡ Ok empty_ledger
+  pub held_first : held_of rules first ≡ Ok empty_ledger
   unfolding records_from
   held_first = refl
 

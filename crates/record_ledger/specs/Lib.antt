@@ -4,6 +4,7 @@ pub mod Keeping
 pub mod Loading
 pub mod Drafts
 pub mod Compacting
+pub mod Calls
 pub mod Choosing
 pub mod Linking
 pub mod Marks

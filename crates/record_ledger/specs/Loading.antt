@@ -1,9 +1,11 @@
 -- How the payloads of a journal are read.
 use Rattle.std.specs.Prelude.{◌≡◌, ◌⊎◌, ℕ, ◌<◌, ◌==◌, if◌then◌else◌, Bool, true, false, List, [], ◌∷◌, ◌++◌, length, map, All, Some, Result, Ok, Err}
-use Rattle.crash_disk.specs.Disk.{Image}
+use Rattle.crash_disk.specs.declared.change.Change.{Change}
+use Rattle.crash_disk.specs.Disk.{Image, DiskState}
 use Rattle.gate_journal.specs.declared.fault.OpenFault.{OpenFault}
 use Rattle.gate_journal.specs.declared.fault.OpenFault.TheVariants.{DiskFault, Foreign, NoMemory}
 use Rattle.gate_journal.specs.Format.{Kept, journal}
+use Rattle.gate_journal.specs.Calls.{remaking}
 use Rattle.gate_journal.specs.Journal.{made_anew}
 use Rattle.record_ledger.specs.declared.opening.Loaded.{Loaded}
 use Rattle.record_ledger.specs.Rules.{RecordRules, records_of}
@@ -17,6 +19,10 @@ IsVersion version = (version ≡ 1) ⊎ (version ≡ 2)
 abbrev pub in_version_2 : List (List ℕ) → Kept → Kept
 in_version_2 payloads kept =
     if kept.holds.version == 1 then made_anew payloads kept.holds.header.horizon kept.holds.header.next kept else kept
+
+-- the changing calls of that
+abbrev pub to_version_2 : List (List ℕ) → Kept → DiskState → List Change
+to_version_2 payloads kept disk = if kept.holds.version == 1 then remaking (in_version_2 payloads kept) disk else []
 
 module _ {R : Type 0} (rules : RecordRules R) where
   -- What these payloads stand for was read: their records, and their payloads of version 2 where they have version 1.

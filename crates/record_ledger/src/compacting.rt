@@ -3,6 +3,7 @@ ghost use Rattle.std.specs.Prelude.{◌≡◌, ◌<◌, ℕ, List, None, Ok, tru
 ghost use Rattle.crash_disk.specs.Moments.{LeavesOnly};
 ghost use Rattle.ledger_rules.specs.Kept.{selected};
 ghost use Rattle.gate_journal.specs.Opening.{open_fault_of, CausesFaults};
+ghost use Rattle.record_ledger.specs.Calls.{FollowsCompaction};
 ghost use Rattle.record_ledger.specs.Rules.{StandReady, records_of};
 ghost use Rattle.record_ledger.specs.Ledger.{IsOwn};
 ghost use Rattle.record_ledger.specs.Compacting.{AreFlags, Compacts, IsOldOrCompacted};
@@ -113,6 +114,7 @@ impl<S: Standing> RecordLedger<S> {
         // A crash at any moment of the call leaves the ledger from before it, or the one that is made anew.
         ensures moments { LeavesOnly D.moment D.left_since disk.old disk.new (IsOldOrCompacted S.rules now self.old.held) }
         ensures faults { CausesFaults result (D.faults_of disk.old) (D.faults_of disk.new) }
+        ensures calls { FollowsCompaction S.rules D.told D.moment D.left_since now self.old.held disk.old disk.new result }
     {
         S::laws_hold();
         let header = self.journal.header();

@@ -2,6 +2,8 @@
 ghost use Rattle.std.specs.Prelude.{◌≡◌, true, false, OnOk, OnErr};
 ghost use Rattle.crash_disk.specs.Counts.{CountsFaults};
 ghost use Rattle.crash_disk.specs.Moments.{LeavesOnly};
+ghost use Rattle.crash_disk.specs.Plans.{Follows};
+ghost use Rattle.record_ledger.specs.Calls.{committing};
 ghost use Rattle.record_ledger.specs.Rules.{AreRecords};
 ghost use Rattle.record_ledger.specs.Ledger.{CanCommit, IsOwn, IsWithOrWithout, held_with, next_number};
 
@@ -97,6 +99,7 @@ impl<S: Standing> RecordLedger<S> {
         // A crash at any moment of the call leaves the records from before it, with the new one or without.
         ensures moments { LeavesOnly D.moment D.left_since disk.old disk.new (IsWithOrWithout S.rules draft self.old.held) }
         ensures faults { CountsFaults result (D.faults_of disk.old) (D.faults_of disk.new) }
+        ensures calls { Follows D.told D.moment D.left_since (committing S.rules self.old.held draft) disk.old disk.new result }
     {
         self.journal.records_fit();
         let Drafted { entry, payload } = draft;

@@ -3,13 +3,15 @@ ghost use Rattle.std.specs.Prelude.{◌≡◌, ◌⊎◌, ◌≤◌, ◌<◌, �
 ghost use Rattle.owned_values.specs.Gives.{Gives};
 ghost use Rattle.crash_disk.specs.Disk.{Image, image_of};
 ghost use Rattle.crash_disk.specs.Moments.{Leaves, LeavesOnly};
+ghost use Rattle.crash_disk.specs.Plans.{Follows};
 ghost use Rattle.gate_journal.specs.Opening.{open_fault_of, CausesFaults};
 ghost use Rattle.gate_journal.specs.Journal.{Fits, IsOldOrNew};
 ghost use Rattle.gate_journal.specs.Journal.{IsOwn as IsJournalsOwn};
+ghost use Rattle.record_ledger.specs.Calls.{migrating, opening};
 ghost use Rattle.record_ledger.specs.Rules.{StandReady};
 ghost use Rattle.record_ledger.specs.Ledger.{IsOwn, LeftByOpening, held_of, ledger_in, some_held, taken};
 ghost use Rattle.record_ledger.specs.Keeping.{held_in, StandsFor};
-ghost use Rattle.record_ledger.specs.Loading.{CanLoad, IsLoaded, IsTakenFrom, IsVersion, LoadsOne, Loads, in_version_2};
+ghost use Rattle.record_ledger.specs.Loading.{CanLoad, IsLoaded, IsTakenFrom, IsVersion, LoadsOne, Loads, in_version_2, to_version_2};
 
 use crate::ledger::RecordLedger;
 use crate::standing::Standing;
@@ -115,6 +117,8 @@ fn to_version_2<D: Disk>(
     ensures own { OnOk result (IsJournalsOwn (D.told disk.new) journal.new) }
     ensures moments { LeavesOnly D.moment D.left_since disk.old disk.new (IsOldOrNew journal.old.kept (in_version_2 payloads.now journal.old.kept)) }
     ensures faults { CausesFaults result (D.faults_of disk.old) (D.faults_of disk.new) }
+    ensures calls { Follows D.told D.moment D.left_since
+        (to_version_2 payloads.now journal.old.kept) disk.old disk.new result }
 {
     match journal.version() {
         1 => journal.migrate(disk, payloads),
@@ -140,6 +144,7 @@ fn take<S: Standing, D: Disk>(
     ensures err { OnErr result ((image : Image) → Leaves (D.told disk.new) image → Leaves (D.told disk.old) image ⊎ IsOk (ledger_in S.rules image)) }
     ensures moments { LeavesOnly D.moment D.left_since disk.old disk.new (IsTakenFrom S.rules journal.kept) }
     ensures faults { CausesFaults result (D.faults_of disk.old) (D.faults_of disk.new) }
+    ensures calls { Follows D.told D.moment D.left_since (migrating S.rules (some_held (held_of S.rules journal.kept))) disk.old disk.new result }
 {
     S::laws_hold();
     journal.records_fit();
@@ -156,6 +161,7 @@ fn open_both<S: Standing, D: Disk>(alloc: Global, disk: &mut D) -> Result<(Journ
     ensures err { OnErr result (((image : Image) → Leaves (D.told disk.old) image → IsOk (ledger_in S.rules image)) → (image : Image) → Leaves (D.told disk.new) image → IsOk (ledger_in S.rules image)) }
     ensures moments { LeavesOnly D.moment D.left_since disk.old disk.new (LeftByOpening S.rules (D.told disk.old)) }
     ensures faults { CausesFaults result (D.faults_of disk.old) (D.faults_of disk.new) }
+    ensures calls { Follows D.told D.moment D.left_since (opening S.rules) disk.old disk.new result }
 {
     let journal = open_journal(alloc, disk)?;
     take::<S, D>(alloc, disk, journal)
@@ -179,6 +185,7 @@ impl<S: Standing> RecordLedger<S> {
         // A crash at any moment of the call leaves what an image at its start stood for, or what is opened from that.
         ensures moments { LeavesOnly D.moment D.left_since disk.old disk.new (LeftByOpening S.rules (D.told disk.old)) }
         ensures faults { CausesFaults result (D.faults_of disk.old) (D.faults_of disk.new) }
+        ensures calls { Follows D.told D.moment D.left_since (opening S.rules) disk.old disk.new result }
     {
         let (journal, standing) = open_both::<S, D>(alloc, disk)?;
         Ok(RecordLedger {
@@ -201,6 +208,7 @@ impl<S: Standing> RecordLedger<S> {
         // A crash at any moment of the call leaves what an image at its start stood for, or what is opened from that.
         ensures moments { LeavesOnly D.moment D.left_since disk.old disk.new (LeftByOpening S.rules (D.told disk.old)) }
         ensures faults { CausesFaults result (D.faults_of disk.old) (D.faults_of disk.new) }
+        ensures calls { Follows D.told D.moment D.left_since (opening S.rules) disk.old disk.new result }
     {
         match open_both::<S, D>(self.alloc, disk) {
             Ok((journal, standing)) => {

@@ -1,14 +1,21 @@
 use Rattle.std.specs.Prelude.{ℕ, IfSome, IfNone, IsOk, Option, None, Some}
-use Rattle.std.proofs.Common.{◌≡◌, ◌⊎◌, subst, Ok, refl, ⊎_elim}
+use Rattle.std.proofs.Common.{◌≡◌, ◌⊎◌, subst, Ok, refl, ⊎_elim, ◌++◌, ℕ}
 use Rattle.crash_disk.specs.Disk.{DiskState, Image, MayLeave, image_of}
 use Rattle.crash_disk.specs.Moments.{Leaves, LeavesOnly}
 use Rattle.crash_disk.specs.Steps.{then, weaker}
+use Rattle.crash_disk.proofs.Following as calls
 use Rattle.gate_journal.specs.Format.{journal}
 use Rattle.gate_journal.specs.Opening.{Opens, IsEmptyOrNone, opened}
+use Rattle.record_ledger.specs.Calls as plans
+use Rattle.record_ledger.specs.Calls.{migrating}
 use Rattle.record_ledger.specs.Rules.{RecordRules}
-use Rattle.record_ledger.specs.Ledger.{IsOpenedFrom, LeftByOpening, ledger_in}
+use Rattle.record_ledger.specs.Ledger.{IsOpenedFrom, LeftByOpening, ledger_in, held_of, some_held}
 use Rattle.record_ledger.specs.Loading.{IsTakenFrom}
 use Rattle.record_ledger.proofs.OpenLaws.{at_err, leaves_now, leaves_ok, on_err, opened_version, opens_image, taken_from, taken_opened}
+use Rattle.gate_journal.specs.Calls.{opening}
+use Rattle.crash_disk.specs.Plans.{after_all}
+use Rattle.gate_journal.specs.Journal.{Opened}
+use Rattle.record_ledger.proofs.Planned.{opening_is}
 use Rattle.record_ledger.proofs.opening.open_both.Goals as goal
 use Rattle.record_ledger.proofs.opening.open_both.Goals.{After-open_journal}
 use Rattle.record_ledger.proofs.opening.open_both.Given.{Over}
@@ -76,3 +83,24 @@ pub returns-clause-err : goal.returns-clause-err
 returns-clause-err g c =
     on_err c.take.result _ _ (λ (errs : (image : Image) → Leaves (g.D.Disk.told c.take.new.disk) image → Leaves (g.D.Disk.told c.open_journal.new.disk) image ⊎ IsOk (ledger_in g.S.Standing.rules image)) each image left.
     ⊎_elim (still_ok g (goal.at.returns-clause-err g c).After-open_journal each image) (λ ok. ok) (errs image left)) c.take.ensures.err
+
+-- THE CHANGING CALLS
+
+pub returns-in_err-journal-clause-calls : goal.returns-in_err-journal-clause-calls
+returns-in_err-journal-clause-calls g c =
+    calls.breaks_off {T = Opened} _ c.in_err-journal.field-0.0 c.from_residual.result opening
+    (λ d. migrating g.S.Standing.rules (ledger_in g.S.Standing.rules (image_of d)) d) c.args.disk.now c.open_journal.new.disk c.from_residual.ensures.1
+    c.in_err-journal.ensures.calls
+
+pub returns-clause-calls : goal.returns-clause-calls
+returns-clause-calls g c =
+    let rules = g.S.Standing.rules in
+    let d0 = c.args.disk.now in
+    let d1 = c.open_journal.new.disk in
+    let told = g.D.Disk.told d0 in
+    let kept = c.in_ok-journal.journal.kept in
+    let migration = migrating rules (some_held (held_of rules kept)) in
+    calls.follows_same c.take.result (λ d. opening d ++ migration (after_all (opening d) d)) (plans.opening rules) d0 c.take.new.disk
+    (if_some told (λ d. _) (λ d is. opening_is rules d kept (at_some told (λ d. opened (journal (image_of d)) ≡ Ok kept) d is c.in_ok-journal.ensures.gives)))
+    (calls.then_follows c.take.result opening migration d0 d1 c.take.new.disk (calls.made c.in_ok-journal.journal opening d0 d1 c.in_ok-journal.ensures.calls)
+    c.take.ensures.calls)

@@ -1,16 +1,26 @@
 use Rattle.std.proofs.Common.{◌≡◌, ◌∙◌, ℕ, List, None, false, true, max, inr, refl, sym, ap, subst, arith}
-use Rattle.crash_disk.specs.Disk.{Image}
+use Rattle.crash_disk.specs.Disk.{Image, DiskState}
 use Rattle.crash_disk.specs.Steps.{weaker}
+use Rattle.crash_disk.proofs.Following as calls
 use Rattle.gate_journal.specs.declared.header.Header.{Header}
 use Rattle.gate_journal.specs.Journal.{Opened as OpenedJournal, Fits, IsOldOrNew, made_anew}
 use Rattle.gate_journal.proofs.Owning.{left_now_stands}
 use Rattle.record_ledger.specs.Ledger.{Held, Opened, next_number}
 use Rattle.record_ledger.specs.Keeping.{held_in, opened_of, StandsFor}
 use Rattle.record_ledger.specs.Compacting.{IsCompacted, IsOldOrCompacted}
-use Rattle.record_ledger.proofs.Committing.{ledgers_own, journals_own, own_broken}
+use Rattle.record_ledger.proofs.Committing.{ledgers_own, journals_own, own_broken, its_kept}
 use Rattle.record_ledger.proofs.KeptRecords.{kept_are_records}
 use Rattle.record_ledger.proofs.CompactSteps.{its_read, stands_anew, compacted, leads, old_or_compacted_ok}
-use Rattle.record_ledger.specs.Rules.{StandReady}
+use Rattle.record_ledger.specs.Rules.{StandReady, RecordRules}
+use Rattle.gate_journal.proofs.Lifting.{always}
+use Rattle.gate_journal.specs.Calls.{remaking}
+use Rattle.gate_journal.specs.Format.{Kept}
+use Rattle.record_ledger.specs.Calls.{compacting}
+use Rattle.record_ledger.proofs.ledger.RecordLedger.compact.Goals.{After-compact}
+use Rattle.record_ledger.proofs.ledger.RecordLedger.compact.Given.{Over}
+use Rattle.std.specs.Prelude.{Result, Err}
+use Rattle.gate_journal.specs.declared.fault.OpenFault.{OpenFault}
+use Rattle.gate_journal.specs.declared.fault.OpenFault.TheVariants.{DiskFault}
 use Rattle.record_ledger.proofs.ledger.RecordLedger.compact.Goals as goal
 
 pub choose-requires : goal.choose-requires
@@ -118,3 +128,63 @@ returns-in-Err-DiskFault-clause-moments g c =
     (leads g.S.Standing.rules (StandReady g.S.Standing.row_rules) (kept_are_records g.S.Standing.rules c.laws_hold.ensures.kept) c.args.now kept c.self.inside.standing c.self.invariant.0 c.in_ok-payloads.field-0.payloads.items c.in_ok-payloads.field-0.standing c.in_ok-payloads.ensures horizon next
     (c.max-horizon.ensures ∙ ap (λ (h : Header). max h.horizon c.args.now) c.header-header.ensures) (c.next_number-next.ensures ∙ sym (ap (next_number g.S.Standing.rules) held)) (omega (arith, c.if-header.false, ap (λ (h : Header). h.generation) c.header-header.ensures))
     c.args.self.now.held held c.deref.result.now c.deref.ensures.value)
+
+-- THE CHANGING CALLS
+
+module _ (g : Over) (c : After-compact g) where
+  abbrev rules : RecordRules g.row.S-Record.Denot
+  rules = g.S.Standing.rules
+
+  abbrev kept : Kept
+  kept = c.self.inside.journal.kept
+
+  -- the journal that is made, and the ledger in it
+  abbrev anew : Kept
+  anew = made_anew c.in_ok-payloads.field-0.payloads.items c.max-horizon.result c.next_number-next.result kept
+
+  is_compacted : IsCompacted rules c.args.now c.args.self.now.held (held_in rules anew)
+  is_compacted =
+      let held : held_in rules kept ≡ c.args.self.now.held = ap (λ (l : Opened g.row.S-Record.Denot g.row.S.Denot). l.held) c.self.view_is in
+      subst (λ (h : Held g.row.S-Record.Denot). IsCompacted rules c.args.now h (held_in rules anew)) held
+      (compacted rules (StandReady g.S.Standing.row_rules) (kept_are_records rules c.laws_hold.ensures.kept) c.args.now kept c.self.inside.standing
+      c.self.invariant.0 c.in_ok-payloads.field-0.payloads.items c.in_ok-payloads.field-0.standing c.in_ok-payloads.ensures c.max-horizon.result
+      c.next_number-next.result (c.max-horizon.ensures ∙ ap (λ (h : Header). max h.horizon c.args.now) c.header-header.ensures)
+      (c.next_number-next.ensures ∙ sym (ap (next_number rules) held)))
+
+  -- the plan of the journal is that of the ledger
+  planned : (d : DiskState) → remaking (made_anew c.deref.result.now c.max-horizon.result c.next_number-next.result kept) d ≡ compacting rules (held_in rules anew) d
+  planned d =
+      ap (λ (ps : List (List ℕ)). remaking (made_anew ps c.max-horizon.result c.next_number-next.result kept) d) c.deref.ensures.value
+      ∙ ap (λ (k : Kept). remaking k d)
+      (sym (its_kept rules (StandReady g.S.Standing.row_rules) anew c.in_ok-payloads.field-0.standing
+      (stands_anew rules (StandReady g.S.Standing.row_rules) (kept_are_records rules c.laws_hold.ensures.kept) c.args.now kept c.self.inside.standing
+      c.self.invariant.0 c.in_ok-payloads.field-0.payloads.items c.in_ok-payloads.field-0.standing c.in_ok-payloads.ensures c.max-horizon.result
+      c.next_number-next.result)))
+
+pub returns-in-Ok-clause-calls : goal.returns-in-Ok-clause-calls
+returns-in-Ok-clause-calls g c =
+    let a = (goal.at.returns-in-Ok-clause-calls g c).After-compact in
+    let d0 = c.args.disk.now in
+    let new = c.compact.new.disk in
+    let plan = remaking (made_anew c.deref.result.now c.max-horizon.result c.next_number-next.result (kept g a)) in
+    inr (
+      held_in g.S.Standing.rules (anew g a),
+      is_compacted g a,
+      calls.answers tt (compacting g.S.Standing.rules (held_in g.S.Standing.rules (anew g a))) d0 new
+          (calls.follows_same _ plan (compacting g.S.Standing.rules (held_in g.S.Standing.rules (anew g a))) d0 new (always (g.D.Disk.told d0) _ (planned g a))
+          (calls.made c.in-Ok.field-0 plan d0 new c.in-Ok.ensures.calls)),
+    )
+
+pub returns-in-Err-DiskFault-clause-calls : goal.returns-in-Err-DiskFault-clause-calls
+returns-in-Err-DiskFault-clause-calls g c =
+    let a = (goal.at.returns-in-Err-DiskFault-clause-calls g c).After-compact in
+    let d0 = c.args.disk.now in
+    let new = c.compact.new.disk in
+    let plan = remaking (made_anew c.deref.result.now c.max-horizon.result c.next_number-next.result (kept g a)) in
+    let failed : Result (Unit {0}) OpenFault = Err DiskFault in
+    inr (
+      held_in g.S.Standing.rules (anew g a),
+      is_compacted g a,
+      calls.follows_same failed plan (compacting g.S.Standing.rules (held_in g.S.Standing.rules (anew g a))) d0 new (always (g.D.Disk.told d0) _ (planned g a))
+          (calls.hands_on {T = Unit {0}} (λ _. Unit {0}) c.in-Err-DiskFault.field-0 failed plan d0 new tt c.in-Err-DiskFault.ensures.calls),
+    )

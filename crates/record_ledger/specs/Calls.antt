@@ -1,0 +1,36 @@
+-- Which changing calls of a disk the calls of a ledger make, in their order.
+use Rattle.std.specs.Prelude.{ℕ, ◌⊎◌, ◌==◌, if◌then◌else◌, List, [], ◌++◌, Option, None, Some, Result, Ok, Err}
+use Rattle.crash_disk.specs.declared.change.Change.{Change}
+use Rattle.crash_disk.specs.Disk.{Image, DiskState, image_of}
+use Rattle.crash_disk.specs.Plans.{Follows}
+use Rattle.gate_journal.specs.Format.{Fault}
+use Rattle.gate_journal.specs.Calls as journals
+use Rattle.record_ledger.specs.Rules.{RecordRules}
+use Rattle.record_ledger.specs.Ledger.{Held, ledger_in, migrated, kept_of}
+use Rattle.record_ledger.specs.Compacting.{IsCompacted}
+
+module _ {R : Type 0} (rules : RecordRules R) where
+  -- a ledger of version 1 is made anew in version 2
+  abbrev pub migrating : Result (Option (Held R)) Fault → DiskState → List Change
+  migrating (Ok None) disk = []
+  migrating (Ok (Some held)) disk = if held.version == 1 then journals.remaking (kept_of rules (migrated held)) disk else []
+  migrating (Err fault) disk = []
+
+  -- What an opening makes, also one again: that of the journal, and then the migration of a version 1.
+  abbrev pub opening : DiskState → List Change
+  opening disk = journals.opening disk ++ migrating (ledger_in rules (image_of disk)) disk
+
+  -- What a compaction makes: the new ledger, in the other file.
+  abbrev pub compacting : (made : Held R) → DiskState → List Change
+  compacting made disk = journals.remaking (kept_of rules made) disk
+
+  -- What a commit makes: it writes the record behind those that are there.
+  abbrev pub committing : Held R → R → DiskState → List Change
+  committing held r disk = journals.appending (kept_of rules held) (rules.bytes 2 r)
+
+  -- No changing call was made, or those of one compaction at a moment, as far as the answer says.
+  abbrev pub FollowsCompaction : {D T E : Type 0} → (D → Option DiskState) → (D → ℕ) → (D → ℕ → Image → Type 0) → (now : ℕ) → Held R →
+      (old new : D) → Result T E → Type 0
+  FollowsCompaction told moment left_since now held old new result =
+      Follows told moment left_since (λ _. []) old new result
+      ⊎ ((made : Held R) × IsCompacted rules now held made × Follows told moment left_since (compacting made) old new result)
