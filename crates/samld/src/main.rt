@@ -13,6 +13,7 @@ use saml_commands::{Status, run};
 use saml_outside::{NoMemory, Text};
 use std::alloc::Global;
 use std::env::Args;
+use std::fs::File;
 use std::io::ErrorKind;
 use std::net::Net;
 use std::process::ExitCode;
@@ -41,8 +42,8 @@ fn words<R: Env + AllocGlobal>(rt: &R) -> Result<Vec<Text>, NoMemory> {
     }
 }
 
-// Makes the real objects and runs the program over them.
-fn run_over<R: Env + Files + Clock + Net + Print + AllocGlobal>(rt: &R) -> Status {
+// Makes the real objects and runs the program over them. What was sent and did not yet go out goes out before it ends.
+fn run_over<R: Env + Files<File = File> + Clock + Net + Print + AllocGlobal>(rt: &R) -> Status {
     let Ok(words) = words(rt) else {
         return Status::NoMemory;
     };
@@ -51,7 +52,7 @@ fn run_over<R: Env + Files + Clock + Net + Print + AllocGlobal>(rt: &R) -> Statu
     let mut clock = SystemClock::new(rt);
     let mut files = FsFiles::new(rt);
     let mut out = StdoutSink::new(io::writer(rt));
-    run(
+    let status = run(
         rt.alloc(),
         &words,
         &mut link,
@@ -59,7 +60,9 @@ fn run_over<R: Env + Files + Clock + Net + Print + AllocGlobal>(rt: &R) -> Statu
         &mut clock,
         &mut files,
         &mut out,
-    )
+    );
+    link.finish();
+    status
 }
 
 // The exit status that says how a run ended.

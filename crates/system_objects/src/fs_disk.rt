@@ -4,7 +4,7 @@ ghost use Rattle.std.specs.Io.KnownBytes.{Consumes, IsAtEnd};
 
 use crate::faults::counted;
 use crash_disk::{Disk, Failed, FileNo};
-use std::fs::{OpenFile, OpenOptions};
+use std::fs::{File, OpenFile, OpenOptions};
 use std::io::{ErrorKind, Read, Seek, SeekFrom, Write};
 use std::os::unix::fs::OpenOptionsExt;
 use std::{fs, io, rt};
@@ -29,7 +29,7 @@ struct Journals<F> {
 }
 
 // Opens a file for reading and writing, and makes it where it is absent, for its owner alone.
-fn open_file<R: rt::Files>(rt: &R, name: &str) -> io::Result<Journal<R::File>> {
+fn open_file<R: rt::Files<File = File>>(rt: &R, name: &str) -> io::Result<Journal<File>> {
     let file = OpenOptions::new()
         .read(true)
         .write(true)
@@ -39,20 +39,22 @@ fn open_file<R: rt::Files>(rt: &R, name: &str) -> io::Result<Journal<R::File>> {
     Ok(Journal { file, lost: false })
 }
 
-// Opens both files, and syncs the folder, so that a crash leaves them there.
-fn open_both<R: rt::Files>(rt: &R) -> io::Result<Journals<R::File>> {
+// Opens both files, and syncs the folder, so that a crash leaves them there. The first is locked before the second is opened:
+// where another process has it locked, nothing else is done.
+fn open_both<R: rt::Files<File = File>>(rt: &R) -> io::Result<Journals<File>> {
     let zero = open_file(rt, NAME_ZERO)?;
+    zero.file.try_lock()?;
     let one = open_file(rt, NAME_ONE)?;
     fs::open(rt, ".")?.sync_all()?;
     Ok(Journals { zero, one })
 }
 
 // The file of that number. Both are opened where they are not yet.
-fn opened<'f, R: rt::Files>(
+fn opened<'f, R: rt::Files<File = File>>(
     rt: &R,
-    files: &'f mut Option<Journals<R::File>>,
+    files: &'f mut Option<Journals<File>>,
     file: FileNo,
-) -> io::Result<&'f mut Journal<R::File>> {
+) -> io::Result<&'f mut Journal<File>> {
     let both = match files {
         Some(both) => both,
         None => files.insert(open_both(rt)?),
@@ -121,19 +123,21 @@ impl<F: Read + Write + Seek + OpenFile> Journal<F> {
 /// The files `journal.0` and `journal.1` of the current folder, with a count of the calls that failed. It does not tell
 /// what they hold.
 ///
-/// The first call opens both files and makes those that are absent, empty and for their owner alone; where that fails
-/// the call fails, and the next one tries again. A crash after it leaves both in the folder. A sync waits until the
+/// The first call opens both files and makes those that are absent, empty and for their owner alone. Before it opens
+/// `journal.1`, and before anything is read or written, it locks `journal.0` for itself; the system gives the lock back when
+/// the process ends, however it ends. Where any of that fails, or another process has the lock, the call fails, and the next
+/// one tries again. A crash after it leaves both files in the folder. A sync waits until the
 /// system has written the file to its device. After a sync that failed each further sync of that file fails too, since
 /// the system may have dropped what it could not write and still read it from memory: what the device holds is known
 /// again once the system itself was started anew.
 #[derive(Drop)]
-pub struct FsDisk<'a, R: rt::Files> {
+pub struct FsDisk<'a, R> {
     rt: &'a R,
-    files: Option<Journals<R::File>>,
+    files: Option<Journals<File>>,
     faults: u64,
 }
 
-impl<'a, R: rt::Files> FsDisk<'a, R> {
+impl<'a, R: rt::Files<File = File>> FsDisk<'a, R> {
     /// The disk of this runtime, with no file opened and no fault so far.
     pub fn new(rt: &'a R) -> FsDisk<'a, R>
         ensures { result.faults ≡ 0 }
@@ -146,7 +150,7 @@ impl<'a, R: rt::Files> FsDisk<'a, R> {
     }
 }
 
-impl<R: rt::Files> Disk for FsDisk<'_, R> {
+impl<R: rt::Files<File = File>> Disk for FsDisk<'_, R> {
     ghost told = { λ _. None };
 
     ghost tells = { false };

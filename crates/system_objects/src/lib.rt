@@ -25,6 +25,8 @@
 mod faults;
 mod fs_disk;
 mod fs_files;
+mod server;
+mod sockets;
 mod stdout_sink;
 #[cfg(test)]
 mod stream_tests;

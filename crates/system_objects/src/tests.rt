@@ -38,7 +38,7 @@ fn write(rt: &HostRuntime) -> Result<(), Failed> {
 }
 
 #[test]
-fn a_disk_keeps_what_was_written_and_cut(rt: HostRuntime) -> Result<(), Fail> {
+fn a_disk_keeps_what_was_written_and_cut_and_is_one_at_a_time(rt: HostRuntime) -> Result<(), Fail> {
     write(&rt)?;
     let mut disk = FsDisk::new(&rt);
     let rows = [
@@ -53,6 +53,13 @@ fn a_disk_keeps_what_was_written_and_cut(rt: HostRuntime) -> Result<(), Fail> {
         assert_eq!(rt; read_of(&mut disk, file, at), wanted, "at {at}");
     }
     assert_eq!(rt; disk.faults(), 1);
+    let mut second = FsDisk::new(&rt);
+    assert_eq!(rt; second.length(FileNo::Zero), Err(Failed));
+    assert_eq!(rt; second.write_at(FileNo::One, 0, b"x"), Err(Failed));
+    assert_eq!(rt; second.faults(), 2);
+    drop(disk);
+    assert_eq!(rt; second.length(FileNo::Zero), Ok(5));
+    assert_eq!(rt; second.length(FileNo::One), Ok(3));
     assert_eq!(rt; fs::read(&rt, NAMES[0])?.as_slice(), b"abCde".as_slice());
     for name in NAMES {
         fs::remove_file(&rt, name)?;
