@@ -6,8 +6,7 @@ use Rattle.xml_spec.specs.Tree.{Nodes}
 use Rattle.xml_spec.specs.Content.{ContentAttribute, Contents, NoContents, ElementContent, content}
 use Rattle.saml_names.specs.Names.{saml}
 use Rattle.saml_names.specs.Uris.{password}
-use Rattle.sig_reference.specs.Form.{Parts}
-use Rattle.sig_reference.specs.Signature.{Vouches}
+use Rattle.sig_reference.specs.Form.{Parts, HasForm}
 use Rattle.sig_reference.specs.Signing.{CanBeSigned, has_no_signature}
 use Rattle.tree_read.specs.Children as walk
 use Rattle.tree_read.specs.Texts.{trimmed}
@@ -258,8 +257,8 @@ pub can_be_signed : (l : Login) (made : Made) → IsAssertionOf l made → CanBe
 can_be_signed l made is can =
     subst CanBeSigned (sym is.is) (record { id = can.id; issuer = refl; unsigned = none_signed l.attributes })
 
-pub login_vouched : (key : List ℕ) (l : Login) (made : Made) (tree : Nodes) → IsAssertionOf l made → CanBeRead l → (parts : Parts) → Vouches key tree 0 parts →
+pub login_signed : (l : Login) (made : Made) (tree : Nodes) → IsAssertionOf l made → CanBeRead l → (parts : Parts) → HasForm tree 0 parts →
     content tree 0 (Some parts.signature) ≡ content (tree_of made) 0 None → login_at tree 0 ≡ Some l
-login_vouched key l made tree is can parts vouches same =
-    ap (λ o. login (content tree 0 o)) (ap (λ (children : List walk.Child). first (walk.named signature children)) vouches.form.children)
+login_signed l made tree is can parts form same =
+    ap (λ o. login (content tree 0 o)) (ap (λ (children : List walk.Child). first (walk.named signature children)) form.children)
     ∙ ap login same ∙ content_said l made is can

@@ -9,7 +9,7 @@ ghost use Rattle.xml_spec.specs.Identifiers.{IsSingle};
 ghost use Rattle.xml_spec.specs.Content.{content};
 ghost use Rattle.canon_laws.specs.Writable.{IsWritable};
 ghost use Rattle.element_make.specs.Made.{Made, IsMade, tree_of, written};
-ghost use Rattle.sig_reference.specs.Form.{Parts};
+ghost use Rattle.sig_reference.specs.Form.{Parts, HasForm};
 ghost use Rattle.sig_reference.specs.Signature.{Vouches, VouchesFirst};
 ghost use Rattle.sig_reference.specs.Signing.{signed};
 ghost use Rattle.sig_reference.specs.Vouching.{VouchedView, IsVouched, IsIn};
@@ -39,7 +39,13 @@ pub fn the_signature_left_out_vouches()
     ensures { (key : List ℕ) (tree : Nodes) (e : ℕ) (parts : Parts) → Vouches key tree e parts → own_signature tree e ≡ Some parts.signature }
 {}
 
-/// The same, where the Signature stands in front (SAML Metadata, 3.1).
+/// The Signature that is left out of an element is the one of the form that is asked for, where it has one.
+pub fn the_signature_of_the_form_is_left_out()
+    ensures { (tree : Nodes) (e : ℕ) (parts : Parts) → HasForm tree e parts →
+        own_signature tree e ≡ Some parts.signature }
+{}
+
+/// The same of one that vouches, where the Signature stands in front (SAML Metadata, 3.1).
 pub fn the_first_signature_left_out_vouches()
     ensures { (key : List ℕ) (tree : Nodes) (e : ℕ) (parts : Parts) → VouchesFirst key tree e parts → own_signature tree e ≡ Some parts.signature }
 {}
@@ -92,5 +98,5 @@ pub fn a_made_assertion_is_read()
 {
     xml_spec::no_bytes_spell_two_trees();
     element_make::a_made_element_spells_its_tree();
-    sig_reference::laws::what_is_signed_is_vouched_for();
+    sig_reference::laws::what_is_signed_says_the_same();
 }

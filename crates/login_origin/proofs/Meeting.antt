@@ -54,7 +54,7 @@ module _ (config : SpConfig) (now : ℕ) (body : List ℕ) (b : Brought) (brings
     spelled = brings.carries.spelled.spells;
     named = brings.carries.spelled.names;
     form = brings.covered.first.vouches.form;
-    digest = brings.covered.first.vouches.digest;
+    digest = brings.covered.first.vouches.digest.digest;
   }
 
   pub premises_are_met : (issued : List Signed) × AllByRecursion IsSigned issued × Unforged issued config now body × NoCollision issued body

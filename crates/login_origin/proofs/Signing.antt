@@ -2,9 +2,6 @@
 use Rattle.std.proofs.Common.{◌≡◌, ℕ, ◌⊎◌, ◌&&◌, Bool, true, false, cond, List, [], ◌∷◌, None, Some, refl, sym, ap, ◌∙◌, subst, inl, inr}
 use Rattle.std.specs.Prelude.{Contains}
 use Rattle.std.specs.List.{AllByRecursion}
-use Rattle.std.specs.Str.{bytes_eq}
-use Rattle.std.proofs.lemmas.Slice.Eq.{bytes_eq-Decides}
-use Rattle.hmac_sha256.specs.Hmac.{hmac}
 use Rattle.xml_spec.specs.Tree.{Nodes}
 use Rattle.xml_spec.specs.Numbering.{from_node}
 use Rattle.xml_spec.specs.Names.{HasNames}
@@ -15,7 +12,8 @@ use Rattle.xml_spec.proofs.Tests.{both_true}
 use Rattle.canon_laws.proofs.Equal.{equal_forms}
 use Rattle.saml_tree.specs.Elements.{IsElement}
 use Rattle.sig_reference.specs.Form.{Parts, HasForm}
-use Rattle.sig_reference.specs.Signature.{IsTagged}
+use Rattle.sig_reference.specs.Signature.{IsTagged, is_tagged}
+use Rattle.sig_reference.proofs.Tagging.{test_tagged}
 use Rattle.assertion_model.proofs.ValueLemmas.{element_begins}
 use Rattle.request_rows.specs.declared.row.AskedRow.{AskedRow}
 use Rattle.request_rows.specs.Rows.{RowsView}
@@ -82,14 +80,14 @@ tagged : (keys : List Key) (tree : Nodes) (parts : Parts) (key : Key) → taggin
     Contains keys key × IsTagged key.bytes tree parts
 tagged [] tree parts key e = absurd (let clash : None ≡ Some key = e in cc)
 tagged (k ∷ keys) tree parts key e =
-    which (bytes_eq parts.tag (hmac k.bytes (canonical tree parts.signed_info None parts.info_prefixes))) refl e (tagged keys tree parts key)
+    which (is_tagged k.bytes tree parts) refl e (tagged keys tree parts key)
   where
-    which : (b : Bool) → bytes_eq parts.tag (hmac k.bytes (canonical tree parts.signed_info None parts.info_prefixes)) ≡ b →
+    which : (b : Bool) → is_tagged k.bytes tree parts ≡ b →
         cond b (Some k) (tagging keys tree parts) ≡ Some key → (tagging keys tree parts ≡ Some key → Contains keys key × IsTagged key.bytes tree parts) →
         Contains (k ∷ keys) key × IsTagged key.bytes tree parts
     which true h e later =
         let same : k ≡ key = cc in
-        let made = (bytes_eq-Decides parts.tag (hmac k.bytes (canonical tree parts.signed_info None parts.info_prefixes))).0 h in
+        let made = test_tagged k.bytes tree parts h in
         (subst (Contains (k ∷ keys)) same (contains_first k keys), subst (λ (l : Key). IsTagged l.bytes tree parts) same made)
     which false h e later = let found = later e in (contains_behind k key keys found.0, found.1)
 
@@ -138,11 +136,11 @@ login_was_signed issued config now body b all unforged apart brings =
     let post = posted config now body b brings in
     let here = is_posted config now body b brings in
     let key = tagged (usable config now) b.carried.tree first.parts b.key first.tagged in
-    let made = unforged post b.key here key.0 key.1 in
+    let made = unforged post b.key here key.0 key.1.tag in
     let s = made.0 in
     let is = contained IsSigned issued s all made.1 in
     let digest = same_digest s post (signed_is_formed s is) (is_formed config now body b brings) made.2 in
-    let texts = apart post s here made.1 (sym first.vouches.digest ∙ sym digest ∙ is.digest) in
+    let texts = apart post s here made.1 (sym first.vouches.digest.digest ∙ sym digest ∙ is.digest) in
     let same =
     same_login s post s.parts.element_prefixes first.parts.element_prefixes (signed_is_formed s is) (is_formed config now body b brings) (sym texts)
     in

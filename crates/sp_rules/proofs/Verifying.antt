@@ -1,16 +1,13 @@
 -- Under which key a signature vouches.
 use Rattle.std.proofs.Common.{◌≡◌, ℕ, Bool, true, false, cond, List, [], ◌∷◌, None, Some, Result, Ok, Err, IfOk, IfErr, refl, ◌∙◌, ap, subst}
-use Rattle.std.specs.Str.{bytes_eq}
-use Rattle.std.proofs.lemmas.Slice.Eq.{bytes_eq-Decides}
-use Rattle.hmac_sha256.specs.Hmac.{hmac}
 use Rattle.xml_spec.specs.Tree.{Nodes}
-use Rattle.xml_spec.specs.Canonical.{canonical}
 use Rattle.sig_reference.specs.Form.{Parts, HasForm}
-use Rattle.sig_reference.specs.Signature.{Vouches, IsUnvouched, IsTagged}
+use Rattle.sig_reference.specs.Signature.{Vouches, IsUnvouched, IsTagged, is_tagged}
 use Rattle.sig_reference.specs.declared.fault.SigFault.{SigFault}
 use Rattle.sig_reference.specs.declared.fault.SigFault.TheVariants as faults
 use Rattle.sig_reference.specs.Vouching.{VouchedView, IsVouchedWith}
 use Rattle.sig_reference.proofs.OneSignature.{one_signature}
+use Rattle.sig_reference.proofs.Tagging.{tagged_test, test_tagged}
 use Rattle.saml_tree.specs.Documents.{DocumentView}
 use Rattle.assertion_model.specs.Parts.{own_signature}
 use Rattle.sp_rules.specs.declared.cover.Verified.{Verified}
@@ -20,21 +17,14 @@ use Rattle.sp_rules.specs.Views.{IsVerifiedWith}
 
 -- ONE KEY
 
-pub bytes_same : (a b : List ℕ) → a ≡ b → bytes_eq a b ≡ true
-bytes_same a b e = (bytes_eq-Decides a b).1 e
-
-same_bytes : (a b : List ℕ) → bytes_eq a b ≡ true → a ≡ b
-same_bytes a b e = (bytes_eq-Decides a b).0 e
-
 pub tagged_is : (k : Key) (tree : Nodes) (parts : Parts) → IsTagged k.bytes tree parts → tagging (k ∷ []) tree parts ≡ Some k
-tagged_is k tree parts t =
-    ap (λ b. cond b (Some k) None) (bytes_same parts.tag (hmac k.bytes (canonical tree parts.signed_info None parts.info_prefixes)) t)
+tagged_is k tree parts t = ap (λ b. cond b (Some k) None) (tagged_test k.bytes tree parts t)
 
 pub untagged_is : (k : Key) (tree : Nodes) (parts : Parts) → ¬ (IsTagged k.bytes tree parts) → tagging (k ∷ []) tree parts ≡ None
-untagged_is k tree parts t = by_test (bytes_eq parts.tag (hmac k.bytes (canonical tree parts.signed_info None parts.info_prefixes))) refl
+untagged_is k tree parts t = by_test (is_tagged k.bytes tree parts) refl
   where
-    by_test : (b : Bool) → bytes_eq parts.tag (hmac k.bytes (canonical tree parts.signed_info None parts.info_prefixes)) ≡ b → cond b (Some k) None ≡ None
-    by_test true e = absurd (t (same_bytes parts.tag (hmac k.bytes (canonical tree parts.signed_info None parts.info_prefixes)) e))
+    by_test : (b : Bool) → is_tagged k.bytes tree parts ≡ b → cond b (Some k) None ≡ None
+    by_test true e = absurd (t (test_tagged k.bytes tree parts e))
     by_test false e = refl
 
 pub unvouched_is : (k : Key) (tree : Nodes) (e : ℕ) (fault : SigFault) → IsUnvouched k.bytes tree e fault → IsUnverified (k ∷ []) tree e fault
@@ -49,7 +39,7 @@ unvouched_is k tree e faults.NoMemory u = tt
 -- the first makes the tag
 pub tagging-front : (k : Key) (others : List Key) (tree : Nodes) (parts : Parts) (key : Key) → tagging (k ∷ []) tree parts ≡ Some key →
     tagging (k ∷ others) tree parts ≡ Some key
-tagging-front k others tree parts key = by_test (bytes_eq parts.tag (hmac k.bytes (canonical tree parts.signed_info None parts.info_prefixes)))
+tagging-front k others tree parts key = by_test (is_tagged k.bytes tree parts)
   where
     by_test : (b : Bool) → cond b (Some k) None ≡ Some key → cond b (Some k) (tagging others tree parts) ≡ Some key
     by_test true e = e
@@ -58,7 +48,7 @@ tagging-front k others tree parts key = by_test (bytes_eq parts.tag (hmac k.byte
 -- it does not, so the others decide
 pub tagging-behind : (k : Key) (others : List Key) (tree : Nodes) (parts : Parts) → tagging (k ∷ []) tree parts ≡ None →
     tagging (k ∷ others) tree parts ≡ tagging others tree parts
-tagging-behind k others tree parts = by_test (bytes_eq parts.tag (hmac k.bytes (canonical tree parts.signed_info None parts.info_prefixes)))
+tagging-behind k others tree parts = by_test (is_tagged k.bytes tree parts)
   where
     by_test : (b : Bool) → cond b (Some k) None ≡ None → cond b (Some k) (tagging others tree parts) ≡ tagging others tree parts
     by_test true e = cc

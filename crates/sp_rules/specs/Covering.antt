@@ -1,26 +1,23 @@
 -- Which signatures cover an assertion of a response. In the POST binding each assertion is signed: it has a signature, or its
 -- response has one (SAML Profiles, 4.1.3.5 and 4.1.4.5; SAML Core, 5.4).
 use Rattle.std.specs.Prelude.{◌≡◌, ℕ, ◌⊎◌, Bool, List, [], ◌∷◌, ◌++◌, Option, None, Some, if◌then◌else◌, codes}
-use Rattle.std.specs.Str.{bytes_eq}
-use Rattle.hmac_sha256.specs.Hmac.{hmac}
 use Rattle.xml_spec.specs.Tree.{Nodes}
-use Rattle.xml_spec.specs.Canonical.{canonical}
 use Rattle.saml_names.specs.Names.{ds}
 use Rattle.tree_read.specs.Children.{children}
 use Rattle.protocol_messages.specs.Messages.{is_any}
 use Rattle.sig_reference.specs.Form.{Parts, HasForm}
-use Rattle.sig_reference.specs.Signature.{Vouches, IsReferredTo, IsDigested}
+use Rattle.sig_reference.specs.Signature.{Vouches, IsReferredTo, IsDigested, is_tagged}
 use Rattle.sig_reference.specs.declared.fault.SigFault.{SigFault}
 use Rattle.sig_reference.specs.declared.fault.SigFault.TheVariants as faults
 use Rattle.sp_rules.specs.Keys.{Key}
 
 -- ONE SIGNATURE
 
--- the first key under which the SignatureValue is the HMAC of the canonical form of SignedInfo (XML Signature, 3.2.2)
+-- the first key under which the SignatureValue is the HMAC of the canonical form of SignedInfo, where that is not too
+-- long (XML Signature, 3.2.2)
 abbrev pub tagging : List Key → Nodes → Parts → Option Key
 tagging [] tree parts = None
-tagging (key ∷ keys) tree parts =
-    if bytes_eq parts.tag (hmac key.bytes (canonical tree parts.signed_info None parts.info_prefixes)) then Some key else tagging keys tree parts
+tagging (key ∷ keys) tree parts = if is_tagged key.bytes tree parts then Some key else tagging keys tree parts
 
 -- the signature of element e vouches for it under this key, the first that makes its tag
 pub record IsVerified (keys : List Key) (tree : Nodes) (e : ℕ) (key : Key) : Type 0 where

@@ -1,7 +1,7 @@
 use Rattle.std.proofs.Common.{ap, ◌∙◌}
 use Rattle.element_make.specs.Made.{tree_of, written}
 use Rattle.assertion_model.specs.Parts.{login_at}
-use Rattle.assertion_model.proofs.ReadBack.{content_said, login_made, can_be_signed, login_vouched}
+use Rattle.assertion_model.proofs.ReadBack.{content_said, login_made, can_be_signed, login_signed}
 use Rattle.assertion_model.proofs.laws.a_made_assertion_is_read.Goals as goal
 
 pub returns-clause-content : goal.returns-clause-content
@@ -15,5 +15,5 @@ returns-clause-written c = λ l made tree is can parts spells.
 
 pub returns-clause-signed : goal.returns-clause-signed
 returns-clause-signed c = λ key l made tree is can parts spells single.
-    let read = c.what_is_signed_is_vouched_for.ensures key made tree parts (can_be_signed l made is can) spells single in
-    login_vouched key l made tree is can read.0 read.1 read.2
+    let read = c.what_is_signed_says_the_same.ensures.alone key made tree parts (can_be_signed l made is can) spells in
+    login_signed l made tree is can read.0 read.1 read.2
