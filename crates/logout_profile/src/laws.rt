@@ -1,5 +1,6 @@
 //! Laws of the definitions. Each function does nothing: what it ensures is the law.
-ghost use Rattle.std.specs.Prelude.{◌≡◌, ◌≢◌, ◌⊎◌, ℕ, Bool, List, [], ◌∷◌, Option, Some, None};
+ghost use Rattle.std.specs.Prelude.{◌≡◌, ◌≢◌, ◌⊎◌, ℕ, ◌≤◌, Bool, List, [], ◌∷◌, length, Option, Some, None};
+ghost use Rattle.xml_spec.specs.declared.TheConstants.{MAX_DOCUMENT_LENGTH};
 ghost use Rattle.xml_spec.specs.Characters.{IsText};
 ghost use Rattle.xml_spec.specs.Tree.{Nodes};
 ghost use Rattle.xml_spec.specs.Document.{Spells};
@@ -35,17 +36,20 @@ pub fn what_is_obeyed_is_vouched_for()
         ((is.key ≡ is.peer.key_in) ⊎ (second ≡ Some is.key)) × ((parts : Parts) × Vouches is.key is.carried.tree 0 parts) }
 {}
 
-/// What is made for a peer is vouched for with the key that is shared with it, wherever it is read, and without the signature it says
-/// what was made.
+/// What is made for a peer, and has no more bytes than a document that is read, is vouched for with the key that is
+/// shared with it, wherever it is read, and without the signature it says what was made.
 pub fn what_is_made_is_vouched_for()
     ensures request { (peer : LogoutPeer) (id issuer : List ℕ) (issued : ℕ) (name : List ℕ) (indexes : List (List ℕ)) (bytes : List ℕ) (tree : Nodes) →
-        id ≢ [] → (is : IsRequest peer id issuer issued name indexes bytes) → Spells bytes tree → IsSingle tree →
+        id ≢ [] → (is : IsRequest peer id issuer issued name indexes bytes) → length bytes ≤ MAX_DOCUMENT_LENGTH →
+        Spells bytes tree → IsSingle tree →
         (parts : Parts) × Vouches peer.key_out tree 0 parts × (content tree 0 (Some parts.signature) ≡ content (tree_of is.unsigned) 0 None) }
     ensures response { (peer : LogoutPeer) (id issuer : List ℕ) (issued : ℕ) (request : List ℕ) (partial : Bool) (bytes : List ℕ) (tree : Nodes) →
-        id ≢ [] → (is : IsResponse peer id issuer issued request partial bytes) → Spells bytes tree → IsSingle tree →
+        id ≢ [] → (is : IsResponse peer id issuer issued request partial bytes) → length bytes ≤ MAX_DOCUMENT_LENGTH →
+        Spells bytes tree → IsSingle tree →
         (parts : Parts) × Vouches peer.key_out tree 0 parts × (content tree 0 (Some parts.signature) ≡ content (tree_of is.unsigned) 0 None) }
 {
     sig_reference::laws::what_is_signed_is_vouched_for();
+    sig_reference::laws::what_a_document_holds_can_be_checked();
 }
 
 /// Of a form that is obeyed: the ID of a request holds characters that a document may hold, and its place is that of the peer
