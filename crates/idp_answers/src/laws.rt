@@ -1,5 +1,6 @@
 //! Laws of the definitions that the contracts cite. Each function does nothing: what it ensures is the law.
 ghost use Rattle.std.specs.Prelude.{◌≡◌, ◌≢◌, ℕ, ◌≤◌, true, List, [], ◌∷◌, length, codes, IsTrue, IsFalse, Some, None};
+ghost use Rattle.xml_spec.specs.declared.TheConstants.{MAX_DOCUMENT_LENGTH};
 ghost use Rattle.xml_spec.specs.Tree.{Nodes};
 ghost use Rattle.xml_spec.specs.Document.{Spells};
 ghost use Rattle.xml_spec.specs.Identifiers.{IsSingle};
@@ -17,29 +18,33 @@ ghost use Rattle.protocol_messages.specs.Messages.{IsResponse};
 ghost use Rattle.provider_config.specs.declared.idp_config.SignMode.{SignMode};
 ghost use Rattle.idp_answers.specs.Answers.{IsIssued, signs_assertion, signs_response};
 
-/// Where the mode signs the Response, the Response that is sent is vouched for with the same key, wherever its written form is
-/// read, by a Signature of its own; and without that Signature it says what was answered, with the Assertion of the login.
+/// Where the mode signs the Response, the Response that is sent, of no more bytes than a document that is read, is
+/// vouched for with the same key, wherever its written form is read, by a Signature of its own; and without that
+/// Signature it says what was answered, with the Assertion of the login.
 pub fn a_signed_response_is_vouched_for()
     ensures { (mode : SignMode) (key : List ℕ) (login : Login) (message consumer : List ℕ) (now : ℕ) (sent : Made) (tree : Nodes) →
         IsTrue (signs_response mode) → message ≢ [] → (issued : IsIssued mode key login message consumer now sent) → IsMade sent →
-        Spells (written sent) tree → IsSingle tree →
+        length (written sent) ≤ MAX_DOCUMENT_LENGTH → Spells (written sent) tree → IsSingle tree →
         (parts : Parts) × Vouches key tree 0 parts × (content tree 0 (Some parts.signature) ≡ content (tree_of issued.unsigned) 0 None) }
 {
     sig_reference::laws::what_is_signed_is_vouched_for();
+    sig_reference::laws::what_a_document_holds_can_be_checked();
 }
 
-/// Where the mode signs the Assertion, it is the one Assertion of the Response that is sent, wherever the written form of that is
-/// read, and is vouched for there with the same key; and without its Signature it says what the Assertion of the login says.
+/// Where the mode signs the Assertion, it is the one Assertion of the Response that is sent, wherever the written form
+/// of that is read, and is vouched for there with the same key, where the Response has no more bytes than a document
+/// that is read; and without its Signature it says what the Assertion of the login says.
 pub fn a_signed_assertion_is_vouched_for()
     ensures { (mode : SignMode) (key : List ℕ) (login : Login) (message consumer : List ℕ) (now : ℕ) (sent : Made) (tree : Nodes) →
         IsTrue (signs_assertion mode) → login.id ≢ [] → (issued : IsIssued mode key login message consumer now sent) → IsMade sent →
-        Spells (written sent) tree → IsSingle tree →
+        length (written sent) ≤ MAX_DOCUMENT_LENGTH → Spells (written sent) tree → IsSingle tree →
         (p : ℕ) × (children tree 0 (saml (codes "Assertion")) ≡ p ∷ [])
         × (parts : Parts) × Vouches key tree p parts × (content tree p (Some parts.signature) ≡ content (tree_of issued.assertion) 0 None) }
 {
     xml_spec::no_bytes_spell_two_trees();
     element_make::a_made_element_spells_its_tree();
     sig_reference::laws::what_is_signed_inside_is_vouched_for();
+    sig_reference::laws::what_a_document_holds_can_be_checked();
 }
 
 /// In each mode the Response that is sent, wherever its written form is read, is read as it was made: a success with just one
@@ -71,9 +76,9 @@ pub fn an_issued_login_is_read()
 {
     xml_spec::no_bytes_spell_two_trees();
     element_make::a_made_element_spells_its_tree();
-    sig_reference::laws::what_is_signed_inside_is_vouched_for();
+    sig_reference::laws::what_is_signed_says_the_same();
     sig_reference::laws::what_is_put_inside_says_the_same();
-    assertion_model::laws::the_signature_left_out_vouches();
+    assertion_model::laws::the_signature_of_the_form_is_left_out();
     assertion_model::laws::a_made_assertion_is_read();
 }
 

@@ -24,9 +24,9 @@ returns c mode key login message consumer now sent tree can issued is spells sin
     let read : login_at tree p ≡ Some login = elim (which (signs_assertion mode)) [
       | inl signs ↦
           let kids : sent.kids ≡ filled holds.around (signed key made) = holds.holds ∙ ap (filled holds.around) (held_signed mode key made signs) in
-          let vouched = c.what_is_signed_inside_is_vouched_for.ensures key holds.around sent made tree kids is signable spells single in
-          ap (λ o. logins.login (content tree p o)) (c.the_signature_left_out_vouches.ensures key tree p vouched.0 vouched.1)
-          ∙ ap logins.login vouched.2 ∙ said
+          let read = c.what_is_signed_says_the_same.ensures.inside key holds.around sent made tree kids is signable spells in
+          ap (λ o. logins.login (content tree p o)) (c.the_signature_of_the_form_is_left_out.ensures tree p read.0 read.1)
+          ∙ ap logins.login read.2 ∙ said
       | inr bare ↦
           let kids : sent.kids ≡ filled holds.around made = holds.holds ∙ ap (filled holds.around) (held_unsigned mode key made bare) in
           let same = c.what_is_put_inside_says_the_same.ensures in
