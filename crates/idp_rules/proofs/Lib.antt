@@ -1,3 +1,4 @@
 pub mod Deciding
 pub mod Exclusive
+pub mod Settled
 pub mod Texts

@@ -7,6 +7,7 @@ ghost use Rattle.verdict_codes.specs.declared.codes.Verdict.{Verdict};
 ghost use Rattle.idp_rules.specs.declared.asked.Asked.{Asked};
 ghost use Rattle.idp_rules.specs.Asking.{IsAsked};
 ghost use Rattle.idp_rules.specs.Config.{IsTextPeer};
+ghost use Rattle.idp_rules.specs.Laws.{EachRequestIsJudged};
 ghost use Rattle.idp_rules.specs.Verdict.{IsRefused};
 
 /// A form that asks for a login asks for one alone, and is refused for nothing; a form that is refused is refused with one
@@ -28,3 +29,8 @@ pub fn the_texts_of_a_request_are_texts()
 {
     canon_laws::a_spelled_tree_is_writable();
 }
+
+/// Each form asks for a login, or it is refused with a verdict: it can't be that neither holds.
+pub fn each_request_is_judged()
+    ensures { EachRequestIsJudged }
+{}

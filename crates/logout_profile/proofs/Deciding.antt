@@ -39,7 +39,7 @@ handed_on P (Ok x) e h is = tt
 handed_on P (Err error) e h is = subst P (sym h) is
 
 -- a message that is refused for nothing is sent here, and has not expired
-meant : (sent_to in_time : Bool) → cond sent_to (cond in_time None (Some verdicts.LogoutNotInTime)) (Some verdicts.LogoutDestination) ≡ None →
+pub meant : (sent_to in_time : Bool) → cond sent_to (cond in_time None (Some verdicts.LogoutNotInTime)) (Some verdicts.LogoutDestination) ≡ None →
     (sent_to ≡ true) × (in_time ≡ true)
 meant true true e = (refl, refl)
 meant true false e = absurd (cc)

@@ -15,6 +15,7 @@ ghost use Rattle.protocol_messages.specs.declared.logout.LogoutRequest.{LogoutRe
 ghost use Rattle.protocol_messages.specs.declared.logout.LogoutResponse.{LogoutResponse};
 ghost use Rattle.logout_profile.specs.declared.logout.Logout.{Logout};
 ghost use Rattle.logout_profile.specs.declared.logout.Logout.TheVariants.{Ask, Reply};
+ghost use Rattle.logout_profile.specs.Laws.{EachLogoutFormIsJudged};
 ghost use Rattle.logout_profile.specs.Verdict.{IsRefused, IsAccepted};
 ghost use Rattle.logout_profile.specs.Making.{IsRequest, IsResponse};
 
@@ -66,3 +67,8 @@ pub fn what_an_obeyed_form_says()
 {
     canon_laws::a_spelled_tree_is_writable();
 }
+
+/// Each form asks or replies something of a logout, or it is refused with a verdict: it can't be that neither holds.
+pub fn each_logout_form_is_judged()
+    ensures { EachLogoutFormIsJudged }
+{}

@@ -1,5 +1,6 @@
 -- Where the peer of a name stands.
-use Rattle.std.proofs.Common.{◌≡◌, ℕ, suc, ◌+◌, ◌<◌, Bool, true, false, cond, ◌≤◌, List, ◌∷◌, drop, length, slice_index_or, Option, None, Some, refl, sym, ◌∙◌, ap, arith}
+use Rattle.std.proofs.Common.{◌≡◌, ℕ, suc, ◌+◌, ◌<◌, Bool, true, false, cond, ◌≤◌, List, [], ◌∷◌, drop, length, slice_index_or, Option, None, Some, refl, sym, ◌∙◌, ap, arith}
+use Rattle.std.specs.Prelude.{slice_get}
 use Rattle.std.specs.Option.{option_map}
 use Rattle.std.specs.Str.{bytes_eq}
 use Rattle.std.proofs.Math.ListN.{drop_of_length-le}
@@ -51,3 +52,21 @@ at_other entity i peers peer h is named =
 -- there is none any more
 pub at_end : (entity : List ℕ) (i : ℕ) (peers : List LogoutPeer) → length peers ≤ i → place_behind entity i peers ≡ None
 at_end entity i peers h = ap (λ left. option_map (λ n. i + n) (place_of entity left)) (drop_of_length-le peers h)
+
+-- there is a peer at the place of a name
+pub peer_there : (entity : List ℕ) (peers : List LogoutPeer) (place : ℕ) → place_of entity peers ≡ Some place →
+    (peer : LogoutPeer) × (slice_get peers place ≡ Some peer)
+peer_there entity [] place is = absurd (cc)
+peer_there entity (peer ∷ peers) place is =
+    first_or_later peer peers place (bytes_eq peer.peer.entity entity) (place_of entity peers) is (peer_there entity peers)
+  where
+    first_or_later : (peer : LogoutPeer) (peers : List LogoutPeer) (place : ℕ) (b : Bool) (behind : Option ℕ) → cond b (Some 0) (option_map suc behind) ≡ Some place →
+        ((n : ℕ) → behind ≡ Some n → (other : LogoutPeer) × (slice_get peers n ≡ Some other)) →
+        (other : LogoutPeer) × (slice_get (peer ∷ peers) place ≡ Some other)
+    first_or_later peer peers place true behind e later =
+        let same : 0 ≡ place = cc in (peer, ap (λ (n : ℕ). slice_get (peer ∷ peers) n) (sym same))
+    first_or_later peer peers place false None e later = absurd (cc)
+    first_or_later peer peers place false (Some n) e later =
+        let same : suc n ≡ place = cc in
+        let found = later n refl in
+        (found.0, ap (λ (m : ℕ). slice_get (peer ∷ peers) m) (sym same) ∙ found.1)

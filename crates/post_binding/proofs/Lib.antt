@@ -5,3 +5,4 @@ mod Escaping
 mod Examples
 mod Markup
 mod Posting
+pub mod Faults

@@ -1,6 +1,7 @@
 -- Elements that lie in others stand within them, and the others apart.
 use Rattle.std.proofs.Common.{◌≡◌, ℕ, zero, suc, ◌+◌, ◌-◌, ◌<◌, ◌≤◌, true, false, ltb, List, [], ◌∷◌, ◌++◌, length, Some, IsTrue, refl, sym, ap, ◌∙◌, subst, inl, inr, arith}
 use Rattle.std.specs.Prelude.{slice_get}
+use Rattle.std.proofs.lemmas.Option.{slice_get_cases}
 use Rattle.std.proofs.lemmas.Bool.{cases_lt, cond-true, cond-false, lt-ltb, le-ltb}
 use Rattle.xml_spec.specs.Tree.{Attribute, Nodes, NoNodes, Element, Text, Comment, Instruction}
 use Rattle.xml_spec.specs.Numbering.{size, from_node, kids_of, elements, elements_before}
@@ -253,3 +254,14 @@ module _ (bytes : List ℕ) (tree : Nodes) (spells : Spells bytes tree) where
       ]
     ]
   ]
+
+  -- each element stands somewhere
+  pub somewhere : (k : ℕ) → IsTrue (begins_with_element (from_node tree k)) → (span : Span) × StandsAt bytes tree k span
+  somewhere k element =
+      let content = spells.document.content in
+      let fits = root_fits head content spells.writes.valid.shape in
+      let many : length spans ≡ elements tree = counted head _ (root_of content) spans fits ∙ ap elements (sym spells.means) in
+      elim ((slice_get_cases spans (elements_before tree k)).1) [
+        | inl there ↦ (there.0, record { element = element; range = record { document = spells.document; writes = spells.writes; place = there.2 } })
+        | inr past ↦ absurd (omega (arith, many, past.0, fewer tree k element))
+      ]
