@@ -1,0 +1,35 @@
+-- The numbers of lines fit in 32 bits.
+use Rattle.std.proofs.Common.{ℕ, suc, ◌+◌, ◌<◌, ◌≤◌, ◌^◌, ◌==◌, Bool, true, false, cond, not, List, [], ◌∷◌, length, arith}
+use Rattle.xml_spec.specs.Ascii.{line_feed}
+use Rattle.text_lines.specs.Lines.{Said, Says, NoText, said, said_from, lines, in_first, is_text, is_passed_over}
+use Rattle.schedules.specs.Schedules.{number_said}
+
+-- each number fits
+abbrev pub AreSmall : List Said → Type 0
+AreSmall [] = Unit {0}
+AreSmall (next ∷ others) = (number_said next < 2 ^ 32) × AreSmall others
+
+first_is_longer : (b : ℕ) (ls : List (List ℕ)) (n : ℕ) → length ls ≤ n → length (in_first b ls) ≤ suc n
+first_is_longer b [] n few = omega arith
+first_is_longer b (line ∷ ls) n few = omega arith
+
+few_lines : (bytes : List ℕ) → length (lines bytes) ≤ length bytes
+few_lines [] = omega arith
+few_lines (b ∷ bytes) = by_test (b == line_feed) (few_lines bytes)
+  where
+    by_test : (t : Bool) → length (lines bytes) ≤ length bytes → length (cond t ([] ∷ lines bytes) (in_first b (lines bytes))) ≤ suc (length bytes)
+    by_test true few = omega arith
+    by_test false few = first_is_longer b (lines bytes) (length bytes) few
+
+small_from : (number : ℕ) (ls : List (List ℕ)) → number + length ls ≤ 2 ^ 32 → AreSmall (said_from number ls)
+small_from number [] fits = tt
+small_from number (line ∷ ls) fits = by_tests (not (is_text line)) (is_passed_over line) (small_from (suc number) ls (omega arith))
+  where
+    by_tests : (t p : Bool) → AreSmall (said_from (suc number) ls) →
+        AreSmall (cond t (NoText number ∷ []) (cond p (said_from (suc number) ls) (Says number line ∷ said_from (suc number) ls)))
+    by_tests true p others = (omega arith, tt)
+    by_tests false true others = others
+    by_tests false false others = (omega arith, others)
+
+pub small_numbers : (text : List ℕ) → length text ≤ 1048576 → AreSmall (said text)
+small_numbers text short = small_from 1 (lines text) (let few = few_lines text in omega arith)

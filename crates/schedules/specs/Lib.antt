@@ -1,0 +1,4 @@
+pub mod Examples
+pub mod Line
+pub mod Made
+pub mod Schedules

@@ -1,0 +1,85 @@
+-- The schedule of a text.
+use Rattle.std.specs.Prelude.{ℕ, Bool, ◌==◌, ◌&&◌, nat_le, List, [], ◌∷◌, ◌++◌, length, fold, Option, None, Some, Result, Ok, Err, option_and_then, ok_or, if◌then◌else◌}
+use Rattle.std.specs.List.{flat_map, list_any}
+use Rattle.std.specs.Option.{option_to_list}
+use Rattle.text_lines.specs.Lines.{Said, Says, NoText, said}
+use Rattle.schedules.specs.declared.fault.ScheduleFault.{ScheduleFault}
+use Rattle.schedules.specs.declared.fault.ScheduleFault.TheVariants as faults
+use Rattle.schedules.specs.declared.schedule.TheConstants.{MAX_STEPS, MAX_AGENTS}
+use Rattle.schedules.specs.declared.step.Step.{Step}
+use Rattle.schedules.specs.declared.step.Step.TheVariants.{Now, Visit, Submit, Lose, Login, Follow, Leave, Pair, Fresh, Restart, Crash, Fail, Compact}
+use Rattle.schedules.specs.Line.{step_of}
+
+-- ---- the agents of a schedule
+
+-- the agents that a step names
+abbrev pub agents_of : Step → List ℕ
+agents_of (Now moment) = []
+agents_of (Visit agent path) = agent ∷ []
+agents_of (Submit agent) = agent ∷ []
+agents_of (Lose agent) = agent ∷ []
+agents_of (Login agent user password) = agent ∷ []
+agents_of (Follow agent) = agent ∷ []
+agents_of (Leave agent site) = agent ∷ []
+agents_of (Pair first second piece) = first ∷ second ∷ []
+agents_of (Fresh agent) = agent ∷ []
+agents_of (Restart site) = []
+agents_of (Crash site call pick) = []
+agents_of (Fail site call) = []
+agents_of (Compact site) = []
+
+-- one more name, where it is not among them
+abbrev pub with_agent : List ℕ → ℕ → List ℕ
+with_agent names agent = if list_any (λ name. name == agent) names then names else names ++ agent ∷ []
+
+-- the agents that steps name, each once
+abbrev pub agents : List Step → List ℕ
+agents steps = fold with_agent [] (flat_map agents_of steps)
+
+-- ---- the steps of a text
+
+-- so many steps, of so many agents
+abbrev pub is_small : List Step → Bool
+is_small steps = nat_le (length steps) MAX_STEPS && nat_le (length (agents steps)) MAX_AGENTS
+
+-- the steps with one more; none where it is one too many, or names an agent too many
+abbrev pub with_step : List Step → Step → Option (List Step)
+with_step before step = if is_small (before ++ step ∷ []) then Some (before ++ step ∷ []) else None
+
+-- the steps with what is said next, or the number of a bad line
+abbrev pub with_said : List Step → Said → Result (List Step) ℕ
+with_said before (Says number text) = ok_or (option_and_then (with_step before) (step_of text)) number
+with_said before (NoText number) = Err number
+
+-- what follows where there is no fault
+abbrev pub and_then : {X Y F : Type 0} → (X → Result Y F) → Result X F → Result Y F
+and_then f (Ok x) = f x
+and_then f (Err fault) = Err fault
+
+-- the steps with all that is said behind them, or the number of the first line that is bad
+abbrev pub steps_from : List Step → List Said → Result (List Step) ℕ
+steps_from before [] = Ok before
+steps_from before (next ∷ others) = and_then (λ steps. steps_from steps others) (with_said before next)
+
+-- the steps of a text, or the number of the first line that is bad
+abbrev pub schedule : List ℕ → Result (List Step) ℕ
+schedule text = steps_from [] (said text)
+
+-- the number that a fault gives, none for want of memory
+abbrev pub fault_of : ScheduleFault → Option ℕ
+fault_of (faults.Line number) = Some number
+fault_of faults.NoMemory = None
+
+-- the number of a line
+abbrev pub number_said : Said → ℕ
+number_said (Says number text) = number
+number_said (NoText number) = number
+
+-- ---- words by which the code keeps the agents
+
+-- one name, two or none
+abbrev pub names_of : Option ℕ × Option ℕ → List ℕ
+names_of names = option_to_list names.0 ++ option_to_list names.1
+
+abbrev pub with_name : List ℕ → Option ℕ → List ℕ
+with_name names agent = fold with_agent names (option_to_list agent)
