@@ -1,0 +1,11 @@
+mod Alone
+mod Digests
+mod Examples
+mod Inside
+mod Joining
+mod Lists
+mod Placed
+mod Reading
+mod Shapes
+mod SignatureNodes
+mod Signing

@@ -1,0 +1,3 @@
+pub mod Documents
+pub mod Logins
+pub mod Recorded
