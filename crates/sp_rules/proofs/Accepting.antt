@@ -29,12 +29,12 @@ use Rattle.sp_rules.proofs.Covers.{itself, in_response, first_is}
 use Rattle.sp_rules.proofs.Showing.{written_in, shown_at, all_shown_at}
 
 -- what holds where there is a value holds of it
-of_some : {X : Type 0} (P : X → Type 0) (o : Option X) (x : X) → IfSome o P → o ≡ Some x → P x
+pub of_some : {X : Type 0} (P : X → Type 0) (o : Option X) (x : X) → IfSome o P → o ≡ Some x → P x
 of_some P None x h e = absurd (cc)
 of_some P (Some y) x h e = let same : y ≡ x = cc in subst P same h
 
 -- the assertion lies in the first element that is signed
-in_first : (tree : Nodes) (p e : ℕ) → children tree 0 (saml (codes "Assertion")) ≡ p ∷ [] → (e ≡ 0) ⊎ (e ≡ p) → IsIn tree e p
+pub in_first : (tree : Nodes) (p e : ℕ) → children tree 0 (saml (codes "Assertion")) ≡ p ∷ [] → (e ≡ 0) ⊎ (e ≡ p) → IsIn tree e p
 in_first tree p e one (inl h) = subst (λ n. IsIn tree n p) (sym h) (in_response tree p one)
 in_first tree p e one (inr h) = subst (λ n. IsIn tree n p) (sym h) (itself tree p)
 

@@ -1,6 +1,5 @@
 -- What a document that was posted opens, or is refused for.
-use Rattle.std.proofs.Common.{◌≡◌, ℕ, true, List, [], ◌∷◌, Option, None, Some, codes, sym, ◌∙◌, ap, subst}
-use Rattle.std.specs.Prelude.{◌&&◌}
+use Rattle.std.proofs.Common.{◌≡◌, ℕ, List, [], ◌∷◌, Option, None, Some, codes, sym, ◌∙◌, ap, subst}
 use Rattle.std.specs.Option.{option_map}
 use Rattle.saml_names.specs.Names.{saml}
 use Rattle.saml_tree.specs.Documents.{DocumentView, IsSpelled}
@@ -18,7 +17,6 @@ use Rattle.assertion_model.proofs.SaidLemmas.{name_said}
 use Rattle.request_rows.specs.declared.row.AskedRow.{AskedRow}
 use Rattle.request_rows.specs.Rows.{RowsView}
 use Rattle.verdict_codes.specs.declared.codes.Verdict.{Verdict}
-use Rattle.verdict_codes.specs.declared.codes.Verdict.TheVariants as verdicts
 use Rattle.fault_verdicts.specs.Judging.{judged_of, IsJudged}
 use Rattle.fault_verdicts.specs.Verdicts.{of_document, of_signature}
 use Rattle.fault_verdicts.specs.declared.judged.Judged.{Judged}
@@ -27,13 +25,13 @@ use Rattle.sp_rules.specs.declared.config.SpConfig.{SpConfig}
 use Rattle.sp_rules.specs.declared.cover.Cover.{Cover}
 use Rattle.sp_rules.specs.Covering.{IsUncovered}
 use Rattle.sp_rules.specs.Keys.{Key, usable}
-use Rattle.sp_rules.specs.Meant.{consumer, is_from, is_for, is_sent_to, is_in_time}
 use Rattle.sp_rules.specs.Opening.{Carried, Posts, Carries, Asserts, Brought, Brings, Opens}
-use Rattle.sp_rules.specs.Outstanding.{asked_for, is_outstanding, is_unspent, is_unseen, is_relayed}
+use Rattle.sp_rules.specs.Outstanding.{asked_for}
 use Rattle.sp_rules.specs.Shown.{IsAcceptedOf, IsOpening}
 use Rattle.sp_rules.specs.Verdict.{form_refusal, head_refusal, login_refusal, IsRefused, by_form, by_document, by_root, by_head, by_signature, by_assertion, by_login}
 use Rattle.sp_rules.specs.Views.{IsCoverOf, IsNoResponse, HasNoLogin, HasNoName}
-use Rattle.sp_rules.proofs.Refusals.{judged_right, judged_more, all_hold}
+use Rattle.sp_rules.proofs.Openings.{opens}
+use Rattle.sp_rules.proofs.Refusals.{judged_right, judged_more}
 
 -- the Assertion that is covered is the one of the Response
 pub child_of_cover : (keys : List Key) (document : DocumentView) (k p : ℕ) (head : ResponseHead) (cover : Cover) → k ≡ 0 →
@@ -122,24 +120,7 @@ module _ (config : SpConfig) (rows : RowsView) (horizon now : ℕ) (body : List 
             -- the form opens a session
             pub opened : (asked : AskedRow) → asked_for rows horizon now login ≡ Some asked → login_refusal config rows horizon now head relay login ≡ None →
                 Opens config rows horizon now body brought asked
-            opened asked found none =
-                let held = all_hold ((is_from config head login, verdicts.WrongIssuer)
-                ∷ (is_for config login, verdicts.WrongAudience)
-                ∷ (is_sent_to (consumer config) head login, verdicts.WrongRecipient)
-                ∷ (is_in_time config now login, verdicts.NotInTime)
-                ∷ (is_outstanding (asked_for rows horizon now login) head login, verdicts.NotOutstanding)
-                ∷ (is_unspent rows login, verdicts.RequestSpent)
-                ∷ (is_unseen rows horizon now login, verdicts.AssertionSeen)
-                ∷ (is_relayed (asked_for rows horizon now login) relay, verdicts.RelayDiffers) ∷ []) none in
-                record {
-                  brings = brings;
-                  meant = λ i. held.0 i && held.1.0 i && held.1.1.0 i && held.1.1.1.0 i;
-                  request = found;
-                  outstanding = subst (λ row. is_outstanding row head login ≡ true) found held.1.1.1.1.0;
-                  unspent = held.1.1.1.1.1.0;
-                  unseen = held.1.1.1.1.1.1.0;
-                  relayed = subst (λ row. is_relayed row relay ≡ true) found held.1.1.1.1.1.1.1.0;
-                }
+            opened asked found none = opens config rows horizon now body brought asked brings found none
 
             pub opening : (asked : AskedRow) (accepted : Accepted) → asked_for rows horizon now login ≡ Some asked →
                 login_refusal config rows horizon now head relay login ≡ None →

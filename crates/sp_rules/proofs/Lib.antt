@@ -1,9 +1,12 @@
+pub mod Acceptance
 pub mod Accepting
 pub mod Alone
 pub mod Covers
 pub mod Deciding
 pub mod Exclusive
 pub mod Faults
+pub mod Openings
 pub mod Refusals
+pub mod Settled
 pub mod Showing
 pub mod Verifying

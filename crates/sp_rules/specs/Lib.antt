@@ -1,6 +1,7 @@
 pub mod Covering
 pub mod Examples
 pub mod Keys
+pub mod Laws
 pub mod Meant
 pub mod Opening
 pub mod Outstanding

@@ -5,6 +5,7 @@ ghost use Rattle.request_rows.specs.declared.row.AskedRow.{AskedRow};
 ghost use Rattle.verdict_codes.specs.declared.codes.Verdict.{Verdict};
 ghost use Rattle.sp_rules.specs.declared.config.SpConfig.{SpConfig};
 ghost use Rattle.sp_rules.specs.declared.accepted.Accepted.{Accepted};
+ghost use Rattle.sp_rules.specs.Laws.{WhatOpensIsAccepted, EachFormIsJudged};
 ghost use Rattle.sp_rules.specs.Opening.{Brought, Opens};
 ghost use Rattle.sp_rules.specs.Shown.{IsOpening};
 ghost use Rattle.sp_rules.specs.Verdict.{IsRefused, IsVerdict};
@@ -22,4 +23,11 @@ pub fn a_form_has_one_verdict()
         Opens config rows horizon now body b row → Opens config rows horizon now body other for_other → row ≡ for_other }
     ensures one_session { (config : SpConfig) (rows : RowsView) (horizon now : ℕ) (body : List ℕ) (one other : Accepted) →
         IsOpening config rows horizon now body one → IsOpening config rows horizon now body other → one ≡ other }
+{}
+
+/// Each form opens a session, or it is refused with a verdict: it can't be that neither holds. Something is accepted of each form
+/// that opens a session.
+pub fn each_form_is_judged()
+    ensures judged { EachFormIsJudged }
+    ensures accepted { WhatOpensIsAccepted }
 {}
