@@ -1,11 +1,9 @@
 -- The definitions at worked examples.
-use Rattle.std.proofs.Common.{◌≡◌, ℕ, true, List, [], ◌∷◌, codes, Some, refl, sym, ◌∙◌, subst, arith, inl}
+use Rattle.std.proofs.Common.{◌≡◌, ℕ, true, List, [], ◌∷◌, codes, refl, arith}
 use Rattle.element_make.specs.Made.{Made, IsMade}
 use Rattle.sig_reference.specs.Signing.{signed}
 use Rattle.assertion_model.specs.declared.login.Login.{Login}
 use Rattle.assertion_model.specs.Assertion.{IsAssertionOf, CanBeRead}
-use Rattle.assertion_model.specs.Parts.{login_at}
-use Rattle.assertion_model.proofs.ReadBack.{content_said}
 use Rattle.ledger_records.specs.declared.idp_record.Ended.{Ended}
 use Rattle.ledger_records.specs.declared.idp_record.Issued.{Issued}
 use Rattle.ledger_records.specs.declared.idp_record.IdpRecord.TheVariants as kinds
@@ -21,10 +19,11 @@ use Rattle.login_origin.specs.Origin.{IsLoginOf}
 use Rattle.login_origin.proofs.Lists.{contained}
 use Rattle.recorded_logins.specs.Recorded.{Added, AreOf}
 use Rattle.recorded_logins.specs.Logins.{read_of}
-use Rattle.recorded_logins.proofs.Inside.{PutInside, login_alone}
+use Rattle.recorded_logins.proofs.Back.{login_is_signed}
+use Rattle.recorded_logins.proofs.Inside.{PutInside}
 use Rattle.recorded_logins.proofs.Joining.{login_was_recorded}
 use Rattle.recorded_logins.proofs.Lists.{contains_first}
-use Rattle.recorded_logins.proofs.Signing.{has_document, document_is}
+use Rattle.recorded_logins.proofs.Signing.{one_more}
 
 -- reading trims the issuer
 trimmed_issuer : (r : Issued) → (read_of (codes " https://idp.example\n") r).issuer ≡ codes "https://idp.example"
@@ -51,33 +50,16 @@ reply_says_none law setup held r issued l are origin =
     (refl, tt) recorded.known in
     absurd (let clash : kinds.Issued recorded.r ≡ kinds.Ended r = (λ i. (same i).r) in cc)
 
--- an Assertion that was signed for a record has a document, which says the login that the record stands for
-own_login : (setup : IdpConfig) (held : Held) (r : Issued) (peer : LogoutPeer) (made : Made) →
+-- what was signed for a record is of it, and says the login that the record stands for
+own_login : PutInside → (setup : IdpConfig) (held : Held) (r : Issued) (peer : LogoutPeer) (made : Made) →
     IsPeer setup r.peer peer → signs_assertion setup.mode ≡ true →
     IsAssertionOf (login_of setup.entity r) made → IsMade (signed peer.key_out made) →
     CanBeRead (login_of setup.entity r) →
     (s : Signed) × AreOf setup (record { held = held; r = kinds.Issued r } ∷ []) (s ∷ [])
     × IsLoginOf (s ∷ []) (login_of setup.entity r)
-own_login setup held r peer made known signs of is can =
+own_login law setup held r peer made known signs of is can =
     let own : Added = record { held = held; r = kinds.Issued r } in
     let o : IsSignedOf setup held (kinds.Issued r) (signed peer.key_out made) =
     record { key = peer.key_out; made = made; stands = AnAssertion r peer made known signs of; is = refl } in
-    let element = signed peer.key_out made in
-    let d = has_document setup held (kinds.Issued r) element o is in
-    let read =
-    login_alone setup.entity r true peer.key_out made of is ∙ content_said (login_of setup.entity r) made of can in (
-      d.0,
-      (
-        record { one = own; known = contains_first own []; element = element; signed = o; made = is; document = d.1 },
-        tt,
-      ),
-      record {
-        s = d.0;
-        known = contains_first d.0 [];
-        p = 0;
-        assertion = inl (sym d.1.root);
-        read =
-            subst (λ (s : Signed). login_at s.tree 0 ≡ Some (login_of setup.entity r))
-            (sym (document_is element d.0 is d.1)) read;
-      },
-    )
+    let one = one_more setup (own ∷ []) [] own (signed peer.key_out made) tt (contains_first own []) o is in
+    (one.0, one.2, login_is_signed law setup held r (signed peer.key_out made) one.0 o is one.1 can)

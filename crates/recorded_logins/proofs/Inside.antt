@@ -128,6 +128,15 @@ login_inside law key id issuer destination request at held a =
     (sym a.is)
     (inside_so key id issuer destination request at a.id a.issued a.kids law)
 
+-- there is just one
+pub one_assertion : (key id issuer destination request at : List ℕ) (held : Made) → IsAssertion held →
+    (p : ℕ) × (children (tree_of (signed key (response id issuer destination request (Some held) at))) 0
+    (saml (codes "Assertion")) ≡ p ∷ [])
+one_assertion key id issuer destination request at held a =
+    subst (λ (h : Made). (p : ℕ) × (children (tree_of (signed key (response id issuer destination request (Some h) at))) 0
+    (saml (codes "Assertion")) ≡ p ∷ [])) (sym a.is)
+    (_, one key id issuer destination request at a.id a.issued a.kids)
+
 -- what is inside a made Response is made
 pub inside_made : (key id issuer destination request at : List ℕ) (held : Made) →
     IsMade (signed key (response id issuer destination request (Some held) at)) → IsMade held

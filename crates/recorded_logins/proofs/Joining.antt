@@ -1,11 +1,14 @@
 -- A login of what was signed for records is read of an Assertion of an issued record among them.
-use Rattle.std.proofs.Common.{◌≡◌, ℕ, Bool, true, false, ◌&&◌, ◌||◌, if◌then◌else◌, List, [], ◌∷◌, codes, None, Some, IsTrue, refl, sym, ap, ◌∙◌, subst, inl, inr}
+use Rattle.std.proofs.Common.{◌≡◌, ℕ, ◌+◌, ◌<◌, ◌≤◌, arith, Bool, true, false, ◌&&◌, ◌||◌, if◌then◌else◌, List, [], ◌∷◌, codes, None, Some, IsTrue, refl, sym, ap, ◌∙◌, subst, inl, inr}
 use Rattle.std.specs.Prelude.{Contains}
+use Rattle.std.specs.List.{list_all}
 use Rattle.std.specs.Str.{bytes_eq}
+use Rattle.std.proofs.lemmas.Bool.{leb-true, ltb-true}
 use Rattle.std.proofs.lemmas.Slice.Eq.{bytes_eq-Decides}
 use Rattle.xml_spec.specs.Tree.{Attribute}
 use Rattle.xml_spec.specs.Names.{ExpandedName}
 use Rattle.xml_spec.specs.Content.{content}
+use Rattle.xml_spec.proofs.Tests.{both_true}
 use Rattle.saml_names.specs.Names.{saml}
 use Rattle.saml_names.specs.Uris.{partial_logout}
 use Rattle.tree_read.specs.Walk.{name_of_node}
@@ -18,6 +21,7 @@ use Rattle.assertion_model.specs.Assertion.{IsAssertionOf}
 use Rattle.assertion_model.specs.Login.{login}
 use Rattle.assertion_model.specs.Parts.{login_at}
 use Rattle.assertion_model.proofs.SkipLemmas.{login_is}
+use Rattle.protocol_messages.specs.declared.response.ResponseHead.{ResponseHead}
 use Rattle.protocol_messages.specs.Making.{failed, logged_out, logout_request, message, response, succeeded}
 use Rattle.idp_answers.specs.Answers.{signed_assertion, signs_assertion}
 use Rattle.ledger_records.specs.declared.idp_record.Issued.{Issued}
@@ -28,9 +32,12 @@ use Rattle.idp_rules.specs.declared.config.IdpConfig.{IdpConfig}
 use Rattle.idp_server.specs.Logins.{login_of}
 use Rattle.idp_server.specs.Signed.{IsSignedFor, AnAssertion, AResponse, ARequest, AReply}
 use Rattle.request_rows.specs.declared.row.NewSession.{NewSession}
+use Rattle.request_rows.specs.Rows.{RowsView}
 use Rattle.sp_rules.specs.declared.config.SpConfig.{SpConfig}
-use Rattle.sp_rules.specs.Meant.{is_for}
-use Rattle.sp_rules.specs.Shown.{session_of}
+use Rattle.sp_rules.specs.declared.accepted.Accepted.{Accepted}
+use Rattle.sp_rules.specs.Keys.{Key, usable}
+use Rattle.sp_rules.specs.Meant.{consumer, is_before_with, is_destination, is_for, is_from, is_from_with, is_if_any, is_in_time, is_meant, is_sent_to, names_provider}
+use Rattle.sp_rules.specs.Shown.{IsOpening, session_of}
 use Rattle.login_origin.specs.Signed.{Signed}
 use Rattle.login_origin.specs.Origin.{IsSignedAssertion, IsLoginOf, IsSessionOf}
 use Rattle.login_origin.proofs.Lists.{contained}
@@ -95,7 +102,7 @@ assertion_says setup issued key made of parts p l is (inr inside) e =
     absurd (differs _ _ (codes "Assertion") (sym named ∙ inside.response) refl refl)
 
 -- the Response with this Assertion of the record, issued at a moment with this text
-abbrev response_with : IdpConfig → Issued → (key at : List ℕ) → Made → Made
+abbrev pub response_with : IdpConfig → Issued → (key at : List ℕ) → Made → Made
 response_with setup issued key at made =
     response issued.message setup.entity issued.consumer issued.request (Some (signed_assertion setup.mode key made)) at
 
@@ -181,28 +188,85 @@ login_was_recorded law setup added issued l are origin =
 
 -- ---- the session
 
-only_one : (b : Bool) → ((b || false) && true) ≡ true → b ≡ true
-only_one true h = refl
-only_one false h = h
+-- a login of an issued record that is meant for a provider
+record IsMeantSo (config : SpConfig) (now : ℕ) (issuer : List ℕ) (r : Issued) : Type 0 where
+  issuer_is : trimmed issuer ≡ config.idp.entity
+  audience : trimmed r.peer ≡ config.entity
+  address : r.consumer ≡ consumer config
+  begun : r.moment ≤ now + config.skew
+  accepted : now < r.until + config.skew
+  lives : now < r.session_end
 
-audience_is : (config : SpConfig) (issuer : List ℕ) (r : Issued) → IsTrue (is_for config (read_of issuer r)) →
-    trimmed r.peer ≡ config.entity
-audience_is config issuer r h =
-    (bytes_eq-Decides (trimmed r.peer) config.entity).0 (only_one (bytes_eq (trimmed r.peer) config.entity) h)
+either : (b : Bool) → (b || false) ≡ true → b ≡ true
+either true h = refl
+either false h = h
 
-pub session_was_recorded : PutInside → (setup : IdpConfig) (added : List Added) (issued : List Signed)
-    (config : SpConfig) (now : ℕ) (session : NewSession) →
-    AreOf setup added issued → IsSessionOf issued config now session → IsRecordedSession setup added config now session
-session_was_recorded law setup added issued config now session are of =
-    let l = login_was_recorded law setup added issued of.login are of.origin in
-    let read = read_back setup.entity l.r l.assertion of.login l.made l.read in
+meant_so : (config : SpConfig) (now : ℕ) (head : ResponseHead) (issuer : List ℕ) (r : Issued) →
+    IsTrue (is_meant config now head (read_of issuer r)) → IsMeantSo config now issuer r
+meant_so config now head issuer r h =
+    let l = read_of issuer r in
+    let from = is_from config head l in
+    let sent = is_sent_to (consumer config) head l in
+    let timely = both_true (from && is_for config l && sent) (is_in_time config now l) h in
+    let addressed = both_true (from && is_for config l) sent timely.0 in
+    let first = both_true from (is_for config l) addressed.0 in
+    let restricted = both_true true (list_all (names_provider config) l.audiences) first.1 in
+    let named = both_true (names_provider config (trimmed r.peer ∷ [])) true restricted.1 in
+    let begun = is_from_with config.skew now (Some r.moment) in
+    let valid = is_before_with config.skew now (Some r.until) in
+    let lives = both_true (begun && valid && valid) (is_before_with 0 now (Some r.session_end)) timely.1 in
+    let confirmed = both_true (begun && valid) valid lives.0 in
+    let last : now < r.session_end + 0 = ltb-true now (r.session_end + 0) lives.1 in
     record {
-      held = l.held;
-      r = l.r;
-      known = l.known;
-      audience = audience_is config setup.entity l.r
-          (subst (λ (x : Login). IsTrue (is_for config x)) read.0 of.audience);
-      key = of.key;
-      counts = of.counts;
-      is = of.is ∙ ap (session_of config now of.key.number) read.0;
+      issuer_is =
+          (bytes_eq-Decides (trimmed issuer) config.idp.entity).0
+          (both_true (bytes_eq (trimmed issuer) config.idp.entity) (is_if_any config.idp.entity head.issuer) first.0).0;
+      audience =
+          (bytes_eq-Decides (trimmed r.peer) config.entity).0
+          (either (bytes_eq (trimmed r.peer) config.entity) named.0);
+      address =
+          (bytes_eq-Decides r.consumer (consumer config)).0
+          (both_true (bytes_eq r.consumer (consumer config))
+          (is_destination (consumer config) head.has_signature head.destination) addressed.1).0;
+      begun = leb-true r.moment (now + config.skew) (both_true begun valid confirmed.0).0;
+      accepted = ltb-true now (r.until + config.skew) confirmed.1;
+      lives = omega (arith, last);
     }
+
+pub session_of_record : (setup : IdpConfig) (added : List Added) (config : SpConfig) (now : ℕ) (head : ResponseHead)
+    (key : Key) (l : Login) → IsRecordedLogin setup added l → IsTrue (is_meant config now head l) →
+    Contains (usable config now) key → IsRecordedSession setup added config now (session_of config now key.number l)
+session_of_record setup added config now head key l recorded meant counts =
+    let r = recorded.r in
+    let read = read_back setup.entity r recorded.assertion l recorded.made recorded.read in
+    let so =
+    meant_so config now head setup.entity r (subst (λ (x : Login). IsTrue (is_meant config now head x)) read.0 meant) in
+    record {
+      held = recorded.held;
+      r = r;
+      known = recorded.known;
+      issuer = so.issuer_is;
+      audience = so.audience;
+      address = so.address;
+      begun = so.begun;
+      accepted = so.accepted;
+      lives = so.lives;
+      key = key;
+      counts = counts;
+      is = ap (session_of config now key.number) read.0;
+    }
+
+-- what is opened is the session of the login that was brought, of a key that counts
+pub session_was_recorded : PutInside → (setup : IdpConfig) (added : List Added) (issued : List Signed)
+    (config : SpConfig) (rows : RowsView) (horizon now : ℕ) (body : List ℕ) (accepted : Accepted) →
+    AreOf setup added issued → (opening : IsOpening config rows horizon now body accepted) →
+    IsLoginOf issued opening.brought.login → IsSessionOf issued config now accepted.session →
+    IsRecordedSession setup added config now accepted.session
+session_was_recorded law setup added issued config rows horizon now body accepted are opening origin of =
+    let b = opening.brought in
+    let recorded = login_was_recorded law setup added issued b.login are origin in
+    let number : of.key.number ≡ b.key.number =
+    ap (λ (s : NewSession). s.key) (sym of.is ∙ opening.is.session) in
+    subst (IsRecordedSession setup added config now)
+    (ap (λ n. session_of config now n b.login) number ∙ sym opening.is.session)
+    (session_of_record setup added config now b.carried.head of.key b.login recorded opening.opens.meant of.counts)

@@ -1,9 +1,11 @@
 mod Alone
+mod Back
 mod Digests
 mod Examples
 mod Inside
 mod Joining
 mod Lists
+mod More
 mod Placed
 mod Reading
 mod Shapes

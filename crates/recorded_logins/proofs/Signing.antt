@@ -1,5 +1,6 @@
 -- What was signed for a record, as a document.
 use Rattle.std.proofs.Common.{◌≡◌, ℕ, List, [], ◌∷◌, Some, refl, sym, ap, ◌∙◌, subst}
+use Rattle.std.specs.Prelude.{Contains}
 use Rattle.std.specs.List.{AllByRecursion}
 use Rattle.sha2.specs.Sha256.{sha256}
 use Rattle.xml_spec.specs.Document.{Spells}
@@ -103,6 +104,16 @@ all_signed setup added (s ∷ issued) are =
     let one = are.0 in (
       was_signed setup one.one.held one.one.r one.element s one.signed one.made one.document,
       all_signed setup added issued are.1,
+    )
+
+pub one_more : (setup : IdpConfig) (added : List Added) (issued : List Signed) (one : Added) (element : Made) →
+    AreOf setup added issued → Contains added one → IsSignedOf setup one.held one.r element → IsMade element →
+    (s : Signed) × IsDocumentOf element s × AreOf setup added (s ∷ issued)
+one_more setup added issued one element are known o made =
+    let d = has_document setup one.held one.r element o made in (
+      d.0,
+      d.1,
+      (record { one = one; known = known; element = element; signed = o; made = made; document = d.1 }, are),
     )
 
 pub listed : (setup : IdpConfig) (held : Held) (r : IdpRecord) (elements : List Made) →

@@ -1,5 +1,5 @@
 -- Logins and sessions of which an identity provider has a record: SAML Profiles, 4.1.4.2 and 4.1.4.3.
-use Rattle.std.specs.Prelude.{◌≡◌, ℕ, ◌+◌, List, [], ◌∷◌, None, Some, Contains}
+use Rattle.std.specs.Prelude.{◌≡◌, ℕ, ◌+◌, ◌<◌, ◌≤◌, List, [], ◌∷◌, None, Some, Contains}
 use Rattle.xml_spec.specs.Content.{content}
 use Rattle.tree_read.specs.Texts.{trimmed}
 use Rattle.element_make.specs.Made.{Made, tree_of}
@@ -14,6 +14,7 @@ use Rattle.idp_server.specs.Logins.{login_of}
 use Rattle.request_rows.specs.declared.row.NewSession.{NewSession}
 use Rattle.sp_rules.specs.declared.config.SpConfig.{SpConfig}
 use Rattle.sp_rules.specs.Keys.{Key, usable}
+use Rattle.sp_rules.specs.Meant.{consumer}
 use Rattle.sp_rules.specs.Shown.{session_end}
 use Rattle.recorded_logins.specs.Recorded.{Added}
 
@@ -31,14 +32,21 @@ pub record IsRecordedLogin (setup : IdpConfig) (added : List Added) (said : Logi
   pub made : IsAssertionOf (login_of setup.entity r) assertion
   pub read : login (content (tree_of assertion) 0 None) ≡ Some said
 
--- The session is that of an issued record, which is one of these and is for this provider (SAML Core, 2.5.1.4), and of
--- a key that counts now: it has the record's request, assertion, user, index and attributes.
+-- The session is that of an issued record, which is one of these, and of a key that counts now: it has the record's
+-- request, assertion, user, index and attributes. The record is of this provider's identity provider, for this provider
+-- and to its address (SAML Core, 2.5.1.4; SAML Profiles, 4.1.4.2), and now is in its time, where the clocks may differ by
+-- the skew.
 pub record IsRecordedSession (setup : IdpConfig) (added : List Added) (config : SpConfig) (now : ℕ)
     (session : NewSession) : Type 0 where
   pub held : Held
   pub r : Issued
   pub known : Contains added (record { held = held; r = kinds.Issued r })
+  pub issuer : trimmed setup.entity ≡ config.idp.entity
   pub audience : trimmed r.peer ≡ config.entity
+  pub address : r.consumer ≡ consumer config
+  pub begun : r.moment ≤ now + config.skew
+  pub accepted : now < r.until + config.skew
+  pub lives : now < r.session_end
   pub key : Key
   pub counts : Contains (usable config now) key
   pub is : session ≡ record {

@@ -1,4 +1,4 @@
-use Rattle.recorded_logins.proofs.Signing.{has_document, one_document, was_signed, all_signed}
+use Rattle.recorded_logins.proofs.Signing.{has_document, one_document, was_signed, all_signed, one_more}
 use Rattle.recorded_logins.proofs.what_is_signed_for_a_record_is_a_signed_document.Goals as goal
 
 pub returns-clause-some : goal.returns-clause-some
@@ -12,3 +12,6 @@ returns-clause-signed c = was_signed
 
 pub returns-clause-each : goal.returns-clause-each
 returns-clause-each c = all_signed
+
+pub returns-clause-listed : goal.returns-clause-listed
+returns-clause-listed c = one_more
