@@ -1,19 +1,15 @@
 -- The definitions at worked examples.
-use Rattle.std.proofs.Common.{◌≡◌, ℕ, true, List, [], ◌∷◌, codes, refl, arith}
+use Rattle.std.proofs.Common.{◌≡◌, ℕ, List, [], ◌∷◌, codes, refl, arith}
 use Rattle.element_make.specs.Made.{Made, IsMade}
-use Rattle.sig_reference.specs.Signing.{signed}
 use Rattle.assertion_model.specs.declared.login.Login.{Login}
-use Rattle.assertion_model.specs.Assertion.{IsAssertionOf, CanBeRead}
+use Rattle.assertion_model.specs.Assertion.{CanBeRead}
 use Rattle.ledger_records.specs.declared.idp_record.Ended.{Ended}
 use Rattle.ledger_records.specs.declared.idp_record.Issued.{Issued}
 use Rattle.ledger_records.specs.declared.idp_record.IdpRecord.TheVariants as kinds
-use Rattle.peer_keys.specs.declared.peers.LogoutPeer.{LogoutPeer}
 use Rattle.idp_ledger.specs.Ledger.{Held}
 use Rattle.idp_rules.specs.declared.config.IdpConfig.{IdpConfig}
-use Rattle.idp_answers.specs.Answers.{signs_assertion}
 use Rattle.idp_server.specs.Logins.{login_of}
-use Rattle.idp_server.specs.Signed.{AnAssertion, IsSignedOf}
-use Rattle.idp_server.specs.Step.{IsPeer}
+use Rattle.idp_server.specs.Signed.{IsSignedOf}
 use Rattle.login_origin.specs.Signed.{Signed}
 use Rattle.login_origin.specs.Origin.{IsLoginOf}
 use Rattle.login_origin.proofs.Lists.{contained}
@@ -51,15 +47,11 @@ reply_says_none law setup held r issued l are origin =
     absurd (let clash : kinds.Issued recorded.r ≡ kinds.Ended r = (λ i. (same i).r) in cc)
 
 -- what was signed for a record is of it, and says the login that the record stands for
-own_login : PutInside → (setup : IdpConfig) (held : Held) (r : Issued) (peer : LogoutPeer) (made : Made) →
-    IsPeer setup r.peer peer → signs_assertion setup.mode ≡ true →
-    IsAssertionOf (login_of setup.entity r) made → IsMade (signed peer.key_out made) →
-    CanBeRead (login_of setup.entity r) →
+own_login : PutInside → (setup : IdpConfig) (held : Held) (r : Issued) (element : Made) →
+    IsSignedOf setup held (kinds.Issued r) element → IsMade element → CanBeRead (login_of setup.entity r) →
     (s : Signed) × AreOf setup (record { held = held; r = kinds.Issued r } ∷ []) (s ∷ [])
     × IsLoginOf (s ∷ []) (login_of setup.entity r)
-own_login law setup held r peer made known signs of is can =
+own_login law setup held r element o made can =
     let own : Added = record { held = held; r = kinds.Issued r } in
-    let o : IsSignedOf setup held (kinds.Issued r) (signed peer.key_out made) =
-    record { key = peer.key_out; made = made; stands = AnAssertion r peer made known signs of; is = refl } in
-    let one = one_more setup (own ∷ []) [] own (signed peer.key_out made) tt (contains_first own []) o is in
-    (one.0, one.2, login_is_signed law setup held r (signed peer.key_out made) one.0 o is one.1 can)
+    let one = one_more setup (own ∷ []) [] own element tt (contains_first own []) o made in
+    (one.0, one.2, login_is_signed law setup held r element one.0 o made one.1 can)

@@ -133,8 +133,9 @@ pub one_assertion : (key id issuer destination request at : List ℕ) (held : Ma
     (p : ℕ) × (children (tree_of (signed key (response id issuer destination request (Some held) at))) 0
     (saml (codes "Assertion")) ≡ p ∷ [])
 one_assertion key id issuer destination request at held a =
-    subst (λ (h : Made). (p : ℕ) × (children (tree_of (signed key (response id issuer destination request (Some h) at))) 0
-    (saml (codes "Assertion")) ≡ p ∷ [])) (sym a.is)
+    subst (λ (h : Made). (p : ℕ) ×
+    (children (tree_of (signed key (response id issuer destination request (Some h) at))) 0 (saml (codes "Assertion"))
+    ≡ p ∷ [])) (sym a.is)
     (_, one key id issuer destination request at a.id a.issued a.kids)
 
 -- what is inside a made Response is made

@@ -163,28 +163,30 @@ each_says law setup held r key made (AReply ended peer address sent known given 
 
 -- ---- the login
 
+-- what a known record says was recorded
+recorded_by : (setup : IdpConfig) (added : List Added) (one : Added) (l : Login) → Contains added one →
+    IsSaidBy setup one.r l → IsRecordedLogin setup added l
+recorded_by setup added one l known said = record {
+  held = one.held;
+  r = said.issued;
+  known = subst (λ (r : IdpRecord). Contains added (record { held = one.held; r = r })) said.is known;
+  assertion = said.assertion;
+  made = said.made;
+  read = said.read;
+}
+
 pub login_was_recorded : PutInside → (setup : IdpConfig) (added : List Added) (issued : List Signed) (l : Login) →
-    AreOf setup added issued →
-    IsLoginOf issued l → IsRecordedLogin setup added l
+    AreOf setup added issued → IsLoginOf issued l → IsRecordedLogin setup added l
 login_was_recorded law setup added issued l are origin =
     let one : IsOf setup added origin.s = contained (IsOf setup added) issued origin.s are origin.known in
     let o = one.signed in
     let parts = origin.s.parts in
     let itself : origin.s ≡ document (signed o.key o.made) parts =
     document_is one.element origin.s one.made one.document ∙ ap (λ (e : Made). document e parts) o.is in
-    let said =
-    each_says law setup one.one.held one.one.r o.key o.made o.stands parts origin.p l
-    (subst IsMade o.is one.made)
+    recorded_by setup added one.one l one.known
+    (each_says law setup one.one.held one.one.r o.key o.made o.stands parts origin.p l (subst IsMade o.is one.made)
     (subst (λ (s : Signed). IsSignedAssertion s origin.p) itself origin.assertion)
-    (subst (λ (s : Signed). login_at s.tree origin.p ≡ Some l) itself origin.read) in
-    record {
-      held = one.one.held;
-      r = said.issued;
-      known = subst (λ (r : IdpRecord). Contains added (record { held = one.one.held; r = r })) said.is one.known;
-      assertion = said.assertion;
-      made = said.made;
-      read = said.read;
-    }
+    (subst (λ (s : Signed). login_at s.tree origin.p ≡ Some l) itself origin.read))
 
 -- ---- the session
 

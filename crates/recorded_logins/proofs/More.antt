@@ -26,7 +26,8 @@ more_signed setup added more (s ∷ issued) among are =
     )
 
 pub more_login : (setup : IdpConfig) (added more : List Added) (l : Login) →
-    ((one : Added) → Contains added one → Contains more one) → IsRecordedLogin setup added l → IsRecordedLogin setup more l
+    ((one : Added) → Contains added one → Contains more one) → IsRecordedLogin setup added l →
+    IsRecordedLogin setup more l
 more_login setup added more l among is = record {
   held = is.held;
   r = is.r;

@@ -34,8 +34,8 @@ pub record IsRecordedLogin (setup : IdpConfig) (added : List Added) (said : Logi
 
 -- The session is that of an issued record, which is one of these, and of a key that counts now: it has the record's
 -- request, assertion, user, index and attributes. The record is of this provider's identity provider, for this provider
--- and to its address (SAML Core, 2.5.1.4; SAML Profiles, 4.1.4.2), and now is in its time, where the clocks may differ by
--- the skew.
+-- and to its address (SAML Core, 2.5.1.4; SAML Profiles, 4.1.4.2), and now is in its time, where the clocks may differ
+-- by the skew.
 pub record IsRecordedSession (setup : IdpConfig) (added : List Added) (config : SpConfig) (now : ℕ)
     (session : NewSession) : Type 0 where
   pub held : Held

@@ -40,8 +40,8 @@ ghost use Rattle.recorded_logins.specs.Logins.{read_of, IsRecordedLogin, IsRecor
 
 /// Each element that a record stands for as a signed one has one document, and that is of a signed element: its bytes
 /// spell a tree with names in order, its Signature has the form that is asked for, and its DigestValue is the hash of
-/// the canonical form of the element without that (XML Signature, 3.1.1), however long it is. So it may stand in a list of
-/// what was signed for records.
+/// the canonical form of the element without that (XML Signature, 3.1.1), however long it is. So it may stand in a list
+/// of what was signed for records.
 pub fn what_is_signed_for_a_record_is_a_signed_document()
     ensures some { (setup : IdpConfig) (held : Held) (r : IdpRecord) (element : Made) →
         IsSignedOf setup held r element → IsMade element → (s : Signed) × IsDocumentOf element s }
@@ -71,7 +71,8 @@ pub fn more_records_stand_for_no_less()
     ensures login { (setup : IdpConfig) (added more : List Added) (said : Login) →
         ((one : Added) → Contains added one → Contains more one) →
         IsRecordedLogin setup added said → IsRecordedLogin setup more said }
-    ensures session { (setup : IdpConfig) (added more : List Added) (config : SpConfig) (now : ℕ) (session : NewSession) →
+    ensures session { (setup : IdpConfig) (added more : List Added) (config : SpConfig) (now : ℕ)
+        (session : NewSession) →
         ((one : Added) → Contains added one → Contains more one) →
         IsRecordedSession setup added config now session → IsRecordedSession setup more config now session }
 {}
@@ -85,8 +86,8 @@ pub fn a_login_that_was_signed_was_recorded()
     sig_reference::laws::what_is_put_inside_says_the_same();
 }
 
-/// And the login that an issued record stands for is a login of each element that was signed for it, where its texts are
-/// read as they were written.
+/// And the login that an issued record stands for is a login of each element that was signed for it, where its texts
+/// are read as they were written.
 pub fn a_login_that_was_recorded_was_signed()
     ensures { (setup : IdpConfig) (held : Held) (r : Issued) (element : Made) (s : Signed) →
         IsSignedOf setup held (kinds.Issued r) element → IsMade element → IsDocumentOf element s →
@@ -109,7 +110,7 @@ pub fn what_is_read_is_what_the_record_says()
         CanBeRead (login_of issuer r) → read_of issuer r ≡ login_of issuer r }
 {}
 
-/// Where a recorded login is meant for a provider now, the session of it, for a key that counts, is that of an issued record
+/// Where a recorded login is meant for a provider now, its session, of a key that counts, is that of an issued record
 /// for this provider, to its address and in its time.
 pub fn a_recorded_login_has_a_recorded_session()
     ensures { (setup : IdpConfig) (added : List Added) (config : SpConfig) (now : ℕ) (head : ResponseHead) (key : Key)
