@@ -79,7 +79,8 @@ is_busy connection = is_ready connection || (is_taking connection || is_dropping
 
 -- a connection that is closed: it is shut where nothing is left to send
 abbrev pub closed_at : ℕ → Connection → Connection
-closed_at now connection = record connection { stage = if length connection.left == 0 then Shut else Closed; since = now }
+closed_at now connection =
+    record connection { stage = if length connection.left == 0 then Shut else Closed; since = now }
 
 -- It is in this stage, and nothing came from it or went out on it for so long.
 abbrev pub IsSilent : Stage → ℕ → ℕ → Connection → Type 0

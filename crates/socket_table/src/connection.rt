@@ -80,7 +80,8 @@ impl Stage {
 }
 
 impl Connection {
-    ghost use Rattle.socket_table.specs.Connections.{time_left, is_overdue, is_heard, is_due, is_ready, is_taking, is_dropping, is_busy, closed_at, IsSilent};
+    ghost use Rattle.socket_table.specs.Connections.{time_left, is_overdue, is_heard, is_due, is_ready};
+    ghost use Rattle.socket_table.specs.Connections.{is_taking, is_dropping, is_busy, closed_at, IsSilent};
     ghost use Rattle.socket_table.specs.Seats.{arrived_at};
 
     /// A connection that was just taken.
@@ -165,7 +166,11 @@ impl Connection {
     /// So much of what is left went out.
     pub fn went_out(&mut self, taken: Taken, now: u64)
         requires { taken.count ≤ length self.old.left }
-        ensures went { self.new ≡ record self.old { left = drop taken.count self.old.left; moved = self.new.moved; is_writable = self.new.is_writable } }
+        ensures went { self.new ≡ record self.old {
+          left = drop taken.count self.old.left;
+          moved = self.new.moved;
+          is_writable = self.new.is_writable;
+        } }
         ensures moved { self.new.moved ≡ (if nat_lt 0 taken.count then now else self.old.moved) }
         ensures waits { taken.next ≡ Next.Waits → self.new.is_writable ≡ false }
     {

@@ -1,4 +1,5 @@
-//! The connections that a program has open at once: whose turn it is, who has waited too long, and what is left to send to whom.
+//! The connections that a program has open at once: whose turn it is, who has waited too long, and what is left to send
+//! to whom.
 //!
 //! ```
 //! let mut table = SocketTable::new(alloc)?;
@@ -15,17 +16,18 @@
 //!
 //! | A connection is | that is, and for how long |
 //! |---|---|
-//! | `Arrived` | taken, and its start is not yet told: at once where fewer than 64 are asking or where it can be read, else after a second |
+//! | `Arrived` | taken, its start not yet told: that is at once where fewer than 64 ask or it can be read, else in a second |
 //! | `Asking` | started, and nothing was sent on it: 30 seconds from its start |
 //! | `Answered` | one on which something was sent, and not closed: 30 seconds from the last sending |
 //! | `Closed` | closed, with bytes left to send: 30 seconds |
 //! | `Shut` | closed, with nothing left to send; what still comes is read and dropped: one second |
 //!
-//! A moment is in milliseconds, of a clock that never goes back. The seats stand in the order of their turns: the first that is
-//! ready is served next, and then goes behind all others. A stream is any reader and writer that answers `WouldBlock` where it
-//! would wait; contracts say what happens to its bytes where it knows them.
+//! A moment is in milliseconds, of a clock that never goes back. The seats stand in the order of their turns: the first
+//! that is ready is served next, and then goes behind all others. A stream is any reader and writer that answers
+//! `WouldBlock` where it would wait; contracts say what happens to its bytes where it knows them.
 //!
-//! All bytes that were sent on a connection have gone out on its own stream or are left to, in their order, and nothing else is.
+//! All bytes that were sent on a connection have gone out on its own stream or are left to, in their order, and nothing
+//! else is.
 #![tactic(auto)]
 
 mod connection;

@@ -12,6 +12,6 @@ pub const LONGEST: u64 = 30_000;
 /// How long, in milliseconds, what still comes is read and dropped once all was sent.
 pub const LINGER: u64 = 1_000;
 
-/// How long, in milliseconds, a connection has to be silent until it may be ended for another one; and how long one that is silent
-/// waits to be started while as many are asking as may be.
+/// How long, in milliseconds, a connection has to be silent until it may be ended for another one; and how long one
+/// that is silent waits to be started while as many are asking as may be.
 pub const SILENCE: u64 = 1_000;

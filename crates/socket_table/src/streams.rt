@@ -75,7 +75,8 @@ pub(crate) fn hear<S: Read>(stream: &mut S, into: &mut [u8]) -> Heard
     }
 }
 
-/// Writes as much as the stream takes. A write that a signal interrupted is tried again, and one that takes nothing has failed.
+/// Writes as much as the stream takes. A write that a signal interrupted is tried again, and one that takes nothing has
+/// failed.
 pub(crate) fn put<S: Write>(stream: &mut S, bytes: &[u8]) -> Taken
     ensures fits { result.count ≤ length bytes.now }
     ensures bytes { Appends (S.contents stream.old) (S.contents stream.new) (take result.count bytes.now) }

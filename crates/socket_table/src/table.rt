@@ -1,5 +1,6 @@
 //! The table of the connections.
-ghost use Rattle.std.specs.Prelude.{◌≡◌, ◌≢◌, ◌<◌, ◌≤◌, ◌==◌, ◌&&◌, ◌↔◌, [], ◌∷◌, ◌++◌, length, position, count_by, remove, slice_get, All, Any, Contains, Some, None, Err, IsOk, IsNone, IsSome, IsTrue, IsSomeAnd, false, ◌||◌, ◌⊎◌, IfOk, IfErr, OnErr, MatchOption, MatchResult, SomeIndex, slice_index, map, IfSome, vec_len, vec_capacity};
+ghost use Rattle.std.specs.Prelude.{◌≡◌, ◌≢◌, ◌<◌, ◌≤◌, ◌↔◌, ◌⊎◌, [], ◌∷◌, ◌++◌, length, remove, slice_get, slice_index, vec_len, vec_capacity};
+ghost use Rattle.std.specs.Prelude.{All, SomeIndex, Some, None, Err, IsOk, IsNone, IsSome, IsTrue, IsSomeAnd, IfOk, IfErr, IfSome, MatchOption};
 ghost use Rattle.std.specs.List.{list_any};
 ghost use Rattle.socket_table.specs.declared.limits.TheConstants.{MOST_SEATS};
 
@@ -36,9 +37,11 @@ pub struct SocketTable<S> {
 }
 
 impl<S> SocketTable<S> {
-    ghost use Rattle.socket_table.specs.Connections.{is_open, is_arrived, is_asking, is_overdue, is_heard, is_due, is_ready, is_busy, time_left, closed_at, IsSilent};
+    ghost use Rattle.socket_table.specs.Connections.{is_busy, time_left, closed_at, IsSilent};
     ghost use Rattle.socket_table.specs.declared.seat.Seat.{Seat};
-    ghost use Rattle.socket_table.specs.Seats.{next_number, arrived_at, started_at, marked, ChangesAt, ConnectionBecomes, IsMostSilent};
+    ghost use Rattle.socket_table.specs.Seats.{next_number, arrived_at, started_at, marked, times_left, asking_count};
+    ghost use Rattle.socket_table.specs.Seats.{overdue_place, heard_place, arrived_place, due_place, ready_place};
+    ghost use Rattle.socket_table.specs.Seats.{open_place, place_of_number, ChangesAt, ConnectionBecomes, IsMostSilent};
 
     /// No connection, and memory for all that there may be.
     pub fn new(alloc: Global) -> Result<SocketTable<S>, AllocError>
@@ -52,7 +55,7 @@ impl<S> SocketTable<S> {
 
     /// The place of the first connection whose start was told and that has been in its stage for as long as it may.
     pub fn overdue(&self, now: u64) -> Option<usize>
-        ensures { result ≡ position (λ seat. is_overdue now seat.connection) self.now.seats.items }
+        ensures { result ≡ overdue_place now self.now.seats.items }
     {
         self.seats
             .iter()
@@ -61,7 +64,7 @@ impl<S> SocketTable<S> {
 
     // The place of the first connection whose start is not yet told, and that can be read.
     fn heard(&self) -> Option<usize>
-        ensures { result ≡ position (λ seat. is_heard seat.connection) self.now.seats.items }
+        ensures { result ≡ heard_place self.now.seats.items }
     {
         self.seats
             .iter()
@@ -70,7 +73,7 @@ impl<S> SocketTable<S> {
 
     // The place of the first connection whose start is not yet told.
     fn first_arrived(&self) -> Option<usize>
-        ensures { result ≡ position (λ seat. is_arrived seat.connection.stage) self.now.seats.items }
+        ensures { result ≡ arrived_place self.now.seats.items }
     {
         self.seats
             .iter()
@@ -79,20 +82,20 @@ impl<S> SocketTable<S> {
 
     // The place of the first connection that has waited for its start as long as it may.
     fn first_due(&self, now: u64) -> Option<usize>
-        ensures { result ≡ position (λ seat. is_due now seat.connection) self.now.seats.items }
+        ensures { result ≡ due_place now self.now.seats.items }
     {
         self.seats
             .iter()
             .position(|seat| seat.connection.is_due(now))
     }
 
-    // The place of the first connection whose start is not yet told; where as many are asking as may be, of the first that has
-    // waited for that as long as it may.
+    // The place of the first connection whose start is not yet told; where as many are asking as may be, of the first
+    // that has waited for that as long as it may.
     fn waiting(&self, now: u64) -> Option<usize>
-        ensures room { count_by (λ seat. is_asking seat.connection.stage) self.now.seats.items < MOST_ASKING
-            → result ≡ position (λ seat. is_arrived seat.connection.stage) self.now.seats.items }
-        ensures full { MOST_ASKING ≤ count_by (λ seat. is_asking seat.connection.stage) self.now.seats.items
-            → result ≡ position (λ seat. is_due now seat.connection) self.now.seats.items }
+        ensures room { asking_count self.now.seats.items < MOST_ASKING
+            → result ≡ arrived_place self.now.seats.items }
+        ensures full { MOST_ASKING ≤ asking_count self.now.seats.items
+            → result ≡ due_place now self.now.seats.items }
     {
         if self.asking() < MOST_ASKING {
             return self.first_arrived();
@@ -100,17 +103,17 @@ impl<S> SocketTable<S> {
         self.first_due(now)
     }
 
-    /// The place of the connection whose start is told next: the first that can be read. Where there is none it is the first
-    /// that has come, or, where as many are asking as may be, the first that has waited for a second.
+    /// The place of the connection whose start is told next: the first that can be read. Where there is none it is the
+    /// first that has come, or, where as many are asking as may be, the first that has waited for a second.
     pub fn arrived(&self, now: u64) -> Option<usize>
-        ensures heard { IsSome (position (λ seat. is_heard seat.connection) self.now.seats.items)
-            → result ≡ position (λ seat. is_heard seat.connection) self.now.seats.items }
-        ensures room { IsNone (position (λ seat. is_heard seat.connection) self.now.seats.items)
-            → count_by (λ seat. is_asking seat.connection.stage) self.now.seats.items < MOST_ASKING
-            → result ≡ position (λ seat. is_arrived seat.connection.stage) self.now.seats.items }
-        ensures full { IsNone (position (λ seat. is_heard seat.connection) self.now.seats.items)
-            → MOST_ASKING ≤ count_by (λ seat. is_asking seat.connection.stage) self.now.seats.items
-            → result ≡ position (λ seat. is_due now seat.connection) self.now.seats.items }
+        ensures heard { IsSome (heard_place self.now.seats.items)
+            → result ≡ heard_place self.now.seats.items }
+        ensures room { IsNone (heard_place self.now.seats.items)
+            → asking_count self.now.seats.items < MOST_ASKING
+            → result ≡ arrived_place self.now.seats.items }
+        ensures full { IsNone (heard_place self.now.seats.items)
+            → MOST_ASKING ≤ asking_count self.now.seats.items
+            → result ≡ due_place now self.now.seats.items }
     {
         match self.heard() {
             Some(place) => Some(place),
@@ -120,7 +123,7 @@ impl<S> SocketTable<S> {
 
     /// The place of the first connection that is open and can be read.
     pub fn next_ready(&self) -> Option<usize>
-        ensures { result ≡ position (λ seat. is_ready seat.connection) self.now.seats.items }
+        ensures { result ≡ ready_place self.now.seats.items }
     {
         self.seats
             .iter()
@@ -136,7 +139,7 @@ impl<S> SocketTable<S> {
 
     /// The place of the open connection of a number.
     pub fn place_of(&self, number: u32) -> Option<usize>
-        ensures { result ≡ position (λ seat. (seat.connection.number == number) && is_open seat.connection.stage) self.now.seats.items }
+        ensures { result ≡ open_place number self.now.seats.items }
     {
         self.seats.iter().position(|seat| seat.connection.number == number
             && seat.connection.stage.is_open())
@@ -144,7 +147,7 @@ impl<S> SocketTable<S> {
 
     /// How many connections are asking.
     pub fn asking(&self) -> usize
-        ensures { result ≡ count_by (λ seat. is_asking seat.connection.stage) self.now.seats.items }
+        ensures { result ≡ asking_count self.now.seats.items }
     {
         self.seats
             .iter()
@@ -152,7 +155,8 @@ impl<S> SocketTable<S> {
             .count()
     }
 
-    /// The place of the connection of this stage that has been silent longest, if it was silent for so many milliseconds.
+    /// The place of the connection of this stage that has been silent longest, if it was silent for so many
+    /// milliseconds.
     pub fn most_silent(&self, stage: Stage, silence: u64, now: u64) -> Option<usize>
         ensures none { IsNone result → All (λ seat. ¬ IsSilent stage silence now seat.connection) self.now.seats.items }
         ensures found { IfSome result (IsMostSilent stage silence now self.now.seats.items) }
@@ -170,11 +174,11 @@ impl<S> SocketTable<S> {
         }
     }
 
-    /// The place of the connection that is ended so that one that can be read may start: where as many are asking as may be, the
-    /// one that has been silent longest, if it was silent for a second.
+    /// The place of the connection that is ended so that one that can be read may start: where as many are asking as
+    /// may be, the one that has been silent longest, if it was silent for a second.
     pub fn in_the_way(&self, now: u64) -> Option<usize>
-        ensures room { count_by (λ seat. is_asking seat.connection.stage) self.now.seats.items < MOST_ASKING → result ≡ None }
-        ensures none { MOST_ASKING ≤ count_by (λ seat. is_asking seat.connection.stage) self.now.seats.items → IsNone result
+        ensures room { asking_count self.now.seats.items < MOST_ASKING → result ≡ None }
+        ensures none { MOST_ASKING ≤ asking_count self.now.seats.items → IsNone result
             → All (λ seat. ¬ IsSilent Stage.Asking SILENCE now seat.connection) self.now.seats.items }
         ensures found { IfSome result (IsMostSilent Stage.Asking SILENCE now self.now.seats.items) }
     {
@@ -187,8 +191,10 @@ impl<S> SocketTable<S> {
     /// How long, in milliseconds, until some connection is overdue, if there is one.
     pub fn time_left(&self, now: u64) -> Option<u64>
         ensures none { IsNone result ↔ (self.now.seats.items ≡ []) }
-        ensures least { IfSome result (λ least. All (λ seat. least ≤ time_left now seat.connection) self.now.seats.items) }
-        ensures some { IfSome result (λ least. SomeIndex self.now.seats.items (λ k. least ≡ slice_index (map (λ seat. time_left now seat.connection) self.now.seats.items) k)) }
+        ensures least { IfSome result (λ least.
+            All (λ seat. least ≤ time_left now seat.connection) self.now.seats.items) }
+        ensures some { IfSome result (λ least.
+            SomeIndex self.now.seats.items (λ k. least ≡ slice_index (times_left now self.now.seats.items) k)) }
     {
         self.seats
             .iter()
@@ -198,7 +204,7 @@ impl<S> SocketTable<S> {
 
     // The place of the connection of a number, open or not.
     fn place_in_all(&self, number: u32) -> Option<usize>
-        ensures { result ≡ position (λ seat. seat.connection.number == number) self.now.seats.items }
+        ensures { result ≡ place_of_number number self.now.seats.items }
     {
         self.seats
             .iter()
@@ -212,13 +218,15 @@ impl<S> SocketTable<S> {
         self.seats.len() >= MOST_SEATS
     }
 
-    /// Takes a connection under the next number, and answers that; after 2^32 - 1 comes 0. Where there are as many as there may
-    /// be, or one of that number, it is given back.
+    /// Takes a connection under the next number, and answers that; after 2^32 - 1 comes 0. Where there are as many as
+    /// there may be, or one of that number, it is given back.
     pub fn admit(&mut self, stream: S, now: u64) -> Result<u32, S>
         ensures last { self.new.last ≡ next_number self.old.last }
-        ensures ok { IsOk result ↔ ((vec_len self.old.seats < MOST_SEATS) × (position (λ seat. seat.connection.number == next_number self.old.last) self.old.seats.items ≡ None)) }
+        ensures ok { IsOk result ↔ ((vec_len self.old.seats < MOST_SEATS)
+            × (place_of_number (next_number self.old.last) self.old.seats.items ≡ None)) }
         ensures taken { IfOk result (λ number. (number ≡ next_number self.old.last)
-            × (self.new.seats.items ≡ self.old.seats.items ++ record { connection = arrived_at number now; stream = stream } ∷ [])) }
+            × (self.new.seats.items
+            ≡ self.old.seats.items ++ record { connection = arrived_at number now; stream = stream } ∷ [])) }
         ensures given_back { IfErr result (λ same. (same ≡ stream) × (self.new.seats.items ≡ self.old.seats.items)) }
     {
         self.last = self.last.wrapping_add(1);
@@ -267,8 +275,9 @@ impl<S> SocketTable<S> {
 
     /// What the system says of the connection of a number: whether it may be read and written.
     pub fn mark(&mut self, number: u32, is_readable: bool, is_writable: bool)
-        ensures { MatchOption (position (λ seat. seat.connection.number == number) self.old.seats.items) (self.new ≡ self.old)
-            (λ place. ChangesAt place (ConnectionBecomes (marked is_readable is_writable)) self.old.seats.items self.new.seats.items) }
+        ensures { MatchOption (place_of_number number self.old.seats.items) (self.new ≡ self.old)
+            (λ place. ChangesAt place (ConnectionBecomes (marked is_readable is_writable))
+            self.old.seats.items self.new.seats.items) }
     {
         if let Some(place) = self.place_in_all(number) {
             let connection = &mut self.seats[place].connection;
@@ -279,9 +288,10 @@ impl<S> SocketTable<S> {
 
     /// Closes the open connection of a number, if there is one, and answers its place. What is left goes on being sent.
     pub fn close(&mut self, number: u32, now: u64) -> Option<usize>
-        ensures place { result ≡ position (λ seat. (seat.connection.number == number) && is_open seat.connection.stage) self.old.seats.items }
+        ensures place { result ≡ open_place number self.old.seats.items }
         ensures none { IsNone result → self.new ≡ self.old }
-        ensures closes { IfSome result (λ place. ChangesAt place (ConnectionBecomes (closed_at now)) self.old.seats.items self.new.seats.items) }
+        ensures closes { IfSome result (λ place.
+            ChangesAt place (ConnectionBecomes (closed_at now)) self.old.seats.items self.new.seats.items) }
     {
         let place = self.place_of(number)?;
         self.seats[place].connection.close(now);
@@ -290,8 +300,7 @@ impl<S> SocketTable<S> {
 }
 
 impl<S: Read + Write> SocketTable<S> {
-    ghost use Rattle.socket_table.specs.Connections.{is_open};
-    ghost use Rattle.socket_table.specs.Seats.{ChangesAt, Hears, Flushes, SendsOn};
+    ghost use Rattle.socket_table.specs.Seats.{open_place, ChangesAt, Hears, Flushes, SendsOn};
 
     /// Reads what a connection has to say.
     pub fn hear(&mut self, place: usize, into: &mut [u8], now: u64) -> Said
@@ -305,11 +314,11 @@ impl<S: Read + Write> SocketTable<S> {
 
     /// Sends bytes on the open connection of a number, as far as its stream takes them; the others are left.
     pub fn send(&mut self, number: u32, bytes: &[u8], now: u64) -> Result<(), SendFault>
-        ensures not_open { (result ≡ Err SendFault.NotOpen) ↔
-            IsNone (position (λ seat. (seat.connection.number == number) && is_open seat.connection.stage) self.old.seats.items) }
-        ensures unchanged { (result ≡ Err SendFault.NotOpen) ⊎ (result ≡ Err SendFault.NoMemory) → self.new.seats.items ≡ self.old.seats.items }
+        ensures not_open { (result ≡ Err SendFault.NotOpen) ↔ IsNone (open_place number self.old.seats.items) }
+        ensures unchanged { (result ≡ Err SendFault.NotOpen) ⊎ (result ≡ Err SendFault.NoMemory)
+            → self.new.seats.items ≡ self.old.seats.items }
         ensures sends { result ≢ Err SendFault.NotOpen → result ≢ Err SendFault.NoMemory
-            → IsSomeAnd (position (λ seat. (seat.connection.number == number) && is_open seat.connection.stage) self.old.seats.items)
+            → IsSomeAnd (open_place number self.old.seats.items)
             (λ place. ChangesAt place (SendsOn S.contents bytes.now now) self.old.seats.items self.new.seats.items) }
         ensures last { self.new.last ≡ self.old.last }
     {

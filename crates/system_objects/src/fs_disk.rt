@@ -39,8 +39,8 @@ fn open_file<R: rt::Files<File = File>>(rt: &R, name: &str) -> io::Result<Journa
     Ok(Journal { file, lost: false })
 }
 
-// Opens both files, and syncs the folder, so that a crash leaves them there. The first is locked before the second is opened:
-// where another process has it locked, nothing else is done.
+// Opens both files, and syncs the folder, so that a crash leaves them there. The first is locked before the second is
+// opened: where another process has it locked, nothing else is done.
 fn open_both<R: rt::Files<File = File>>(rt: &R) -> io::Result<Journals<File>> {
     let zero = open_file(rt, NAME_ZERO)?;
     zero.file.try_lock()?;
@@ -124,12 +124,12 @@ impl<F: Read + Write + Seek + OpenFile> Journal<F> {
 /// what they hold.
 ///
 /// The first call opens both files and makes those that are absent, empty and for their owner alone. Before it opens
-/// `journal.1`, and before anything is read or written, it locks `journal.0` for itself; the system gives the lock back when
-/// the process ends, however it ends. Where any of that fails, or another process has the lock, the call fails, and the next
-/// one tries again. A crash after it leaves both files in the folder. A sync waits until the
-/// system has written the file to its device. After a sync that failed each further sync of that file fails too, since
-/// the system may have dropped what it could not write and still read it from memory: what the device holds is known
-/// again once the system itself was started anew.
+/// `journal.1`, and before anything is read or written, it locks `journal.0` for itself; the system gives the lock back
+/// when the process ends, however it ends. Where any of that fails, or another process has the lock, the call fails,
+/// and the next one tries again. A crash after it leaves both files in the folder. A sync waits until the system has
+/// written the file to its device. After a sync that failed each further sync of that file fails too, since the system
+/// may have dropped what it could not write and still read it from memory: what the device holds is known again once
+/// the system itself was started anew.
 #[derive(Drop)]
 pub struct FsDisk<'a, R> {
     rt: &'a R,

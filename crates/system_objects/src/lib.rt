@@ -12,6 +12,7 @@
 //! link.next(&mut into)?;                      // waits for its bytes: Piece(1, 18)
 //! link.send(1, b"HTTP/1.1 204 \r\n\r\n")?;
 //! link.close(1);
+//! link.finish();                              // what was sent goes out, also to a slow client
 //! let mut files = FsFiles::new(&rt);
 //! files.read_all("sp.conf", 65_536, &mut into);
 //! let mut out = StdoutSink::new(io::writer(&rt));

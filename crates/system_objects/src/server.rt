@@ -104,8 +104,8 @@ impl Server {
         Some(LinkEvent::Started(self.table.start(arrived, self.now)))
     }
 
-    // Lets a connection go so that another one may come: one that is shut, else one whose start is not yet told, else one that is
-    // closed, each time the one that has been silent longest.
+    // Lets a connection go so that another one may come: one that is shut, else one whose start is not yet told, else
+    // one that is closed, each time the one that has been silent longest.
     fn make_room(&mut self) {
         for stage in [Stage::Shut, Stage::Arrived, Stage::Closed] {
             if let Some(place) = self.table.most_silent(stage, 0, self.now) {
@@ -171,7 +171,8 @@ impl Server {
         }
     }
 
-    // Sends what is left on a connection, and drops what still comes once it is shut. It answers whether it is to be kept.
+    // Sends what is left on a connection, and drops what still comes once it is shut. It answers whether it is to be
+    // kept.
     fn move_on(&mut self, place: usize) -> bool
         requires { place < vec_len self.old.table.seats }
         ensures { vec_len self.new.table.seats ≡ vec_len self.old.table.seats }
@@ -196,7 +197,8 @@ impl Server {
         !matches!(said, Said::Ended(_))
     }
 
-    // Sends what is left on a connection, and shuts it where that was all and it is closed. It answers whether it is to be kept.
+    // Sends what is left on a connection, and shuts it where that was all and it is closed. It answers whether it is to
+    // be kept.
     fn flush(&mut self, place: usize) -> bool
         requires { place < vec_len self.old.table.seats }
         ensures { vec_len self.new.table.seats ≡ vec_len self.old.table.seats }
@@ -228,7 +230,8 @@ impl Server {
 
     // How long, in milliseconds, to wait until something has to be done whatever comes.
     fn longest_wait(&self) -> Option<u64> {
-        if self.table.is_busy() || self.is_accepting() {
+        let has_arrival = self.table.arrived(self.now).is_some();
+        if has_arrival || self.table.is_busy() || self.is_accepting() {
             return Some(0);
         }
         let left = self.table.time_left(self.now);

@@ -14,8 +14,8 @@ const EVENTS_ROOM: usize = 320;
 // What the listener is called. It is no number of a connection.
 const LISTENER: Token = Token(1 << 32);
 
-// Numbers of the system's errors where it has no room for one more socket: too many open files in the process, too many in
-// the system, no room for buffers, no memory.
+// Numbers of the system's errors where it has no room for one more socket: too many open files in the process, too many
+// in the system, no room for buffers, no memory.
 const NO_ROOM: [i32; 4] = [24, 23, 105, 12];
 
 /// What an `accept` gave.
