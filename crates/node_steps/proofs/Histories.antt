@@ -12,7 +12,7 @@ use Rattle.ledger_rules.specs.Numbers.{Drawn}
 use Rattle.node_serve.specs.Worlds.{World, OnlySends}
 use Rattle.node_serve.specs.Turns.{AreTold, Asked, Asks, Turn, Taken, Full, StarvedStart, Over, Unknown, Waiting, Answered, Refused, StarvedPiece, Does, Run, asked_by}
 use Rattle.record_ledger.specs.Rules.{RecordRules}
-use Rattle.record_ledger.specs.Ledger.{Held, Opened, IsOwn, LeftByOpening, held_with, ledger_in, migrated, next_number, taken}
+use Rattle.record_ledger.specs.Ledger.{Held, LeftByOpening, held_with, ledger_in, migrated, next_number, taken}
 use Rattle.record_ledger.specs.Compacting.{Compacts}
 use Rattle.record_ledger.specs.Laws.{ImagesHoldRecords}
 use Rattle.record_ledger.specs.Linking.{as_list}
@@ -23,7 +23,7 @@ use Rattle.node_steps.specs.declared.codes.TheConstants.{DISK_FAULT, FOREIGN, FU
 use Rattle.node_serve.proofs.Telling.{goes_on_reading, goes_on_telling}
 use Rattle.node_steps.specs.Histories.{Another, AreAcknowledged, AreKept, CameFrom, ForCode, ForNone, ForRecord, HoldsWhatCame, IsAtStart, IsProviders, Nothing, Stands, StepOf, This}
 use Rattle.node_steps.specs.Step as steps
-use Rattle.node_steps.specs.Step.{AnswersBy, Provider, IsWhole, MakesRoom, OwnsDisk, Serves, ServingLeaves, StepLeaves, Steps}
+use Rattle.node_steps.specs.Step.{AnswersBy, Ledger, Owns, Provider, IsWhole, MakesRoom, OwnsDisk, Serves, ServingLeaves, StepLeaves, Steps}
 use Rattle.node_steps.proofs.Serving.{settled}
 
 -- ---- what came of a ledger
@@ -71,7 +71,7 @@ DrawsAbove {Setup} {R} rules Answers =
     (setup : Setup) (held : Held R) (request : Request) (now : ℕ) (answer : Answer) (r : R) → Answers setup held request now answer (Some r)
     → All (λ (d : Drawn). next_number rules held ≤ d.number) (rules.drawn r)
 
-pub record Holds {Setup R S : Type 0} (rules : RecordRules R) (start : Held R) (w : World (Provider Setup R S)) (records : List R) : Type 0 where
+pub record Holds {Setup R : Type 0} (rules : RecordRules R) (start : Held R) (w : World (Provider Setup R)) (records : List R) : Type 0 where
   pub own : OwnsDisk rules w.node w.disk
   pub disk : (image : Image) → Leaves w.disk image → HoldsWhatCame rules start records image
 
@@ -96,18 +96,18 @@ module _ {Setup R : Type 0} (rules : RecordRules R) (Answers : AnswersBy Setup R
     added_unknown rules start records held r (is_new held r image is) (numbers setup held request now answer r answers) (roomed records setup found held request now which came),
   )
 
-module _ {Setup R S : Type 0} (rules : RecordRules R) (Answers : AnswersBy Setup R) (law : ImagesHoldRecords rules) (numbers : DrawsAbove rules Answers) (start : Held R) where
-  abbrev Known : World (Provider Setup R S) → List R → Type 0
+module _ {Setup R : Type 0} (rules : RecordRules R) (Answers : AnswersBy Setup R) (law : ImagesHoldRecords rules) (numbers : DrawsAbove rules Answers) (start : Held R) where
+  abbrev Known : World (Provider Setup R) → List R → Type 0
   Known w records = Holds rules start w records
 
-  pub holds_same : (w later : World (Provider Setup R S)) (records : List R) → later.node ≡ w.node → later.disk ≡ w.disk → Known w records → Known later records
+  pub holds_same : (w later : World (Provider Setup R)) (records : List R) → later.node ≡ w.node → later.disk ≡ w.disk → Known w records → Known later records
   holds_same w later records node disk holds = record {
-    own = subst (λ (p : Provider Setup R S). OwnsDisk rules p later.disk) (sym node) (subst (λ (d : Option DiskState). OwnsDisk rules w.node d) (sym disk) holds.own);
+    own = subst (λ (p : Provider Setup R). OwnsDisk rules p later.disk) (sym node) (subst (λ (d : Option DiskState). OwnsDisk rules w.node d) (sym disk) holds.own);
     disk = λ image left. holds.disk image (subst (λ (d : Option DiskState). Leaves d image) disk left);
   }
 
   -- the ledger that is found: what a whole provider has
-  pub found_whole : (records : List R) (told : Option DiskState) (ledger : Opened R S) → IsSome told → IfSome told (λ d. MayLeave d (image_of d)) → ledger.broken ≡ false → IsOwn rules told ledger
+  pub found_whole : (records : List R) (told : Option DiskState) (ledger : Ledger R) → IsSome told → IfSome told (λ d. MayLeave d (image_of d)) → ledger.broken ≡ false → Owns rules told ledger
       → ((image : Image) → Leaves told image → HoldsWhatCame rules start records image) → CameFrom rules start records ledger.held
   found_whole records None ledger tells reads whole own each = cc
   found_whole records (Some d) ledger tells reads whole own each =
@@ -116,7 +116,7 @@ module _ {Setup R S : Type 0} (rules : RecordRules R) (Answers : AnswersBy Setup
       let same : held ≡ ledger.held = (let e = sym there ∙ is in cc) in
       subst (CameFrom rules start records) same came
 
-  pub step_left : (records : List R) (w : World (Provider Setup R S)) (request : Request) (now : ℕ) (image : Image) → IsSome w.disk → IfSome w.disk (λ d. MayLeave d (image_of d))
+  pub step_left : (records : List R) (w : World (Provider Setup R)) (request : Request) (now : ℕ) (image : Image) → IsSome w.disk → IfSome w.disk (λ d. MayLeave d (image_of d))
       → Known w records → StepLeaves rules Answers w.node w.disk request now image → HoldsWhatCame rules start records image
   step_left records w request now image tells reads holds (steps.InLedger whole left) =
       serving_left rules Answers law numbers start records w.node.setup w.node.ledger.held request now image (found_whole records w.disk w.node.ledger tells reads whole holds.own holds.disk) left
@@ -125,14 +125,14 @@ module _ {Setup R S : Type 0} (rules : RecordRules R) (Answers : AnswersBy Setup
   step_left records w request now image tells reads holds (steps.InOpening broken left) = opening_left rules start records w.disk image tells holds.disk left
 
   -- a provider that is whole behind a request, and one that is broken
-  whole_behind : (records : List R) (w later : World (Provider Setup R S)) (held : Held R) → CameFrom rules start records held → IsWhole w.node later.node held → OwnsDisk rules later.node later.disk
+  whole_behind : (records : List R) (w later : World (Provider Setup R)) (held : Held R) → CameFrom rules start records held → IsWhole w.node later.node held → OwnsDisk rules later.node later.disk
       → Known later records
   whole_behind records w later held came whole own = record {
     own = own;
     disk = λ image left. (later.node.ledger.held, settled rules later.disk later.node.ledger image whole.unbroken own left, subst (CameFrom rules start records) (sym whole.is) came);
   }
 
-  broken_behind : (records : List R) (w later : World (Provider Setup R S)) (request : Request) (now : ℕ) → IsSome w.disk → IfSome w.disk (λ d. MayLeave d (image_of d))
+  broken_behind : (records : List R) (w later : World (Provider Setup R)) (request : Request) (now : ℕ) → IsSome w.disk → IfSome w.disk (λ d. MayLeave d (image_of d))
       → Known w records → OwnsDisk rules later.node later.disk → ((image : Image) → Leaves later.disk image → StepLeaves rules Answers w.node w.disk request now image) → Known later records
   broken_behind records w later request now tells reads holds own left = record {
     own = own;
@@ -140,14 +140,14 @@ module _ {Setup R S : Type 0} (rules : RecordRules R) (Answers : AnswersBy Setup
   }
 
   -- what a request does
-  abbrev Goes : List R → Asked (Provider Setup R S) → World (Provider Setup R S) → Type 0
+  abbrev Goes : List R → Asked (Provider Setup R) → World (Provider Setup R) → Type 0
   Goes records one later = (r : Option R) × Stands Answers one r × Known later (as_list r ++ records)
 
-  module _ (one : Asked (Provider Setup R S)) (w later : World (Provider Setup R S)) (records : List R) (tells : IsSome w.disk) (node : one.node ≡ w.node)
+  module _ (one : Asked (Provider Setup R)) (w later : World (Provider Setup R)) (records : List R) (tells : IsSome w.disk) (node : one.node ≡ w.node)
       (reads : IfSome w.disk (λ d. MayLeave d (image_of d))) (holds : Known w records) (own : OwnsDisk rules later.node later.disk)
       (left_over : (image : Image) → Leaves later.disk image → StepLeaves rules Answers w.node w.disk one.request one.now image) (Risen : Type 0) where
     answers_of : (held : Held R) (adds : Option R) → Answers w.node.setup held one.request one.now one.answer adds → Answers one.node.setup held one.request one.now one.answer adds
-    answers_of held adds answers = subst (λ (p : Provider Setup R S). Answers p.setup held one.request one.now one.answer adds) (sym node) answers
+    answers_of held adds answers = subst (λ (p : Provider Setup R). Answers p.setup held one.request one.now one.answer adds) (sym node) answers
 
     added_behind : (held : Held R) (r : R) → Answers w.node.setup held one.request one.now one.answer (Some r) → CameFrom rules start records held
         → IsWhole w.node later.node (held_with r held) → Known later (r ∷ records)
@@ -182,7 +182,7 @@ module _ {Setup R S : Type 0} (rules : RecordRules R) (Answers : AnswersBy Setup
     stepped (steps.StarvedAtOpening was is broken) = (None, ForCode NO_MEMORY is, broken_behind records w later one.request one.now tells reads holds own left_over)
 
   -- what a request does to a world
-  pub asked_goes : (one : Asked (Provider Setup R S)) (w later : World (Provider Setup R S)) (records : List R) → IsSome one.disk → Known w records → Asks (IsProviders rules Answers) one w later
+  pub asked_goes : (one : Asked (Provider Setup R)) (w later : World (Provider Setup R)) (records : List R) → IsSome one.disk → Known w records → Asks (IsProviders rules Answers) one w later
       → Goes records one later
   asked_goes one w later records tells holds asks =
       stepped one w later records (subst IsSome asks.disk tells) asks.node asks.answers.reads holds asks.answers.owns asks.answers.left
@@ -191,20 +191,20 @@ module _ {Setup R S : Type 0} (rules : RecordRules R) (Answers : AnswersBy Setup
   -- ---- the world from turn to turn
 
   -- the records that were acknowledged in turns, and what is known then
-  pub record Knows (turns : List (Turn (Provider Setup R S))) (w : World (Provider Setup R S)) : Type 0 where
+  pub record Knows (turns : List (Turn (Provider Setup R))) (w : World (Provider Setup R)) : Type 0 where
     pub records : List R
     pub are : AreAcknowledged Answers turns records
     pub holds : Known w records
 
-  same_world : (w later : World (Provider Setup R S)) (records : List R) → later ≡ w → Known w records → Known later records
-  same_world w later records same holds = subst (λ (x : World (Provider Setup R S)). Known x records) (sym same) holds
+  same_world : (w later : World (Provider Setup R)) (records : List R) → later ≡ w → Known w records → Known later records
+  same_world w later records same holds = subst (λ (x : World (Provider Setup R)). Known x records) (sym same) holds
 
-  sent : (w later : World (Provider Setup R S)) (records : List R) (conn : ℕ) (bytes : List ℕ) → OnlySends conn bytes w later → Known w records → Known later records
+  sent : (w later : World (Provider Setup R)) (records : List R) (conn : ℕ) (bytes : List ℕ) → OnlySends conn bytes w later → Known w records → Known later records
   sent w later records conn bytes sends holds =
-      holds_same w later records (ap (λ (x : World (Provider Setup R S)). x.node) sends.same) (ap (λ (x : World (Provider Setup R S)). x.disk) sends.same) holds
+      holds_same w later records (ap (λ (x : World (Provider Setup R)). x.node) sends.same) (ap (λ (x : World (Provider Setup R)). x.disk) sends.same) holds
 
-  passes : (turns : List (Turn (Provider Setup R S))) (turn : Turn (Provider Setup R S)) (old new : Table) (w later : World (Provider Setup R S))
-      → AllByRecursion (λ (one : Asked (Provider Setup R S)). IsSome one.disk) (asked_by turn) → Does (IsProviders rules Answers) old w turn new later → Knows turns w → Knows (turn ∷ turns) later
+  passes : (turns : List (Turn (Provider Setup R))) (turn : Turn (Provider Setup R)) (old new : Table) (w later : World (Provider Setup R))
+      → AllByRecursion (λ (one : Asked (Provider Setup R)). IsSome one.disk) (asked_by turn) → Does (IsProviders rules Answers) old w turn new later → Knows turns w → Knows (turn ∷ turns) later
   passes turns (Taken conn) old new w later told does knows =
       record { records = knows.records; are = (knows.records, knows.are, refl); holds = same_world w later knows.records does.1 knows.holds }
   passes turns (Full conn) old new w later told does knows =
@@ -225,18 +225,18 @@ module _ {Setup R S : Type 0} (rules : RecordRules R) (Answers : AnswersBy Setup
   passes turns (StarvedPiece conn piece) old new w later told (between, takes, lets) knows =
       record { records = knows.records; are = (knows.records, knows.are, refl); holds = sent w later knows.records conn _ lets.sends knows.holds }
 
-  pub known : (first last : World (Provider Setup R S)) (turns : List (Turn (Provider Setup R S))) (kept : Table) → Known first [] → AreTold turns → Run (IsProviders rules Answers) first turns kept last → Knows turns last
+  pub known : (first last : World (Provider Setup R)) (turns : List (Turn (Provider Setup R))) (kept : Table) → Known first [] → AreTold turns → Run (IsProviders rules Answers) first turns kept last → Knows turns last
   known first last [] kept begins told run = record { records = []; are = refl; holds = same_world first last [] run.1 begins }
   known first last (turn ∷ past) kept begins told (old, before, given, run, next, does) =
       let knows = known first before past old begins told.1 run in
-      let given_holds = holds_same before given knows.records (ap (λ (x : World (Provider Setup R S)). x.node) next.same) (ap (λ (x : World (Provider Setup R S)). x.disk) next.same) knows.holds in
+      let given_holds = holds_same before given knows.records (ap (λ (x : World (Provider Setup R)). x.node) next.same) (ap (λ (x : World (Provider Setup R)). x.disk) next.same) knows.holds in
       passes past turn old kept given last told.0 does (record { records = knows.records; are = knows.are; holds = given_holds })
 
 -- at the start
 pub came_itself : {R : Type 0} (rules : RecordRules R) (start : Held R) → CameFrom rules start [] start
 came_itself rules start = record { events = []; leads = refl; includes = Nothing }
 
-pub begins : {Setup R S : Type 0} (rules : RecordRules R) (first : World (Provider Setup R S)) → IsAtStart rules first → Holds rules first.node.ledger.held first []
+pub begins : {Setup R : Type 0} (rules : RecordRules R) (first : World (Provider Setup R)) → IsAtStart rules first → Holds rules first.node.ledger.held first []
 begins rules first at = record {
   own = at.own;
   disk = λ image left. (first.node.ledger.held, settled rules first.disk first.node.ledger image at.whole at.own left, came_itself rules first.node.ledger.held);
@@ -249,19 +249,19 @@ pub an_image : (told : Option DiskState) → IsSome told → IfSome told (λ d. 
 an_image None tells reads = cc
 an_image (Some d) tells reads = (image_of d, reads)
 
-module _ {Setup R S : Type 0} (rules : RecordRules R) (Answers : AnswersBy Setup R) where
+module _ {Setup R : Type 0} (rules : RecordRules R) (Answers : AnswersBy Setup R) where
   -- a disk that tells at first tells all along, and in the end an image may be left of it
-  pub all_told : (first last : World (Provider Setup R S)) (turns : List (Turn (Provider Setup R S))) (kept : Table) → IsSome first.disk → Run (IsProviders rules Answers) first turns kept last
+  pub all_told : (first last : World (Provider Setup R)) (turns : List (Turn (Provider Setup R))) (kept : Table) → IsSome first.disk → Run (IsProviders rules Answers) first turns kept last
       → AreTold turns × IsSome last.disk
   all_told first last turns kept tells run = goes_on_telling (OwnsDisk rules) (StepOf rules Answers) (StepLeaves rules Answers) first turns kept last run tells
 
-  pub some_left : (first last : World (Provider Setup R S)) (turns : List (Turn (Provider Setup R S))) (kept : Table) → IsAtStart rules first → IsSome first.disk
+  pub some_left : (first last : World (Provider Setup R)) (turns : List (Turn (Provider Setup R))) (kept : Table) → IsAtStart rules first → IsSome first.disk
       → Run (IsProviders rules Answers) first turns kept last → (image : Image) × Leaves last.disk image
   some_left first last turns kept at tells run =
       an_image last.disk (all_told first last turns kept tells run).1
       (goes_on_reading (OwnsDisk rules) (StepOf rules Answers) (StepLeaves rules Answers) first turns kept last run at.reads)
 
-  pub what_is_kept : (law : ImagesHoldRecords rules) (numbers : DrawsAbove rules Answers) (first last : World (Provider Setup R S)) (turns : List (Turn (Provider Setup R S))) (kept : Table)
+  pub what_is_kept : (law : ImagesHoldRecords rules) (numbers : DrawsAbove rules Answers) (first last : World (Provider Setup R)) (turns : List (Turn (Provider Setup R))) (kept : Table)
       → IsAtStart rules first → IsSome first.disk → Run (IsProviders rules Answers) first turns kept last → AreKept rules Answers first last turns
   what_is_kept law numbers first last turns kept at tells run =
       let told = all_told first last turns kept tells run in

@@ -1,7 +1,7 @@
 -- What was acknowledged is kept from then on, also inside later answers.
 use Rattle.std.specs.Prelude.{is_some, IsSome, Option, None, Some}
 use Rattle.std.specs.List.{AllByRecursion}
-use Rattle.std.proofs.Common.{◌≡◌, ◌∙◌, ◌⊎◌, List, [], ◌∷◌, ◌++◌, ℕ, refl, subst, ap, arith, ⊎_elim}
+use Rattle.std.proofs.Common.{◌≡◌, ◌∙◌, List, [], ◌∷◌, ◌++◌, ℕ, refl, subst, ap, arith, ⊎_elim}
 use Rattle.crash_disk.specs.Disk.{Image}
 use Rattle.conn_table.specs.Table.{Table}
 use Rattle.node_serve.specs.Serving.{LeavesInOrder, LeavesSince, LeftInside}
@@ -30,71 +30,71 @@ module _ {R : Type 0} (rules : RecordRules R) where
   came_fewer start held None earlier came = came
   came_fewer start held (Some r) earlier came = record { events = came.events; leads = came.leads; includes = includes_fewer came.events r earlier came.includes }
 
-came_behind : {Setup R S : Type 0} (rules : RecordRules R) (Answers : AnswersBy Setup R) (start held : Held R) (asked : List (Asked (Provider Setup R S))) (earlier records : List R)
+came_behind : {Setup R : Type 0} (rules : RecordRules R) (Answers : AnswersBy Setup R) (start held : Held R) (asked : List (Asked (Provider Setup R))) (earlier records : List R)
     → AreBehind Answers asked earlier records → CameFrom rules start records held → CameFrom rules start earlier held
 came_behind rules Answers start held [] earlier records same came = subst (λ (l : List _). CameFrom rules start l held) same came
 came_behind rules Answers start held (one ∷ others) earlier records (r, stands, is) came = came_fewer rules start held r earlier (subst (λ (l : List _). CameFrom rules start l held) is came)
 
 -- ---- from each point on
 
-module _ {Setup R S : Type 0} (rules : RecordRules R) (Answers : AnswersBy Setup R) (law : ImagesHoldRecords rules) (numbers : DrawsAbove rules Answers) (first : World (Provider Setup R S))
+module _ {Setup R : Type 0} (rules : RecordRules R) (Answers : AnswersBy Setup R) (law : ImagesHoldRecords rules) (numbers : DrawsAbove rules Answers) (first : World (Provider Setup R))
     (at : IsAtStart rules first) (tells : IsSome first.disk) where
-  abbrev Known : World (Provider Setup R S) → List R → Type 0
+  abbrev Known : World (Provider Setup R) → List R → Type 0
   Known w records = Holds rules first.node.ledger.held w records
 
   -- a world in which the provider and the disk are the same
-  stays : (w later : World (Provider Setup R S)) (records : List R) → later.node ≡ w.node → later.disk ≡ w.disk → Known w records → Known later records
+  stays : (w later : World (Provider Setup R)) (records : List R) → later.node ≡ w.node → later.disk ≡ w.disk → Known w records → Known later records
   stays w later records node disk holds = holds_same rules Answers law numbers first.node.ledger.held w later records node disk holds
 
-  abbrev Behind : List R → Turn (Provider Setup R S) → World (Provider Setup R S) → Type 0
+  abbrev Behind : List R → Turn (Provider Setup R) → World (Provider Setup R) → Type 0
   Behind earlier turn later = (records : List R) × AreBehind Answers (asked_by turn) earlier records × Known later records
 
-  passes : (earlier : List R) (turn : Turn (Provider Setup R S)) (old new : Table) (w later : World (Provider Setup R S))
-      → AllByRecursion (λ (one : Asked (Provider Setup R S)). IsSome one.disk) (asked_by turn) → Does (IsProviders rules Answers) old w turn new later → Known w earlier → Behind earlier turn later
+  passes : (earlier : List R) (turn : Turn (Provider Setup R)) (old new : Table) (w later : World (Provider Setup R))
+      → AllByRecursion (λ (one : Asked (Provider Setup R)). IsSome one.disk) (asked_by turn) → Does (IsProviders rules Answers) old w turn new later → Known w earlier → Behind earlier turn later
   passes earlier (Taken conn) old new w later told does holds =
-      (earlier, refl, stays w later earlier (ap (λ (x : World (Provider Setup R S)). x.node) does.1) (ap (λ (x : World (Provider Setup R S)). x.disk) does.1) holds)
+      (earlier, refl, stays w later earlier (ap (λ (x : World (Provider Setup R)). x.node) does.1) (ap (λ (x : World (Provider Setup R)). x.disk) does.1) holds)
   passes earlier (Full conn) old new w later told does holds =
-      (earlier, refl, stays w later earlier (ap (λ (x : World (Provider Setup R S)). x.node) does.1.same) (ap (λ (x : World (Provider Setup R S)). x.disk) does.1.same) holds)
+      (earlier, refl, stays w later earlier (ap (λ (x : World (Provider Setup R)). x.node) does.1.same) (ap (λ (x : World (Provider Setup R)). x.disk) does.1.same) holds)
   passes earlier (StarvedStart conn) old new w later told does holds =
-      (earlier, refl, stays w later earlier (ap (λ (x : World (Provider Setup R S)). x.node) does.1.same) (ap (λ (x : World (Provider Setup R S)). x.disk) does.1.same) holds)
+      (earlier, refl, stays w later earlier (ap (λ (x : World (Provider Setup R)). x.node) does.1.same) (ap (λ (x : World (Provider Setup R)). x.disk) does.1.same) holds)
   passes earlier (Over conn) old new w later told does holds =
-      (earlier, refl, stays w later earlier (ap (λ (x : World (Provider Setup R S)). x.node) does.1) (ap (λ (x : World (Provider Setup R S)). x.disk) does.1) holds)
+      (earlier, refl, stays w later earlier (ap (λ (x : World (Provider Setup R)). x.node) does.1) (ap (λ (x : World (Provider Setup R)). x.disk) does.1) holds)
   passes earlier (Unknown conn piece) old new w later told does holds =
-      (earlier, refl, stays w later earlier (ap (λ (x : World (Provider Setup R S)). x.node) does.1) (ap (λ (x : World (Provider Setup R S)). x.disk) does.1) holds)
+      (earlier, refl, stays w later earlier (ap (λ (x : World (Provider Setup R)). x.node) does.1) (ap (λ (x : World (Provider Setup R)). x.disk) does.1) holds)
   passes earlier (Waiting conn piece) old new w later told does holds =
-      (earlier, refl, stays w later earlier (ap (λ (x : World (Provider Setup R S)). x.node) does.1) (ap (λ (x : World (Provider Setup R S)). x.disk) does.1) holds)
+      (earlier, refl, stays w later earlier (ap (λ (x : World (Provider Setup R)). x.node) does.1) (ap (λ (x : World (Provider Setup R)). x.disk) does.1) holds)
   passes earlier (Answered piece one) old new w later told (between, takes, answers) holds =
       let (r, stands, now_holds) = asked_goes rules Answers law numbers first.node.ledger.held one w answers.told earlier told.0 holds answers.asks in
-      (as_list r ++ earlier, (r, stands, refl), stays answers.told later (as_list r ++ earlier) (ap (λ (x : World (Provider Setup R S)). x.node) answers.sends.same) (ap (λ (x : World (Provider Setup R S)). x.disk) answers.sends.same) now_holds)
+      (as_list r ++ earlier, (r, stands, refl), stays answers.told later (as_list r ++ earlier) (ap (λ (x : World (Provider Setup R)). x.node) answers.sends.same) (ap (λ (x : World (Provider Setup R)). x.disk) answers.sends.same) now_holds)
   passes earlier (Refused conn piece status) old new w later told (between, takes, lets) holds =
-      (earlier, refl, stays w later earlier (ap (λ (x : World (Provider Setup R S)). x.node) lets.sends.same) (ap (λ (x : World (Provider Setup R S)). x.disk) lets.sends.same) holds)
+      (earlier, refl, stays w later earlier (ap (λ (x : World (Provider Setup R)). x.node) lets.sends.same) (ap (λ (x : World (Provider Setup R)). x.disk) lets.sends.same) holds)
   passes earlier (StarvedPiece conn piece) old new w later told (between, takes, lets) holds =
-      (earlier, refl, stays w later earlier (ap (λ (x : World (Provider Setup R S)). x.node) lets.sends.same) (ap (λ (x : World (Provider Setup R S)). x.disk) lets.sends.same) holds)
+      (earlier, refl, stays w later earlier (ap (λ (x : World (Provider Setup R)). x.node) lets.sends.same) (ap (λ (x : World (Provider Setup R)). x.disk) lets.sends.same) holds)
 
   module _ (left : ℕ → Image → Type 0) where
     -- what a crash inside the answers to these requests leaves has these records
-    abbrev HaveInside : List R → List (Asked (Provider Setup R S)) → Type 0
+    abbrev HaveInside : List R → List (Asked (Provider Setup R)) → Type 0
     HaveInside records later = (image : Image) → LeftInside (StepLeaves rules Answers) later image → HoldsWhatCame rules first.node.ledger.held records image
 
-    since_point : (now : World (Provider Setup R S)) (records : List R) (later : List (Asked (Provider Setup R S))) → Known now records → HaveInside records later
+    since_point : (now : World (Provider Setup R)) (records : List R) (later : List (Asked (Provider Setup R))) → Known now records → HaveInside records later
         → LeavesSince (StepLeaves rules Answers) left now later → AreInEachSince rules Answers left first now.moment records
     since_point now records later holds inside since image might = ⊎_elim (holds.disk image) (inside image) (since.only image might)
 
     -- the records that were acknowledged, what is known then, and that they stay, whatever requests come later
-    abbrev Follows : (turns : List (Turn (Provider Setup R S))) (kept : Table) (now : World (Provider Setup R S)) → Run (IsProviders rules Answers) first turns kept now → Type 0
+    abbrev Follows : (turns : List (Turn (Provider Setup R))) (kept : Table) (now : World (Provider Setup R)) → Run (IsProviders rules Answers) first turns kept now → Type 0
     Follows turns kept now run =
         (records : List R) × Known now records
-        × ((later : List (Asked (Provider Setup R S))) → HaveInside records later → LeavesInOrder (IsProviders rules Answers) (StepLeaves rules Answers) left first turns kept now run later
+        × ((later : List (Asked (Provider Setup R))) → HaveInside records later → LeavesInOrder (IsProviders rules Answers) (StepLeaves rules Answers) left first turns kept now run later
         → StayIn rules Answers left first turns kept now run records)
 
-    follows : (turns : List (Turn (Provider Setup R S))) (kept : Table) (now : World (Provider Setup R S)) (run : Run (IsProviders rules Answers) first turns kept now) → AreTold turns → Follows turns kept now run
+    follows : (turns : List (Turn (Provider Setup R))) (kept : Table) (now : World (Provider Setup R)) (run : Run (IsProviders rules Answers) first turns kept now) → AreTold turns → Follows turns kept now run
     follows [] kept now run told =
-        let holds = stays first now [] (ap (λ (x : World (Provider Setup R S)). x.node) run.1) (ap (λ (x : World (Provider Setup R S)). x.disk) run.1) (begins rules first at) in
+        let holds = stays first now [] (ap (λ (x : World (Provider Setup R)). x.node) run.1) (ap (λ (x : World (Provider Setup R)). x.disk) run.1) (begins rules first at) in
         ([], holds, λ later inside since. (refl, since_point now [] later holds inside since))
     follows (turn ∷ past) kept now (old, before, given, did, next, does) told =
         let (earlier, was, stay) = follows past old before did told.1 in
-        let disk = ap (λ (x : World (Provider Setup R S)). x.disk) next.same in
-        let found = stays before given earlier (ap (λ (x : World (Provider Setup R S)). x.node) next.same) disk was in
+        let disk = ap (λ (x : World (Provider Setup R)). x.disk) next.same in
+        let found = stays before given earlier (ap (λ (x : World (Provider Setup R)). x.node) next.same) disk was in
         let (records, behind, holds) = passes earlier turn old kept given now told.0 does found in
         let tells_now : IsSome given.disk = ap is_some disk ∙ (all_told rules Answers first before past old tells did).1 in
         let in_turn : HaveInside earlier (asked_by turn) =
@@ -113,7 +113,7 @@ module _ {Setup R S : Type 0} (rules : RecordRules R) (Answers : AnswersBy Setup
               ),
         )
 
-  pub kept_since : (left : ℕ → Image → Type 0) (turns : List (Turn (Provider Setup R S))) (kept : Table) (last : World (Provider Setup R S)) (run : Run (IsProviders rules Answers) first turns kept last)
+  pub kept_since : (left : ℕ → Image → Type 0) (turns : List (Turn (Provider Setup R))) (kept : Table) (last : World (Provider Setup R)) (run : Run (IsProviders rules Answers) first turns kept last)
       → LeavesInOrder (IsProviders rules Answers) (StepLeaves rules Answers) left first turns kept last run [] → AreKeptSince rules Answers left first turns kept last run
   kept_since left turns kept last run in_order =
       let (records, holds, stay) = follows left turns kept last run (all_told rules Answers first last turns kept tells run).0 in

@@ -1,9 +1,10 @@
 pub mod Serving
 pub mod Behind
-pub mod Drafting
 pub mod Reopening
 pub mod Histories
 pub mod Points
 pub mod Runs
 pub mod Starts
 pub mod Lasting
+pub mod Replying
+pub mod Drafting

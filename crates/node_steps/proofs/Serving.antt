@@ -1,22 +1,21 @@
 -- What follows for a provider and its disk.
 use Rattle.std.specs.Prelude.{MatchBool, IfErr, IsErrOf, IsOk, OnOk, Option, None, Some, Result, Ok, Err}
-use Rattle.std.proofs.Common.{◌≡◌, ◌⊎◌, inl, inr, ℕ, ◌≤◌, Bool, List, sym, subst, refl, ap, ◌∙◌, true, false, arith}
+use Rattle.std.proofs.Common.{◌≡◌, ◌⊎◌, inl, inr, ℕ, ◌≤◌, Bool, sym, subst, refl, ap, ◌∙◌, true, false, arith}
 use Rattle.crash_disk.specs.Disk.{Image, DiskState, MayLeave, IsSettled, image_of}
 use Rattle.crash_disk.specs.Counts.{Rose}
 use Rattle.crash_disk.specs.Moments.{Leaves}
 use Rattle.http_wire.specs.declared.answer.Answer.{Answer}
-use Rattle.http_wire.specs.declared.answer.Answer.TheVariants.{Full}
 use Rattle.http_wire.specs.Requests.{Request}
 use Rattle.gate_journal.specs.declared.fault.OpenFault.{OpenFault}
 use Rattle.gate_journal.specs.declared.fault.OpenFault.TheVariants.{DiskFault, Foreign, NoMemory}
 use Rattle.gate_journal.specs.Format.{journal}
 use Rattle.gate_journal.specs.Opening.{open_fault_of}
 use Rattle.record_ledger.specs.Rules.{RecordRules}
-use Rattle.record_ledger.specs.Ledger.{Held, Opened, IsOwn, IsWithOrWithout, kept_of, ledger_in, held_with}
+use Rattle.record_ledger.specs.Ledger.{Held, IsWithOrWithout, kept_of, ledger_in, held_with}
 use Rattle.record_ledger.specs.Compacting.{Compacts, IsOldOrCompacted}
-use Rattle.node_steps.specs.Step.{AnswersBy, Provider, HasPlace, IsWhole, IsBroken, MakesRoom, Serves, Recorded, RecordedAfterCompaction, Starved, Failed, ServingLeaves, Same, Compacted, With}
+use Rattle.node_steps.specs.Step.{AnswersBy, Ledger, Owns, Provider, HasPlace, IsWhole, MakesRoom, Serves, Recorded, RecordedAfterCompaction, Starved, Failed, ServingLeaves, Same, Compacted, With}
 use Rattle.node_steps.specs.Node.{CompactsFound, MadeAnew, Stays, Fails}
-use Rattle.node_steps.specs.Serving.{Adds, Added, NotMade, Lost, Commits, Committed, NotCommitted}
+use Rattle.node_steps.specs.Serving.{Adds, Added, NotMade, Lost}
 
 -- a crash leaves a whole ledger as it is
 whole_is : {R : Type 0} (rules : RecordRules R) (disk : DiskState) (held : Held R) (b : Bool) → b ≡ false
@@ -25,28 +24,19 @@ whole_is : {R : Type 0} (rules : RecordRules R) (disk : DiskState) (held : Held 
 whole_is rules disk held true is own = cc
 whole_is rules disk held false is own = (own.0, own.1)
 
-pub settled : {R S : Type 0} (rules : RecordRules R) (told : Option DiskState) (ledger : Opened R S) (image : Image) → ledger.broken ≡ false → IsOwn rules told ledger → Leaves told image
+pub settled : {R : Type 0} (rules : RecordRules R) (told : Option DiskState) (ledger : Ledger R) (image : Image) → ledger.broken ≡ false → Owns rules told ledger → Leaves told image
     → ledger_in rules image ≡ Ok (Some ledger.held)
 settled rules None ledger image whole own left = absurd left
 settled rules (Some disk) ledger image whole own left =
     let is : IsSettled disk × (ledger_in rules (image_of disk) ≡ Ok (Some ledger.held)) = whole_is rules disk ledger.held ledger.broken whole own in
     subst (λ (i : Image). ledger_in rules i ≡ Ok (Some ledger.held)) (sym (is.0 image left)) is.1
 
-module _ {Setup R S : Type 0} where
+module _ {Setup R : Type 0} where
   -- one step behind another
-  pub whole_on : (old mid new : Provider Setup R S) (held now : Held R) → IsWhole old mid held → IsWhole mid new now → IsWhole old new now
+  pub whole_on : (old mid new : Provider Setup R) (held now : Held R) → IsWhole old mid held → IsWhole mid new now → IsWhole old new now
   whole_on old mid new held now first second = record { setup = second.setup ∙ first.setup; key = second.key ∙ first.key; unbroken = second.unbroken; is = second.is }
 
-  pub broken_on : (old mid new : Provider Setup R S) (held : Held R) → IsWhole old mid held → IsBroken mid new → IsBroken old new
-  broken_on old mid new held first second = record { setup = second.setup ∙ first.setup; key = second.key ∙ first.key; is_broken = second.is_broken }
-
-  -- a record whose answer was made first
-  pub adds_of : (IsPage : Answer → Type 0) (bytes : List ℕ) (r : R) (Risen : Type 0) (answer : Answer) (old new : Provider Setup R S) → IsPage (Full bytes) → Commits bytes r Risen answer old new
-      → Adds IsPage r Risen answer old new
-  adds_of IsPage bytes r Risen answer old new page (Committed is whole) = Added (subst IsPage (sym is) page) whole
-  adds_of IsPage bytes r Risen answer old new page (NotCommitted risen is broken) = Lost (Full bytes) page risen is broken
-
-  pub adds_more : (IsPage : Answer → Type 0) (r : R) (A B : Type 0) (answer : Answer) (old new : Provider Setup R S) → (A → B) → Adds IsPage r A answer old new → Adds IsPage r B answer old new
+  pub adds_more : (IsPage : Answer → Type 0) (r : R) (A B : Type 0) (answer : Answer) (old new : Provider Setup R) → (A → B) → Adds IsPage r A answer old new → Adds IsPage r B answer old new
   adds_more IsPage r A B answer old new more (Added page whole) = Added page whole
   adds_more IsPage r A B answer old new more (NotMade is whole) = NotMade is whole
   adds_more IsPage r A B answer old new more (Lost other page risen is broken) = Lost other page (more risen) is broken
@@ -55,9 +45,9 @@ module _ {Setup R S : Type 0} where
 pub rose_later : (before mid now : ℕ) → before ≤ mid → Rose mid now → Rose before now
 rose_later before mid now le rose = omega (arith, le, rose)
 
-module _ {Setup R S : Type 0} {rules : RecordRules R} where
+module _ {Setup R : Type 0} {rules : RecordRules R} where
   -- what a compaction does, from what its ledger says of it
-  pub compacts_found : (now : ℕ) (result : Result (Unit {0}) OpenFault) (old new : Provider Setup R S) → old.ledger.broken ≡ false → new.setup ≡ old.setup → new.ledger.key ≡ old.ledger.key
+  pub compacts_found : (now : ℕ) (result : Result (Unit {0}) OpenFault) (old new : Provider Setup R) → old.ledger.broken ≡ false → new.setup ≡ old.setup → new.ledger.key ≡ old.ledger.key
       → OnOk result (Compacts rules now old.ledger.held new.ledger.held × (new.ledger.broken ≡ false)) → (IsErrOf result DiskFault → (new.ledger.held ≡ old.ledger.held) × (new.ledger.broken ≡ true))
       → (IsErrOf result NoMemory → new.ledger ≡ old.ledger) → IfErr result (λ e. open_fault_of e ≡ None) → CompactsFound rules now old.ledger.held result old new
   compacts_found now (Ok u) old new whole setup key ok failed starved known = MadeAnew new.ledger.held refl ok.0 (record { setup = setup; key = key; unbroken = ok.1; is = refl })
@@ -65,31 +55,28 @@ module _ {Setup R S : Type 0} {rules : RecordRules R} where
   compacts_found now (Err (Foreign file place)) old new whole setup key ok failed starved known = cc
   compacts_found now (Err NoMemory) old new whole setup key ok failed starved known =
       let same = starved refl in
-      Stays refl (record { setup = setup; key = key; unbroken = ap (λ (l : Opened R S). l.broken) same ∙ whole; is = ap (λ (l : Opened R S). l.held) same })
+      Stays refl (record { setup = setup; key = key; unbroken = ap (λ (l : Ledger R). l.broken) same ∙ whole; is = ap (λ (l : Ledger R). l.held) same })
 
-module _ {Setup R S : Type 0} {rules : RecordRules R} {Answers : AnswersBy Setup R} where
+module _ {Setup R : Type 0} {rules : RecordRules R} {Answers : AnswersBy Setup R} where
   -- a record that is added at once
-  pub served : (old mid new : Provider Setup R S) (request : Request) (now : ℕ) (Risen : Type 0) (answer : Answer) (r : R) (IsPage : Answer → Type 0)
-      → IsWhole old mid old.ledger.held → ((other : Answer) → IsPage other → Answers old.setup old.ledger.held request now other (Some r)) → HasPlace rules old.ledger.held r
-      → Adds IsPage r Risen answer mid new → Serves rules Answers old.ledger.held request now Risen answer old new
-  served old mid new request now Risen answer r IsPage first pages place (Added page whole) =
-      Recorded r (pages answer page) place (whole_on old mid new old.ledger.held (held_with r old.ledger.held) first (subst (λ (h : Held R). IsWhole mid new (held_with r h)) first.is whole))
-  served old mid new request now Risen answer r IsPage first pages place (NotMade is whole) =
-      Starved old.ledger.held (inl refl) is (whole_on old mid new old.ledger.held old.ledger.held first (subst (λ (h : Held R). IsWhole mid new h) first.is whole))
-  served old mid new request now Risen answer r IsPage first pages place (Lost other page risen is broken) =
-      Failed r other (pages other page) risen is (broken_on old mid new old.ledger.held first broken)
+  pub served : (old new : Provider Setup R) (request : Request) (now : ℕ) (Risen : Type 0) (answer : Answer) (r : R) (IsPage : Answer → Type 0)
+      → ((other : Answer) → IsPage other → Answers old.setup old.ledger.held request now other (Some r)) → HasPlace rules old.ledger.held r
+      → Adds IsPage r Risen answer old new → Serves rules Answers old.ledger.held request now Risen answer old new
+  served old new request now Risen answer r IsPage pages place (Added page whole) = Recorded r (pages answer page) place whole
+  served old new request now Risen answer r IsPage pages place (NotMade is whole) = Starved old.ledger.held (inl refl) is whole
+  served old new request now Risen answer r IsPage pages place (Lost other page risen is broken) = Failed r other (pages other page) risen is broken
 
   -- a record that is added after a compaction
-  pub served_later : (found held : Held R) (old mid new : Provider Setup R S) (request : Request) (now : ℕ) (Risen : Type 0) (answer : Answer) (r : R) (IsPage : Answer → Type 0)
-      → MakesRoom rules Answers old.setup found request now held → IsWhole old mid held → ((a : Answer) → IsPage a → Answers old.setup held request now a (Some r)) → HasPlace rules held r
-      → Adds IsPage r Risen answer mid new → Serves rules Answers found request now Risen answer old new
-  served_later found held old mid new request now Risen answer r IsPage room first pages place (Added page whole) =
-      RecordedAfterCompaction held r room (pages answer page) place
-      (whole_on old mid new held (held_with r held) first (subst (λ (h : Held R). IsWhole mid new (held_with r h)) first.is whole))
-  served_later found held old mid new request now Risen answer r IsPage room first pages place (NotMade is whole) =
-      Starved held (inr room) is (whole_on old mid new held held first (subst (λ (h : Held R). IsWhole mid new h) first.is whole))
-  served_later found held old mid new request now Risen answer r IsPage room first pages place (Lost a page risen is broken) =
-      Failed room.wanted room.other room.wants risen is (broken_on old mid new held first broken)
+  pub served_later : (old anew new : Provider Setup R) (request : Request) (now : ℕ) (Risen : Type 0) (answer : Answer) (r : R) (IsPage : Answer → Type 0)
+      → MakesRoom rules Answers old.setup old.ledger.held request now anew.ledger.held → IsWhole old anew anew.ledger.held
+      → ((other : Answer) → IsPage other → Answers old.setup anew.ledger.held request now other (Some r)) → HasPlace rules anew.ledger.held r
+      → Adds IsPage r Risen answer anew new → Serves rules Answers old.ledger.held request now Risen answer old new
+  served_later old anew new request now Risen answer r IsPage room first pages place (Added page whole) =
+      RecordedAfterCompaction anew.ledger.held r room (pages answer page) place (whole_on old anew new anew.ledger.held (held_with r anew.ledger.held) first whole)
+  served_later old anew new request now Risen answer r IsPage room first pages place (NotMade is whole) =
+      Starved anew.ledger.held (inr room) is (whole_on old anew new anew.ledger.held anew.ledger.held first whole)
+  served_later old anew new request now Risen answer r IsPage room first pages place (Lost other page risen is broken) =
+      Failed room.wanted room.other room.wants risen is (record { setup = broken.setup ∙ first.setup; key = broken.key ∙ first.key; is_broken = broken.is_broken })
 
 module _ {Setup R : Type 0} {rules : RecordRules R} {Answers : AnswersBy Setup R} where
   -- what a crash leaves while a record is added

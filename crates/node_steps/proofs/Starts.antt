@@ -73,8 +73,8 @@ held_on rules start mid former latest image first (held, is, came) = (held, is, 
 
 -- ---- one start more
 
-module _ {Setup R S : Type 0} (rules : RecordRules R) (Answers : AnswersBy Setup R) (law : ImagesHoldRecords rules) (numbers : DrawsAbove rules Answers) (start : Held R) where
-  one_more : (one : Start (Provider Setup R S)) (earlier : List (Start (Provider Setup R S))) → IsNext rules Answers start earlier one → AreKeptOver rules Answers start earlier
+module _ {Setup R : Type 0} (rules : RecordRules R) (Answers : AnswersBy Setup R) (law : ImagesHoldRecords rules) (numbers : DrawsAbove rules Answers) (start : Held R) where
+  one_more : (one : Start (Provider Setup R)) (earlier : List (Start (Provider Setup R))) → IsNext rules Answers start earlier one → AreKeptOver rules Answers start earlier
       → AreKeptOver rules Answers start (one ∷ earlier)
   one_more (Cut before) earlier next was = record {
     records = was.records;
@@ -98,14 +98,14 @@ module _ {Setup R S : Type 0} (rules : RecordRules R) (Answers : AnswersBy Setup
         history = (held, came_on rules start mid held was.records knows.records came later);
       }
     where
-      left_in : (first last : World (Provider Setup R S)) (turns : List (Turn (Provider Setup R S))) (kept : Table) (records : List R) (i : Image) → IsSome last.disk
+      left_in : (first last : World (Provider Setup R)) (turns : List (Turn (Provider Setup R))) (kept : Table) (records : List R) (i : Image) → IsSome last.disk
           → IfSome last.disk (λ d. MayLeave d (image_of d)) → Rattle.node_steps.proofs.Histories.Holds rules first.node.ledger.held last records
           → Rattle.node_steps.specs.Starts.LeftBy rules Answers (Served before first turns kept last) i → HoldsWhatCame rules first.node.ledger.held records i
       left_in first last turns kept records i tells reads holds (inl left) = holds.disk i left
       left_in first last turns kept records i tells reads holds (inr (request, now, left)) =
           step_left rules Answers law numbers first.node.ledger.held records last request now i tells reads holds left
 
-  pub kept_over : (starts : List (Start (Provider Setup R S))) → AreStarts rules Answers start starts → AreKeptOver rules Answers start starts
+  pub kept_over : (starts : List (Start (Provider Setup R))) → AreStarts rules Answers start starts → AreKeptOver rules Answers start starts
   kept_over [] are = record {
     records = [];
     are = refl;

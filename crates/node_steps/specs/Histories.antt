@@ -13,27 +13,27 @@ use Rattle.record_ledger.specs.Runs.{Event, Adds, Leads}
 use Rattle.node_steps.specs.Step.{AnswersBy, Provider, OwnsDisk, Steps, StepLeaves}
 
 -- what an answer of a provider does, and what a crash may leave
-abbrev pub StepOf : {Setup R S : Type 0} → RecordRules R → AnswersBy Setup R → NodeStep (Provider Setup R S)
+abbrev pub StepOf : {Setup R : Type 0} → RecordRules R → AnswersBy Setup R → NodeStep (Provider Setup R)
 StepOf rules Answers old disk request now before after answer new later = Steps rules Answers old disk request now (Rose before after) answer new
 
-abbrev pub IsProviders : {Setup R S : Type 0} → RecordRules R → AnswersBy Setup R → NodeStep (Provider Setup R S)
+abbrev pub IsProviders : {Setup R : Type 0} → RecordRules R → AnswersBy Setup R → NodeStep (Provider Setup R)
 IsProviders rules Answers = IsAnswered (OwnsDisk rules) (StepOf rules Answers) (StepLeaves rules Answers)
 
 -- WHAT IS ACKNOWLEDGED
 
 -- The answer to a request stands for a record that is added with it, or for none.
-pub data Stands {Setup R S : Type 0} (Answers : AnswersBy Setup R) (asked : Asked (Provider Setup R S)) : Option R → Type 0 where
+pub data Stands {Setup R : Type 0} (Answers : AnswersBy Setup R) (asked : Asked (Provider Setup R)) : Option R → Type 0 where
   ForRecord : (held : Held R) (r : R) → Answers asked.node.setup held asked.request asked.now asked.answer (Some r) → Stands Answers asked (Some r)
   ForNone : (held : Held R) → Answers asked.node.setup held asked.request asked.now asked.answer None → Stands Answers asked None
   ForCode : (code : ℕ) → asked.answer ≡ Fixed code → Stands Answers asked None
 
 -- the records for which the answers of some turns stand, the latest first
-module _ {Setup R S : Type 0} (Answers : AnswersBy Setup R) where
-  abbrev pub AreBehind : List (Asked (Provider Setup R S)) → (earlier records : List R) → Type 0
+module _ {Setup R : Type 0} (Answers : AnswersBy Setup R) where
+  abbrev pub AreBehind : List (Asked (Provider Setup R)) → (earlier records : List R) → Type 0
   AreBehind [] earlier records = records ≡ earlier
   AreBehind (asked ∷ others) earlier records = (r : Option R) × Stands Answers asked r × (records ≡ as_list r ++ earlier)
 
-  abbrev pub AreAcknowledged : List (Turn (Provider Setup R S)) → List R → Type 0
+  abbrev pub AreAcknowledged : List (Turn (Provider Setup R)) → List R → Type 0
   AreAcknowledged [] records = records ≡ []
   AreAcknowledged (turn ∷ past) records = (earlier : List R) × AreAcknowledged past earlier × AreBehind (asked_by turn) earlier records
 
@@ -56,7 +56,7 @@ abbrev pub HoldsWhatCame : {R : Type 0} → RecordRules R → Held R → List R 
 HoldsWhatCame {R} rules start records image = (held : Held R) × (ledger_in rules image ≡ Ok (Some held)) × CameFrom rules start records held
 
 -- a provider whose ledger is whole, on its own disk
-pub record IsAtStart {Setup R S : Type 0} (rules : RecordRules R) (first : World (Provider Setup R S)) : Type 0 where
+pub record IsAtStart {Setup R : Type 0} (rules : RecordRules R) (first : World (Provider Setup R)) : Type 0 where
   pub whole : first.node.ledger.broken ≡ false
   pub records : AreRecords rules first.node.ledger.held.records
   pub own : OwnsDisk rules first.node first.disk
@@ -65,7 +65,7 @@ pub record IsAtStart {Setup R S : Type 0} (rules : RecordRules R) (first : World
 -- WHAT IS KEPT
 
 -- Of the records for which the answers of a service stand: each is in the history of every ledger that a crash may leave behind it.
-pub record AreKept {Setup R S : Type 0} (rules : RecordRules R) (Answers : AnswersBy Setup R) (first last : World (Provider Setup R S)) (turns : List (Turn (Provider Setup R S))) : Type 0 where
+pub record AreKept {Setup R : Type 0} (rules : RecordRules R) (Answers : AnswersBy Setup R) (first last : World (Provider Setup R)) (turns : List (Turn (Provider Setup R))) : Type 0 where
   pub records : List R
   pub are : AreAcknowledged Answers turns records
   pub kept : (image : Image) → Leaves last.disk image → HoldsWhatCame rules first.node.ledger.held records image

@@ -9,18 +9,18 @@ use Rattle.node_steps.specs.Step.{AnswersBy, Provider}
 use Rattle.node_steps.specs.Histories.{AreBehind, HoldsWhatCame, IsProviders}
 
 -- `left` says of a moment, seen from the end of a service, what a crash since then might have left.
-module _ {Setup R S : Type 0} (rules : RecordRules R) (Answers : AnswersBy Setup R) (left : ℕ → Image → Type 0) (first : World (Provider Setup R S)) where
+module _ {Setup R : Type 0} (rules : RecordRules R) (Answers : AnswersBy Setup R) (left : ℕ → Image → Type 0) (first : World (Provider Setup R)) where
   -- Each image that a crash since a moment might have left stands for a ledger in whose history these records are.
   abbrev pub AreInEachSince : ℕ → List R → Type 0
   AreInEachSince moment records = (image : Image) → left moment image → HoldsWhatCame rules first.node.ledger.held records image
 
   -- These are the records for which the answers of some turns stand, the latest first. They are in each image that a crash since the point
   -- behind these turns might have left, at whatever moment; and so are, since each point before, those that were acknowledged up to there.
-  abbrev pub StayIn : (turns : List (Turn (Provider Setup R S))) (kept : Table) (now : World (Provider Setup R S)) → Run (IsProviders rules Answers) first turns kept now → List R → Type 0
+  abbrev pub StayIn : (turns : List (Turn (Provider Setup R))) (kept : Table) (now : World (Provider Setup R)) → Run (IsProviders rules Answers) first turns kept now → List R → Type 0
   StayIn [] kept now run records = (records ≡ []) × AreInEachSince now.moment records
   StayIn (turn ∷ past) kept now (old, before, given, did, next, does) records =
       (earlier : List R) × AreBehind Answers (asked_by turn) earlier records × AreInEachSince now.moment records × StayIn past old before did earlier
 
   -- From each point of a service on what was acknowledged up to there stays.
-  abbrev pub AreKeptSince : (turns : List (Turn (Provider Setup R S))) (kept : Table) (last : World (Provider Setup R S)) → Run (IsProviders rules Answers) first turns kept last → Type 0
+  abbrev pub AreKeptSince : (turns : List (Turn (Provider Setup R))) (kept : Table) (last : World (Provider Setup R)) → Run (IsProviders rules Answers) first turns kept last → Type 0
   AreKeptSince turns kept last run = (records : List R) × StayIn turns kept last run records

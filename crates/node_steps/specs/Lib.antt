@@ -1,5 +1,6 @@
 pub mod Step
 pub mod Node
+pub mod Replies
 pub mod Serving
 pub mod Histories
 pub mod Points

@@ -15,8 +15,8 @@ abbrev pub MayOpen : {R : Type 0} → RecordRules R → Option DiskState → Typ
 MayOpen rules told = IfSome told (λ disk. (image : Image) → MayLeave disk image → IsOk (ledger_in rules image))
 
 -- A restart opens the ledger of the disk again, in the words of its ledger: at an error it is broken, and else whole.
-pub record Restarts {Setup R S : Type 0} (rules : RecordRules R) (old : Provider Setup R S) (disk : Option DiskState) (result : Result (Unit {0}) OpenFault)
-    (new : Provider Setup R S) : Type 0 where
+pub record Restarts {Setup R : Type 0} (rules : RecordRules R) (old : Provider Setup R) (disk : Option DiskState) (result : Result (Unit {0}) OpenFault)
+    (new : Provider Setup R) : Type 0 where
   pub setup : new.setup ≡ old.setup
   pub key : new.ledger.key ≡ old.ledger.key
   pub gives : IfSome disk (λ d. Gives (λ _. new.ledger.held) open_fault_of result (taken (ledger_in rules (image_of d))))
@@ -25,15 +25,15 @@ pub record Restarts {Setup R S : Type 0} (rules : RecordRules R) (old : Provider
 
 -- What a compaction does to the ledger that it finds: it is made anew; there was no memory, and it stays; the disk failed, and
 -- it is broken.
-pub data CompactsFound {Setup R S : Type 0} (rules : RecordRules R) (now : ℕ) (found : Held R) (result : Result (Unit {0}) OpenFault)
-    (old new : Provider Setup R S) : Type 0 where
+pub data CompactsFound {Setup R : Type 0} (rules : RecordRules R) (now : ℕ) (found : Held R) (result : Result (Unit {0}) OpenFault)
+    (old new : Provider Setup R) : Type 0 where
   MadeAnew : (held : Held R) → result ≡ Ok tt → Compacts rules now found held → IsWhole old new held → CompactsFound rules now found result old new
   Stays : result ≡ Err NoMemory → IsWhole old new found → CompactsFound rules now found result old new
   Fails : result ≡ Err DiskFault → IsBroken old new → CompactsFound rules now found result old new
 
 -- What a compaction of a provider does. A ledger that is broken is opened again first.
-pub data CompactionOf {Setup R S : Type 0} (rules : RecordRules R) (old : Provider Setup R S) (disk : Option DiskState) (now : ℕ)
-    (result : Result (Unit {0}) OpenFault) (new : Provider Setup R S) : Type 0 where
+pub data CompactionOf {Setup R : Type 0} (rules : RecordRules R) (old : Provider Setup R) (disk : Option DiskState) (now : ℕ)
+    (result : Result (Unit {0}) OpenFault) (new : Provider Setup R) : Type 0 where
   OfLedger : old.ledger.broken ≡ false → CompactsFound rules now old.ledger.held result old new → CompactionOf rules old disk now result new
   OfOpened : (found : Held R) → old.ledger.broken ≡ true → IfSome disk (λ d. taken (ledger_in rules (image_of d)) ≡ Ok found)
       → CompactsFound rules now found result old new → CompactionOf rules old disk now result new
@@ -41,7 +41,7 @@ pub data CompactionOf {Setup R S : Type 0} (rules : RecordRules R) (old : Provid
 
 -- What a crash inside a compaction may leave: the ledger that it finds, or that made anew; and while a broken one is opened again
 -- what a restart may leave.
-pub data CompactionLeaves {Setup R S : Type 0} (rules : RecordRules R) (old : Provider Setup R S) (disk : Option DiskState) (now : ℕ) (image : Image) : Type 0 where
+pub data CompactionLeaves {Setup R : Type 0} (rules : RecordRules R) (old : Provider Setup R) (disk : Option DiskState) (now : ℕ) (image : Image) : Type 0 where
   InCompaction : old.ledger.broken ≡ false → IsOldOrCompacted rules now old.ledger.held image → CompactionLeaves rules old disk now image
   InCompactionOfOpened : (found : Held R) → old.ledger.broken ≡ true → IfSome disk (λ d. taken (ledger_in rules (image_of d)) ≡ Ok found)
       → IsOldOrCompacted rules now found image → CompactionLeaves rules old disk now image

@@ -23,8 +23,8 @@ told_before (Cut before) = before
 told_before (Served before first turns kept last) = before
 
 -- the ledger was opened from what the disk told, and then the turns were done
-pub record IsServed {Setup R S : Type 0} (rules : RecordRules R) (Answers : AnswersBy Setup R) (before : Option DiskState) (first : World (Provider Setup R S))
-    (turns : List (Turn (Provider Setup R S))) (kept : Table) (last : World (Provider Setup R S)) : Type 0 where
+pub record IsServed {Setup R : Type 0} (rules : RecordRules R) (Answers : AnswersBy Setup R) (before : Option DiskState) (first : World (Provider Setup R))
+    (turns : List (Turn (Provider Setup R))) (kept : Table) (last : World (Provider Setup R)) : Type 0 where
   pub opened : IfSome before (λ d. taken (ledger_in rules (image_of d)) ≡ Ok first.node.ledger.held)
   pub at : IsAtStart rules first
   pub tells : IsSome first.disk
@@ -36,37 +36,37 @@ pub record OpensWhatCame {R : Type 0} (rules : RecordRules R) (start : Held R) (
   pub opens : taken (ledger_in rules image) ≡ Ok held
   pub came : CameFrom rules start records held
 
-module _ {Setup R S : Type 0} (rules : RecordRules R) (Answers : AnswersBy Setup R) where
+module _ {Setup R : Type 0} (rules : RecordRules R) (Answers : AnswersBy Setup R) where
   -- how a start goes
-  abbrev pub Goes : Start (Provider Setup R S) → Type 0
+  abbrev pub Goes : Start (Provider Setup R) → Type 0
   Goes (Cut before) = Unit {0}
   Goes (Served before first turns kept last) = IsServed rules Answers before first turns kept last
 
   -- What a crash may leave of a start: inside the opening; behind the turns, or inside the answer to one request more.
-  abbrev pub LeftBy : Start (Provider Setup R S) → Image → Type 0
+  abbrev pub LeftBy : Start (Provider Setup R) → Image → Type 0
   LeftBy (Cut before) image = LeftByOpening rules before image
   LeftBy (Served before first turns kept last) image =
       Leaves last.disk image ⊎ ((request : Request) × (now : ℕ) × StepLeaves rules Answers last.node last.disk request now image)
 
   -- what may be left behind starts, the latest first: at first an image from which this ledger is opened
-  abbrev pub LeftBehind : (start : Held R) → List (Start (Provider Setup R S)) → Image → Type 0
+  abbrev pub LeftBehind : (start : Held R) → List (Start (Provider Setup R)) → Image → Type 0
   LeftBehind start [] image = taken (ledger_in rules image) ≡ Ok start
   LeftBehind start (one ∷ earlier) image = LeftBy one image
 
   -- starts one after the other, the latest first: each on a disk that tells, reads as an image that it may leave, and may leave nothing but
   -- what is left behind the starts before it
-  pub record IsNext (start : Held R) (earlier : List (Start (Provider Setup R S))) (one : Start (Provider Setup R S)) : Type 0 where
+  pub record IsNext (start : Held R) (earlier : List (Start (Provider Setup R))) (one : Start (Provider Setup R)) : Type 0 where
     pub tells : IsSome (told_before one)
     pub reads : IfSome (told_before one) (λ d. MayLeave d (image_of d))
     pub left : (image : Image) → Leaves (told_before one) image → LeftBehind start earlier image
     pub goes : Goes one
 
-  abbrev pub AreStarts : (start : Held R) → List (Start (Provider Setup R S)) → Type 0
+  abbrev pub AreStarts : (start : Held R) → List (Start (Provider Setup R)) → Type 0
   AreStarts start [] = Unit {0}
   AreStarts start (one ∷ earlier) = IsNext start earlier one × AreStarts start earlier
 
   -- the records for which the answers of starts stand, the latest first
-  abbrev pub AreAcknowledgedIn : List (Start (Provider Setup R S)) → List R → Type 0
+  abbrev pub AreAcknowledgedIn : List (Start (Provider Setup R)) → List R → Type 0
   AreAcknowledgedIn [] records = records ≡ []
   AreAcknowledgedIn (Cut before ∷ earlier) records = AreAcknowledgedIn earlier records
   AreAcknowledgedIn (Served before first turns kept last ∷ earlier) records =
@@ -74,7 +74,7 @@ module _ {Setup R S : Type 0} (rules : RecordRules R) (Answers : AnswersBy Setup
 
   -- Of the records for which the answers of starts stand: each is in the history of every ledger that may be opened behind them, whatever
   -- a crash left.
-  pub record AreKeptOver (start : Held R) (starts : List (Start (Provider Setup R S))) : Type 0 where
+  pub record AreKeptOver (start : Held R) (starts : List (Start (Provider Setup R))) : Type 0 where
     pub records : List R
     pub are : AreAcknowledgedIn starts records
     pub kept : (image : Image) → LeftBehind start starts image → OpensWhatCame rules start records image

@@ -1,6 +1,6 @@
 -- What a provider that keeps a ledger does at one request. What it answers, and which record it adds with an answer, is a definition of
 -- its own, which stands in the place of `Answers`.
-use Rattle.std.specs.Prelude.{◌≡◌, ◌⊎◌, ℕ, true, false, Option, None, Some, IfSome, Ok, Err}
+use Rattle.std.specs.Prelude.{◌≡◌, ◌⊎◌, ℕ, Bool, true, false, List, Option, None, Some, IfSome, Ok, Err}
 use Rattle.crash_disk.specs.Disk.{Image, DiskState, image_of}
 use Rattle.gate_journal.specs.Format.{Fault}
 use Rattle.http_wire.specs.declared.answer.Answer.{Answer}
@@ -12,10 +12,23 @@ use Rattle.record_ledger.specs.Drafts.{is_full}
 use Rattle.record_ledger.specs.Compacting.{Compacts}
 use Rattle.node_steps.specs.declared.codes.TheConstants.{DISK_FAULT, FOREIGN, FULL, NO_MEMORY}
 
+-- a ledger, as a step sees it: what it holds, the key of its IDs, and whether a call failed since it was opened
+pub record Ledger (R : Type 0) : Type 0 where
+  pub held : Held R
+  pub key : List ℕ
+  pub broken : Bool
+
+-- an opened ledger seen so: without the memory that it has ready
+abbrev pub seen : {R S : Type 0} → Opened R S → Ledger R
+seen opened = record { held = opened.held; key = opened.key; broken = opened.broken }
+
 -- a provider: what it is set up with, and its ledger
-pub record Provider (Setup R S : Type 0) : Type 0 where
+pub record Provider (Setup R : Type 0) : Type 0 where
   pub setup : Setup
-  pub ledger : Opened R S
+  pub ledger : Ledger R
+
+abbrev pub provider : {Setup R : Type 0} → Setup → Ledger R → Provider Setup R
+provider setup ledger = record { setup = setup; ledger = ledger }
 
 -- What says what is answered to a request where nothing fails: by this setup, over this ledger, at this moment, with the record that is
 -- added.
@@ -28,14 +41,14 @@ pub record HasPlace {R : Type 0} (rules : RecordRules R) (held : Held R) (r : R)
   pub fits : IsFitting rules held r
 
 -- after a request the ledger is whole and holds this
-pub record IsWhole {Setup R S : Type 0} (old new : Provider Setup R S) (held : Held R) : Type 0 where
+pub record IsWhole {Setup R : Type 0} (old new : Provider Setup R) (held : Held R) : Type 0 where
   pub setup : new.setup ≡ old.setup
   pub key : new.ledger.key ≡ old.ledger.key
   pub unbroken : new.ledger.broken ≡ false
   pub is : new.ledger.held ≡ held
 
 -- after a request the ledger is broken
-pub record IsBroken {Setup R S : Type 0} (old new : Provider Setup R S) : Type 0 where
+pub record IsBroken {Setup R : Type 0} (old new : Provider Setup R) : Type 0 where
   pub setup : new.setup ≡ old.setup
   pub key : new.ledger.key ≡ old.ledger.key
   pub is_broken : new.ledger.broken ≡ true
@@ -51,8 +64,8 @@ pub record MakesRoom {Setup R : Type 0} (rules : RecordRules R) (Answers : Answe
 
 -- What is done at a request over the ledger that it finds: the request and the moment; whether the disk's count of faults rose;
 -- the answer; the provider before and after.
-pub data Serves {Setup R S : Type 0} (rules : RecordRules R) (Answers : AnswersBy Setup R) (found : Held R) (request : Request) (now : ℕ) (Risen : Type 0)
-    (answer : Answer) (old new : Provider Setup R S) : Type 0 where
+pub data Serves {Setup R : Type 0} (rules : RecordRules R) (Answers : AnswersBy Setup R) (found : Held R) (request : Request) (now : ℕ) (Risen : Type 0)
+    (answer : Answer) (old new : Provider Setup R) : Type 0 where
   -- nothing is recorded
   Plain : Answers old.setup found request now answer None → IsWhole old new found → Serves rules Answers found request now Risen answer old new
   -- a record is added
@@ -72,8 +85,8 @@ pub data Serves {Setup R S : Type 0} (rules : RecordRules R) (Answers : AnswersB
       → Serves rules Answers found request now Risen answer old new
 
 -- The step of a provider at one request. A ledger that is broken is opened again first.
-pub data Steps {Setup R S : Type 0} (rules : RecordRules R) (Answers : AnswersBy Setup R) (old : Provider Setup R S) (disk : Option DiskState) (request : Request) (now : ℕ)
-    (Risen : Type 0) (answer : Answer) (new : Provider Setup R S) : Type 0 where
+pub data Steps {Setup R : Type 0} (rules : RecordRules R) (Answers : AnswersBy Setup R) (old : Provider Setup R) (disk : Option DiskState) (request : Request) (now : ℕ)
+    (Risen : Type 0) (answer : Answer) (new : Provider Setup R) : Type 0 where
   WithLedger : old.ledger.broken ≡ false → Serves rules Answers old.ledger.held request now Risen answer old new
       → Steps rules Answers old disk request now Risen answer new
   WithOpened : (found : Held R) → old.ledger.broken ≡ true → IfSome disk (λ d. taken (ledger_in rules (image_of d)) ≡ Ok found)
@@ -96,7 +109,7 @@ pub data ServingLeaves {Setup R : Type 0} (rules : RecordRules R) (Answers : Ans
 
 -- What a crash at a moment of a request may leave: that, and while a broken ledger is opened again what the disk stood for, or what is
 -- opened from it.
-pub data StepLeaves {Setup R S : Type 0} (rules : RecordRules R) (Answers : AnswersBy Setup R) (old : Provider Setup R S) (disk : Option DiskState) (request : Request)
+pub data StepLeaves {Setup R : Type 0} (rules : RecordRules R) (Answers : AnswersBy Setup R) (old : Provider Setup R) (disk : Option DiskState) (request : Request)
     (now : ℕ) (image : Image) : Type 0 where
   InLedger : old.ledger.broken ≡ false → ServingLeaves rules Answers old.setup old.ledger.held request now image
       → StepLeaves rules Answers old disk request now image
@@ -104,6 +117,13 @@ pub data StepLeaves {Setup R S : Type 0} (rules : RecordRules R) (Answers : Answ
       → ServingLeaves rules Answers old.setup found request now image → StepLeaves rules Answers old disk request now image
   InOpening : old.ledger.broken ≡ true → LeftByOpening rules disk image → StepLeaves rules Answers old disk request now image
 
--- the disk is the provider's own
-abbrev pub OwnsDisk : {Setup R S : Type 0} → RecordRules R → Provider Setup R S → Option DiskState → Type 0
-OwnsDisk rules provider disk = IsOwn rules disk provider.ledger
+-- a ledger as one that is opened and has no memory ready
+abbrev pub opened_as : {R : Type 0} → Ledger R → Opened R (Unit {0})
+opened_as ledger = record { held = ledger.held; key = ledger.key; broken = ledger.broken; payload_spare = None; standing = tt }
+
+-- the disk is a ledger's own, and a provider's
+abbrev pub Owns : {R : Type 0} → RecordRules R → Option DiskState → Ledger R → Type 0
+Owns rules disk ledger = IsOwn rules disk (opened_as ledger)
+
+abbrev pub OwnsDisk : {Setup R : Type 0} → RecordRules R → Provider Setup R → Option DiskState → Type 0
+OwnsDisk rules provider disk = Owns rules disk provider.ledger

@@ -14,6 +14,16 @@
 //! `specs/Lasting.antt` says that it is kept since then, at each moment and so inside later answers too.
 #![tactic(auto)]
 
+mod answering;
 mod codes;
+mod ledger;
+mod provider;
+mod replied;
+mod role;
+mod steps;
 
 pub use codes::{DISK_FAULT, FOREIGN, FULL, NO_MEMORY, code_of};
+pub use ledger::ProviderLedger;
+pub use provider::ProviderNode;
+pub use replied::Replied;
+pub use role::Role;

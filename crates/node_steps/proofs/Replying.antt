@@ -1,0 +1,116 @@
+-- What follows where a reply is wanted.
+use Rattle.std.specs.Prelude.{Result, is_some}
+use Rattle.std.proofs.Common.{◌≡◌, inl, inr, ℕ, true, false, Option, None, Some, sym, subst, refl, ap, ◌∙◌}
+use Rattle.crash_disk.specs.Disk.{Image}
+use Rattle.http_wire.specs.declared.answer.Answer.{Answer}
+use Rattle.http_wire.specs.declared.answer.Answer.TheVariants.{Fixed, Full}
+use Rattle.http_wire.specs.Requests.{Request}
+use Rattle.ledger_rules.specs.declared.fault.DraftFault.{DraftFault}
+use Rattle.record_ledger.specs.Rules.{RecordRules, AreRecords}
+use Rattle.record_ledger.specs.Ledger.{Held, IsWithOrWithout}
+use Rattle.record_ledger.specs.Compacting.{Compacts}
+use Rattle.node_steps.specs.Replies.{AreReplies, HasNoPlace, IsDrafted, IsPage, ReplyRules}
+use Rattle.node_steps.specs.Serving.{Adds}
+use Rattle.node_steps.specs.Step.{AnswersBy, HasPlace, IsWhole, Ledger, MakesRoom, NoPlace, Serves, ServingLeaves, Starved, provider}
+use Rattle.node_steps.specs.declared.codes.TheConstants.{FULL, NO_MEMORY}
+use Rattle.node_steps.proofs.Serving.{adding_leaves, served, served_later, whole_on}
+
+-- what became of a draft, seen from the arm of its outcome
+pub drafted_as : {R D : Type 0} (rules : RecordRules R) (held : Held R) (CanCommit : D → Type 0) (record_of : D → R) (wanted : Option R) (one other : Result (Option D) DraftFault) → one ≡ other
+    → IsDrafted rules held CanCommit record_of wanted one → IsDrafted rules held CanCommit record_of wanted other
+drafted_as rules held CanCommit record_of wanted one other is drafted = subst (IsDrafted rules held CanCommit record_of wanted) is drafted
+
+-- what leaves the ledger alone
+pub same_ledger : {Setup R : Type 0} (setup : Setup) (old mid : Ledger R) → old.broken ≡ false → mid ≡ old → IsWhole (provider setup old) (provider setup mid) old.held
+same_ledger {Setup} {R} setup old mid whole same =
+    record { setup = refl; key = ap (λ (l : Ledger R). l.key) same; unbroken = ap (λ (l : Ledger R). l.broken) same ∙ whole; is = ap (λ (l : Ledger R). l.held) same }
+
+-- there is something to record
+some_of : {R : Type 0} (o : Option R) (r : R) → o ≡ Some r → is_some o ≡ true
+some_of o r is = ap is_some is
+
+module _ {Setup R Reply : Type 0} (replies : ReplyRules Setup R Reply) (rules : RecordRules R) (Answers : AnswersBy Setup R) (setup : Setup) (now : ℕ) (law : AreReplies replies rules Answers setup now) where
+  -- a reply that is wanted over a ledger, and the record for which it stands
+  pub record Stands (held : Held R) (request : Request) (reply : Reply) (r : R) : Type 0 where
+    pub wants : replies.wants setup held request now reply
+    pub is : replies.record_for setup held now reply ≡ Some r
+
+  pub page_answers : (held : Held R) (request : Request) (reply : Reply) (r : R) (answer : Answer) → Stands held request reply r → IsPage replies setup reply r now answer
+      → Answers setup held request now answer (Some r)
+  page_answers held request reply r answer stands page =
+      subst (λ (a : Answer). Answers setup held request now a (Some r)) (sym page.is) (law.answers held request reply r page.bytes stands.wants stands.is page.shows)
+
+  pub answer_of : (held : Held R) (request : Request) (reply : Reply) (r : R) → Stands held request reply r → (other : Answer) × Answers setup held request now other (Some r)
+  answer_of held request reply r stands =
+      let page = law.has_page held request reply r stands.wants stands.is in
+      (Full page.0, law.answers held request reply r page.0 stands.wants stands.is page.1)
+
+  -- ---- at once
+
+  pub serves_reply : (old mid new : Ledger R) (request : Request) (Risen : Type 0) (answer : Answer) (reply : Reply) (r : R) → mid ≡ old → Stands old.held request reply r
+      → HasPlace rules old.held r → Adds (IsPage replies setup reply r now) r Risen answer (provider setup mid) (provider setup new)
+      → Serves rules Answers old.held request now Risen answer (provider setup old) (provider setup new)
+  serves_reply old mid new request Risen answer reply r same stands place adds =
+      served (provider setup old) (provider setup new) request now Risen answer r (IsPage replies setup reply r now)
+      (λ other page. page_answers old.held request reply r other stands page) place
+      (subst (λ (l : Ledger R). Adds (IsPage replies setup reply r now) r Risen answer (provider setup l) (provider setup new)) same adds)
+
+  pub reply_leaves : (old mid : Ledger R) (request : Request) (reply : Reply) (r : R) → mid ≡ old → Stands old.held request reply r → HasPlace rules old.held r
+      → (image : Image) → IsWithOrWithout rules r mid.held image → ServingLeaves rules Answers setup old.held request now image
+  reply_leaves old mid request reply r same stands place image left =
+      let other = answer_of old.held request reply r stands in
+      adding_leaves setup old.held old.held request now other.0 r (inl refl) other.1 place image (subst (λ (l : Ledger R). IsWithOrWithout rules r l.held image) same left)
+
+  -- ---- after a compaction
+
+  -- a compaction was made as there was no place for the record of a reply
+  pub record IsAgain (old anew : Ledger R) (request : Request) (reply : Reply) : Type 0 where
+    pub room : MakesRoom rules Answers setup old.held request now anew.held
+    pub whole : IsWhole (provider setup old) (provider setup anew) anew.held
+    pub wants : replies.wants setup anew.held request now reply
+    pub some : is_some (replies.record_for setup anew.held now reply) ≡ true
+
+  pub again : (old anew : Ledger R) (request : Request) (reply : Reply) → AreRecords rules old.held.records → replies.wants setup old.held request now reply
+      → HasNoPlace rules old.held (replies.record_for setup old.held now reply) → Compacts rules now old.held anew.held × (anew.broken ≡ false) → anew.key ≡ old.key
+      → IsAgain old anew request reply
+  again old anew request reply are wants full made key =
+      let other = answer_of old.held request reply full.r (record { wants = wants; is = full.is }) in
+      record {
+        room = record { wanted = full.r; other = other.0; wants = other.1; none = full.none; made = made.0 };
+        whole = record { setup = refl; key = key; unbroken = made.1; is = refl };
+        wants = law.still old.held anew.held request reply are made.0 wants;
+        some = law.stands old.held anew.held request reply are made.0 wants ∙ some_of _ full.r full.is;
+      }
+
+  pub serves_again : (old anew mid new : Ledger R) (request : Request) (Risen : Type 0) (answer : Answer) (reply : Reply) (r : R) → IsAgain old anew request reply → mid ≡ anew
+      → replies.record_for setup anew.held now reply ≡ Some r → HasPlace rules anew.held r
+      → Adds (IsPage replies setup reply r now) r Risen answer (provider setup mid) (provider setup new)
+      → Serves rules Answers old.held request now Risen answer (provider setup old) (provider setup new)
+  serves_again old anew mid new request Risen answer reply r re same is place adds =
+      served_later (provider setup old) (provider setup anew) (provider setup new) request now Risen answer r (IsPage replies setup reply r now) re.room re.whole
+      (λ other page. page_answers anew.held request reply r other (record { wants = re.wants; is = is }) page) place
+      (subst (λ (l : Ledger R). Adds (IsPage replies setup reply r now) r Risen answer (provider setup l) (provider setup new)) same adds)
+
+  pub again_leaves : (old anew mid : Ledger R) (request : Request) (reply : Reply) (r : R) → IsAgain old anew request reply → mid ≡ anew
+      → replies.record_for setup anew.held now reply ≡ Some r → HasPlace rules anew.held r
+      → (image : Image) → IsWithOrWithout rules r mid.held image → ServingLeaves rules Answers setup old.held request now image
+  again_leaves old anew mid request reply r re same is place image left =
+      let other = answer_of anew.held request reply r (record { wants = re.wants; is = is }) in
+      adding_leaves setup old.held anew.held request now other.0 r (inr re.room) other.1 place image (subst (λ (l : Ledger R). IsWithOrWithout rules r l.held image) same left)
+
+  whole_again : (old anew mid : Ledger R) (request : Request) (reply : Reply) → IsAgain old anew request reply → mid ≡ anew → IsWhole (provider setup old) (provider setup mid) anew.held
+  whole_again old anew mid request reply re same = whole_on (provider setup old) (provider setup anew) (provider setup mid) anew.held anew.held re.whole (same_ledger setup anew mid re.whole.unbroken same)
+
+  pub starved_again : (old anew mid : Ledger R) (request : Request) (Risen : Type 0) (reply : Reply) → IsAgain old anew request reply → mid ≡ anew
+      → Serves rules Answers old.held request now Risen (Fixed NO_MEMORY) (provider setup old) (provider setup mid)
+  starved_again old anew mid request Risen reply re same = Starved anew.held (inr re.room) refl (whole_again old anew mid request reply re same)
+
+  pub full_again : (old anew mid : Ledger R) (request : Request) (Risen : Type 0) (reply : Reply) → IsAgain old anew request reply → mid ≡ anew
+      → HasNoPlace rules anew.held (replies.record_for setup anew.held now reply) → Serves rules Answers old.held request now Risen (Fixed FULL) (provider setup old) (provider setup mid)
+  full_again old anew mid request Risen reply re same full =
+      let other = answer_of anew.held request reply full.r (record { wants = re.wants; is = full.is }) in
+      NoPlace anew.held full.r other.0 re.room other.1 full.none refl (whole_again old anew mid request reply re same)
+
+  -- there is something to record behind it as before
+  pub not_nothing : (old anew : Ledger R) (request : Request) (reply : Reply) → IsAgain old anew request reply → replies.record_for setup anew.held now reply ≡ None → ⊥
+  not_nothing old anew request reply re none = let clash : true ≡ false = sym re.some ∙ ap is_some none in cc

@@ -1,0 +1,139 @@
+//! One step over a ledger that is whole: a reply, its record, and the answer.
+ghost use Rattle.std.specs.Prelude.{◌≡◌, ◌≤◌, false};
+ghost use Rattle.crash_disk.specs.Counts.{Rose};
+ghost use Rattle.crash_disk.specs.Moments.{LeavesOnly};
+ghost use Rattle.http_wire.specs.Views.{request_view};
+ghost use Rattle.node_serve.specs.Worlds.{HasBytes};
+ghost use Rattle.record_ledger.specs.Ledger.{IsWithOrWithout};
+ghost use Rattle.node_steps.specs.Replies.{HasNoPlace, IsPage, IsWanted};
+ghost use Rattle.node_steps.specs.Serving.{Adds, CanServe};
+ghost use Rattle.node_steps.specs.Step.{Owns, Serves, ServingLeaves, provider};
+
+use crate::codes::{DISK_FAULT, FULL, NO_MEMORY, code_of};
+use crate::ledger::ProviderLedger;
+use crate::replied::Replied;
+use crate::role::Role;
+use crash_disk::Disk;
+use http_wire::{Answer, HttpRequest};
+use ledger_rules::DraftFault;
+
+/// Makes the page of a reply whose record was drafted, and then records it.
+fn added<R: Role, D: Disk>(
+    role: &R,
+    ledger: &mut R::Ledger,
+    reply: &R::Reply,
+    draft: <R::Ledger as ProviderLedger>::Draft,
+    now: u64,
+    disk: &mut D,
+) -> Answer
+    requires can { CanServe R.Ledger.rules (R.key role.now) (R.Ledger.seen ledger.old) (D.told disk.old) now }
+    requires wanted { IsWanted R.replies role.now now reply.now (R.Ledger.record_of draft) }
+    requires fits { R.Ledger.can_commit ledger.old draft }
+    ensures adds { Adds (IsPage R.replies role.now reply.now (R.Ledger.record_of draft) now) (R.Ledger.record_of draft)
+        (Rose (D.faults_of disk.old) (D.faults_of disk.new)) result
+        (provider role.now (R.Ledger.seen ledger.old)) (provider role.now (R.Ledger.seen ledger.new)) }
+    ensures has_bytes { HasBytes result }
+    ensures own { Owns R.Ledger.rules (D.told disk.new) (R.Ledger.seen ledger.new) }
+    ensures moments { LeavesOnly D.moment D.left_since disk.old disk.new
+        (IsWithOrWithout R.Ledger.rules (R.Ledger.record_of draft) (R.Ledger.seen ledger.old).held) }
+    ensures faults { D.faults_of disk.old ≤ D.faults_of disk.new }
+{
+    let Ok(bytes) = role.page(reply, &draft, now) else {
+        return Answer::Fixed(NO_MEMORY);
+    };
+    if ledger.commit(disk, draft).is_err() {
+        return Answer::Fixed(DISK_FAULT);
+    }
+    Answer::Full(bytes)
+}
+
+/// Answers with a reply after a compaction, as there was no place for its record.
+fn serve_again<R: Role, D: Disk>(
+    role: &R,
+    ledger: &mut R::Ledger,
+    request: &HttpRequest<'_>,
+    reply: &R::Reply,
+    now: u64,
+    disk: &mut D,
+) -> Answer
+    requires can { CanServe R.Ledger.rules (R.key role.now) (R.Ledger.seen ledger.old) (D.told disk.old) now }
+    requires wants { R.replies.wants role.now (R.Ledger.seen ledger.old).held (request_view request.now) now reply.now }
+    requires full { HasNoPlace R.Ledger.rules (R.Ledger.seen ledger.old).held
+        (R.replies.record_for role.now (R.Ledger.seen ledger.old).held now reply.now) }
+    ensures serves { Serves R.Ledger.rules R.answers (R.Ledger.seen ledger.old).held (request_view request.now) now
+        (Rose (D.faults_of disk.old) (D.faults_of disk.new)) result
+        (provider role.now (R.Ledger.seen ledger.old)) (provider role.now (R.Ledger.seen ledger.new)) }
+    ensures has_bytes { HasBytes result }
+    ensures own { Owns R.Ledger.rules (D.told disk.new) (R.Ledger.seen ledger.new) }
+    ensures moments { LeavesOnly D.moment D.left_since disk.old disk.new
+        (ServingLeaves R.Ledger.rules R.answers role.now (R.Ledger.seen ledger.old).held (request_view request.now) now) }
+    ensures faults { D.faults_of disk.old ≤ D.faults_of disk.new }
+{
+    role.laws_hold(now);
+    ledger.holds_records();
+    if let Err(fault) = ledger.compact(disk, now) {
+        return Answer::Fixed(code_of(fault));
+    }
+    match role.draft(reply, ledger, now) {
+        Ok(Some(draft)) => added(role, ledger, reply, draft, now, disk),
+        Ok(None) => unreachable!(),
+        Err(DraftFault::NoMemory) => Answer::Fixed(NO_MEMORY),
+        Err(DraftFault::LedgerFull { .. }) => Answer::Fixed(FULL),
+        Err(DraftFault::JournalFull { .. }) => Answer::Fixed(FULL),
+    }
+}
+
+/// Answers with a reply: a second time after a compaction where there was no place for its record.
+fn serve<R: Role, D: Disk>(
+    role: &R,
+    ledger: &mut R::Ledger,
+    request: &HttpRequest<'_>,
+    reply: &R::Reply,
+    now: u64,
+    disk: &mut D,
+) -> Answer
+    requires can { CanServe R.Ledger.rules (R.key role.now) (R.Ledger.seen ledger.old) (D.told disk.old) now }
+    requires wants { R.replies.wants role.now (R.Ledger.seen ledger.old).held (request_view request.now) now reply.now }
+    ensures serves { Serves R.Ledger.rules R.answers (R.Ledger.seen ledger.old).held (request_view request.now) now
+        (Rose (D.faults_of disk.old) (D.faults_of disk.new)) result
+        (provider role.now (R.Ledger.seen ledger.old)) (provider role.now (R.Ledger.seen ledger.new)) }
+    ensures has_bytes { HasBytes result }
+    ensures own { Owns R.Ledger.rules (D.told disk.new) (R.Ledger.seen ledger.new) }
+    ensures moments { LeavesOnly D.moment D.left_since disk.old disk.new
+        (ServingLeaves R.Ledger.rules R.answers role.now (R.Ledger.seen ledger.old).held (request_view request.now) now) }
+    ensures faults { D.faults_of disk.old ≤ D.faults_of disk.new }
+{
+    role.laws_hold(now);
+    match role.draft(reply, ledger, now) {
+        Ok(Some(draft)) => added(role, ledger, reply, draft, now, disk),
+        Ok(None) => Answer::Fixed(role.refusal(reply)),
+        Err(DraftFault::NoMemory) => Answer::Fixed(NO_MEMORY),
+        Err(DraftFault::LedgerFull { .. }) => serve_again(role, ledger, request, reply, now, disk),
+        Err(DraftFault::JournalFull { .. }) => serve_again(role, ledger, request, reply, now, disk),
+    }
+}
+
+/// Answers a request over a ledger that is whole.
+pub(crate) fn answer_whole<R: Role, D: Disk>(
+    role: &R,
+    ledger: &mut R::Ledger,
+    request: &HttpRequest<'_>,
+    now: u64,
+    disk: &mut D,
+) -> Answer
+    requires can { CanServe R.Ledger.rules (R.key role.now) (R.Ledger.seen ledger.old) (D.told disk.old) now }
+    ensures serves { Serves R.Ledger.rules R.answers (R.Ledger.seen ledger.old).held (request_view request.now) now
+        (Rose (D.faults_of disk.old) (D.faults_of disk.new)) result
+        (provider role.now (R.Ledger.seen ledger.old)) (provider role.now (R.Ledger.seen ledger.new)) }
+    ensures has_bytes { HasBytes result }
+    ensures own { Owns R.Ledger.rules (D.told disk.new) (R.Ledger.seen ledger.new) }
+    ensures moments { LeavesOnly D.moment D.left_since disk.old disk.new
+        (ServingLeaves R.Ledger.rules R.answers role.now (R.Ledger.seen ledger.old).held (request_view request.now) now) }
+    ensures faults { D.faults_of disk.old ≤ D.faults_of disk.new }
+{
+    match role.reply(ledger, request, now) {
+        Ok(Replied::Plain(answer)) => answer,
+        Ok(Replied::ForRecord(reply)) => serve(role, ledger, request, &reply, now, disk),
+        Err(_) => Answer::Fixed(NO_MEMORY),
+    }
+}
