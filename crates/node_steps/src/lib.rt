@@ -23,7 +23,7 @@ mod role;
 mod steps;
 
 pub use codes::{DISK_FAULT, FOREIGN, FULL, NO_MEMORY, code_of};
-pub use ledger::ProviderLedger;
+pub use ledger::KeepsLedger;
 pub use provider::ProviderNode;
 pub use replied::Replied;
 pub use role::Role;

@@ -7,7 +7,6 @@ ghost use Rattle.gate_journal.specs.Opening.{open_fault_of, CausesFaults};
 ghost use Rattle.record_ledger.specs.Ledger.{LeftByOpening, ledger_in, taken};
 ghost use Rattle.node_steps.specs.Step.{OwnsDisk};
 
-use crate::ledger::ProviderLedger;
 use crate::role::Role;
 use crash_disk::Disk;
 use gate_journal::OpenFault;
@@ -25,35 +24,35 @@ impl<R: Role> Model for ProviderNode<R> {
     ghost use Rattle.std.specs.Prelude.{◌≡◌};
     ghost use Rattle.node_steps.specs.Step.{Provider, provider};
 
-    ghost Value = { Provider R R.Ledger.Record };
+    ghost Value = { Provider R R.Record };
 
-    ghost view = { λ n. provider n.role (R.Ledger.seen n.ledger) };
+    ghost view = { λ n. provider n.role (R.seen n.ledger) };
 
-    ghost invariant = { λ n. (R.Ledger.seen n.ledger).key ≡ R.key n.role };
+    ghost invariant = { λ n. (R.seen n.ledger).key ≡ R.key n.role };
 }
 
 impl<R: Role> ProviderNode<R> {
-    /// Starts a provider: its ledger is opened from the disk. The answers are those of [`ProviderLedger::start`].
+    /// Starts a provider: its ledger is opened from the disk. The answers are those of [`KeepsLedger::open`](crate::KeepsLedger::open).
     pub fn start<D: Disk>(
         alloc: Global,
         role: R,
         disk: &mut D,
     ) -> Result<ProviderNode<R>, OpenFault>
-        ensures gives { IfSome (D.told disk.old) (λ d. Gives (λ n. n.ledger.held) open_fault_of result (taken (ledger_in R.Ledger.rules (image_of d)))) }
+        ensures gives { IfSome (D.told disk.old) (λ d. Gives (λ n. n.ledger.held) open_fault_of result (taken (ledger_in R.rules (image_of d)))) }
         ensures setup { IfOk result (λ n. n.setup ≡ role) }
         ensures whole { IfOk result (λ n. n.ledger.broken ≡ false) }
         ensures key { IfOk result (λ n. n.ledger.key ≡ R.key role) }
-        ensures own { IfOk result (λ n. OwnsDisk R.Ledger.rules n (D.told disk.new)) }
-        ensures moments { LeavesOnly D.moment D.left_since disk.old disk.new (LeftByOpening R.Ledger.rules (D.told disk.old)) }
+        ensures own { IfOk result (λ n. OwnsDisk R.rules n (D.told disk.new)) }
+        ensures moments { LeavesOnly D.moment D.left_since disk.old disk.new (LeftByOpening R.rules (D.told disk.old)) }
         ensures faults { CausesFaults result (D.faults_of disk.old) (D.faults_of disk.new) }
     {
-        let ledger = R::Ledger::start(alloc, disk, role.id_key())?;
+        let ledger = R::open(alloc, disk, role.id_key())?;
         Ok(ProviderNode { role, ledger })
     }
 
     /// The ledger.
     pub fn ledger(&self) -> &R::Ledger
-        ensures { R.Ledger.seen result.now ≡ self.now.ledger }
+        ensures { R.seen result.now ≡ self.now.ledger }
     {
         &self.ledger
     }

@@ -6,18 +6,15 @@ ghost use Rattle.http_wire.specs.Views.{request_view};
 ghost use Rattle.node_steps.specs.Step.{AnswersBy};
 ghost use Rattle.node_steps.specs.Replies.{AreReplies, IsDrafted, IsReplied, IsWanted, ReplyRules};
 
-use crate::ledger::ProviderLedger;
+use crate::ledger::KeepsLedger;
 use crate::replied::Replied;
 use http_wire::HttpRequest;
 use ledger_rules::DraftFault;
 use owned_values::{Blob, NoMemory};
 use saml_time::LAST;
 
-/// The role of a provider. It says where a request goes and what is replied to it, how a reply is drafted, and how it is shown.
-pub trait Role: Drop {
-    /// The ledger that a provider of this role keeps.
-    type Ledger: ProviderLedger;
-
+/// The role of a provider, with what it is set up with. It says where a request goes and what is replied to it, how a reply is drafted, and how it is shown.
+pub trait Role: KeepsLedger {
     /// A reply that stands for a record.
     type Reply: Drop;
 
@@ -25,10 +22,10 @@ pub trait Role: Drop {
     ghost key: { Self → List ℕ };
 
     /// What is answered to a request, and which record is added with it.
-    ghost answers: { AnswersBy Self Self.Ledger.Record };
+    ghost answers: { AnswersBy Self Self.Record };
 
     /// What is said of the replies.
-    ghost replies: { ReplyRules Self Self.Ledger.Record Self.Reply };
+    ghost replies: { ReplyRules Self Self.Record Self.Reply };
 
     /// The key of the IDs that are drawn.
     fn id_key(&self) -> [u8; 32]
@@ -43,8 +40,8 @@ pub trait Role: Drop {
     ) -> Result<Replied<Self::Reply>, NoMemory>
         requires { now ≤ LAST }
         ensures { IfOk result (IsReplied
-            (λ answer. answers self.now (Self.Ledger.seen ledger.now).held (request_view request.now) now answer None)
-            (replies.wants self.now (Self.Ledger.seen ledger.now).held (request_view request.now) now)) };
+            (λ answer. answers self.now (Self.seen ledger.now).held (request_view request.now) now answer None)
+            (replies.wants self.now (Self.seen ledger.now).held (request_view request.now) now)) };
 
     /// Drafts the record of a reply; none where there is nothing to record.
     ///
@@ -54,24 +51,19 @@ pub trait Role: Drop {
         reply: &Self::Reply,
         ledger: &mut Self::Ledger,
         now: u64,
-    ) -> Result<Option<<Self::Ledger as ProviderLedger>::Draft>, DraftFault>
+    ) -> Result<Option<Self::Draft>, DraftFault>
         requires moment { now ≤ LAST }
-        requires key { (Self.Ledger.seen ledger.old).key ≡ key self.now }
-        requires wanted { (request : Request) × replies.wants self.now (Self.Ledger.seen ledger.old).held request now reply.now }
-        ensures drafts { IsDrafted Self.Ledger.rules (Self.Ledger.seen ledger.old).held (Self.Ledger.can_commit ledger.new) Self.Ledger.record_of
-            (replies.record_for self.now (Self.Ledger.seen ledger.old).held now reply.now) result }
-        ensures same { Self.Ledger.seen ledger.new ≡ Self.Ledger.seen ledger.old };
+        requires key { (Self.seen ledger.old).key ≡ key self.now }
+        requires wanted { (request : Request) × replies.wants self.now (Self.seen ledger.old).held request now reply.now }
+        ensures drafts { IsDrafted Self.rules (Self.seen ledger.old).held (Self.can_commit ledger.new) Self.record_of
+            (replies.record_for self.now (Self.seen ledger.old).held now reply.now) result }
+        ensures same { Self.seen ledger.new ≡ Self.seen ledger.old };
 
     /// The bytes of the page of a reply whose record was drafted.
-    fn page(
-        &self,
-        reply: &Self::Reply,
-        draft: &<Self::Ledger as ProviderLedger>::Draft,
-        now: u64,
-    ) -> Result<Blob, NoMemory>
+    fn page(&self, reply: &Self::Reply, draft: &Self::Draft, now: u64) -> Result<Blob, NoMemory>
         requires moment { now ≤ LAST }
-        requires wanted { IsWanted replies self.now now reply.now (Self.Ledger.record_of draft.now) }
-        ensures { IfOk result (replies.shows self.now reply.now (Self.Ledger.record_of draft.now) now) };
+        requires wanted { IsWanted replies self.now now reply.now (Self.record_of draft.now) }
+        ensures { IfOk result (replies.shows self.now reply.now (Self.record_of draft.now) now) };
 
     /// The code that says that there is nothing to record.
     fn refusal(&self, reply: &Self::Reply) -> u16
@@ -81,5 +73,5 @@ pub trait Role: Drop {
     /// That what is said of the replies agrees with the answers. It does nothing.
     fn laws_hold(&self, now: u64)
         requires { now ≤ LAST }
-        ensures { AreReplies replies Self.Ledger.rules answers self.now now };
+        ensures { AreReplies replies Self.rules answers self.now now };
 }

@@ -10,7 +10,6 @@ ghost use Rattle.node_steps.specs.Serving.{Adds, CanServe};
 ghost use Rattle.node_steps.specs.Step.{Owns, Serves, ServingLeaves, provider};
 
 use crate::codes::{DISK_FAULT, FULL, NO_MEMORY, code_of};
-use crate::ledger::ProviderLedger;
 use crate::replied::Replied;
 use crate::role::Role;
 use crash_disk::Disk;
@@ -22,26 +21,26 @@ fn added<R: Role, D: Disk>(
     role: &R,
     ledger: &mut R::Ledger,
     reply: &R::Reply,
-    draft: <R::Ledger as ProviderLedger>::Draft,
+    draft: R::Draft,
     now: u64,
     disk: &mut D,
 ) -> Answer
-    requires can { CanServe R.Ledger.rules (R.key role.now) (R.Ledger.seen ledger.old) (D.told disk.old) now }
-    requires wanted { IsWanted R.replies role.now now reply.now (R.Ledger.record_of draft) }
-    requires fits { R.Ledger.can_commit ledger.old draft }
-    ensures adds { Adds (IsPage R.replies role.now reply.now (R.Ledger.record_of draft) now) (R.Ledger.record_of draft)
+    requires can { CanServe R.rules (R.key role.now) (R.seen ledger.old) (D.told disk.old) now }
+    requires wanted { IsWanted R.replies role.now now reply.now (R.record_of draft) }
+    requires fits { R.can_commit ledger.old draft }
+    ensures adds { Adds (IsPage R.replies role.now reply.now (R.record_of draft) now) (R.record_of draft)
         (Rose (D.faults_of disk.old) (D.faults_of disk.new)) result
-        (provider role.now (R.Ledger.seen ledger.old)) (provider role.now (R.Ledger.seen ledger.new)) }
+        (provider role.now (R.seen ledger.old)) (provider role.now (R.seen ledger.new)) }
     ensures has_bytes { HasBytes result }
-    ensures own { Owns R.Ledger.rules (D.told disk.new) (R.Ledger.seen ledger.new) }
+    ensures own { Owns R.rules (D.told disk.new) (R.seen ledger.new) }
     ensures moments { LeavesOnly D.moment D.left_since disk.old disk.new
-        (IsWithOrWithout R.Ledger.rules (R.Ledger.record_of draft) (R.Ledger.seen ledger.old).held) }
+        (IsWithOrWithout R.rules (R.record_of draft) (R.seen ledger.old).held) }
     ensures faults { D.faults_of disk.old ≤ D.faults_of disk.new }
 {
     let Ok(bytes) = role.page(reply, &draft, now) else {
         return Answer::Fixed(NO_MEMORY);
     };
-    if ledger.commit(disk, draft).is_err() {
+    if R::commit(ledger, disk, draft).is_err() {
         return Answer::Fixed(DISK_FAULT);
     }
     Answer::Full(bytes)
@@ -56,22 +55,22 @@ fn serve_again<R: Role, D: Disk>(
     now: u64,
     disk: &mut D,
 ) -> Answer
-    requires can { CanServe R.Ledger.rules (R.key role.now) (R.Ledger.seen ledger.old) (D.told disk.old) now }
-    requires wants { R.replies.wants role.now (R.Ledger.seen ledger.old).held (request_view request.now) now reply.now }
-    requires full { HasNoPlace R.Ledger.rules (R.Ledger.seen ledger.old).held
-        (R.replies.record_for role.now (R.Ledger.seen ledger.old).held now reply.now) }
-    ensures serves { Serves R.Ledger.rules R.answers (R.Ledger.seen ledger.old).held (request_view request.now) now
+    requires can { CanServe R.rules (R.key role.now) (R.seen ledger.old) (D.told disk.old) now }
+    requires wants { R.replies.wants role.now (R.seen ledger.old).held (request_view request.now) now reply.now }
+    requires full { HasNoPlace R.rules (R.seen ledger.old).held
+        (R.replies.record_for role.now (R.seen ledger.old).held now reply.now) }
+    ensures serves { Serves R.rules R.answers (R.seen ledger.old).held (request_view request.now) now
         (Rose (D.faults_of disk.old) (D.faults_of disk.new)) result
-        (provider role.now (R.Ledger.seen ledger.old)) (provider role.now (R.Ledger.seen ledger.new)) }
+        (provider role.now (R.seen ledger.old)) (provider role.now (R.seen ledger.new)) }
     ensures has_bytes { HasBytes result }
-    ensures own { Owns R.Ledger.rules (D.told disk.new) (R.Ledger.seen ledger.new) }
+    ensures own { Owns R.rules (D.told disk.new) (R.seen ledger.new) }
     ensures moments { LeavesOnly D.moment D.left_since disk.old disk.new
-        (ServingLeaves R.Ledger.rules R.answers role.now (R.Ledger.seen ledger.old).held (request_view request.now) now) }
+        (ServingLeaves R.rules R.answers role.now (R.seen ledger.old).held (request_view request.now) now) }
     ensures faults { D.faults_of disk.old ≤ D.faults_of disk.new }
 {
     role.laws_hold(now);
-    ledger.holds_records();
-    if let Err(fault) = ledger.compact(disk, now) {
+    R::holds_records(ledger);
+    if let Err(fault) = R::compact(ledger, disk, now) {
         return Answer::Fixed(code_of(fault));
     }
     match role.draft(reply, ledger, now) {
@@ -92,15 +91,15 @@ fn serve<R: Role, D: Disk>(
     now: u64,
     disk: &mut D,
 ) -> Answer
-    requires can { CanServe R.Ledger.rules (R.key role.now) (R.Ledger.seen ledger.old) (D.told disk.old) now }
-    requires wants { R.replies.wants role.now (R.Ledger.seen ledger.old).held (request_view request.now) now reply.now }
-    ensures serves { Serves R.Ledger.rules R.answers (R.Ledger.seen ledger.old).held (request_view request.now) now
+    requires can { CanServe R.rules (R.key role.now) (R.seen ledger.old) (D.told disk.old) now }
+    requires wants { R.replies.wants role.now (R.seen ledger.old).held (request_view request.now) now reply.now }
+    ensures serves { Serves R.rules R.answers (R.seen ledger.old).held (request_view request.now) now
         (Rose (D.faults_of disk.old) (D.faults_of disk.new)) result
-        (provider role.now (R.Ledger.seen ledger.old)) (provider role.now (R.Ledger.seen ledger.new)) }
+        (provider role.now (R.seen ledger.old)) (provider role.now (R.seen ledger.new)) }
     ensures has_bytes { HasBytes result }
-    ensures own { Owns R.Ledger.rules (D.told disk.new) (R.Ledger.seen ledger.new) }
+    ensures own { Owns R.rules (D.told disk.new) (R.seen ledger.new) }
     ensures moments { LeavesOnly D.moment D.left_since disk.old disk.new
-        (ServingLeaves R.Ledger.rules R.answers role.now (R.Ledger.seen ledger.old).held (request_view request.now) now) }
+        (ServingLeaves R.rules R.answers role.now (R.seen ledger.old).held (request_view request.now) now) }
     ensures faults { D.faults_of disk.old ≤ D.faults_of disk.new }
 {
     role.laws_hold(now);
@@ -121,14 +120,14 @@ pub(crate) fn answer_whole<R: Role, D: Disk>(
     now: u64,
     disk: &mut D,
 ) -> Answer
-    requires can { CanServe R.Ledger.rules (R.key role.now) (R.Ledger.seen ledger.old) (D.told disk.old) now }
-    ensures serves { Serves R.Ledger.rules R.answers (R.Ledger.seen ledger.old).held (request_view request.now) now
+    requires can { CanServe R.rules (R.key role.now) (R.seen ledger.old) (D.told disk.old) now }
+    ensures serves { Serves R.rules R.answers (R.seen ledger.old).held (request_view request.now) now
         (Rose (D.faults_of disk.old) (D.faults_of disk.new)) result
-        (provider role.now (R.Ledger.seen ledger.old)) (provider role.now (R.Ledger.seen ledger.new)) }
+        (provider role.now (R.seen ledger.old)) (provider role.now (R.seen ledger.new)) }
     ensures has_bytes { HasBytes result }
-    ensures own { Owns R.Ledger.rules (D.told disk.new) (R.Ledger.seen ledger.new) }
+    ensures own { Owns R.rules (D.told disk.new) (R.seen ledger.new) }
     ensures moments { LeavesOnly D.moment D.left_since disk.old disk.new
-        (ServingLeaves R.Ledger.rules R.answers role.now (R.Ledger.seen ledger.old).held (request_view request.now) now) }
+        (ServingLeaves R.rules R.answers role.now (R.seen ledger.old).held (request_view request.now) now) }
     ensures faults { D.faults_of disk.old ≤ D.faults_of disk.new }
 {
     match role.reply(ledger, request, now) {

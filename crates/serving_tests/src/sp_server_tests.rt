@@ -1,7 +1,7 @@
 //! What no clause says: that there is memory for a call, over a disk in memory.
 ghost use Rattle.std.specs.Prelude.{IfOk, Some};
 ghost use Rattle.crash_disk.specs.Memory.{state_of};
-ghost use Rattle.sp_server.specs.Node.{IsUsable};
+ghost use Rattle.sp_server.specs.Config.{IsUsable};
 ghost use Rattle.sp_server.specs.Step.{OwnsDisk};
 
 use crash_disk::MemDisk;
@@ -10,7 +10,7 @@ use metadata::Peer;
 use node_serve::Node;
 use owned_values::{Blob, NoMemory, Text};
 use sp_rules::SpConfig;
-use sp_server::SpNode;
+use sp_server::{SpNode, SpRole};
 use std::alloc::Global;
 use std::test::Fail;
 
@@ -72,7 +72,8 @@ fn answers(node: &mut SpNode, disk: &mut MemDisk) -> bool
 fn there_is_memory_for_each_call(rt: HostRuntime) -> Result<(), Fail> {
     let alloc = rt.alloc();
     let mut disk = MemDisk::new(alloc);
-    let mut node = SpNode::start(alloc, config(alloc)?, &mut disk)?;
+    let role = SpRole::new(alloc, config(alloc)?, None, None);
+    let mut node = SpNode::start(alloc, role, &mut disk)?;
     assert!(rt; answers(&mut node, &mut disk));
     Ok(())
 }

@@ -1,5 +1,4 @@
 pub mod Alike
-pub mod Drafting
 pub mod Histories
 pub mod Ids
 pub mod Live

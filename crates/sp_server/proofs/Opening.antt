@@ -3,7 +3,6 @@ use Rattle.std.specs.Prelude.{IsSome, IsTrue, not, Option, None, Some}
 use Rattle.std.proofs.Common.{◌≡◌, ◌⊎◌, inl, inr, ℕ, nat_le, nat_lt, Bool, true, false, if◌then◌else◌, List, [], ◌∷◌, ◌++◌, sym, subst, refl, ap, ◌∙◌}
 use Rattle.std.specs.List.{AllByRecursion}
 use Rattle.xml_spec.specs.Tree.{Nodes}
-use Rattle.http_wire.specs.declared.answer.Answer.{Answer}
 use Rattle.http_wire.specs.declared.answer.Answer.TheVariants.{Full}
 use Rattle.http_wire.specs.Requests.{Request}
 use Rattle.ledger_records.specs.declared.sp_record.SpRecord.{SpRecord}
@@ -20,21 +19,20 @@ use Rattle.sp_rules.specs.Keys.{Key, first_key, second_key, usable}
 use Rattle.sp_rules.specs.declared.accepted.Accepted.{Accepted}
 use Rattle.sp_rules.specs.declared.config.NextKey.{NextKey}
 use Rattle.sp_rules.specs.Shown.{session_of}
-use Rattle.sp_server.specs.declared.reply.Reply.TheVariants as kinds
-use Rattle.sp_server.specs.Replies.{IsReplyPage, OpensSession}
+use Rattle.sp_server.specs.Replies.{IsOpeningAnswer, OpensSession}
 use Rattle.sp_server.specs.Step.{Setup, Answers, ByOpening, HasToken}
 use Rattle.sp_server.proofs.Alike.{opening_alike}
 
 -- the answer with the session that a form opens
-pub opens_own : (setup : Setup) (held : Held) (request : Request) (now : ℕ) (accepted : Accepted) (answer : Answer) → OpensSession setup held request now accepted
-    → IsReplyPage setup.config now (kinds.Open accepted) (opened setup.config.id_key (next_number held) now accepted.session) answer
-    → Answers setup held request now answer (Some (opened setup.config.id_key (next_number held) now accepted.session))
-opens_own setup held request now accepted answer may page =
+pub opens_own : (setup : Setup) (held : Held) (request : Request) (now : ℕ) (accepted : Accepted) (bytes : List ℕ) → OpensSession setup held request now accepted
+    → IsOpeningAnswer accepted (opened setup.config.id_key (next_number held) now accepted.session) bytes
+    → Answers setup held request now (Full bytes) (Some (opened setup.config.id_key (next_number held) now accepted.session))
+opens_own setup held request now accepted bytes may page =
     let b = may.opens.brought in
     let r : opened setup.config.id_key (next_number held) now accepted.session ≡ opened setup.config.id_key (next_number held) now (session_of setup.config now b.key.number b.login) =
     ap (λ (s : NewSession). opened setup.config.id_key (next_number held) now s) may.opens.is.session in
-    ByOpening b may.opens.asked may.to may.unexpired may.opens.opens page.answers.token (ap Some r) (subst (λ (x : SpRecord). HasToken x page.answers.token) r page.answers.has)
-    (page.is ∙ ap Full (page.answers.is ∙ ap (λ (t : List ℕ). opened_answer t page.answers.token) may.opens.is.target))
+    ByOpening b may.opens.asked may.to may.unexpired may.opens.opens page.token (ap Some r) (subst (λ (x : SpRecord). HasToken x page.token) r page.has)
+    (ap Full (page.is ∙ ap (λ (t : List ℕ). opened_answer t page.token) may.opens.is.target))
 
 -- ---- the key of an accepted form is the first or the second
 

@@ -1,8 +1,7 @@
 pub mod Routes
 pub mod Peer
 pub mod Step
-pub mod Node
-pub mod Serving
+pub mod Config
 pub mod Replies
 pub mod Views
 pub mod Histories

@@ -1,10 +1,8 @@
 -- How the code answers with a record: what a request wants, the record of it, and the answer.
-use Rattle.std.specs.Prelude.{◌≡◌, ◌⊎◌, ℕ, Bool, true, false, not, List, Option, None, Some, IfSome, IsSome}
+use Rattle.std.specs.Prelude.{◌≡◌, ◌⊎◌, ℕ, Bool, true, false, not, List, Option, None, Some, IfSome, IsSome, if◌then◌else◌}
 use Rattle.std.specs.List.{AllByRecursion}
 use Rattle.std.specs.Option.{option_to_list}
 use Rattle.xml_spec.specs.Characters.{IsText}
-use Rattle.http_wire.specs.declared.answer.Answer.{Answer}
-use Rattle.http_wire.specs.declared.answer.Answer.TheVariants.{Full}
 use Rattle.http_wire.specs.Requests.{Request}
 use Rattle.verdict_codes.specs.Codes.{number_of}
 use Rattle.verdict_codes.specs.declared.codes.Verdict.TheVariants.{NoSuchSession, UnknownLogout}
@@ -14,9 +12,9 @@ use Rattle.request_rows.specs.declared.row.OpenedRow.{OpenedRow}
 use Rattle.request_rows.specs.declared.row.NewSession.{NewSession}
 use Rattle.request_rows.specs.Rows.{asked_row, is_spent, session_row}
 use Rattle.request_ledger.specs.RowsOf.{rows_of}
-use Rattle.request_ledger.specs.Ledger.{Held, Opened, next_number}
+use Rattle.request_ledger.specs.Ledger.{Held, next_number}
 use Rattle.request_ledger.specs.Draft.{IsDrawn}
-use Rattle.request_ledger.specs.Drafts.{asked, opened, left, ended, confirmed, is_empty, AreSessionTexts, IsDraftOf}
+use Rattle.request_ledger.specs.Drafts.{asked, opened, left, ended, confirmed, is_empty, AreSessionTexts}
 use Rattle.logout_profile.specs.declared.logout.Logout.{Logout}
 use Rattle.logout_profile.specs.declared.logout.Logout.TheVariants as logouts
 use Rattle.logout_answers.specs.Answers.{Leaving, Ending, end_answer}
@@ -24,13 +22,13 @@ use Rattle.sp_rules.specs.declared.config.SpConfig.{SpConfig}
 use Rattle.sp_rules.specs.declared.accepted.Accepted.{Accepted}
 use Rattle.sp_rules.specs.Shown.{IsOpening}
 use Rattle.sp_answers.specs.Answers.{HoldsTexts, IsAskAnswer, opened_answer}
+use Rattle.node_steps.specs.Replies.{IsReplied, ReplyRules}
+use Rattle.node_steps.specs.declared.replied.Replied.{Replied}
 use Rattle.sp_server.specs.declared.reply.Reply.{Reply}
 use Rattle.sp_server.specs.declared.reply.Reply.TheVariants as replies
-use Rattle.sp_server.specs.declared.reply.Drafted.{Drafted}
-use Rattle.sp_server.specs.declared.reply.Drafted.TheVariants as drafts
 use Rattle.sp_server.specs.Routes.{App, Consumer, Logout as ToLogout, SingleLogout, To, route}
 use Rattle.sp_server.specs.Peer.{idp_at, is_partial, IsObeyed}
-use Rattle.sp_server.specs.Step.{Setup, HasId, HasIds, HasPlace, HasToken, ended_by, is_awaited, is_expired, rows_seen, session_for}
+use Rattle.sp_server.specs.Step.{Setup, Answers, HasId, HasIds, HasToken, ended_by, is_awaited, is_expired, rows_seen, session_for}
 
 -- ---- what is wanted
 
@@ -127,13 +125,6 @@ CanDraft held now (replies.Leave token name indexes) = IsSome (session_row (rows
 CanDraft held now (replies.End asked relay) = is_xml_text asked.id ≡ true
 CanDraft held now (replies.Confirm response) = Unit {0}
 
--- what became of the draft of a record, where there may be nothing to record
-abbrev pub IsDrafted : Opened → Opened → (nothing : Bool) → SpRecord → Drafted → Type 0
-IsDrafted old new nothing r (drafts.Ready draft) = (nothing ≡ false) × IsDraftOf old new r draft
-IsDrafted old new nothing r drafts.Nothing = nothing ≡ true
-IsDrafted old new nothing r drafts.NoRoom = (nothing ≡ false) × ¬ (HasPlace old.held r)
-IsDrafted old new nothing r drafts.NoMemory = Unit {0}
-
 -- ---- its answer
 
 -- the texts with which it is answered
@@ -176,7 +167,21 @@ IsAnswerTo config r now (replies.Leave token name indexes) bytes = IsLeavingAnsw
 IsAnswerTo config r now (replies.End asked relay) bytes = IsEndingAnswer config r now asked.id relay bytes
 IsAnswerTo config r now (replies.Confirm response) bytes = bytes ≡ end_answer (is_partial response.outcome)
 
-pub record IsReplyPage (config : SpConfig) (now : ℕ) (reply : Reply) (r : SpRecord) (answer : Answer) : Type 0 where
-  pub bytes : List ℕ
-  pub answers : IsAnswerTo config r now reply bytes
-  pub is : answer ≡ Full bytes
+-- ---- in the words of a step
+
+-- the record for which a reply stands; none where there is nothing to record
+abbrev pub stands_for : Setup → Held → (now : ℕ) → Reply → Option SpRecord
+stands_for setup held now reply =
+    if is_nothing setup.config held now reply then None else Some (record_for setup.config.id_key setup.config held now reply)
+
+abbrev pub sp_replies : ReplyRules Setup SpRecord Reply
+sp_replies = record {
+  wants = Wants;
+  record_for = stands_for;
+  shows = λ setup reply r now bytes. IsAnswerTo setup.config r now reply bytes;
+  refusal = refusal_of;
+}
+
+-- what is replied to a request
+abbrev pub RepliesTo : Setup → Held → Request → (now : ℕ) → Replied Reply → Type 0
+RepliesTo setup held request now = IsReplied (λ answer. Answers setup held request now answer None) (Wants setup held request now)

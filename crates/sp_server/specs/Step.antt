@@ -22,7 +22,6 @@ use Rattle.request_rows.specs.Rows.{RowsView, session_row}
 use Rattle.request_ledger.specs.RowsOf.{SpRows, rows_of}
 use Rattle.request_ledger.specs.Ledger.{Held, next_number}
 use Rattle.request_ledger.specs.Record.{request_rules}
-use Rattle.request_ledger.specs.Standing.{StandingView}
 use Rattle.request_ledger.specs.Draft.{drawn_id}
 use Rattle.request_ledger.specs.Drafts.{asked, opened, left, ended, confirmed, ending, is_empty, is_waiting_now}
 use Rattle.sp_rules.specs.declared.config.SpConfig.{SpConfig}
@@ -155,7 +154,7 @@ pub data Answers (setup : Setup) (held : Held) (request : Request) (now : ℕ) (
 
 -- A provider: what it is set up with, and its ledger. What it does with what it answers is said of each provider.
 abbrev pub Provider : Type 0
-Provider = any.Provider Setup SpRecord StandingView
+Provider = any.Provider Setup SpRecord
 
 -- there is room for a record: fewer rows of its kind are kept than may be, and it fits
 abbrev pub HasPlace : Held → SpRecord → Type 0

@@ -1,25 +1,21 @@
 //! POST of a user who leaves.
-ghost use Rattle.std.specs.Prelude.{◌≡◌, ◌≤◌, ◌∷◌, [], true, IfOk};
+ghost use Rattle.std.specs.Prelude.{◌≡◌, ◌∷◌, [], true, IfOk};
 ghost use Rattle.std.specs.List.{AllByRecursion};
 ghost use Rattle.std.specs.Option.{ForSome, option_to_list};
 ghost use Rattle.xml_spec.specs.Characters.{IsText};
-ghost use Rattle.crash_disk.specs.Counts.{Rose};
-ghost use Rattle.crash_disk.specs.Moments.{LeavesOnly};
 ghost use Rattle.http_wire.specs.Views.{request_view};
 ghost use Rattle.ledger_rules.specs.Numbers.{is_xml_text};
-ghost use Rattle.node_serve.specs.Worlds.{HasBytes};
+ghost use Rattle.sp_server.specs.Replies.{Leaves, RepliesTo};
 ghost use Rattle.sp_server.specs.Routes.{Logout, To, route};
-ghost use Rattle.sp_server.specs.Step.{OwnsDisk, Serves, ServingLeaves};
-ghost use Rattle.sp_server.specs.Serving.{CanServe};
-ghost use Rattle.sp_server.specs.Replies.{Leaves};
 
-use crate::answering::REGISTRY_EXPIRED;
-use crate::node::SpNode;
+use crate::app::session_for;
 use crate::reply::Reply;
-use crash_disk::Disk;
+use crate::replying::REGISTRY_EXPIRED;
+use crate::role::SpRole;
 use http_wire::{Answer, HttpRequest};
-use node_steps::NO_MEMORY;
+use node_steps::Replied;
 use owned_values::{NoMemory, Text, Texts};
+use request_ledger::Ledger;
 use request_rows::OpenedRow;
 use std::alloc::Global;
 use verdict_codes::Verdict;
@@ -59,32 +55,24 @@ fn leaving(alloc: Global, row: &OpenedRow) -> Result<Reply, NoMemory>
     })
 }
 
-impl SpNode {
-    /// Answers a user who leaves, over a ledger that is whole.
-    pub(crate) fn answer_leave<D: Disk>(
-        &mut self,
+impl SpRole {
+    /// What is replied to a user who leaves.
+    pub(crate) fn reply_leave(
+        &self,
+        ledger: &Ledger,
         request: &HttpRequest<'_>,
         now: u64,
-        disk: &mut D,
-    ) -> Answer
-        requires can { CanServe self.old (D.told disk.old) now }
-        requires route { route (request_view request.now) ≡ To Logout }
-        ensures serves { Serves self.old.ledger.held (request_view request.now) now (Rose (D.faults_of disk.old) (D.faults_of disk.new)) result self.old self.new }
-        ensures has_bytes { HasBytes result }
-        ensures own { OwnsDisk self.new (D.told disk.new) }
-        ensures moments { LeavesOnly D.moment D.left_since disk.old disk.new (ServingLeaves self.old.setup self.old.ledger.held (request_view request.now) now) }
-        ensures faults { D.faults_of disk.old ≤ D.faults_of disk.new }
+    ) -> Result<Replied<Reply>, NoMemory>
+        requires { route (request_view request.now) ≡ To Logout }
+        ensures { IfOk result (RepliesTo self.now ledger.now.held (request_view request.now) now) }
     {
         if self.is_expired(now) {
-            return Answer::Fixed(REGISTRY_EXPIRED);
+            return Ok(Replied::Plain(Answer::Fixed(REGISTRY_EXPIRED)));
         }
-        self.ledger.holds_records();
-        let Some(row) = self.session_for(request, now) else {
-            return Answer::Fixed(Verdict::NoSuchSession.number());
-        };
-        let Ok(reply) = leaving(self.alloc, row) else {
-            return Answer::Fixed(NO_MEMORY);
-        };
-        self.serve(request, &reply, now, disk)
+        ledger.holds_records();
+        match session_for(ledger, request, now) {
+            Some(row) => Ok(Replied::ForRecord(leaving(self.alloc, row)?)),
+            None => Ok(Replied::Plain(Answer::Fixed(Verdict::NoSuchSession.number()))),
+        }
     }
 }

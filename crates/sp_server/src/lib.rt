@@ -1,7 +1,8 @@
 //! The service provider: what it answers to each request, and what it records.
 //!
 //! ```
-//! let mut node = SpNode::start(alloc, config, &mut disk)?;     // opens the ledger of the disk
+//! let role = SpRole::new(alloc, config, policy, expiry);       // what it is set up with
+//! let mut node = SpNode::start(alloc, role, &mut disk)?;       // opens the ledger of the disk
 //! let answer = node.answer(&request, now, &mut disk);          // one step: an answer, and at most one record
 //! ```
 //!
@@ -25,17 +26,19 @@
 //! every ledger that a crash may leave, and no two sessions are of one request.
 #![tactic(auto)]
 
-mod answering;
 mod app;
 mod consumer;
 pub mod laws;
 mod leave;
-mod node;
+mod ledger;
 mod peer;
-mod recording;
 mod reply;
 mod replying;
+mod role;
 mod route;
 mod single_logout;
 
-pub use node::SpNode;
+pub use role::SpRole;
+
+/// A service provider over a disk.
+pub type SpNode = node_steps::ProviderNode<SpRole>;

@@ -1,14 +1,13 @@
 //! How a request is replied to with a record.
-ghost use Rattle.std.specs.Prelude.{◌≡◌, ◌≤◌, Bool, IfOk, IfSome};
+ghost use Rattle.std.specs.Prelude.{◌≡◌, ◌≤◌, IfOk, IfSome, IsTrue};
 ghost use Rattle.std.specs.Option.{option_map};
-ghost use Rattle.ledger_records.specs.declared.sp_record.SpRecord.{SpRecord};
-ghost use Rattle.request_ledger.specs.Ledger.{Opened};
+ghost use Rattle.http_wire.specs.Answers.{is_fixed};
 ghost use Rattle.request_ledger.specs.Draft.{IsDrawn};
 ghost use Rattle.request_ledger.specs.Drafts.{DraftsSome, SameLedger};
 ghost use Rattle.sp_answers.specs.Answers.{HoldsTexts};
 ghost use Rattle.xml_spec.specs.Characters.{IsText};
 ghost use Rattle.sp_server.specs.Peer.{is_partial};
-ghost use Rattle.sp_server.specs.Replies.{CanDraft, HoldsAddresses, IsAnswerable, IsAnswerTo, IsAskingAnswer, IsDrafted, IsEndingAnswer, IsOpeningAnswer, is_nothing, record_for, refusal_of};
+ghost use Rattle.sp_server.specs.Replies.{CanDraft, HoldsAddresses, IsAnswerable, IsAnswerTo, IsAskingAnswer, IsEndingAnswer, IsOpeningAnswer, is_nothing, record_for, refusal_of};
 
 use crate::peer::idp_at;
 use logout_answers::{end_answer, ending_answer, leaving_answer};
@@ -23,7 +22,7 @@ use verdict_codes::Verdict;
 
 /// A reply that stands for a record.
 #[derive(Drop)]
-pub(crate) enum Reply {
+pub enum Reply {
     /// A form that asks the identity provider for a login (SAML Profiles, 4.1.3.3).
     Ask {
         /// The path to which the user is sent once it is answered.
@@ -57,32 +56,6 @@ pub(crate) enum Reply {
     },
 }
 
-/// What became of a draft.
-#[derive(Drop)]
-pub(crate) enum Drafted {
-    /// It can be committed.
-    Ready(Draft),
-    /// There is nothing to record.
-    Nothing,
-    /// There is no room for the record.
-    NoRoom,
-    /// There was no memory.
-    NoMemory,
-}
-
-/// What became of a draft, from what the ledger says of it.
-fn drafted_of(outcome: Result<Option<Draft>, DraftFault>) -> Drafted
-    ensures { (old new : Opened) (nothing : Bool) (r : SpRecord) → DraftsSome old new nothing r outcome → IsDrafted old new nothing r result }
-{
-    match outcome {
-        Ok(Some(draft)) => Drafted::Ready(draft),
-        Ok(None) => Drafted::Nothing,
-        Err(DraftFault::LedgerFull { .. }) => Drafted::NoRoom,
-        Err(DraftFault::JournalFull { .. }) => Drafted::NoRoom,
-        Err(DraftFault::NoMemory) => Drafted::NoMemory,
-    }
-}
-
 /// Whether a logout ended in part at most (SAML Core, 3.2.2.2).
 fn is_partial(outcome: Outcome) -> bool
     ensures { result ≡ is_partial outcome }
@@ -105,7 +78,7 @@ fn relay_of(relay: &Option<Text>) -> Option<&str>
 
 impl Reply {
     /// Drafts the record of the reply; none where there is nothing to record.
-    fn draft_in(
+    pub(crate) fn draft(
         &self,
         config: &SpConfig,
         ledger: &mut Ledger,
@@ -140,20 +113,11 @@ impl Reply {
         }
     }
 
-    /// Drafts the record of the reply.
-    pub(crate) fn draft(&self, config: &SpConfig, ledger: &mut Ledger, now: u64) -> Drafted
-        requires moment { now ≤ LAST }
-        requires can { CanDraft ledger.old.held now self.now }
-        ensures drafts { IsDrafted ledger.old ledger.new (is_nothing config.now ledger.old.held now self.now) (record_for ledger.old.key config.now ledger.old.held now self.now) result }
-        ensures same { SameLedger ledger.old ledger.new }
-    {
-        drafted_of(self.draft_in(config, ledger, now))
-    }
-
     /// The code that says that there is nothing to record. A login is always asked for, and a session that a form opens always
     /// opened: for these it is never asked.
     pub(crate) fn refusal(&self) -> u16
-        ensures { result ≡ refusal_of self.now }
+        ensures is { result ≡ refusal_of self.now }
+        ensures page { IsTrue (is_fixed result) }
     {
         match self {
             Reply::Confirm { .. } => Verdict::UnknownLogout.number(),

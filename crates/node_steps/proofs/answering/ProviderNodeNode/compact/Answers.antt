@@ -11,37 +11,37 @@ use Rattle.node_steps.proofs.answering.ProviderNodeNode.compact.Goals as goal
 
 pub returns-then-not-is_broken-clause-compacts : goal.returns-then-not-is_broken-clause-compacts
 returns-then-not-is_broken-clause-compacts g c =
-    let rules = g.R.Ledger.ProviderLedger.rules in
-    let old = provider c.self.inside.role (g.R.Ledger.ProviderLedger.seen c.self.inside.ledger) in
-    let new = provider c.self.inside.role (g.R.Ledger.ProviderLedger.seen c.compact.new.self) in
+    let rules = g.R.KeepsLedger.rules in
+    let old = provider c.self.inside.role (g.R.KeepsLedger.seen c.self.inside.ledger) in
+    let new = provider c.self.inside.role (g.R.KeepsLedger.seen c.compact.new.ledger) in
     let whole : old.ledger.broken ≡ false = sym c.if-not-is_broken.ensures in
     let e = c.compact.ensures in
-    subst (λ (p : Provider g.row.R.Denot g.row.R-Ledger-Record.Denot). CompactionOf rules p (g.D.Disk.told c.args.disk.now) c.args.now c.compact.result new) c.self.view_is
+    subst (λ (p : Provider g.row.R.Denot g.row.R-Record.Denot). CompactionOf rules p (g.D.Disk.told c.args.disk.now) c.args.now c.compact.result new) c.self.view_is
     (OfLedger whole (compacts_found c.args.now c.compact.result old new whole refl e.key e.ok e.failed (λ is. (e.no_memory is).0) e.not_foreign))
 
 pub returns-clause-compacts : goal.returns-clause-compacts
 returns-clause-compacts g c =
-    let rules = g.R.Ledger.ProviderLedger.rules in
+    let rules = g.R.KeepsLedger.rules in
     let told = g.D.Disk.told c.args.disk.now in
-    let old = provider c.self.inside.role (g.R.Ledger.ProviderLedger.seen c.self.inside.ledger) in
-    let found = g.R.Ledger.ProviderLedger.seen c.reopen.new.self in
+    let old = provider c.self.inside.role (g.R.KeepsLedger.seen c.self.inside.ledger) in
+    let found = g.R.KeepsLedger.seen c.reopen.new.ledger in
     let mid = provider c.self.inside.role found in
-    let new = provider c.self.inside.role (g.R.Ledger.ProviderLedger.seen c.compact-2.new.self) in
+    let new = provider c.self.inside.role (g.R.KeepsLedger.seen c.compact-2.new.ledger) in
     let broken : old.ledger.broken ≡ true = sym c.if-not-is_broken.ensures in
     let e = c.compact-2.ensures in
-    subst (λ (p : Provider g.row.R.Denot g.row.R-Ledger-Record.Denot). CompactionOf rules p told c.args.now c.compact-2.result new) c.self.view_is
+    subst (λ (p : Provider g.row.R.Denot g.row.R-Record.Denot). CompactionOf rules p told c.args.now c.compact-2.result new) c.self.view_is
     (OfOpened found.held broken (stands rules told found.held c.in_ok-reopen.field-0 c.in_ok-reopen.ensures.gives)
     (compacts_from c.args.now found.held old mid new c.compact-2.result (record { setup = refl; key = c.reopen.ensures.key })
     (compacts_found c.args.now c.compact-2.result mid new c.in_ok-reopen.ensures.whole refl e.key e.ok e.failed (λ is. (e.no_memory is).0) e.not_foreign)))
 
 pub returns-clause-moments : goal.returns-clause-moments
 returns-clause-moments g c =
-    let rules = g.R.Ledger.ProviderLedger.rules in
+    let rules = g.R.KeepsLedger.rules in
     let told = g.D.Disk.told c.args.disk.now in
-    let found = g.R.Ledger.ProviderLedger.seen c.reopen.new.self in
-    let broken : (g.R.Ledger.ProviderLedger.seen c.self.inside.ledger).broken ≡ true = sym c.if-not-is_broken.ensures in
+    let found = g.R.KeepsLedger.seen c.reopen.new.ledger in
+    let broken : (g.R.KeepsLedger.seen c.self.inside.ledger).broken ≡ true = sym c.if-not-is_broken.ensures in
     then g.D.Disk.moment g.D.Disk.left_since c.args.disk.now c.reopen.new.disk c.compact-2.new.disk (LeftByOpening rules told) (IsOldOrCompacted rules c.args.now found.held)
     (CompactionLeaves rules c.args.self.now told c.args.now) c.reopen.ensures.moments c.compact-2.ensures.moments
-    (λ image left. subst (λ (p : Provider g.row.R.Denot g.row.R-Ledger-Record.Denot). CompactionLeaves rules p told c.args.now image) c.self.view_is (InRestart broken left))
-    (λ image left. subst (λ (p : Provider g.row.R.Denot g.row.R-Ledger-Record.Denot). CompactionLeaves rules p told c.args.now image) c.self.view_is
+    (λ image left. subst (λ (p : Provider g.row.R.Denot g.row.R-Record.Denot). CompactionLeaves rules p told c.args.now image) c.self.view_is (InRestart broken left))
+    (λ image left. subst (λ (p : Provider g.row.R.Denot g.row.R-Record.Denot). CompactionLeaves rules p told c.args.now image) c.self.view_is
     (InCompactionOfOpened found.held broken (stands rules told found.held c.in_ok-reopen.field-0 c.in_ok-reopen.ensures.gives) left))

@@ -1,0 +1,16 @@
+use Rattle.std.proofs.Common.{subst}
+use Rattle.request_ledger.specs.Record.{request_rules}
+use Rattle.node_steps.specs.Replies.{AreReplies}
+use Rattle.sp_server.specs.Replies.{sp_replies}
+use Rattle.sp_server.specs.Step.{Answers, Setup}
+use Rattle.sp_server.proofs.Replies.{sp_laws}
+use Rattle.sp_server.proofs.replying.SpRoleRole.laws_hold.Goals as goal
+
+pub returns : goal.returns
+returns c =
+    subst (λ (s : Setup). AreReplies sp_replies request_rules Answers s c.args.now) c.self.view_is
+    (sp_laws _ c.args.now (record {
+      asking = c.has_instant.ensures;
+      leaving = c.each_logout_has_an_answer.ensures.leaving;
+      ending = c.each_logout_has_an_answer.ensures.ending;
+    }) c.self.invariant c.compactions_change_no_answer.ensures)

@@ -1,0 +1,12 @@
+use Rattle.std.proofs.Common.{rules, ap, refl, sym, ◌∙◌}
+use Rattle.http_wire.specs.declared.answer.Answer.TheVariants.{Full}
+use Rattle.sp_answers.specs.Answers.{metadata_answer}
+use Rattle.sp_server.specs.Step.{ByMetadata, ByStatus, Setup}
+use Rattle.sp_server.proofs.replying.SpRoleRole.reply.Goals as goal
+
+pub returns-in-Refused : goal.returns-in-Refused
+returns-in-Refused c = (ByStatus c.in-Refused.status (sym c.in-Refused.ensures) refl refl, search rules)
+
+pub returns-in_ok-bytes-in-Metadata : goal.returns-in_ok-bytes-in-Metadata
+returns-in_ok-bytes-in-Metadata c =
+    (ByMetadata (sym c.in-Metadata.ensures) (ap Full (c.in_ok-bytes-in-Metadata.ensures ∙ ap (λ (s : Setup). metadata_answer s.config) c.self.view_is)) refl, tt)
