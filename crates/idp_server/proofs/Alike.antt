@@ -1,31 +1,21 @@
 -- What a compaction leaves as it was: the answers at its moment.
-use Rattle.std.specs.Prelude.{codes, Ok}
+use Rattle.std.specs.Prelude.{codes}
 use Rattle.std.specs.Option.{option_and_then}
 use Rattle.std.proofs.Common.{◌≡◌, inl, inr, ℕ, Option, None, Some, sym, subst, refl, arith}
 use Rattle.http_wire.specs.Requests.{Request}
 use Rattle.http_wire.specs.Cookies.{cookie_value}
-use Rattle.idp_ledger.specs.Record.{AreRecords, idp_rules}
+use Rattle.idp_ledger.specs.Record.{AreRecords}
 use Rattle.idp_ledger.specs.Ledger.{Held}
 use Rattle.idp_ledger.specs.Compacting.{Compacts}
 use Rattle.idp_ledger.specs.Laws.{AnswerAlike, CompactionsChangeNoAnswer}
-use Rattle.node_steps.proofs.Behind.{IsRemade, remade}
-use Rattle.idp_server.specs.Node.{CompactsFound}
-use Rattle.idp_server.specs.Step.{Provider, session_for}
+use Rattle.idp_server.specs.Step.{session_for}
 
 alike_self : (now : ℕ) (held : Held) → AnswerAlike now held held
 alike_self now held = record { pending = λ id. refl; session = λ cookie. refl; ending = λ peer name indexes. refl; partial = λ peer name indexes. refl; last_peer = λ cookie live. refl; waiting = λ request. refl }
 
-alike : CompactionsChangeNoAnswer → (now : ℕ) (old new : Held) → AreRecords old.records → Compacts now old new → AnswerAlike now new old
+pub alike : CompactionsChangeNoAnswer → (now : ℕ) (old new : Held) → AreRecords old.records → Compacts now old new → AnswerAlike now new old
 alike law now old new are (inl same) = subst (λ (h : Held). AnswerAlike now h old) (sym same.1) (alike_self now old)
 alike law now old new are (inr made) = law now now old new are made.1 (omega arith)
-
--- a provider behind a compaction: its ledger is made anew, and answers as before
-abbrev pub IsMadeAnew : ℕ → Provider → Provider → Type 0
-IsMadeAnew = IsRemade idp_rules AnswerAlike
-
-pub made_anew : (now : ℕ) (u : Unit {0}) (start old new : Provider) → CompactionsChangeNoAnswer → start ≡ old → AreRecords start.ledger.held.records
-    → CompactsFound now old.ledger.held (Ok u) old new → IsMadeAnew now old new
-made_anew now u start old new law is are found = remade now u start old new (alike law now) is are found
 
 -- the session of a cookie
 and_then_same : {A B : Type 0} (f g : A → Option B) (o : Option A) → ((a : A) → f a ≡ g a) → option_and_then f o ≡ option_and_then g o

@@ -1,6 +1,6 @@
 -- What follows for a message of a logout that was posted.
 use Rattle.std.specs.Prelude.{slice_get}
-use Rattle.std.proofs.Common.{◌≡◌, ℕ, Bool, true, false, not, List, Option, None, Some, refl, sym, subst}
+use Rattle.std.proofs.Common.{◌≡◌, ℕ, true, false, List, Option, None, Some, refl, sym, subst}
 use Rattle.http_wire.specs.Requests.{Request}
 use Rattle.http_wire.specs.declared.answer.Answer.TheVariants.{Fixed}
 use Rattle.peer_keys.specs.Peers.{place_of}
@@ -47,10 +47,3 @@ nothing_ends setup held request now asked place name relay peer to obeyed there 
 pub nothing_waits : (setup : IdpConfig) (held : Held) (request : Request) (now : ℕ) (response : LogoutResponse) → route request ≡ To SingleLogout → RepliesTo setup request now response
     → is_awaited held now response.request ≡ false → Answers setup held request now (Fixed 34) None
 nothing_waits setup held request now response to replies none = ByUnknownLogout response to replies none refl refl
-
--- a test told so
-pub told_not : (b r : Bool) → r ≡ not b → b ≡ not r
-told_not true true is = cc
-told_not true false is = refl
-told_not false true is = refl
-told_not false false is = cc

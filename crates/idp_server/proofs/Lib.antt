@@ -1,6 +1,5 @@
 pub mod Alike
 pub mod Closing
-pub mod Drafting
 pub mod Ending
 pub mod Histories
 pub mod Ids
@@ -13,7 +12,7 @@ pub mod Fields
 mod Made
 mod Pages
 pub mod Peers
-pub mod Recorded
+pub mod Roles
 pub mod Replies
 pub mod Shown
 mod Signed

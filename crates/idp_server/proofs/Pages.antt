@@ -5,7 +5,6 @@ use Rattle.std.specs.List.{AllByRecursion}
 use Rattle.xml_spec.specs.Characters.{IsText}
 use Rattle.http_wire.specs.Answers.{answer}
 use Rattle.http_wire.specs.Requests.{Request}
-use Rattle.http_wire.specs.declared.answer.Answer.{Answer}
 use Rattle.http_wire.specs.declared.answer.Answer.TheVariants.{Full}
 use Rattle.std.specs.Option.{option_map}
 use Rattle.ledger_records.specs.declared.idp_record.Ended.{Ended}
@@ -33,7 +32,7 @@ use Rattle.idp_server.specs.declared.reply.Reply.TheVariants as replies
 use Rattle.idp_server.specs.Logins.{login_of}
 use Rattle.idp_server.specs.Replies.{IsIssuable, IsPage, IsTold, Wants, record_for}
 use Rattle.idp_server.specs.Step.{IsAnswerFor, IsEndingAnswer, IsLeavingAnswer, IsPeer, ToNone, ToPeer}
-use Rattle.idp_server.proofs.Replies.{issued_at_login, issued_in_session, placed_peer, refusal_of, request_of, response_of, shown_of}
+use Rattle.idp_server.proofs.Replies.{issued_at_login, issued_in_session, has_refusal, placed_peer, request_of, response_of, shown_of}
 use Rattle.idp_server.proofs.Made.{asking_made, assertion_made, assertion_signed, ended_status, refusal_made, replying_made, response_made, response_signed}
 use Rattle.idp_server.proofs.Peers.{placed}
 use Rattle.idp_server.proofs.Sessions.{all_at}
@@ -152,23 +151,23 @@ ends_alike now = omega arith
 
 -- the page of each reply
 pub some_page : (setup : IdpConfig) (held : Held) (request : Request) (now : ℕ) (key : List ℕ) (reply : Reply) (r : IdpRecord) → IsText setup.entity → now ≤ LAST
-    → Wants setup held request now reply → record_for key held now reply ≡ Some r → (page : Answer) × IsPage setup reply r now page
+    → Wants setup held request now reply → record_for key held now reply ≡ Some r → (bytes : List ℕ) × IsPage setup reply r now (Full bytes)
 some_page setup held request now key (replies.InSession cookie ask peer) r name moment w is =
     let can = issued_in_session setup held request now key cookie ask peer r moment w is in
     let some = some_issued setup w.peer can.issued None now name can.issuable w.told.issued can.made can.until can.ends in
-    (Full some.0, record { issued = can.issued; is = can.is; peer = w.peer; there = placed_peer setup held request now cookie ask peer w; bytes = some.0; answers = some.1; full = refl })
+    (some.0, record { issued = can.issued; is = can.is; peer = w.peer; there = placed_peer setup held request now cookie ask peer w; bytes = some.0; answers = some.1; full = refl })
 some_page setup held request now key (replies.Passive ask) r name moment w is =
-    let has = refusal_of setup held request now key ask r w is in
+    let has = has_refusal setup held request now key ask r w is in
     let some = some_refusal setup.entity has.message ask now name has.text has.request has.consumer w.told in
-    (Full some.0, record { message = has.message; named = has.named; bytes = some.0; answers = some.1; full = refl })
+    (some.0, record { message = has.message; named = has.named; bytes = some.0; answers = some.1; full = refl })
 some_page setup held request now key (replies.Question ask) r name moment w is =
     let id = some_id (first_id r) (shown_of setup held request now key (replies.Question ask) r moment w is) in
-    (Full (login_answer id.0), record { id = id.0; named = id.1; full = refl })
+    (login_answer id.0, record { id = id.0; named = id.1; full = refl })
 some_page setup held request now key (replies.Login id user attributes peer) r name moment w is =
     let can = issued_at_login setup held request now key id user attributes peer r moment w is in
     let cookie = some_id (second_id r) can.1 in
     let some = some_issued setup w.peer can.0.issued (Some cookie.0) now name can.0.issuable w.told.issued can.0.made can.0.until can.0.ends in (
-      Full some.0,
+      some.0,
       record {
         cookie = cookie.0;
         draws = cookie.1;
@@ -178,10 +177,10 @@ some_page setup held request now key (replies.Login id user attributes peer) r n
 some_page setup held request now key (replies.Leave cookie user index) r name moment w is =
     let has = request_of setup held request now key cookie user index r w is in
     let some = some_leaving setup has.left user index now name w.peers has.request w.user_text w.index_text w.told.issued (subst IsTold (ends_alike now) w.told.until) in
-    (Full some.0, record { left = has.left; is = has.is; bytes = some.0; answers = some.1; full = refl })
+    (some.0, record { left = has.left; is = has.is; bytes = some.0; answers = some.1; full = refl })
 some_page setup held request now key (replies.End asked peer other relay) r name moment w is =
     let has = response_of setup held request now key asked peer other relay r w is in
     let some = response_to setup has.ended relay now w.peer name has.message (subst IsText has.same has.request) w.told w.peer.peer.logout refl
     (all_at IsTextPeer setup.peers peer w.peer w.peers w.there).logout in
-    (Full some.0, record { ended = has.ended; is = has.is; peer = w.peer; there = w.there; bytes = some.0; answers = some.1; full = refl })
-some_page setup held request now key (replies.Confirm of partial) r name moment w is = (Full (end_answer partial), refl)
+    (some.0, record { ended = has.ended; is = has.is; peer = w.peer; there = w.there; bytes = some.0; answers = some.1; full = refl })
+some_page setup held request now key (replies.Confirm of partial) r name moment w is = (end_answer partial, refl)

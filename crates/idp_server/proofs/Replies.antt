@@ -1,5 +1,5 @@
 -- What follows where a request asks for a reply.
-use Rattle.std.specs.Prelude.{IsSome, slice_get}
+use Rattle.std.specs.Prelude.{IsSome, is_some, not, slice_get}
 use Rattle.std.proofs.Common.{◌≡◌, ◌≢◌, ℕ, zero, suc, ◌+◌, ◌≤◌, ◌<◌, Bool, true, false, if◌then◌else◌, List, [], ◌∷◌, ◌++◌, length, Option, None, Some, refl, sym, subst, ap, ◌∙◌, arith}
 use Rattle.std.specs.List.{AllByRecursion, flat_map, list_all}
 use Rattle.std.specs.Option.{option_map}
@@ -8,7 +8,7 @@ use Rattle.xml_spec.specs.Characters.{IsText}
 use Rattle.xml_spec.proofs.Tests.{and_true}
 use Rattle.assertion_model.specs.Assertion.{IsStatable}
 use Rattle.http_wire.specs.declared.answer.Answer.{Answer}
-use Rattle.http_wire.specs.declared.answer.Answer.TheVariants.{Full}
+use Rattle.http_wire.specs.declared.answer.Answer.TheVariants.{Fixed, Full}
 use Rattle.http_wire.specs.Requests.{Request}
 use Rattle.ledger_records.specs.declared.idp_record.Issued.{Issued}
 use Rattle.ledger_records.specs.declared.idp_record.IdpRecord.{IdpRecord}
@@ -37,8 +37,8 @@ use Rattle.logout_answers.specs.Answers.{end_answer}
 use Rattle.protocol_messages.specs.declared.logout.LogoutRequest.{LogoutRequest}
 use Rattle.idp_server.specs.declared.reply.Reply.{Reply}
 use Rattle.idp_server.specs.declared.reply.Reply.TheVariants as replies
-use Rattle.idp_server.specs.Replies.{AsksAnew, AsksForAnEnd, AsksInSession, CanBeShown, Confirms, HasAssertion, HasRefusal, HasRequest, HasResponse, IsIssuable, IsPage, IsTextAsk, IsTold, IsXmlReply, Leaves, LogsIn, Wants, record_for}
-use Rattle.idp_server.specs.Step.{Answers, ByIssuing, ByPassive, ByAsking, ByLogin, ByLeaving, ByEnding, ByConfirming, IsAnswerFor, IsEndingAnswer, IsLeavingAnswer, ended_by, ending_by, is_awaited, left_by, session_used}
+use Rattle.idp_server.specs.Replies.{AsksAnew, AsksForAnEnd, AsksInSession, CanBeShown, HasAssertion, HasRefusal, HasRequest, HasResponse, IsIssuable, IsPage, IsTextAsk, IsTold, IsXmlReply, Leaves, LogsIn, Wants, found_record, is_nothing, record_for, refusal_of}
+use Rattle.idp_server.specs.Step.{Answers, ByIssuing, ByPassive, ByAsking, ByLogin, ByLeaving, ByEnding, ByConfirming, ByNothingToEnd, ByUnknownLogout, IsAnswerFor, IsEndingAnswer, IsLeavingAnswer, ended_by, ending_by, is_awaited, left_by, session_used}
 use Rattle.idp_server.proofs.Alike.{session_alike}
 use Rattle.idp_server.proofs.Sessions.{all_at}
 
@@ -48,21 +48,18 @@ use Rattle.idp_server.proofs.Sessions.{all_at}
 the_one : {X : Type 0} (one other : X) (o : Option X) → o ≡ Some one → o ≡ Some other → one ≡ other
 the_one one other o a b = let c : Some one ≡ Some other = sym a ∙ b in cc
 
--- one stands for each reply that is asked for
-pub record_of : (setup : IdpConfig) (held : Held) (request : Request) (now : ℕ) (key : List ℕ) (reply : Reply) → Wants setup held request now reply
-    → (r : IdpRecord) × (record_for key held now reply ≡ Some r)
-record_of setup held request now key (replies.InSession cookie ask peer) w =
-    (issue key (next_number held) now w.row ask, ap (option_map (λ (row : SessionRow). issue key (next_number held) now row ask)) w.found)
-record_of setup held request now key (replies.Passive ask) w = (spoke key (next_number held) now ask, refl)
-record_of setup held request now key (replies.Question ask) w = (pending key (next_number held) now ask, refl)
-record_of setup held request now key (replies.Login id user attributes peer) w =
-    (login key (next_number held) now w.row user attributes, ap (option_map (λ (row : PendingRow). login key (next_number held) now row user attributes)) w.found)
-record_of setup held request now key (replies.Leave cookie user index) w =
-    (left_by key held now cookie, ap (option_map (λ (row : SessionRow). left_by key held now cookie)) w.found)
-record_of setup held request now key (replies.End asked peer name relay) w =
-    (ended_by key held now name asked, ap (λ (b : Bool). if b then None else Some (ended_by key held now name asked)) w.some)
-record_of setup held request now key (replies.Confirm of partial) w =
-    (confirmed now of, ap (λ (b : Bool). if b then Some (confirmed now of) else None) w.awaited)
+-- what there is to record
+some_is : (nothing : Bool) (own r : IdpRecord) → (if nothing then None else Some own) ≡ Some r → (nothing ≡ false) × (own ≡ r)
+some_is true own r is = cc
+some_is false own r is = (refl, let same : own ≡ r = cc in same)
+
+not_so : (b : Bool) → not b ≡ false → b ≡ true
+not_so true is = refl
+not_so false is = cc
+
+not_then : (b : Bool) → not b ≡ true → b ≡ false
+not_then true is = cc
+not_then false is = refl
 
 session_record : (setup : IdpConfig) (held : Held) (request : Request) (now : ℕ) (key cookie : List ℕ) (ask : Ask) (peer : ℕ) (r : IdpRecord)
     → (w : AsksInSession setup held request now cookie ask peer) → record_for key held now (replies.InSession cookie ask peer) ≡ Some r
@@ -81,15 +78,15 @@ left_record : (setup : IdpConfig) (held : Held) (request : Request) (now : ℕ) 
 left_record setup held request now key cookie user index r w is =
     the_one (left_by key held now cookie) r _ (ap (option_map (λ (row : SessionRow). left_by key held now cookie)) w.found) is
 
-ended_record : (setup : IdpConfig) (held : Held) (request : Request) (now : ℕ) (key : List ℕ) (asked : LogoutRequest) (peer : ℕ) (name : List ℕ) (relay : Option (List ℕ)) (r : IdpRecord)
-    → (w : AsksForAnEnd setup held request now asked peer name relay) → record_for key held now (replies.End asked peer name relay) ≡ Some r → ended_by key held now name asked ≡ r
-ended_record setup held request now key asked peer name relay r w is =
-    the_one (ended_by key held now name asked) r _ (ap (λ (b : Bool). if b then None else Some (ended_by key held now name asked)) w.some) is
+ended_record : (held : Held) (now : ℕ) (key : List ℕ) (asked : LogoutRequest) (peer : ℕ) (name : List ℕ) (relay : Option (List ℕ)) (r : IdpRecord)
+    → record_for key held now (replies.End asked peer name relay) ≡ Some r → (is_empty (ending_by held now name asked) ≡ false) × (ended_by key held now name asked ≡ r)
+ended_record held now key asked peer name relay r is = some_is (is_empty (ending_by held now name asked)) (ended_by key held now name asked) r is
 
-confirmed_record : (setup : IdpConfig) (held : Held) (request : Request) (now : ℕ) (key of : List ℕ) (partial : Bool) (r : IdpRecord) → (w : Confirms setup held request now of partial)
-    → record_for key held now (replies.Confirm of partial) ≡ Some r → confirmed now of ≡ r
-confirmed_record setup held request now key of partial r w is =
-    the_one (confirmed now of) r _ (ap (λ (b : Bool). if b then Some (confirmed now of) else None) w.awaited) is
+confirmed_record : (held : Held) (now : ℕ) (key of : List ℕ) (partial : Bool) (r : IdpRecord) → record_for key held now (replies.Confirm of partial) ≡ Some r
+    → (is_awaited held now of ≡ true) × (confirmed now of ≡ r)
+confirmed_record held now key of partial r is =
+    let own = some_is (not (is_awaited held now of)) (confirmed now of) r is in
+    (not_so (is_awaited held now of) own.0, own.1)
 
 -- ---- its texts
 
@@ -210,9 +207,9 @@ pub placed_peer : (setup : IdpConfig) (held : Held) (request : Request) (now : �
     → slice_get setup.peers peer ≡ Some w.peer
 placed_peer setup held request now cookie ask peer w = subst (λ (place : ℕ). slice_get setup.peers place ≡ Some w.peer) (sym w.placed) w.asks.known
 
-pub refusal_of : (setup : IdpConfig) (held : Held) (request : Request) (now : ℕ) (key : List ℕ) (ask : Ask) (r : IdpRecord) → AsksAnew true setup held request now ask
+pub has_refusal : (setup : IdpConfig) (held : Held) (request : Request) (now : ℕ) (key : List ℕ) (ask : Ask) (r : IdpRecord) → AsksAnew true setup held request now ask
     → record_for key held now (replies.Passive ask) ≡ Some r → HasRefusal ask r
-refusal_of setup held request now key ask r w is =
+has_refusal setup held request now key ask r w is =
     subst (HasRefusal ask) (the_one (spoke key (next_number held) now ask) r (record_for key held now (replies.Passive ask)) refl is) (record {
       message = _;
       named = refl;
@@ -235,9 +232,9 @@ request_of setup held request now key cookie user index r w is =
     })
 
 pub response_of : (setup : IdpConfig) (held : Held) (request : Request) (now : ℕ) (key : List ℕ) (asked : LogoutRequest) (peer : ℕ) (name : List ℕ) (relay : Option (List ℕ)) (r : IdpRecord)
-    → AsksForAnEnd setup held request now asked peer name relay → record_for key held now (replies.End asked peer name relay) ≡ Some r → HasResponse setup asked peer r
+    → AsksForAnEnd setup request now asked peer name relay → record_for key held now (replies.End asked peer name relay) ≡ Some r → HasResponse setup asked peer r
 response_of setup held request now key asked peer name relay r w is =
-    subst (HasResponse setup asked peer) (ended_record setup held request now key asked peer name relay r w is) (record {
+    subst (HasResponse setup asked peer) (ended_record held now key asked peer name relay r is).1 (record {
       ended = _;
       is = refl;
       message = drawn_text key _ (next_number held);
@@ -252,7 +249,7 @@ pub shown_of : (setup : IdpConfig) (held : Held) (request : Request) (now : ℕ)
     → record_for key held now reply ≡ Some r → CanBeShown setup reply r
 shown_of setup held request now key (replies.InSession cookie ask peer) r moment w is =
     shown_with setup peer w.peer r (placed_peer setup held request now cookie ask peer w) (issued_in_session setup held request now key cookie ask peer r moment w is)
-shown_of setup held request now key (replies.Passive ask) r moment w is = refusal_of setup held request now key ask r w is
+shown_of setup held request now key (replies.Passive ask) r moment w is = has_refusal setup held request now key ask r w is
 shown_of setup held request now key (replies.Question ask) r moment w is =
     subst (λ (x : IdpRecord). IsSome (first_id x)) (the_one (pending key (next_number held) now ask) r (record_for key held now (replies.Question ask)) refl is) refl
 shown_of setup held request now key (replies.Login id user attributes peer) r moment w is =
@@ -308,16 +305,16 @@ page_answers setup held request now (replies.Leave cookie user index) r answer w
     (subst (λ (u : List ℕ). IsLeavingAnswer setup page.left u w.row.index now page.bytes) w.user_is
     (subst (λ (i : List ℕ). IsLeavingAnswer setup page.left user i now page.bytes) w.index_is page.answers)) page.full
 page_answers setup held request now (replies.End asked peer name relay) r answer w is page =
-    let same = ended_record setup held request now setup.id_key asked peer name relay r w is in
+    let own = ended_record held now setup.id_key asked peer name relay r is in
     let who = same_peer setup.peers peer page.peer w.peer page.there w.there in
     ByEnding asked w.peer relay page.ended page.bytes w.to (record { place = peer; there = w.there; obeyed = w.obeyed })
-    (subst (λ (n : List ℕ). is_empty (ending_by held now n asked) ≡ false) w.name_is w.some)
-    (ap (λ (n : List ℕ). ended_by setup.id_key held now n asked) (sym w.name_is) ∙ same ∙ page.is) (ap Some page.is)
+    (subst (λ (n : List ℕ). is_empty (ending_by held now n asked) ≡ false) w.name_is own.0)
+    (ap (λ (n : List ℕ). ended_by setup.id_key held now n asked) (sym w.name_is) ∙ own.1 ∙ page.is) (ap Some page.is)
     (subst (λ (p : LogoutPeer). IsEndingAnswer setup p page.ended relay now page.bytes) who page.answers) page.full
 page_answers setup held request now (replies.Confirm of partial) r answer w is page =
-    let same = confirmed_record setup held request now setup.id_key of partial r w is in
-    ByConfirming w.response w.to (record { place = w.place; obeyed = w.obeyed }) (subst (λ (q : List ℕ). is_awaited held now q ≡ true) w.of_is w.awaited)
-    (ap Some (sym same ∙ ap (confirmed now) w.of_is)) (page ∙ ap (λ (b : Bool). Full (end_answer b)) w.partial_is)
+    let own = confirmed_record held now setup.id_key of partial r is in
+    ByConfirming w.response w.to (record { place = w.place; obeyed = w.obeyed }) (subst (λ (q : List ℕ). is_awaited held now q ≡ true) w.of_is own.0)
+    (ap Some (sym own.1 ∙ ap (confirmed now) w.of_is)) (page ∙ ap (λ (b : Bool). Full (end_answer b)) w.partial_is)
 
 -- ---- behind a compaction it is asked for as before
 
@@ -388,7 +385,6 @@ wants_still setup anew old request now (replies.End asked peer name relay) like 
   peer = w.peer;
   there = w.there;
   name_is = w.name_is;
-  some = ap is_empty (like.ending name asked.name asked.indexes) ∙ w.some;
   id_text = w.id_text;
   peers = w.peers;
   told = w.told;
@@ -399,6 +395,57 @@ wants_still setup anew old request now (replies.Confirm of partial) like w = rec
   place = w.place;
   obeyed = w.obeyed;
   of_is = w.of_is;
-  awaited = like.waiting of ∙ w.awaited;
   partial_is = w.partial_is;
 }
+
+-- ---- in the words of a step
+
+-- a record is found for each reply that is wanted
+pub found_record_of : (setup : IdpConfig) (held : Held) (request : Request) (now : ℕ) (key : List ℕ) (reply : Reply) → Wants setup held request now reply
+    → (r : IdpRecord) × (found_record key held now reply ≡ Some r)
+found_record_of setup held request now key (replies.InSession cookie ask peer) w =
+    (issue key (next_number held) now w.row ask, ap (option_map (λ (row : SessionRow). issue key (next_number held) now row ask)) w.found)
+found_record_of setup held request now key (replies.Passive ask) w = (spoke key (next_number held) now ask, refl)
+found_record_of setup held request now key (replies.Question ask) w = (pending key (next_number held) now ask, refl)
+found_record_of setup held request now key (replies.Login id user attributes peer) w =
+    (login key (next_number held) now w.row user attributes, ap (option_map (λ (row : PendingRow). login key (next_number held) now row user attributes)) w.found)
+found_record_of setup held request now key (replies.Leave cookie user index) w =
+    (left_by key held now cookie, ap (option_map (λ (row : SessionRow). left_by key held now cookie)) w.found)
+found_record_of setup held request now key (replies.End asked peer name relay) w = (ended_by key held now name asked, refl)
+found_record_of setup held request now key (replies.Confirm of partial) w = (confirmed now of, refl)
+
+pub record_found : (setup : IdpConfig) (held : Held) (request : Request) (now : ℕ) (key : List ℕ) (reply : Reply) → Wants setup held request now reply
+    → IsSome (found_record key held now reply)
+record_found setup held request now key reply w = subst (λ (o : Option IdpRecord). IsSome o) (sym (found_record_of setup held request now key reply w).1) refl
+
+-- where there is nothing to record
+pub nothing_where : (nothing : Bool) (found : Option IdpRecord) (own : IdpRecord) → found ≡ Some own → (if nothing then None else found) ≡ None → nothing ≡ true
+nothing_where true found own some none = refl
+nothing_where false found own some none = let clash = sym some ∙ none in cc
+
+pub refused_at : (setup : IdpConfig) (held : Held) (request : Request) (now : ℕ) (reply : Reply) → Wants setup held request now reply → is_nothing held now reply ≡ true
+    → Answers setup held request now (Fixed (refusal_of reply)) None
+refused_at setup held request now (replies.InSession cookie ask peer) w none = absurd (let clash : false ≡ true = none in cc)
+refused_at setup held request now (replies.Passive ask) w none = absurd (let clash : false ≡ true = none in cc)
+refused_at setup held request now (replies.Question ask) w none = absurd (let clash : false ≡ true = none in cc)
+refused_at setup held request now (replies.Login id user attributes peer) w none = absurd (let clash : false ≡ true = none in cc)
+refused_at setup held request now (replies.Leave cookie user index) w none = absurd (let clash : false ≡ true = none in cc)
+refused_at setup held request now (replies.End asked peer name relay) w none =
+    ByNothingToEnd asked w.peer relay w.to (record { place = peer; there = w.there; obeyed = w.obeyed })
+    (subst (λ (n : List ℕ). is_empty (ending_by held now n asked) ≡ true) w.name_is none) refl refl
+refused_at setup held request now (replies.Confirm of partial) w none =
+    ByUnknownLogout w.response w.to (record { place = w.place; obeyed = w.obeyed })
+    (subst (λ (q : List ℕ). is_awaited held now q ≡ false) w.of_is (not_then (is_awaited held now of) none)) refl refl
+
+pub nothing_alike : (anew old : Held) (now : ℕ) (reply : Reply) → AnswerAlike now anew old → is_nothing anew now reply ≡ is_nothing old now reply
+nothing_alike anew old now (replies.InSession cookie ask peer) like = refl
+nothing_alike anew old now (replies.Passive ask) like = refl
+nothing_alike anew old now (replies.Question ask) like = refl
+nothing_alike anew old now (replies.Login id user attributes peer) like = refl
+nothing_alike anew old now (replies.Leave cookie user index) like = refl
+nothing_alike anew old now (replies.End asked peer name relay) like = ap is_empty (like.ending name asked.name asked.indexes)
+nothing_alike anew old now (replies.Confirm of partial) like = ap not (like.waiting of)
+
+pub is_some_where : (nothing : Bool) (found : Option IdpRecord) (own : IdpRecord) → found ≡ Some own → is_some (if nothing then None else found) ≡ not nothing
+is_some_where true found own is = refl
+is_some_where false found own is = ap is_some is

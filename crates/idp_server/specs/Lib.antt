@@ -1,8 +1,6 @@
 pub mod Routes
 pub mod Logins
 pub mod Step
-pub mod Node
-pub mod Serving
 pub mod Replies
 pub mod Issues
 pub mod Histories

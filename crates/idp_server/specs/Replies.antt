@@ -1,5 +1,5 @@
 -- How a request is replied to with a record: what it asks for, the record that stands for it, and the page.
-use Rattle.std.specs.Prelude.{◌≡◌, ◌≢◌, ℕ, ◌+◌, ◌≤◌, ◌<◌, min, Bool, true, false, List, [], length, Option, None, Some, IsSome, slice_get, if◌then◌else◌}
+use Rattle.std.specs.Prelude.{◌≡◌, ◌≢◌, ℕ, ◌+◌, ◌≤◌, ◌<◌, min, Bool, true, false, not, List, [], length, Option, None, Some, IsSome, slice_get, if◌then◌else◌}
 use Rattle.std.specs.List.{AllByRecursion}
 use Rattle.std.specs.Option.{option_map}
 use Rattle.xml_spec.specs.Characters.{IsText}
@@ -37,27 +37,45 @@ use Rattle.logout_answers.specs.Answers.{end_answer}
 use Rattle.logout_profile.specs.declared.logout.Logout.TheVariants as messages
 use Rattle.protocol_messages.specs.declared.logout.LogoutRequest.{LogoutRequest}
 use Rattle.protocol_messages.specs.declared.logout.LogoutResponse.{LogoutResponse}
+use Rattle.verdict_codes.specs.Codes.{number_of}
+use Rattle.verdict_codes.specs.declared.codes.Verdict.TheVariants.{NoSuchSession, UnknownLogout}
+use Rattle.node_steps.specs.Replies.{IsReplied, ReplyRules}
+use Rattle.node_steps.specs.declared.replied.Replied.{Replied}
 use Rattle.idp_server.specs.declared.reply.Reply.{Reply}
 use Rattle.idp_server.specs.declared.reply.Reply.TheVariants as replies
 use Rattle.idp_server.specs.Routes as routes
 use Rattle.idp_server.specs.Routes.{To, route}
-use Rattle.idp_server.specs.Step.{IsAnswerFor, IsEndingAnswer, IsLeavingAnswer, IsObeyed, Typed, ask_of, ended_by, ending_by, is_awaited, is_in_part, left_by, session_for, session_used, typed}
+use Rattle.idp_server.specs.Step.{Answers, IsAnswerFor, IsEndingAnswer, IsLeavingAnswer, IsObeyed, Typed, ask_of, ended_by, ending_by, is_awaited, is_in_part, left_by, session_for, session_used, typed}
 
 -- THE RECORD
 
--- the record that stands for a reply over a ledger; none where the session does not live, the login is not pending, there is no session
--- to end, or no logout waits
-abbrev pub record_for : (key : List ℕ) → Held → ℕ → Reply → Option IdpRecord
-record_for key held now (replies.InSession cookie ask peer) =
+-- the record that stands for a reply over a ledger where there is something to record; none where the session does not live, or the login
+-- is not pending
+abbrev pub found_record : (key : List ℕ) → Held → ℕ → Reply → Option IdpRecord
+found_record key held now (replies.InSession cookie ask peer) =
     option_map (λ row. issue key (next_number held) now row ask) (session_found (rows_of held.records).sessions cookie now held.header.horizon)
-record_for key held now (replies.Passive ask) = Some (spoke key (next_number held) now ask)
-record_for key held now (replies.Question ask) = Some (pending key (next_number held) now ask)
-record_for key held now (replies.Login id user attributes peer) =
+found_record key held now (replies.Passive ask) = Some (spoke key (next_number held) now ask)
+found_record key held now (replies.Question ask) = Some (pending key (next_number held) now ask)
+found_record key held now (replies.Login id user attributes peer) =
     option_map (λ row. login key (next_number held) now row user attributes) (pending_found (rows_of held.records).pendings id now held.header.horizon)
-record_for key held now (replies.Leave cookie user index) =
+found_record key held now (replies.Leave cookie user index) =
     option_map (λ row. left_by key held now cookie) (session_found (rows_of held.records).sessions cookie now held.header.horizon)
-record_for key held now (replies.End asked peer name relay) = if is_empty (ending_by held now name asked) then None else Some (ended_by key held now name asked)
-record_for key held now (replies.Confirm request partial) = if is_awaited held now request then Some (confirmed now request) else None
+found_record key held now (replies.End asked peer name relay) = Some (ended_by key held now name asked)
+found_record key held now (replies.Confirm request partial) = Some (confirmed now request)
+
+-- whether there is nothing to record: no session to end, or no logout that waits; and the code that says so
+abbrev pub is_nothing : Held → ℕ → Reply → Bool
+is_nothing held now (replies.End asked peer name relay) = is_empty (ending_by held now name asked)
+is_nothing held now (replies.Confirm request partial) = not (is_awaited held now request)
+is_nothing held now other = false
+
+abbrev pub refusal_of : Reply → ℕ
+refusal_of (replies.Confirm request partial) = number_of UnknownLogout
+refusal_of other = number_of NoSuchSession
+
+-- the record that stands for a reply
+abbrev pub record_for : (key : List ℕ) → Held → ℕ → Reply → Option IdpRecord
+record_for key held now reply = if is_nothing held now reply then None else found_record key held now reply
 
 -- THE PAGE
 
@@ -285,26 +303,24 @@ pub record Leaves (setup : IdpConfig) (held : Held) (request : Request) (now : �
   pub peers : AllByRecursion IsTextPeer setup.peers
   pub told : AreTold now row.until
 
--- the peer of this name at this place asks to end sessions, and there are some of these
-pub record AsksForAnEnd (setup : IdpConfig) (held : Held) (request : Request) (now : ℕ) (asked : LogoutRequest) (place : ℕ) (name : List ℕ) (relay : Option (List ℕ)) : Type 0 where
+-- the peer of this name at this place asks to end sessions
+pub record AsksForAnEnd (setup : IdpConfig) (request : Request) (now : ℕ) (asked : LogoutRequest) (place : ℕ) (name : List ℕ) (relay : Option (List ℕ)) : Type 0 where
   pub to : route request ≡ To routes.SingleLogout
   pub obeyed : IsObeyed setup now request.body (messages.Ask asked place relay)
   pub peer : LogoutPeer
   pub there : slice_get setup.peers place ≡ Some peer
   pub name_is : name ≡ peer.peer.entity
-  pub some : is_empty (ending_by held now name asked) ≡ false
   pub id_text : IsText asked.id
   pub peers : AllByRecursion IsTextPeer setup.peers
   pub told : IsTold now
 
--- a peer replies to the logout of this request, which waits
-pub record Confirms (setup : IdpConfig) (held : Held) (request : Request) (now : ℕ) (of : List ℕ) (partial : Bool) : Type 0 where
+-- a peer replies to the logout of this request
+pub record Confirms (setup : IdpConfig) (request : Request) (now : ℕ) (of : List ℕ) (partial : Bool) : Type 0 where
   pub to : route request ≡ To routes.SingleLogout
   pub response : LogoutResponse
   pub place : ℕ
   pub obeyed : IsObeyed setup now request.body (messages.Reply response place)
   pub of_is : of ≡ response.request
-  pub awaited : is_awaited held now of ≡ true
   pub partial_is : partial ≡ is_in_part response.outcome
 
 -- a request asks for a reply over a ledger at a moment
@@ -314,5 +330,19 @@ Wants setup held request now (replies.Passive ask) = AsksAnew true setup held re
 Wants setup held request now (replies.Question ask) = AsksAnew false setup held request now ask
 Wants setup held request now (replies.Login id user attributes peer) = LogsIn setup held request now id user attributes peer
 Wants setup held request now (replies.Leave cookie user index) = Leaves setup held request now cookie user index
-Wants setup held request now (replies.End asked peer name relay) = AsksForAnEnd setup held request now asked peer name relay
-Wants setup held request now (replies.Confirm request_id partial) = Confirms setup held request now request_id partial
+Wants setup held request now (replies.End asked peer name relay) = AsksForAnEnd setup request now asked peer name relay
+Wants setup held request now (replies.Confirm request_id partial) = Confirms setup request now request_id partial
+
+-- IN THE WORDS OF A STEP
+
+abbrev pub idp_replies : ReplyRules IdpConfig IdpRecord Reply
+idp_replies = record {
+  wants = Wants;
+  record_for = λ setup held now reply. record_for setup.id_key held now reply;
+  shows = λ setup reply r now bytes. IsPage setup reply r now (Full bytes);
+  refusal = refusal_of;
+}
+
+-- what is replied to a request
+abbrev pub RepliesTo : IdpConfig → Held → Request → (now : ℕ) → Replied Reply → Type 0
+RepliesTo setup held request now = IsReplied (λ answer. Answers setup held request now answer None) (Wants setup held request now)

@@ -29,7 +29,6 @@ use Rattle.idp_ledger.specs.declared.row.SessionRow.{SessionRow}
 use Rattle.idp_ledger.specs.RowsOf.{rows_of}
 use Rattle.idp_ledger.specs.Finding.{ending, is_empty, is_partial, is_waiting_now, last_peer, pending_found, session_found}
 use Rattle.idp_ledger.specs.Record.{idp_rules}
-use Rattle.idp_ledger.specs.Standing.{StandingView}
 use Rattle.idp_ledger.specs.Ledger.{Held, next_number}
 use Rattle.idp_ledger.specs.Draft.{first_id}
 use Rattle.idp_ledger.specs.Drafts.{confirmed, ended, issue, left, login, pending, spoke}
@@ -49,7 +48,7 @@ use Rattle.idp_server.specs.Routes.{SignOn, Login, Metadata, Logout, SingleLogou
 
 -- a provider: what it is set up with, and its ledger
 abbrev pub Provider : Type 0
-Provider = any.Provider IdpConfig IdpRecord StandingView
+Provider = any.Provider IdpConfig IdpRecord
 
 -- ---- what a request brings
 

@@ -9,8 +9,8 @@ ghost use Rattle.saml_time.specs.declared.TheConstants.{LAST};
 ghost use Rattle.idp_server.specs.Logins as spec;
 ghost use Rattle.idp_server.specs.Replies.{CanBeShown, HasAssertion, HasRefusal, HasRequest, HasResponse, IsAssertionPage, IsEndingPage, IsIssuable, IsLeavingPage, IsPage, IsPassivePage};
 
-use crate::node::IdpNode;
 use crate::reply::Reply;
+use crate::role::IdpRole;
 use assertion_model::{Audiences, Login};
 use idp_answers::{issued_answer, login_answer, no_passive_answer};
 use idp_ledger::{Ask, Draft};
@@ -72,7 +72,7 @@ fn text_of(relay: &Option<Text>) -> Option<&str>
     }
 }
 
-impl IdpNode {
+impl IdpRole {
     /// The answer with the Assertion of a draft, for the peer at this place, which sets this cookie where there is one.
     fn assertion_page(
         &self,
@@ -82,9 +82,9 @@ impl IdpNode {
         now: u64,
     ) -> Result<Blob, NoMemory>
         requires moment { now ≤ LAST }
-        requires shown { HasAssertion self.now.setup peer draft.now }
+        requires shown { HasAssertion self.now peer draft.now }
         requires cookie { ForSome cookie (λ token. IsTrue (is_one_line token.now)) }
-        ensures { IfOk result (λ bytes. IsAssertionPage self.now.setup peer (option_map (λ text. text.now) cookie.entry) draft.now now (Full bytes)) }
+        ensures { IfOk result (λ bytes. IsAssertionPage self.now peer (option_map (λ text. text.now) cookie.entry) draft.now now (Full bytes)) }
     {
         let issued = draft.issued();
         let login = login_of(self.alloc, issued, self.config.entity.as_str())?;
@@ -105,7 +105,7 @@ impl IdpNode {
     fn passive_page(&self, draft: &Draft, ask: &Ask, now: u64) -> Result<Blob, NoMemory>
         requires moment { now ≤ LAST }
         requires shown { HasRefusal ask.now draft.now }
-        ensures { IfOk result (λ bytes. IsPassivePage self.now.setup ask.now draft.now now (Full bytes)) }
+        ensures { IfOk result (λ bytes. IsPassivePage self.now ask.now draft.now now (Full bytes)) }
     {
         no_passive_answer(
             self.alloc,
@@ -127,8 +127,8 @@ impl IdpNode {
         now: u64,
     ) -> Result<Blob, NoMemory>
         requires moment { now ≤ LAST }
-        requires shown { HasRequest self.now.setup user.now index.now draft.now }
-        ensures { IfOk result (λ bytes. IsLeavingPage self.now.setup user.now index.now draft.now now (Full bytes)) }
+        requires shown { HasRequest self.now user.now index.now draft.now }
+        ensures { IfOk result (λ bytes. IsLeavingPage self.now user.now index.now draft.now now (Full bytes)) }
     {
         let Some(place) = self.config.peers.place_of(draft.peer()) else {
             return end_answer(self.alloc, true);
@@ -155,8 +155,8 @@ impl IdpNode {
         now: u64,
     ) -> Result<Blob, NoMemory>
         requires moment { now ≤ LAST }
-        requires shown { HasResponse self.now.setup asked.now peer draft.now }
-        ensures { IfOk result (λ bytes. IsEndingPage self.now.setup peer relay.now draft.now now (Full bytes)) }
+        requires shown { HasResponse self.now asked.now peer draft.now }
+        ensures { IfOk result (λ bytes. IsEndingPage self.now peer relay.now draft.now now (Full bytes)) }
     {
         ending_answer(
             self.alloc,
@@ -171,10 +171,10 @@ impl IdpNode {
     }
 
     /// The answer that stands for the draft of a reply.
-    pub(crate) fn page(&self, reply: &Reply, draft: &Draft, now: u64) -> Result<Blob, NoMemory>
+    pub(crate) fn page_of(&self, reply: &Reply, draft: &Draft, now: u64) -> Result<Blob, NoMemory>
         requires moment { now ≤ LAST }
-        requires shown { CanBeShown self.now.setup reply.now draft.now }
-        ensures { IfOk result (λ bytes. IsPage self.now.setup reply.now draft.now now (Full bytes)) }
+        requires shown { CanBeShown self.now reply.now draft.now }
+        ensures { IfOk result (λ bytes. IsPage self.now reply.now draft.now now (Full bytes)) }
     {
         match reply {
             Reply::InSession { peer, .. } => self.assertion_page(draft, *peer, None, now),

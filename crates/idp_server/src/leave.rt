@@ -9,27 +9,34 @@ ghost use Rattle.idp_server.specs.Routes.{Logout, To, route};
 ghost use Rattle.idp_server.specs.Step.{Answers};
 ghost use Rattle.idp_server.specs.Replies.{Wants};
 
-use crate::node::IdpNode;
 use crate::reply::Reply;
-use crate::sign_on::can_be_stated;
+use crate::role::IdpRole;
+use crate::sign_on::{can_be_stated, session_for};
 use fault_verdicts::Judged;
 use http_wire::HttpRequest;
+use idp_ledger::IdpLedger;
 use verdict_codes::Verdict;
 
-impl IdpNode {
+impl IdpRole {
     /// The reply to a user who leaves, or why there is none.
     ///
     /// # Errors
     ///
     /// `NoSuchSession` where the user has no live session. `NoMemory` may come in place of any other answer.
-    pub(crate) fn leave(&self, request: &HttpRequest<'_>, now: u64) -> Result<Reply, Judged>
+    pub(crate) fn leave(
+        &self,
+        ledger: &IdpLedger,
+        request: &HttpRequest<'_>,
+        now: u64,
+    ) -> Result<Reply, Judged>
         requires moment { now ≤ LAST }
         requires route { route (request_view request.now) ≡ To Logout }
-        ensures reply { IfOk result (Wants self.now.setup self.now.ledger.held (request_view request.now) now) }
-        ensures refused { IfErr result (IsJudged (λ verdict. Answers self.now.setup self.now.ledger.held (request_view request.now) now (Fixed (number_of verdict)) None)) }
+        ensures reply { IfOk result (Wants self.now ledger.now.held (request_view request.now) now) }
+        ensures refused { IfErr result (IsJudged (λ verdict. Answers self.now ledger.now.held (request_view request.now) now (Fixed (number_of verdict)) None)) }
     {
-        self.ledger.holds_records();
-        let Some(row) = self.session_for(request, now) else {
+        let _usable = &self.config;
+        ledger.holds_records();
+        let Some(row) = session_for(ledger, request, now) else {
             return Err(Judged::Code(Verdict::NoSuchSession));
         };
         can_be_stated(row, now);

@@ -1,7 +1,8 @@
 //! The identity provider: what it answers to each request, and what it records.
 //!
 //! ```
-//! let mut node = IdpNode::start(alloc, config, &mut disk)?;    // opens the ledger of the disk
+//! let role = IdpRole::new(alloc, config);                      // what it is set up with
+//! let mut node = IdpNode::start(alloc, role, &mut disk)?;      // opens the ledger of the disk
 //! let answer = node.answer(&request, now, &mut disk);          // one step: an answer, and at most one record
 //! ```
 //!
@@ -25,18 +26,20 @@
 //! its record stands for.
 #![tactic(auto)]
 
-mod answering;
 mod issuing;
 pub mod laws;
 mod leave;
+mod ledger;
 mod login;
-mod node;
-mod recording;
 mod reply;
 mod replying;
+mod role;
 mod route;
 mod sign_on;
 mod single_logout;
 mod texts;
 
-pub use node::IdpNode;
+pub use role::IdpRole;
+
+/// An identity provider over a disk.
+pub type IdpNode = node_steps::ProviderNode<IdpRole>;

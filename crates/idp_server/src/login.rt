@@ -12,12 +12,12 @@ ghost use Rattle.idp_server.specs.Routes.{Login, To, route};
 ghost use Rattle.idp_server.specs.Step.{Answers};
 ghost use Rattle.idp_server.specs.Replies.{AreTold, IsTextPending, Wants};
 
-use crate::node::IdpNode;
 use crate::reply::Reply;
+use crate::role::IdpRole;
 use crate::texts::{are_told, is_text};
 use fault_verdicts::Judged;
 use http_wire::HttpRequest;
-use idp_ledger::PendingRow;
+use idp_ledger::{IdpLedger, PendingRow};
 use owned_values::{NoMemory, Text, Texts};
 use post_binding::read_fields;
 use saml_time::LAST;
@@ -54,10 +54,11 @@ fn can_be_answered(row: &PendingRow, now: u64)
     are_told(now, LAST.min(now + SESSION_LIFE));
 }
 
-impl IdpNode {
+impl IdpRole {
     /// The reply to the page of a login with these fields, or why there is none.
     fn reply_to_fields(
         &self,
+        ledger: &IdpLedger,
         request: &HttpRequest<'_>,
         given: &Texts,
         now: u64,
@@ -65,12 +66,12 @@ impl IdpNode {
         requires moment { now ≤ LAST }
         requires route { route (request_view request.now) ≡ To Login }
         requires given { fields request.now.body.now (codes "pending" ∷ codes "user" ∷ codes "password" ∷ []) ≡ Some given.now }
-        ensures reply { IfOk result (Wants self.now.setup self.now.ledger.held (request_view request.now) now) }
-        ensures refused { IfErr result (IsJudged (λ verdict. Answers self.now.setup self.now.ledger.held (request_view request.now) now (Fixed (number_of verdict)) None)) }
+        ensures reply { IfOk result (Wants self.now ledger.now.held (request_view request.now) now) }
+        ensures refused { IfErr result (IsJudged (λ verdict. Answers self.now ledger.now.held (request_view request.now) now (Fixed (number_of verdict)) None)) }
     {
         let (pending, user, password) = (given.at(0), given.at(1), given.at(2));
-        self.ledger.holds_records();
-        let Some(row) = self.ledger.pending(pending.as_str(), now) else {
+        ledger.holds_records();
+        let Some(row) = ledger.pending(pending.as_str(), now) else {
             return Err(Judged::Code(Verdict::NoSuchPending));
         };
         let Some(peer) = self.config.peers.place_of(row.peer.as_str()) else {
@@ -95,15 +96,20 @@ impl IdpNode {
     ///
     /// `BadForm` where it is no such page, `NoSuchPending` where the login is not pending or its peer is not known any more,
     /// `LoginRefused` where no user has this name and this password. `NoMemory` may come in place of any other answer.
-    pub(crate) fn log_in(&self, request: &HttpRequest<'_>, now: u64) -> Result<Reply, Judged>
+    pub(crate) fn log_in(
+        &self,
+        ledger: &IdpLedger,
+        request: &HttpRequest<'_>,
+        now: u64,
+    ) -> Result<Reply, Judged>
         requires moment { now ≤ LAST }
         requires route { route (request_view request.now) ≡ To Login }
-        ensures reply { IfOk result (Wants self.now.setup self.now.ledger.held (request_view request.now) now) }
-        ensures refused { IfErr result (IsJudged (λ verdict. Answers self.now.setup self.now.ledger.held (request_view request.now) now (Fixed (number_of verdict)) None)) }
+        ensures reply { IfOk result (Wants self.now ledger.now.held (request_view request.now) now) }
+        ensures refused { IfErr result (IsJudged (λ verdict. Answers self.now ledger.now.held (request_view request.now) now (Fixed (number_of verdict)) None)) }
     {
         let names = field_names(self.alloc)?;
         match read_fields(self.alloc, request.body, &names)? {
-            Some(given) => self.reply_to_fields(request, &given, now),
+            Some(given) => self.reply_to_fields(ledger, request, &given, now),
             None => Err(Judged::Code(Verdict::BadForm)),
         }
     }

@@ -1,12 +1,18 @@
 //! How a request is replied to with a record.
+ghost use Rattle.std.specs.Prelude.{◌≡◌, ◌≤◌, IfSome, IsSome, IsTrue};
+ghost use Rattle.http_wire.specs.Answers.{is_fixed};
+ghost use Rattle.saml_time.specs.declared.TheConstants.{LAST};
+ghost use Rattle.idp_ledger.specs.Drafts.{DraftsSome, SameLedger};
+ghost use Rattle.idp_server.specs.Replies.{IsXmlReply, found_record, is_nothing, refusal_of};
 
-use idp_ledger::Ask;
+use idp_ledger::{Ask, Draft, DraftFault, IdpLedger};
 use owned_values::{Attributes, Text};
 use protocol_messages::LogoutRequest;
+use verdict_codes::Verdict;
 
 /// A reply that stands for a record.
 #[derive(Debug, Drop)]
-pub(crate) enum Reply {
+pub enum Reply {
     /// An Assertion in the live session of this cookie, for the peer at this place.
     InSession {
         cookie: Text,
@@ -34,16 +40,80 @@ pub(crate) enum Reply {
         user: Text,
         index: Text,
     },
-    /// A LogoutResponse to the peer at this place, of this name, which asks to end sessions that there are (SAML Core, 3.7.3.2).
+    /// A LogoutResponse to the peer at this place, of this name, which asks to end sessions (SAML Core, 3.7.3.2).
     End {
         asked: LogoutRequest,
         peer: usize,
         name: Text,
         relay: Option<Text>,
     },
-    /// The page at the end of the logout of this request, which waits for a reply: it ended at each participant, or in part.
+    /// The page at the end of the logout of this request: it ended at each participant, or in part.
     Confirm {
         request: Text,
         partial: bool,
     },
+}
+
+impl Reply {
+    /// Drafts the record of the reply; none where there is nothing to record.
+    pub(crate) fn draft(
+        &self,
+        ledger: &mut IdpLedger,
+        now: u64,
+    ) -> Result<Option<Draft>, DraftFault>
+        requires moment { now ≤ LAST }
+        requires texts { IsXmlReply self.now }
+        requires found { IsSome (found_record ledger.old.key ledger.old.held now self.now) }
+        ensures drafts { IfSome (found_record ledger.old.key ledger.old.held now self.now)
+            (λ r. DraftsSome ledger.old ledger.new (is_nothing ledger.old.held now self.now) r result) }
+        ensures same { SameLedger ledger.old ledger.new }
+    {
+        match self {
+            Reply::InSession { cookie, ask, .. } => {
+                let draft = ledger.draft_issue(now, cookie.as_str(), ask)?;
+                Ok(Some(draft))
+            }
+            Reply::Passive { ask } => {
+                let draft = ledger.draft_speak(now, ask)?;
+                Ok(Some(draft))
+            }
+            Reply::Question { ask } => {
+                let draft = ledger.draft_pending(now, ask)?;
+                Ok(Some(draft))
+            }
+            Reply::Login {
+                pending,
+                user,
+                attributes,
+                ..
+            } => {
+                let draft = ledger.draft_login(now, pending.as_str(), user.as_str(), attributes)?;
+                Ok(Some(draft))
+            }
+            Reply::Leave { cookie, .. } => {
+                let draft = ledger.draft_leave(now, cookie.as_str())?;
+                Ok(Some(draft))
+            }
+            Reply::End { asked, name, .. } => ledger.draft_end(
+                now,
+                name.as_str(),
+                asked.name.as_str(),
+                &asked.indexes,
+                asked.id.as_str(),
+            ),
+            Reply::Confirm { request, .. } => ledger.draft_confirm(now, request.as_str()),
+        }
+    }
+
+    /// The code that says that there is nothing to record: no session to end, or no logout that waits. For all else it is
+    /// never asked.
+    pub(crate) fn refusal(&self) -> u16
+        ensures is { result ≡ refusal_of self.now }
+        ensures page { IsTrue (is_fixed result) }
+    {
+        match self {
+            Reply::Confirm { .. } => Verdict::UnknownLogout.number(),
+            _ => Verdict::NoSuchSession.number(),
+        }
+    }
 }

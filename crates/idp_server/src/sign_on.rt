@@ -15,12 +15,12 @@ ghost use Rattle.idp_server.specs.Routes.{SignOn, To, route};
 ghost use Rattle.idp_server.specs.Step.{Answers, ask_of, session_for};
 ghost use Rattle.idp_server.specs.Replies.{AreTold, IsTextAsk, IsTextSession, Wants};
 
-use crate::node::IdpNode;
 use crate::reply::Reply;
+use crate::role::IdpRole;
 use crate::texts::{are_statable, are_told, is_text, is_told};
 use fault_verdicts::Judged;
 use http_wire::{HttpRequest, cookie_of};
-use idp_ledger::{Ask, SessionRow};
+use idp_ledger::{Ask, IdpLedger, SessionRow};
 use idp_rules::laws::the_texts_of_a_request_are_texts;
 use idp_rules::{Asked, judge_request, sign_on_address};
 use owned_values::NoMemory;
@@ -45,29 +45,38 @@ pub(crate) fn can_be_stated(row: &SessionRow, now: u64)
     are_told(now, row.until);
 }
 
-impl IdpNode {
-    /// The live session of a request's cookie.
-    pub(crate) fn session_for(&self, request: &HttpRequest<'_>, now: u64) -> Option<&SessionRow>
-        ensures { option_copied result ≡ session_for self.now.ledger.held now (request_view request.now) }
-    {
-        let cookie = cookie_of(request.cookie?, SESSION_COOKIE)?;
-        self.ledger.session(cookie, now)
-    }
+/// The live session of a request's cookie.
+pub(crate) fn session_for<'a>(
+    ledger: &'a IdpLedger,
+    request: &HttpRequest<'_>,
+    now: u64,
+) -> Option<&'a SessionRow>
+    ensures { option_copied result ≡ session_for ledger.now.held now (request_view request.now) }
+{
+    let cookie = cookie_of(request.cookie?, SESSION_COOKIE)?;
+    ledger.session(cookie, now)
+}
 
-    /// The same where the user need not be authenticated anew.
-    fn session_used(&self, force: bool, request: &HttpRequest<'_>, now: u64) -> Option<&SessionRow>
-        ensures { option_copied result ≡ (if force then None else session_for self.now.ledger.held now (request_view request.now)) }
-    {
-        if force {
-            return None;
-        }
-        self.session_for(request, now)
+/// The same where the user need not be authenticated anew.
+fn session_used<'a>(
+    ledger: &'a IdpLedger,
+    force: bool,
+    request: &HttpRequest<'_>,
+    now: u64,
+) -> Option<&'a SessionRow>
+    ensures { option_copied result ≡ (if force then None else session_for ledger.now.held now (request_view request.now)) }
+{
+    if force {
+        return None;
     }
+    session_for(ledger, request, now)
+}
 
+impl IdpRole {
     /// What is asked of the ledger.
     fn ask_of(&self, asked: Asked) -> Result<Ask, NoMemory>
-        requires { asked.peer < length self.now.setup.peers }
-        ensures { IfOk result (λ ask. (peer : LogoutPeer) → slice_get self.now.setup.peers asked.peer ≡ Some peer → ask ≡ ask_of asked peer) }
+        requires { asked.peer < length self.now.peers }
+        ensures { IfOk result (λ ask. (peer : LogoutPeer) → slice_get self.now.peers asked.peer ≡ Some peer → ask ≡ ask_of asked peer) }
     {
         let peer = self.config.peers.at(asked.peer).peer.entity.copy()?;
         Ok(Ask {
@@ -79,18 +88,25 @@ impl IdpNode {
     }
 
     /// The reply to a request for a login.
-    fn reply_to(&self, request: &HttpRequest<'_>, asked: Asked, now: u64) -> Result<Reply, NoMemory>
+    fn reply_to(
+        &self,
+        ledger: &IdpLedger,
+        request: &HttpRequest<'_>,
+        asked: Asked,
+        now: u64,
+    ) -> Result<Reply, NoMemory>
         requires moment { now ≤ LAST }
         requires route { route (request_view request.now) ≡ To SignOn }
-        requires asked { IsAsked self.now.setup.peers (sign_on self.now.setup) request.now.body.now asked }
-        requires known { asked.peer < length self.now.setup.peers }
-        ensures { IfOk result (Wants self.now.setup self.now.ledger.held (request_view request.now) now) }
+        requires asked { IsAsked self.now.peers (sign_on self.now) request.now.body.now asked }
+        requires known { asked.peer < length self.now.peers }
+        ensures { IfOk result (Wants self.now ledger.now.held (request_view request.now) now) }
     {
+        let _usable = &self.config;
         the_texts_of_a_request_are_texts();
-        self.ledger.holds_records();
+        ledger.holds_records();
         is_told(now);
         let (peer, passive) = (asked.peer, asked.passive);
-        let session = self.session_used(asked.force, request, now);
+        let session = session_used(ledger, asked.force, request, now);
         let ask = self.ask_of(asked)?;
         if let Some(row) = session {
             can_be_stated(row, now);
@@ -110,9 +126,9 @@ impl IdpNode {
     ///
     /// The verdict on the form. `NoMemory` may come in place of any other answer.
     fn asked_by(&self, request: &HttpRequest<'_>) -> Result<Asked, Judged>
-        ensures accepted { IfOk result (IsAsked self.now.setup.peers (sign_on self.now.setup) request.now.body.now) }
-        ensures known { IfOk result (λ asked. asked.peer < length self.now.setup.peers) }
-        ensures refused { IfErr result (IsJudged (IsRefused self.now.setup.peers (sign_on self.now.setup) request.now.body.now)) }
+        ensures accepted { IfOk result (IsAsked self.now.peers (sign_on self.now) request.now.body.now) }
+        ensures known { IfOk result (λ asked. asked.peer < length self.now.peers) }
+        ensures refused { IfErr result (IsJudged (IsRefused self.now.peers (sign_on self.now) request.now.body.now)) }
     {
         let address = sign_on_address(self.alloc, &self.config)?;
         let peers = self.config.peers.as_slice();
@@ -124,14 +140,19 @@ impl IdpNode {
     /// # Errors
     ///
     /// The verdict on the form. `NoMemory` may come in place of any other answer.
-    pub(crate) fn sign_on(&self, request: &HttpRequest<'_>, now: u64) -> Result<Reply, Judged>
+    pub(crate) fn sign_on(
+        &self,
+        ledger: &IdpLedger,
+        request: &HttpRequest<'_>,
+        now: u64,
+    ) -> Result<Reply, Judged>
         requires moment { now ≤ LAST }
         requires route { route (request_view request.now) ≡ To SignOn }
-        ensures reply { IfOk result (Wants self.now.setup self.now.ledger.held (request_view request.now) now) }
-        ensures refused { IfErr result (IsJudged (λ verdict. Answers self.now.setup self.now.ledger.held (request_view request.now) now (Fixed (number_of verdict)) None)) }
+        ensures reply { IfOk result (Wants self.now ledger.now.held (request_view request.now) now) }
+        ensures refused { IfErr result (IsJudged (λ verdict. Answers self.now ledger.now.held (request_view request.now) now (Fixed (number_of verdict)) None)) }
     {
         match self.asked_by(request) {
-            Ok(asked) => Ok(self.reply_to(request, asked, now)?),
+            Ok(asked) => Ok(self.reply_to(ledger, request, asked, now)?),
             Err(judged) => Err(judged),
         }
     }

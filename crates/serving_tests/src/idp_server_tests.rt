@@ -7,7 +7,7 @@ ghost use Rattle.idp_server.specs.Step.{OwnsDisk};
 use crash_disk::MemDisk;
 use http_wire::{Answer, Found, request_of};
 use idp_rules::IdpConfig;
-use idp_server::IdpNode;
+use idp_server::{IdpNode, IdpRole};
 use metadata::Peer;
 use node_serve::Node;
 use owned_values::{Blob, NoMemory, Text};
@@ -80,7 +80,8 @@ fn answers(node: &mut IdpNode, disk: &mut MemDisk) -> bool
 fn there_is_memory_for_each_call(rt: HostRuntime) -> Result<(), Fail> {
     let alloc = rt.alloc();
     let mut disk = MemDisk::new(alloc);
-    let mut node = IdpNode::start(alloc, config(alloc)?, &mut disk)?;
+    let role = IdpRole::new(alloc, config(alloc)?);
+    let mut node = IdpNode::start(alloc, role, &mut disk)?;
     assert!(rt; answers(&mut node, &mut disk));
     Ok(())
 }

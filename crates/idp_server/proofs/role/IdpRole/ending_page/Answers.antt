@@ -1,0 +1,28 @@
+use Rattle.std.specs.Prelude.{IfOk, Some}
+use Rattle.std.proofs.Common.{◌≡◌, sym, subst, ap, ◌∙◌}
+use Rattle.http_wire.specs.declared.answer.Answer.TheVariants.{Full}
+use Rattle.idp_rules.specs.Config.{IsTextPeer}
+use Rattle.idp_rules.specs.declared.config.IdpConfig.{IdpConfig}
+use Rattle.idp_server.specs.Replies.{HasResponse, IsEndingPage}
+use Rattle.idp_server.proofs.Sessions.{all_at, some_text}
+use Rattle.idp_server.proofs.Shown.{ending_page_of}
+use Rattle.idp_server.proofs.role.IdpRole.ending_page.Goals as goal
+
+pub ending_answer-requires-clause-address : goal.ending_answer-requires-clause-address
+ending_answer-requires-clause-address c =
+    some_text c.at.result.now.peer.logout (all_at IsTextPeer c.self.inside.config.peers c.args.peer c.at.result.now c.self.invariant.peers c.at.ensures).logout
+
+pub returns : goal.returns
+returns c =
+    let config = c.self.inside.config in
+    let setup_is : config ≡ c.args.self.now = c.self.view_is in
+    subst (λ (s : IdpConfig). IfOk c.ending_answer.result (λ bytes. IsEndingPage s c.args.peer c.args.relay.now c.args.draft.now c.args.now (Full bytes))) setup_is
+    (ending_page_of config c.args.asked.now c.args.peer c.args.relay.now _ c.args.draft.now c.args.now c.at.result.now c.as_str.result.now c.as_str-2.result.now c.as_str-3.result.now
+    c.partial.result c.ending_answer.result
+    (subst (λ (s : IdpConfig). HasResponse s c.args.asked.now c.args.peer c.args.draft.now) (sym setup_is) c.requires.shown)
+    (record {
+      id_is = ap Some c.as_str.ensures.value ∙ c.first.ensures;
+      issuer_is = c.as_str-2.ensures;
+      request_is = c.as_str-3.ensures;
+      partial_is = c.partial.ensures;
+    }) c.text_of.ensures c.at.ensures c.ending_answer.ensures)

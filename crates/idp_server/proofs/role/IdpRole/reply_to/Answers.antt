@@ -1,0 +1,66 @@
+use Rattle.std.specs.Prelude.{Some}
+use Rattle.std.proofs.Common.{◌≡◌, List, ℕ, refl, sym, subst}
+use Rattle.http_wire.specs.Views.{request_view}
+use Rattle.idp_ledger.specs.Finding.{session_found}
+use Rattle.idp_ledger.specs.RowsOf.{rows_of}
+use Rattle.idp_rules.specs.Config.{IsUsable}
+use Rattle.idp_server.proofs.Sessions.{asks_for, used_session}
+use Rattle.idp_server.proofs.role.IdpRole.reply_to.Goals as goal
+
+pub can_be_stated-requires-clause-index : goal.can_be_stated-requires-clause-index
+can_be_stated-requires-clause-index c =
+    (used_session c.args.ledger.now.held c.args.asked.force (request_view c.args.request.now) c.args.now c.in-Some.row.now
+    c.holds_records.ensures c.in-Some.ensures).texts.index
+
+pub can_be_stated-requires-clause-user : goal.can_be_stated-requires-clause-user
+can_be_stated-requires-clause-user c =
+    (used_session c.args.ledger.now.held c.args.asked.force (request_view c.args.request.now) c.args.now c.in-Some.row.now
+    c.holds_records.ensures c.in-Some.ensures).texts.user
+
+pub can_be_stated-requires-clause-attributes : goal.can_be_stated-requires-clause-attributes
+can_be_stated-requires-clause-attributes c =
+    (used_session c.args.ledger.now.held c.args.asked.force (request_view c.args.request.now) c.args.now c.in-Some.row.now
+    c.holds_records.ensures c.in-Some.ensures).texts.attributes
+
+pub can_be_stated-requires-clause-until : goal.can_be_stated-requires-clause-until
+can_be_stated-requires-clause-until c =
+    (used_session c.args.ledger.now.held c.args.asked.force (request_view c.args.request.now) c.args.now c.in-Some.row.now
+    c.holds_records.ensures c.in-Some.ensures).texts.until
+
+pub returns-in-Some : goal.returns-in-Some
+returns-in-Some c =
+    let old = c.args.self.now in
+    let row = c.in-Some.row.now in
+    let request = request_view c.args.request.now in
+    let used = used_session c.args.ledger.now.held c.args.asked.force request c.args.now row
+    c.holds_records.ensures c.in-Some.ensures in
+    let usable = subst IsUsable c.self.view_is c.self.invariant in
+    let asks = asks_for old request c.in_ok-ask.ask c.args.asked c.the_texts_of_a_request_are_texts.ensures usable.peers c.requires.route c.requires.asked c.in_ok-ask.ensures in
+    record {
+      asked = c.args.asked;
+      peer = asks.0;
+      asks = asks.1;
+      placed = refl;
+      row = row;
+      used = sym c.in-Some.ensures;
+      found = subst (λ (cookie : List ℕ). session_found (rows_of c.args.ledger.now.held.records).sessions cookie c.args.now c.args.ledger.now.held.header.horizon ≡ Some row)
+          (sym c.in_ok-cookie.ensures) used.found;
+      texts = c.can_be_stated.ensures.texts;
+      told = c.can_be_stated.ensures.told;
+    }
+
+pub returns-then-passive : goal.returns-then-passive
+returns-then-passive c =
+    let old = c.args.self.now in
+    let usable = subst IsUsable c.self.view_is c.self.invariant in
+    let asks = asks_for old (request_view c.args.request.now) c.in_ok-ask.ask c.args.asked c.the_texts_of_a_request_are_texts.ensures usable.peers c.requires.route c.requires.asked
+    c.in_ok-ask.ensures in
+    record { asked = c.args.asked; peer = asks.0; asks = asks.1; none = sym c.in_default.ensures; passive_is = c.if-passive.true; told = c.is_told.ensures }
+
+pub returns-else-passive : goal.returns-else-passive
+returns-else-passive c =
+    let old = c.args.self.now in
+    let usable = subst IsUsable c.self.view_is c.self.invariant in
+    let asks = asks_for old (request_view c.args.request.now) c.in_ok-ask.ask c.args.asked c.the_texts_of_a_request_are_texts.ensures usable.peers c.requires.route c.requires.asked
+    c.in_ok-ask.ensures in
+    record { asked = c.args.asked; peer = asks.0; asks = asks.1; none = sym c.in_default.ensures; passive_is = c.if-passive.false; told = c.is_told.ensures }
