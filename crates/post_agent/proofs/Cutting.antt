@@ -17,26 +17,31 @@ same_byte : (b c : ℕ) → b ≡ c → (b == c) ≡ true
 same_byte b c h = grind (arith, nat_tests)
 
 -- the byte stands at place i, and not in front of it
-pub cut_at : (stop : ℕ) (bytes : List ℕ) (i : ℕ) → i < length bytes → ((k : ℕ) → k < i → get_or bytes k 0 ≢ stop) → get_or bytes i 0 ≡ stop →
+pub cut_at : (stop : ℕ) (bytes : List ℕ) (i : ℕ) → i < length bytes → ((k : ℕ) → k < i → get_or bytes k 0 ≢ stop) →
+    get_or bytes i 0 ≡ stop →
     cut stop bytes ≡ Some (take i bytes, drop (suc i) bytes)
 cut_at stop [] i within none here = absurd (omega arith)
 cut_at stop (b ∷ bytes) zero within none here =
     ap (λ t. cond t (Some ([], bytes)) (option_map (with_first b) (cut stop bytes))) (same_byte b stop here)
 cut_at stop (b ∷ bytes) (suc i) within none here =
-    ap (λ t. cond t (Some ([], bytes)) (option_map (with_first b) (cut stop bytes))) (other_byte b stop (none 0 (omega arith)))
+    ap (λ t. cond t (Some ([], bytes)) (option_map (with_first b) (cut stop bytes)))
+    (other_byte b stop (none 0 (omega arith)))
     ∙ ap (option_map (with_first b)) (cut_at stop bytes i (omega arith) (λ k h. none (suc k) (omega arith)) here)
 
 -- the byte stands nowhere
-pub no_cut : (stop : ℕ) (bytes : List ℕ) → ((k : ℕ) → k < length bytes → get_or bytes k 0 ≢ stop) → cut stop bytes ≡ None
+pub no_cut : (stop : ℕ) (bytes : List ℕ) → ((k : ℕ) → k < length bytes → get_or bytes k 0 ≢ stop) →
+    cut stop bytes ≡ None
 no_cut stop [] none = refl
 no_cut stop (b ∷ bytes) none =
-    ap (λ t. cond t (Some ([], bytes)) (option_map (with_first b) (cut stop bytes))) (other_byte b stop (none 0 (omega arith)))
+    ap (λ t. cond t (Some ([], bytes)) (option_map (with_first b) (cut stop bytes)))
+    (other_byte b stop (none 0 (omega arith)))
     ∙ ap (option_map (with_first b)) (no_cut stop bytes (λ k h. none (suc k) (omega arith)))
 
 rest_is : (n : ℕ) (bytes : List ℕ) → take (length bytes - n) (drop n bytes) ≡ drop n bytes
 rest_is n bytes = take_all (length bytes - n) (drop n bytes) (omega (arith, length-drop n bytes))
 
-pub cut_found : (stop : ℕ) (bytes : List ℕ) (i : ℕ) → i < length bytes → ((k : ℕ) → k < i → get_or bytes k 0 ≢ stop) → get_or bytes i 0 ≡ stop →
+pub cut_found : (stop : ℕ) (bytes : List ℕ) (i : ℕ) → i < length bytes → ((k : ℕ) → k < i → get_or bytes k 0 ≢ stop) →
+    get_or bytes i 0 ≡ stop →
     Some (take i bytes, take (length bytes - (i + 1)) (drop (i + 1) bytes)) ≡ cut stop bytes
 cut_found stop bytes i within none here =
     let next : i + 1 ≡ suc i = omega arith in
@@ -65,7 +70,8 @@ behind_front front rest =
 pub behind_some : (front bytes rest : List ℕ) → behind front bytes ≡ Some rest → bytes ≡ front ++ rest
 behind_some front bytes rest = by_test (starts_with nat_eq bytes front) refl
   where
-    by_test : (t : Bool) → starts_with nat_eq bytes front ≡ t → cond t (Some (drop (length front) bytes)) None ≡ Some rest → bytes ≡ front ++ rest
+    by_test : (t : Bool) → starts_with nat_eq bytes front ≡ t →
+        cond t (Some (drop (length front) bytes)) None ≡ Some rest → bytes ≡ front ++ rest
     by_test false h e = absurd (cc)
     by_test true h e =
         let same : front ≡ take (length front) bytes = (bytes_eq-Decides front (take (length front) bytes)).0 h in
@@ -74,11 +80,13 @@ behind_some front bytes rest = by_test (starts_with nat_eq bytes front) refl
 
 -- ---- what stands in front of a byte
 
-pub cut_some : (stop : ℕ) (bytes front rest : List ℕ) → cut stop bytes ≡ Some (front, rest) → bytes ≡ front ++ stop ∷ rest
+pub cut_some : (stop : ℕ) (bytes front rest : List ℕ) → cut stop bytes ≡ Some (front, rest) →
+    bytes ≡ front ++ stop ∷ rest
 cut_some stop [] front rest e = absurd (never (front, rest) e)
 cut_some stop (b ∷ bytes) front rest e = by_test (b == stop) refl (cut_some stop bytes) e
   where
-    by_test : (t : Bool) → (b == stop) ≡ t → ((f r : List ℕ) → cut stop bytes ≡ Some (f, r) → bytes ≡ f ++ stop ∷ r) → cond t (Some ([], bytes)) (option_map (with_first b) (cut stop bytes)) ≡ Some (front, rest) →
+    by_test : (t : Bool) → (b == stop) ≡ t → ((f r : List ℕ) → cut stop bytes ≡ Some (f, r) → bytes ≡ f ++ stop ∷ r) →
+        cond t (Some ([], bytes)) (option_map (with_first b) (cut stop bytes)) ≡ Some (front, rest) →
         b ∷ bytes ≡ front ++ stop ∷ rest
     by_test true h later e =
         let same : b ≡ stop = grind (arith, nat_tests) in
@@ -94,12 +102,15 @@ cut_some stop (b ∷ bytes) front rest e = by_test (b == stop) refl (cut_some st
 abbrev pub is_without : ℕ → List ℕ → Bool
 is_without stop bytes = list_all (λ b. not (b == stop)) bytes
 
-pub cut_front : (stop : ℕ) (front rest : List ℕ) → is_without stop front ≡ true → cut stop (front ++ stop ∷ rest) ≡ Some (front, rest)
-cut_front stop [] rest h = ap (λ t. cond t (Some ([], rest)) (option_map (with_first stop) (cut stop rest))) (same_byte stop stop refl)
+pub cut_front : (stop : ℕ) (front rest : List ℕ) → is_without stop front ≡ true →
+    cut stop (front ++ stop ∷ rest) ≡ Some (front, rest)
+cut_front stop [] rest h =
+    ap (λ t. cond t (Some ([], rest)) (option_map (with_first stop) (cut stop rest))) (same_byte stop stop refl)
 cut_front stop (b ∷ front) rest h =
     let parts = both_true (not (b == stop)) (is_without stop front) h in
     let other : (b == stop) ≡ false = not_true (b == stop) parts.0 in
-    ap (λ t. cond t (Some ([], front ++ stop ∷ rest)) (option_map (with_first b) (cut stop (front ++ stop ∷ rest)))) other
+    ap (λ t. cond t (Some ([], front ++ stop ∷ rest))
+    (option_map (with_first b) (cut stop (front ++ stop ∷ rest)))) other
     ∙ ap (option_map (with_first b)) (cut_front stop front rest parts.1)
   where
     not_true : (t : Bool) → not t ≡ true → t ≡ false

@@ -38,7 +38,8 @@ without_quotes (b ∷ text) h = by_test (is_markup b) refl (without_quotes text)
         by_quote false e = refl
         by_quote true e =
             let is : is_markup c ≡ true =
-            first_true ((c == less_than || c == greater_than) || c == 34) (c == apostrophe) (second_true (c == less_than || c == greater_than) (c == 34) e) in
+            first_true ((c == less_than || c == greater_than) || c == 34) (c == apostrophe)
+            (second_true (c == less_than || c == greater_than) (c == 34) e) in
             cc
 
     by_test : (t : Bool) → is_markup b ≡ t → (filter is_markup text ≡ [] → is_without quotation_mark text ≡ true) →
@@ -47,9 +48,11 @@ without_quotes (b ∷ text) h = by_test (is_markup b) refl (without_quotes text)
     by_test false is later e = rw (no_quote b is) (later e)
 
 -- what stands between a front and a quotation mark
-quoted_at : (front value rest : List ℕ) → is_without quotation_mark value ≡ true → quoted front (front ++ (value ++ quotation_mark ∷ rest)) ≡ Some (value, rest)
+quoted_at : (front value rest : List ℕ) → is_without quotation_mark value ≡ true →
+    quoted front (front ++ (value ++ quotation_mark ∷ rest)) ≡ Some (value, rest)
 quoted_at front value rest clean =
-    ap (option_and_then (cut quotation_mark)) (behind_front front (value ++ quotation_mark ∷ rest)) ∙ cut_front quotation_mark value rest clean
+    ap (option_and_then (cut quotation_mark)) (behind_front front (value ++ quotation_mark ∷ rest))
+    ∙ cut_front quotation_mark value rest clean
 
 -- ---- the shape of the page of a form
 
@@ -66,13 +69,16 @@ abbrev behind_url : Field → List ℕ → Option (List ℕ) → List ℕ
 behind_url field message relay = name_front ++ (field_name field ++ quotation_mark ∷ behind_name message relay)
 
 grouped : (s e q i n v m c r t l : List ℕ) →
-    s ++ e ++ q ++ (i ++ n ++ v ++ m ++ c) ++ r ++ t ++ l ≡ s ++ (e ++ (q ++ (i ++ (n ++ (v ++ (m ++ (c ++ (r ++ (t ++ l)))))))))
+    s ++ e ++ q ++ (i ++ n ++ v ++ m ++ c) ++ r ++ t ++ l ≡ s ++
+    (e ++ (q ++ (i ++ (n ++ (v ++ (m ++ (c ++ (r ++ (t ++ l)))))))))
 grouped s e q i n v m c r t l = simp append_assoc
 
 page_shape : (url : List ℕ) (field : Field) (message : List ℕ) (relay : Option (List ℕ)) →
-    auto_form url field message relay ≡ url_front ++ (escape url ++ quotation_mark ∷ behind_url field (encode_of standard message) relay)
+    auto_form url field message relay ≡ url_front ++
+    (escape url ++ quotation_mark ∷ behind_url field (encode_of standard message) relay)
 page_shape url field message relay =
-    grouped (submitting_head ++ codes "<form method=\"post\" action=\"") (escape url) (codes "\">") (codes "<input type=\"hidden\" name=\"") (field_name field)
+    grouped (submitting_head ++ codes "<form method=\"post\" action=\"") (escape url) (codes "\">")
+    (codes "<input type=\"hidden\" name=\"") (field_name field)
     (codes "\" value=\"") (escape (encode_of standard message)) (codes "\"/>") (relay_input relay)
     (codes "<noscript><input type=\"submit\" value=\"Continue\"/></noscript></form>") tail
 
@@ -85,13 +91,15 @@ grouped_login : (e c b t : List ℕ) → ((e ++ c) ++ b) ++ t ≡ e ++ (c ++ (b 
 grouped_login e c b t = simp append_assoc
 
 login_shape : (e : List ℕ) →
-    head ++ codes "<form method=\"post\" action=\"/login\">" ++ (codes "<input type=\"hidden\" name=\"" ++ codes "pending" ++ codes "\" value=\"" ++ e ++ codes "\"/>")
+    head ++ codes "<form method=\"post\" action=\"/login\">" ++
+    (codes "<input type=\"hidden\" name=\"" ++ codes "pending" ++ codes "\" value=\"" ++ e ++ codes "\"/>")
     ++ behind_pending ++ tail ≡ pending_front ++ (e ++ quotation_mark ∷ (codes "/>" ++ (behind_pending ++ tail)))
 login_shape e = ap (λ xs. pending_front ++ xs) (grouped_login e (codes "\"/>") behind_pending tail)
 
 -- ---- each part is read
 
-field_is_quoted : (field : Field) (rest : List ℕ) → quoted name_front (name_front ++ (field_name field ++ quotation_mark ∷ rest)) ≡ Some (field_name field, rest)
+field_is_quoted : (field : Field) (rest : List ℕ) →
+    quoted name_front (name_front ++ (field_name field ++ quotation_mark ∷ rest)) ≡ Some (field_name field, rest)
 field_is_quoted Request rest = quoted_at name_front (field_name Request) rest refl
 field_is_quoted Response rest = quoted_at name_front (field_name Response) rest refl
 
@@ -100,48 +108,75 @@ field_is_read Request = refl
 field_is_read Response = refl
 
 module _ (clean : EscapedTextHoldsNoMarkup) (again : EscapedTextIsReadAgain) where
-  escaped_is_quoted : (front text rest : List ℕ) → quoted front (front ++ (escape text ++ quotation_mark ∷ rest)) ≡ Some (escape text, rest)
+  escaped_is_quoted : (front text rest : List ℕ) →
+      quoted front (front ++ (escape text ++ quotation_mark ∷ rest)) ≡ Some (escape text, rest)
   escaped_is_quoted front text rest = quoted_at front (escape text) rest (without_quotes (escape text) (clean text))
 
   relay_is_quoted : (relay : Option (List ℕ)) → relay_part (behind_message relay) ≡ option_map escape relay
   relay_is_quoted None = refl
   relay_is_quoted (Some relay) =
-      let shape : behind_message (Some relay) ≡ relay_front ++ (escape relay ++ quotation_mark ∷ (codes "/>" ++ end_of_page)) =
+      let shape : behind_message (Some relay) ≡ relay_front ++
+      (escape relay ++ quotation_mark ∷ (codes "/>" ++ end_of_page)) =
       ap (λ xs. relay_front ++ xs) (append_assoc (escape relay) (codes "\"/>") end_of_page) in
-      ap relay_part shape ∙ ap (option_map (λ (f : List ℕ × List ℕ). f.0)) (escaped_is_quoted relay_front relay (codes "/>" ++ end_of_page))
+      ap relay_part shape ∙ ap (option_map (λ (f : List ℕ × List ℕ). f.0))
+      (escaped_is_quoted relay_front relay (codes "/>" ++ end_of_page))
 
   text_is_read : (text : List ℕ) → IsUtf8 text → text_in (escape text) ≡ Some text
   text_is_read text is = ap (option_and_then in_utf8) (again text) ∙ sym (is_text text text refl is)
 
-  message_is_read : (message : List ℕ) → IsBytes message → message_in (escape (encode_of standard message)) ≡ Some message
+  message_is_read : (message : List ℕ) → IsBytes message →
+      message_in (escape (encode_of standard message)) ≡ Some message
   message_is_read message is =
       ap (option_and_then decoded) (again (encode_of standard message))
-      ∙ sym (is_decoded (encode_of standard message) message message (decode_of-encode_of standard message refl is) is refl)
+      ∙ sym (is_decoded (encode_of standard message) message message
+      (decode_of-encode_of standard message refl is) is refl)
 
   relay_is_read : (relay : Option (List ℕ)) → IfSome relay IsUtf8 → relay_in (option_map escape relay) ≡ Some relay
   relay_is_read None is = refl
   relay_is_read (Some relay) is = ap (option_map (λ (text : List ℕ). Some text)) (text_is_read relay is)
 
   parts_are_read : (form : AutoForm) → form_parts (form_page form)
-      ≡ Some (record { url = escape form.url; name = field_name form.field; message = escape (encode_of standard form.message); relay = option_map escape form.relay })
+      ≡ Some (record {
+        url = escape form.url;
+        name = field_name form.field;
+        message = escape
+            (encode_of standard form.message);
+        relay = option_map escape form.relay;
+      })
   parts_are_read form =
       let message = encode_of standard form.message in
-      let with_message : List ℕ → List ℕ → List ℕ × List ℕ → Option FormParts = λ url name found. Some (record { url = url; name = name; message = found.0; relay = relay_part found.1 }) in
-      let with_name : List ℕ → List ℕ × List ℕ → Option FormParts = λ url found. option_and_then (with_message url found.0) (quoted value_front found.1) in
-      let with_url : List ℕ × List ℕ → Option FormParts = λ found. option_and_then (with_name found.0) (quoted name_front found.1) in
+      let with_message : List ℕ → List ℕ → List ℕ × List ℕ → Option FormParts =
+      λ url name found. Some (record { url = url; name = name; message = found.0; relay = relay_part found.1 }) in
+      let with_name : List ℕ → List ℕ × List ℕ → Option FormParts =
+      λ url found. option_and_then (with_message url found.0) (quoted value_front found.1) in
+      let with_url : List ℕ × List ℕ → Option FormParts =
+      λ found. option_and_then (with_name found.0) (quoted name_front found.1) in
       ap form_parts (page_shape form.url form.field form.message form.relay)
       ∙ ap (option_and_then with_url) (escaped_is_quoted url_front form.url (behind_url form.field message form.relay))
       ∙ ap (option_and_then (with_name (escape form.url))) (field_is_quoted form.field (behind_name message form.relay))
-      ∙ ap (option_and_then (with_message (escape form.url) (field_name form.field))) (escaped_is_quoted value_front message (behind_message form.relay))
+      ∙ ap (option_and_then (with_message (escape form.url) (field_name form.field)))
+      (escaped_is_quoted value_front message (behind_message form.relay))
       ∙ (λ i. Some (record { url = escape form.url; name = field_name form.field; message = escape message; relay = relay_is_quoted form.relay i }))
 
   form_is_read : (form : AutoForm) → IsForm form →
-      form_of (record { url = escape form.url; name = field_name form.field; message = escape (encode_of standard form.message); relay = option_map escape form.relay }) ≡ Some form
+      form_of (record {
+        url = escape form.url;
+        name = field_name form.field;
+        message = escape
+            (encode_of standard form.message);
+        relay = option_map escape form.relay;
+      }) ≡ Some form
   form_is_read form is =
-      let with_relay : List ℕ → Field → List ℕ → Option (List ℕ) → Option AutoForm = λ url field message relay. Some (record { url = url; field = field; message = message; relay = relay }) in
-      let with_message : List ℕ → Field → List ℕ → Option AutoForm = λ url field message. option_and_then (with_relay url field message) (relay_in (option_map escape form.relay)) in
-      let with_field : List ℕ → Field → Option AutoForm = λ url field. option_and_then (with_message url field) (message_in (escape (encode_of standard form.message))) in
-      let with_url : List ℕ → Option AutoForm = λ url. option_and_then (with_field url) (field_of (field_name form.field)) in
+      let with_relay : List ℕ → Field → List ℕ → Option (List ℕ) → Option AutoForm =
+      λ url field message relay. Some (record { url = url; field = field; message = message; relay = relay }) in
+      let with_message : List ℕ → Field → List ℕ → Option AutoForm =
+      λ url field message. option_and_then (with_relay url field message)
+      (relay_in (option_map escape form.relay)) in
+      let with_field : List ℕ → Field → Option AutoForm =
+      λ url field. option_and_then (with_message url field)
+      (message_in (escape (encode_of standard form.message))) in
+      let with_url : List ℕ → Option AutoForm =
+      λ url. option_and_then (with_field url) (field_of (field_name form.field)) in
       ap (option_and_then with_url) (text_is_read form.url is.url)
       ∙ ap (option_and_then (with_field form.url)) (field_is_read form.field)
       ∙ ap (option_and_then (with_message form.url form.field)) (message_is_read form.message is.message)
@@ -158,8 +193,10 @@ module _ (clean : EscapedTextHoldsNoMarkup) (again : EscapedTextIsReadAgain) whe
   pub login_in-page : (pending : List ℕ) → IsUtf8 pending → login_in (login_page pending) ≡ Some pending
   login_in-page pending is =
       let end = codes "/>" ++ (behind_pending ++ tail) in
-      let shape : login_page pending ≡ pending_front ++ (escape pending ++ quotation_mark ∷ end) = login_shape (escape pending) in
-      let with_found : List ℕ × List ℕ → Option (List ℕ) = λ found. option_and_then (login_with (login_page pending)) (text_in found.0) in
+      let shape : login_page pending ≡ pending_front ++ (escape pending ++ quotation_mark ∷ end) =
+      login_shape (escape pending) in
+      let with_found : List ℕ × List ℕ → Option (List ℕ) =
+      λ found. option_and_then (login_with (login_page pending)) (text_in found.0) in
       ap (option_and_then with_found) (ap (quoted pending_front) shape ∙ escaped_is_quoted pending_front pending end)
       ∙ ap (option_and_then (login_with (login_page pending))) (text_is_read pending is)
       ∙ ap (λ t. cond t (Some pending) None) (bytes_eq-same (login_page pending))
@@ -199,7 +236,8 @@ form_is_good parts form e =
     let field = followed (field_of parts.name) _ form url.then in
     let message = followed (message_in parts.message) _ form field.then in
     let relay = followed (relay_in parts.relay) _ form message.then in
-    subst IsForm (some_same (record { url = url.first; field = field.first; message = message.first; relay = relay.first }) form relay.then) (record {
+    subst IsForm (some_same
+    (record { url = url.first; field = field.first; message = message.first; relay = relay.first }) form relay.then) (record {
       url = text_is_utf8 parts.url url.first url.was;
       message = message_is_bytes parts.message message.first message.was;
       relay = relay_is_utf8 parts.relay relay.first relay.was;

@@ -11,7 +11,8 @@ use Rattle.post_agent.specs.Cuts.{behind}
 use Rattle.post_agent.proofs.Cutting.{behind_front, behind_some}
 
 -- a form behind a head, its type and its size
-pub post_steps : (head kind size digits form start one two three four : List ℕ) → start ≡ head → one ≡ start ++ kind → two ≡ one ++ field_line (codes "Content-Length") digits →
+pub post_steps : (head kind size digits form start one two three four : List ℕ) → start ≡ head → one ≡ start ++ kind →
+    two ≡ one ++ field_line (codes "Content-Length") digits →
     digits ≡ size → three ≡ two ++ codes "\r\n" → four ≡ three ++ form →
     four ≡ head ++ kind ++ field_line (codes "Content-Length") size ++ codes "\r\n" ++ form
 post_steps head kind size digits form start one two three four is_start is_one is_two is_digits is_three is_four =
@@ -27,9 +28,11 @@ abbrev joined : List (Bor (List ℕ)) → List ℕ
 joined pieces = flat_map (λ (p : Bor (List ℕ)). p.now) pieces
 
 -- the piece at a place, and those behind it
-pub piece_at : (pieces : List (Bor (List ℕ))) (i : ℕ) (d : Bor (List ℕ)) → i < length pieces → joined (drop i pieces) ≡ (get_or pieces i d).now ++ joined (drop (i + 1) pieces)
+pub piece_at : (pieces : List (Bor (List ℕ))) (i : ℕ) (d : Bor (List ℕ)) → i < length pieces →
+    joined (drop i pieces) ≡ (get_or pieces i d).now ++ joined (drop (i + 1) pieces)
 piece_at pieces i d within =
-    ap joined (drop-cons pieces i d within) ∙ (let next : suc i ≡ i + 1 = omega arith in ap (λ n. (get_or pieces i d).now ++ joined (drop n pieces)) next)
+    ap joined (drop-cons pieces i d within)
+    ∙ (let next : suc i ≡ i + 1 = omega arith in ap (λ n. (get_or pieces i d).now ++ joined (drop n pieces)) next)
 
 same_front : (front xs ys : List ℕ) → bytes_eq (front ++ xs) (front ++ ys) ≡ bytes_eq xs ys
 same_front [] xs ys = refl
@@ -38,8 +41,10 @@ same_front (b ∷ front) xs ys = rw (same_byte b) (same_front front xs ys)
     same_byte : (c : ℕ) → nat_eq c c ≡ true
     same_byte c = grind (arith, nat_tests)
 
-pub piece_more : (bytes rest others : List ℕ) (pieces : List (Bor (List ℕ))) (i : ℕ) (d : Bor (List ℕ)) → i < length pieces →
-    bytes_eq bytes (joined pieces) ≡ bytes_eq rest (joined (drop i pieces)) → Some others ≡ behind (get_or pieces i d).now rest →
+pub piece_more : (bytes rest others : List ℕ) (pieces : List (Bor (List ℕ))) (i : ℕ) (d : Bor (List ℕ)) →
+    i < length pieces →
+    bytes_eq bytes (joined pieces) ≡ bytes_eq rest (joined (drop i pieces)) →
+    Some others ≡ behind (get_or pieces i d).now rest →
     bytes_eq bytes (joined pieces) ≡ bytes_eq others (joined (drop (i + 1) pieces))
 piece_more bytes rest others pieces i d within so_far found =
     let piece = (get_or pieces i d).now in
@@ -48,14 +53,17 @@ piece_more bytes rest others pieces i d within so_far found =
     ∙ same_front piece others (joined (drop (i + 1) pieces))
 
 pub piece_fails : (bytes rest : List ℕ) (pieces : List (Bor (List ℕ))) (i : ℕ) (d : Bor (List ℕ)) → i < length pieces →
-    bytes_eq bytes (joined pieces) ≡ bytes_eq rest (joined (drop i pieces)) → None ≡ behind (get_or pieces i d).now rest →
+    bytes_eq bytes (joined pieces) ≡ bytes_eq rest (joined (drop i pieces)) →
+    None ≡ behind (get_or pieces i d).now rest →
     false ≡ bytes_eq bytes (joined pieces)
 piece_fails bytes rest pieces i d within so_far found =
     let piece = (get_or pieces i d).now in
     let others = joined (drop (i + 1) pieces) in
-    sym (so_far ∙ ap (bytes_eq rest) (piece_at pieces i d within) ∙ by_test piece others (bytes_eq rest (piece ++ others)) refl found)
+    sym (so_far ∙ ap (bytes_eq rest) (piece_at pieces i d within)
+    ∙ by_test piece others (bytes_eq rest (piece ++ others)) refl found)
   where
-    by_test : (piece others : List ℕ) (t : Bool) → bytes_eq rest (piece ++ others) ≡ t → None ≡ behind piece rest → bytes_eq rest (piece ++ others) ≡ false
+    by_test : (piece others : List ℕ) (t : Bool) → bytes_eq rest (piece ++ others) ≡ t → None ≡ behind piece rest →
+        bytes_eq rest (piece ++ others) ≡ false
     by_test piece others false h none = h
     by_test piece others true h none =
         let same : rest ≡ piece ++ others = (bytes_eq-Decides rest (piece ++ others)).0 h in
@@ -64,13 +72,17 @@ piece_fails bytes rest pieces i d within so_far found =
 
 -- the pieces of the page of a verdict
 pub refusal_pieces : (digits name : List ℕ) →
-    codes "<!DOCTYPE html><html><body><p>Refused: " ++ (digits ++ (codes " " ++ (name ++ (codes "</p></body></html>" ++ []))))
+    codes "<!DOCTYPE html><html><body><p>Refused: " ++
+    (digits ++ (codes " " ++ (name ++ (codes "</p></body></html>" ++ []))))
     ≡ page (codes "Refused: " ++ digits ++ codes " " ++ name)
 refusal_pieces digits name =
-    ap (λ xs. codes "<!DOCTYPE html><html><body><p>Refused: " ++ xs) (grouped digits (codes " ") name (codes "</p></body></html>"))
+    ap (λ xs. codes "<!DOCTYPE html><html><body><p>Refused: " ++ xs)
+    (grouped digits (codes " ") name (codes "</p></body></html>"))
   where
     grouped : (a b c d : List ℕ) → a ++ (b ++ (c ++ (d ++ []))) ≡ ((a ++ b) ++ c) ++ d
     grouped a b c d = simp (append_assoc, append-nil)
 
-pub status_pieces : (digits : List ℕ) → codes "<!DOCTYPE html><html><body><p>" ++ (digits ++ (codes "</p></body></html>" ++ [])) ≡ page digits
-status_pieces digits = ap (λ xs. codes "<!DOCTYPE html><html><body><p>" ++ (digits ++ xs)) (append-nil (codes "</p></body></html>")) ∙ refl
+pub status_pieces : (digits : List ℕ) →
+    codes "<!DOCTYPE html><html><body><p>" ++ (digits ++ (codes "</p></body></html>" ++ [])) ≡ page digits
+status_pieces digits =
+    ap (λ xs. codes "<!DOCTYPE html><html><body><p>" ++ (digits ++ xs)) (append-nil (codes "</p></body></html>")) ∙ refl

@@ -1,4 +1,5 @@
 mod Answered
+mod Asking
 mod Cutting
 mod Forms
 mod Heads

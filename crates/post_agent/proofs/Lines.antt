@@ -11,13 +11,15 @@ use Rattle.post_agent.specs.Reading.{line_text, value_in}
 abbrev front_of : List ℕ → List ℕ → List ℕ
 front_of line end = take (length line - length end) line
 
-pub is_value : (line end value : List ℕ) → true ≡ ends_with nat_eq line end → true ≡ is_one_line (front_of line end) → value ≡ front_of line end →
+pub is_value : (line end value : List ℕ) → true ≡ ends_with nat_eq line end → true ≡ is_one_line (front_of line end) →
+    value ≡ front_of line end →
     IsUtf8 (front_of line end) → Some value ≡ value_in line end
 is_value line end value ends one same is =
     ap Some same
     ∙ sym (ap (λ t. cond t (line_text (front_of line end)) None) (sym ends)
     ∙ ap (λ t. cond t (Some (front_of line end)) None)
-    (and_true (is_one_line (front_of line end)) (is_utf8 (front_of line end)) (sym one) (is_utf8-from_IsUtf8 (front_of line end) is)))
+    (and_true (is_one_line (front_of line end)) (is_utf8 (front_of line end)) (sym one)
+    (is_utf8-from_IsUtf8 (front_of line end) is)))
 
 no_text : (value : List ℕ) → ¬ (IsUtf8 value) → line_text value ≡ None
 no_text value invalid = by_test (is_one_line value && is_utf8 value) refl
@@ -26,6 +28,7 @@ no_text value invalid = by_test (is_one_line value && is_utf8 value) refl
     by_test false h = refl
     by_test true h = absurd (invalid (IsUtf8-from_is_utf8 value (both_true (is_one_line value) (is_utf8 value) h).1))
 
-pub is_no_value : (line end : List ℕ) → true ≡ ends_with nat_eq line end → ¬ (IsUtf8 (front_of line end)) → None ≡ value_in line end
+pub is_no_value : (line end : List ℕ) → true ≡ ends_with nat_eq line end → ¬ (IsUtf8 (front_of line end)) →
+    None ≡ value_in line end
 is_no_value line end ends invalid =
     sym (ap (λ t. cond t (line_text (front_of line end)) None) (sym ends) ∙ no_text (front_of line end) invalid)

@@ -42,7 +42,8 @@ pub found_passes : {X : Type 0} (p : X → Bool) (xs : List X) (x : X) → find 
 found_passes p [] x e = absurd (cc)
 found_passes p (y ∷ ys) x e = by_test (p y) refl (found_passes p ys x) e
   where
-    by_test : (t : Bool) → p y ≡ t → (find p ys ≡ Some x → p x ≡ true) → cond t (Some y) (find p ys) ≡ Some x → p x ≡ true
+    by_test : (t : Bool) → p y ≡ t → (find p ys ≡ Some x → p x ≡ true) → cond t (Some y) (find p ys) ≡ Some x →
+        p x ≡ true
     by_test true h later found = ap p (sym (some_same y x found)) ∙ h
     by_test false h later found = later found
 

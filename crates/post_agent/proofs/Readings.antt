@@ -44,10 +44,12 @@ module _ (clean : EscapedTextHoldsNoMarkup) (again : EscapedTextIsReadAgain) whe
       by_answer (Some parts) e = absurd (means parts (answer_of-stands bytes parts e))
   is_read bytes (Moved parts) means =
       ap reading_by (answer_of-answer bytes parts means.0)
-      ∙ ap (λ t. reading_with parts (cond t None (Some (page_of parts.status parts.body)))) (same_status parts.status means.1)
+      ∙ ap (λ t. reading_with parts (cond t None (Some (page_of parts.status parts.body))))
+      (same_status parts.status means.1)
   is_read bytes (Shown parts page) means =
       ap reading_by (answer_of-answer bytes parts means.0)
-      ∙ ap (λ t. reading_with parts (cond t None (Some (page_of parts.status parts.body)))) (other_status parts.status means.1)
+      ∙ ap (λ t. reading_with parts (cond t None (Some (page_of parts.status parts.body))))
+      (other_status parts.status means.1)
       ∙ ap (λ p. Shown parts p) (page_of-shown clean again parts.status parts.body page means.0.status means.2)
 
   pub each_answer_has_one_reading : EachAnswerHasOneReading
@@ -58,7 +60,8 @@ module _ (clean : EscapedTextHoldsNoMarkup) (again : EscapedTextIsReadAgain) whe
 
 -- ---- what an agent keeps
 
-pub receives_nothing : (site : Site) (bytes : List ℕ) (state : State) → EachAnswerHasOneReading → None ≡ answer_of bytes →
+pub receives_nothing : (site : Site) (bytes : List ℕ) (state : State) → EachAnswerHasOneReading →
+    None ≡ answer_of bytes →
     Receives site bytes state (record { status = 0; what = seen.Page }) state
 receives_nothing site bytes state law none = record {
   reading = NoAnswer;
@@ -67,26 +70,37 @@ receives_nothing site bytes state law none = record {
   kept = refl;
 }
 
-pub receives_answer : (site : Site) (bytes : List ℕ) (parts : Parts) (page : Option Page) (cookie location : Option (List ℕ)) (before one two : State) (saw : Seen) →
-    EachAnswerHasOneReading → Some parts ≡ answer_of bytes → page ≡ shown parts → cookie ≡ parts.cookie → location ≡ parts.location →
-    saw ≡ seen_by parts.status page → one ≡ with_cookie site cookie before → two ≡ with_location site location one → page ≡ None →
+pub receives_answer : (site : Site) (bytes : List ℕ) (parts : Parts) (page : Option Page)
+    (cookie location : Option (List ℕ)) (before one two : State) (saw : Seen) →
+    EachAnswerHasOneReading → Some parts ≡ answer_of bytes → page ≡ shown parts → cookie ≡ parts.cookie →
+    location ≡ parts.location →
+    saw ≡ seen_by parts.status page → one ≡ with_cookie site cookie before → two ≡ with_location site location one →
+    page ≡ None →
     Receives site bytes before saw two
 receives_answer site bytes parts page cookie location before one two saw law found is_shown same_cookie same_location is_seen is_one is_two moved = record {
   reading = Moved parts;
-  means = subst (Means bytes) (ap reading_by (sym found) ∙ ap (reading_with parts) (sym is_shown ∙ moved)) (law.read bytes);
+  means = subst (Means bytes) (ap reading_by (sym found) ∙ ap (reading_with parts) (sym is_shown ∙ moved))
+      (law.read bytes);
   seen = is_seen ∙ ap (seen_by parts.status) moved;
-  kept = is_two ∙ (λ i. with_location site (same_location i) ((is_one ∙ ap (λ c. with_cookie site c before) same_cookie) i));
+  kept = is_two ∙ (λ i. with_location site (same_location i)
+      ((is_one ∙ ap (λ c. with_cookie site c before) same_cookie) i));
 }
 
-pub receives_page : (site : Site) (bytes : List ℕ) (parts : Parts) (page : Option Page) (p : Page) (cookie location : Option (List ℕ)) (before one two three : State) (saw : Seen) →
-    EachAnswerHasOneReading → Some parts ≡ answer_of bytes → page ≡ shown parts → cookie ≡ parts.cookie → location ≡ parts.location →
-    saw ≡ seen_by parts.status page → one ≡ with_cookie site cookie before → two ≡ with_location site location one → page ≡ Some p →
+pub receives_page : (site : Site) (bytes : List ℕ) (parts : Parts) (page : Option Page) (p : Page)
+    (cookie location : Option (List ℕ)) (before one two three : State) (saw : Seen) →
+    EachAnswerHasOneReading → Some parts ≡ answer_of bytes → page ≡ shown parts → cookie ≡ parts.cookie →
+    location ≡ parts.location →
+    saw ≡ seen_by parts.status page → one ≡ with_cookie site cookie before → two ≡ with_location site location one →
+    page ≡ Some p →
     three ≡ with_page site p two → Receives site bytes before saw three
 receives_page site bytes parts page p cookie location before one two three saw law found is_shown same_cookie same_location is_seen is_one is_two there is_three = record {
   reading = Shown parts p;
-  means = subst (Means bytes) (ap reading_by (sym found) ∙ ap (reading_with parts) (sym is_shown ∙ there)) (law.read bytes);
+  means = subst (Means bytes) (ap reading_by (sym found) ∙ ap (reading_with parts) (sym is_shown ∙ there))
+      (law.read bytes);
   seen = is_seen ∙ ap (seen_by parts.status) there;
   kept =
       (is_three
-      ∙ ap (with_page site p) (is_two ∙ (λ i. with_location site (same_location i) ((is_one ∙ ap (λ c. with_cookie site c before) same_cookie) i))));
+      ∙ ap (with_page site p)
+      (is_two ∙ (λ i. with_location site (same_location i)
+      ((is_one ∙ ap (λ c. with_cookie site c before) same_cookie) i))));
 }

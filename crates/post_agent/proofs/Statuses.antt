@@ -34,7 +34,8 @@ status_by-code_digits n is =
     let first : nat_lt 48 (48 + n / 100) ≡ true = lt_true 48 (48 + n / 100) (omega arith) in
     let all = and_true _ _ (and_true _ _ (and_true _ _ a b) d) first in
     ap (λ t. cond t (Some ((48 + n / 100 - 48) * 100 + (48 + n / 10 % 10 - 48) * 10 + (48 + n % 10 - 48))) None) all
-    ∙ ap Some (let e : (48 + n / 100 - 48) * 100 + (48 + n / 10 % 10 - 48) * 10 + (48 + n % 10 - 48) ≡ n = omega arith in e)
+    ∙ ap Some (let e : (48 + n / 100 - 48) * 100 + (48 + n / 10 % 10 - 48) * 10 + (48 + n % 10 - 48)
+    ≡ n = omega arith in e)
 
 -- what three such digits write
 abbrev digits_are_code : (a b c : ℕ) → 48 < a → a ≤ 57 → 48 ≤ b → b ≤ 57 → 48 ≤ c → c ≤ 57 → IsCodeText (a ∷ b ∷ c ∷ [])
@@ -51,7 +52,8 @@ no_status [] other = refl
 no_status (a ∷ []) other = refl
 no_status (a ∷ b ∷ []) other = refl
 no_status (a ∷ b ∷ c ∷ d ∷ rest) other = refl
-no_status (a ∷ b ∷ c ∷ []) other = by_test (is_ascii_digit a && is_ascii_digit b && is_ascii_digit c && nat_lt 48 a) refl
+no_status (a ∷ b ∷ c ∷ []) other =
+    by_test (is_ascii_digit a && is_ascii_digit b && is_ascii_digit c && nat_lt 48 a) refl
   where
     by_test : (t : Bool) → (is_ascii_digit a && is_ascii_digit b && is_ascii_digit c && nat_lt 48 a) ≡ t →
         cond t (Some ((a - 48) * 100 + (b - 48) * 10 + (c - 48))) None ≡ None
@@ -60,9 +62,11 @@ no_status (a ∷ b ∷ c ∷ []) other = by_test (is_ascii_digit a && is_ascii_d
         let one = both_true (is_ascii_digit a && is_ascii_digit b && is_ascii_digit c) (nat_lt 48 a) h in
         let two = both_true (is_ascii_digit a && is_ascii_digit b) (is_ascii_digit c) one.0 in
         let three = both_true (is_ascii_digit a) (is_ascii_digit b) two.0 in
-        absurd (other (digits_are_code a b c (true_lt 48 a one.1) (digit_high a three.0) (digit_low b three.1) (digit_high b three.1) (digit_low c two.1) (digit_high c two.1)))
+        absurd (other (digits_are_code a b c (true_lt 48 a one.1) (digit_high a three.0) (digit_low b three.1)
+        (digit_high b three.1) (digit_low c two.1) (digit_high c two.1)))
 
-pub found_status : (bytes front : List ℕ) (n : ℕ) → code_digits n ≡ front → front ≡ take 3 bytes → IsStatusCode n → Some (n, drop 3 bytes) ≡ status_in bytes
+pub found_status : (bytes front : List ℕ) (n : ℕ) → code_digits n ≡ front → front ≡ take 3 bytes → IsStatusCode n →
+    Some (n, drop 3 bytes) ≡ status_in bytes
 found_status bytes front n digits same is =
     ap (option_map (λ status. (status, drop 3 bytes))) (sym (status_by-code_digits n is) ∙ ap status_by (digits ∙ same))
 
@@ -76,10 +80,12 @@ status_by-some (a ∷ []) n e = absurd (cc)
 status_by-some (a ∷ b ∷ []) n e = absurd (cc)
 status_by-some (a ∷ b ∷ c ∷ d ∷ rest) n e = absurd (cc)
 status_by-some (a ∷ b ∷ c ∷ []) n e =
-    let value = passed (is_ascii_digit a && is_ascii_digit b && is_ascii_digit c && nat_lt 48 a) ((a - 48) * 100 + (b - 48) * 10 + (c - 48)) n e in
+    let value = passed (is_ascii_digit a && is_ascii_digit b && is_ascii_digit c && nat_lt 48 a)
+    ((a - 48) * 100 + (b - 48) * 10 + (c - 48)) n e in
     let one = both_true (is_ascii_digit a && is_ascii_digit b && is_ascii_digit c) (nat_lt 48 a) value.test in
     let two = both_true (is_ascii_digit a && is_ascii_digit b) (is_ascii_digit c) one.0 in
     let three = both_true (is_ascii_digit a) (is_ascii_digit b) two.0 in
-    let code = digits_are_code a b c (true_lt 48 a one.1) (digit_high a three.0) (digit_low b three.1) (digit_high b three.1) (digit_low c two.1) (digit_high c two.1) in
+    let code = digits_are_code a b c (true_lt 48 a one.1) (digit_high a three.0) (digit_low b three.1)
+    (digit_high b three.1) (digit_low c two.1) (digit_high c two.1) in
     let same : code.0 ≡ n = value.same in
     (subst IsStatusCode same code.1, code.2 ∙ ap code_digits same)

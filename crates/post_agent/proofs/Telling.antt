@@ -33,7 +33,8 @@ decimal-status n is =
     let tens : n / 10 / 10 ≡ n / 100 = omega arith in
     decimal_step n (omega arith) (omega arith)
     ∙ ap (λ ds. ds ++ (48 + n % 10) ∷ []) (decimal_step (n / 10) (omega arith) (omega arith)
-    ∙ ap (λ ds. ds ++ (48 + n / 10 % 10) ∷ []) (decimal_digit (n / 10 / 10) (omega arith) ∙ ap (λ k. (48 + k) ∷ []) tens))
+    ∙ ap (λ ds. ds ++ (48 + n / 10 % 10) ∷ [])
+    (decimal_digit (n / 10 / 10) (omega arith) ∙ ap (λ k. (48 + k) ∷ []) tens))
 
 -- ---- the page of a status is no other
 
@@ -50,10 +51,13 @@ no_end_there d rest low = rw (other_letter d 76 low (omega arith)) refl
 no_refusal_there : (d : ℕ) (rest : List ℕ) → d < 58 → (verdict : Verdict) → is_refusal (page (d ∷ rest)) verdict ≡ false
 no_refusal_there d rest low verdict = rw (other_letter d 82 low (omega arith)) refl
 
-status_alone : (status d : ℕ) (rest : List ℕ) → d < 58 → other_page status (page (d ∷ rest)) ≡ cond (is_status status (page (d ∷ rest))) Status Other
+status_alone : (status d : ℕ) (rest : List ℕ) → d < 58 →
+    other_page status (page (d ∷ rest)) ≡ cond (is_status status (page (d ∷ rest))) Status Other
 status_alone status d rest low =
-    ap (λ t. cond t End (option_map_or (λ code. Code code) (code_in (page (d ∷ rest))) (cond (is_status status (page (d ∷ rest))) Status Other))) (no_end_there d rest low)
-    ∙ ap (λ o. option_map_or (λ code. Code code) (option_map number_of o) (cond (is_status status (page (d ∷ rest))) Status Other))
+    ap (λ t. cond t End (option_map_or (λ code. Code code) (code_in (page (d ∷ rest)))
+    (cond (is_status status (page (d ∷ rest))) Status Other))) (no_end_there d rest low)
+    ∙ ap (λ o. option_map_or (λ code. Code code) (option_map number_of o)
+    (cond (is_status status (page (d ∷ rest))) Status Other))
     (none_found (is_refusal (page (d ∷ rest))) VERDICTS (no_refusal_there d rest low))
 
 status_page_is : (status : ℕ) → IsStatusCode status → page_of status (status_page status) ≡ Status
@@ -62,7 +66,8 @@ status_page_is status is =
     let same : status_page status ≡ page (code_digits status) = ap page (decimal-status status is) in
     ap (page_of status) same
     ∙ status_alone status (48 + status / 100) ((48 + status / 10 % 10) ∷ (48 + status % 10) ∷ []) (omega arith)
-    ∙ ap (λ t. cond t Status Other) (ap (bytes_eq (page (code_digits status))) same ∙ bytes_eq-same (page (code_digits status)))
+    ∙ ap (λ t. cond t Status Other)
+    (ap (bytes_eq (page (code_digits status))) same ∙ bytes_eq-same (page (code_digits status)))
 
 end_page_is : (status : ℕ) (partial : Bool) → page_of status (end_page partial) ≡ End
 end_page_is status true = refl
@@ -76,7 +81,9 @@ true_false : true ≡ false → ⊥
 true_false e = cc
 
 refusal_is : (status : ℕ) (verdict : Verdict) → page_of status (refusal_page verdict) ≡ Code (number_of verdict)
-refusal_is status verdict = ap (λ o. option_map_or (λ code. Code code) o (cond (is_status status (refusal_page verdict)) Status Other)) (code_in-refusal_page verdict)
+refusal_is status verdict =
+    ap (λ o. option_map_or (λ code. Code code) o (cond (is_status status (refusal_page verdict)) Status Other))
+    (code_in-refusal_page verdict)
 
 -- ---- what is found is there
 
@@ -89,8 +96,12 @@ end_shows body h =
 
 code_shows : (status : ℕ) (body : List ℕ) (code : ℕ) → code_in body ≡ Some code → Shows status body (Code code)
 code_shows status body code e =
-    let found = mapped (find (is_refusal body) VERDICTS) number_of code e in
-    (found.first, sym found.made, (bytes_eq-Decides body (refusal_page found.first)).0 (found_passes (is_refusal body) VERDICTS found.first found.was))
+    let found = mapped (find (is_refusal body) VERDICTS) number_of code e in (
+      found.first,
+      sym found.made,
+      (bytes_eq-Decides body (refusal_page found.first)).0
+          (found_passes (is_refusal body) VERDICTS found.first found.was),
+    )
 
 -- the page by what was read of it
 abbrev other_by : Bool → Option ℕ → Bool → Page
@@ -103,10 +114,13 @@ page_by form login other = option_map_or (λ f. Form f) form (option_map_or (λ 
 
 other_page_is : (status : ℕ) (body : List ℕ) → IsOther status body → other_page status body ≡ Other
 other_page_is status body is =
-    by_tests (is_end body) (code_in body) (is_status status body) (λ e. let at = end_shows body e in is.no_end at.0 at.1)
-    (λ code e. let at = code_shows status body code e in is.no_code at.0 at.2) (λ e. is.no_status ((bytes_eq-Decides body (status_page status)).0 e))
+    by_tests (is_end body) (code_in body) (is_status status body)
+    (λ e. let at = end_shows body e in is.no_end at.0 at.1)
+    (λ code e. let at = code_shows status body code e in is.no_code at.0 at.2)
+    (λ e. is.no_status ((bytes_eq-Decides body (status_page status)).0 e))
   where
-    by_tests : (end : Bool) (code : Option ℕ) (alone : Bool) → (end ≡ true → ⊥) → ((n : ℕ) → code ≡ Some n → ⊥) → (alone ≡ true → ⊥) → other_by end code alone ≡ Other
+    by_tests : (end : Bool) (code : Option ℕ) (alone : Bool) → (end ≡ true → ⊥) → ((n : ℕ) → code ≡ Some n → ⊥) →
+        (alone ≡ true → ⊥) → other_by end code alone ≡ Other
     by_tests true code alone no_end no_code no_status = absurd (no_end refl)
     by_tests false (Some n) alone no_end no_code no_status = absurd (no_code n refl)
     by_tests false None true no_end no_code no_status = absurd (no_status refl)
@@ -117,7 +131,8 @@ other_is status body is =
     by_options (form_in body) (login_in body) (λ form e. is.no_form form (form_in-shows body form e))
     (λ pending e. is.no_login pending (login_in-shows body pending e))
   where
-    by_options : (form : Option AutoForm) (login : Option (List ℕ)) → ((f : AutoForm) → form ≡ Some f → ⊥) → ((text : List ℕ) → login ≡ Some text → ⊥) →
+    by_options : (form : Option AutoForm) (login : Option (List ℕ)) → ((f : AutoForm) → form ≡ Some f → ⊥) →
+        ((text : List ℕ) → login ≡ Some text → ⊥) →
         page_by form login (other_page status body) ≡ Other
     by_options (Some f) login no_form no_login = absurd (no_form f refl)
     by_options None (Some text) no_form no_login = absurd (no_login text refl)
@@ -125,15 +140,18 @@ other_is status body is =
 
 module _ (clean : EscapedTextHoldsNoMarkup) (again : EscapedTextIsReadAgain) where
   -- what a body shows is read of it
-  pub page_of-shown : (status : ℕ) (body : List ℕ) (p : Page) → IsStatusCode status → Shows status body p → page_of status body ≡ p
+  pub page_of-shown : (status : ℕ) (body : List ℕ) (p : Page) → IsStatusCode status → Shows status body p →
+      page_of status body ≡ p
   page_of-shown status body (Form form) valid shows =
       ap (page_of status) shows.1
-      ∙ ap (λ o. page_by o (login_in (form_page form)) (other_page status (form_page form))) (form_in-page clean again form shows.0)
+      ∙ ap (λ o. page_by o (login_in (form_page form)) (other_page status (form_page form)))
+      (form_in-page clean again form shows.0)
   page_of-shown status body (Login pending) valid shows =
       ap (page_of status) shows.1
       ∙ ap (λ o. page_by None o (other_page status (login_page pending))) (login_in-page clean again pending shows.0)
   page_of-shown status body End valid shows = ap (page_of status) shows.1 ∙ end_page_is status shows.0
-  page_of-shown status body (Code code) valid shows = ap (page_of status) shows.2 ∙ refusal_is status shows.0 ∙ ap (λ n. Code n) (sym shows.1)
+  page_of-shown status body (Code code) valid shows =
+      ap (page_of status) shows.2 ∙ refusal_is status shows.0 ∙ ap (λ n. Code n) (sym shows.1)
   page_of-shown status body Status valid shows = ap (page_of status) shows ∙ status_page_is status valid
   page_of-shown status body Other valid shows = other_is status body shows
 
@@ -141,16 +159,21 @@ module _ (clean : EscapedTextHoldsNoMarkup) (again : EscapedTextIsReadAgain) whe
   pub page_of-shows : (status : ℕ) (body : List ℕ) → IsStatusCode status → Shows status body (page_of status body)
   page_of-shows status body valid = by_form (form_in body) refl
     where
-      other : form_in body ≡ None → login_in body ≡ None → is_end body ≡ false → code_in body ≡ None → is_status status body ≡ false → IsOther status body
+      other : form_in body ≡ None → login_in body ≡ None → is_end body ≡ false → code_in body ≡ None →
+          is_status status body ≡ false → IsOther status body
       other no_form no_login no_end no_code no_status = record {
         no_form = λ form shows. never form (sym no_form ∙ ap form_in shows.1 ∙ form_in-page clean again form shows.0);
-        no_login = λ pending shows. never pending (sym no_login ∙ ap login_in shows.1 ∙ login_in-page clean again pending shows.0);
+        no_login = λ pending shows. never pending
+            (sym no_login ∙ ap login_in shows.1 ∙ login_in-page clean again pending shows.0);
         no_end = λ partial shows. true_false (sym (ap is_end shows ∙ end_is partial) ∙ no_end);
-        no_code = λ verdict shows. never (number_of verdict) (sym no_code ∙ ap code_in shows ∙ code_in-refusal_page verdict);
-        no_status = λ shows. true_false (sym (ap (is_status status) shows ∙ bytes_eq-same (status_page status)) ∙ no_status);
+        no_code = λ verdict shows. never (number_of verdict)
+            (sym no_code ∙ ap code_in shows ∙ code_in-refusal_page verdict);
+        no_status = λ shows. true_false
+            (sym (ap (is_status status) shows ∙ bytes_eq-same (status_page status)) ∙ no_status);
       }
 
-      by_status : (t : Bool) → is_status status body ≡ t → form_in body ≡ None → login_in body ≡ None → is_end body ≡ false → code_in body ≡ None →
+      by_status : (t : Bool) → is_status status body ≡ t → form_in body ≡ None → login_in body ≡ None →
+          is_end body ≡ false → code_in body ≡ None →
           Shows status body (cond t Status Other)
       by_status true e no_form no_login no_end no_code = (bytes_eq-Decides body (status_page status)).0 e
       by_status false e no_form no_login no_end no_code = other no_form no_login no_end no_code e
@@ -160,14 +183,17 @@ module _ (clean : EscapedTextHoldsNoMarkup) (again : EscapedTextIsReadAgain) whe
       by_code (Some n) e no_form no_login no_end = code_shows status body n e
       by_code None e no_form no_login no_end = by_status (is_status status body) refl no_form no_login no_end e
 
-      by_end : (t : Bool) → is_end body ≡ t → form_in body ≡ None → login_in body ≡ None → Shows status body (other_by t (code_in body) (is_status status body))
+      by_end : (t : Bool) → is_end body ≡ t → form_in body ≡ None → login_in body ≡ None →
+          Shows status body (other_by t (code_in body) (is_status status body))
       by_end true e no_form no_login = end_shows body e
       by_end false e no_form no_login = by_code (code_in body) refl no_form no_login e
 
-      by_login : (o : Option (List ℕ)) → login_in body ≡ o → form_in body ≡ None → Shows status body (page_by None o (other_page status body))
+      by_login : (o : Option (List ℕ)) → login_in body ≡ o → form_in body ≡ None →
+          Shows status body (page_by None o (other_page status body))
       by_login (Some pending) e no_form = login_in-shows body pending e
       by_login None e no_form = by_end (is_end body) refl no_form e
 
-      by_form : (o : Option AutoForm) → form_in body ≡ o → Shows status body (page_by o (login_in body) (other_page status body))
+      by_form : (o : Option AutoForm) → form_in body ≡ o →
+          Shows status body (page_by o (login_in body) (other_page status body))
       by_form (Some form) e = form_in-shows body form e
       by_form None e = by_login (login_in body) refl e

@@ -17,7 +17,8 @@ use Rattle.post_agent.proofs.Cutting.{other_byte}
 use Rattle.post_agent.specs.Reading.{in_utf8, first_of, behind_reference, are_bytes, as_bytes, decoded}
 
 pub is_text : (bytes text : List ℕ) → text ≡ bytes → IsUtf8 bytes → Some text ≡ in_utf8 bytes
-is_text bytes text same valid = ap Some same ∙ sym (ap (λ t. cond t (Some bytes) None) (is_utf8-from_IsUtf8 bytes valid))
+is_text bytes text same valid =
+    ap Some same ∙ sym (ap (λ t. cond t (Some bytes) None) (is_utf8-from_IsUtf8 bytes valid))
 
 pub is_no_text : (bytes : List ℕ) → ¬ (IsUtf8 bytes) → None ≡ in_utf8 bytes
 is_no_text bytes invalid = sym (by_test (is_utf8 bytes) refl)
@@ -40,7 +41,8 @@ character_of first = option_map (λ rest. first.0 ∷ rest) (read_text first.1)
 -- the text behind an ampersand, by which of the references comes
 abbrev Read : List ℕ → Bool → Bool → Bool → Bool → Bool → Type 0
 Read text amp lt gt quot apos =
-    option_and_then (λ (reference : List ℕ × ℕ). option_map (λ rest. reference.1 ∷ rest) (read_behind (length reference.0 - 1) text))
+    option_and_then (λ (reference : List ℕ × ℕ). option_map (λ rest. reference.1 ∷ rest)
+    (read_behind (length reference.0 - 1) text))
     (cond amp (Some (codes "&amp;", 38)) (cond lt (Some (codes "&lt;", 60)) (cond gt (Some (codes "&gt;", 62))
     (cond quot (Some (codes "&quot;", 34)) (cond apos (Some (codes "&#39;", 39)) None)))))
     ≡ option_and_then character_of
@@ -62,7 +64,9 @@ abbrev starts : List ℕ → List ℕ → Bool
 starts text front = starts_with nat_eq text front
 
 behind_ampersand : (text : List ℕ) → read_text (38 ∷ text) ≡ option_and_then character_of (behind_reference (38 ∷ text))
-behind_ampersand text = read_each text (starts text (codes "amp;")) (starts text (codes "lt;")) (starts text (codes "gt;")) (starts text (codes "quot;")) (starts text (codes "#39;"))
+behind_ampersand text =
+    read_each text (starts text (codes "amp;")) (starts text (codes "lt;")) (starts text (codes "gt;"))
+    (starts text (codes "quot;")) (starts text (codes "#39;"))
 
 -- what stands behind a reference is shorter
 abbrev Shorter : List ℕ → Option (ℕ × List ℕ) → Type 0
@@ -73,31 +77,44 @@ one_shorter : (character n : ℕ) (text : List ℕ) (t : Bool) (other : Option (
 one_shorter character n text true other h = omega (arith, length-drop n text)
 one_shorter character n text false other h = h
 
-last_shorter : (character n : ℕ) (text : List ℕ) (t : Bool) → Shorter (38 ∷ text) (option_map (λ rest. (character, rest)) (cond t (Some (drop n text)) None))
+last_shorter : (character n : ℕ) (text : List ℕ) (t : Bool) →
+    Shorter (38 ∷ text) (option_map (λ rest. (character, rest)) (cond t (Some (drop n text)) None))
 last_shorter character n text true = omega (arith, length-drop n text)
 last_shorter character n text false = tt
 
 reference_is_shorter : (text : List ℕ) → Shorter (38 ∷ text) (behind_reference (38 ∷ text))
 reference_is_shorter text =
-    one_shorter 38 4 text (starts text (codes "amp;")) _ (one_shorter 60 3 text (starts text (codes "lt;")) _ (one_shorter 62 3 text (starts text (codes "gt;")) _
+    one_shorter 38 4 text (starts text (codes "amp;")) _
+    (one_shorter 60 3 text (starts text (codes "lt;")) _ (one_shorter 62 3 text (starts text (codes "gt;")) _
     (one_shorter 34 5 text (starts text (codes "quot;")) _ (last_shorter 39 4 text (starts text (codes "#39;"))))))
 
 abbrev Pair : Type 0
 Pair = ℕ × Bor (List ℕ)
 
-pub at_reference : (text : List ℕ) (o : Option Pair) → option_map (λ (f : Pair). (f.0, f.1.now)) o ≡ behind_reference text → get_or text 0 0 ≡ 38 → 0 < length text →
-    MatchOption o (read_text text ≡ None) (λ (f : Pair). (read_text text ≡ option_map (λ rest. f.0 ∷ rest) (read_text f.1.now)) × (length f.1.now < length text))
+pub at_reference : (text : List ℕ) (o : Option Pair) →
+    option_map (λ (f : Pair). (f.0, f.1.now)) o ≡ behind_reference text → get_or text 0 0 ≡ 38 → 0 < length text →
+    MatchOption o (read_text text ≡ None)
+    (λ (f : Pair). (read_text text ≡ option_map (λ rest. f.0 ∷ rest) (read_text f.1.now))
+    × (length f.1.now < length text))
 at_reference [] o found first some = absurd (omega arith)
 at_reference (b ∷ text) o found first some =
     subst (λ (c : ℕ). option_map (λ (f : Pair). (f.0, f.1.now)) o ≡ behind_reference (c ∷ text) →
-    MatchOption o (read_text (c ∷ text) ≡ None) (λ (f : Pair). (read_text (c ∷ text) ≡ option_map (λ rest. f.0 ∷ rest) (read_text f.1.now)) × (length f.1.now < length (c ∷ text))))
+    MatchOption o (read_text (c ∷ text) ≡ None)
+    (λ (f : Pair). (read_text (c ∷ text) ≡ option_map (λ rest. f.0 ∷ rest) (read_text f.1.now))
+    × (length f.1.now < length (c ∷ text))))
     (sym first) (by_option o) found
   where
     by_option : (o : Option Pair) → option_map (λ (f : Pair). (f.0, f.1.now)) o ≡ behind_reference (38 ∷ text) →
-        MatchOption o (read_text (38 ∷ text) ≡ None) (λ (f : Pair). (read_text (38 ∷ text) ≡ option_map (λ rest. f.0 ∷ rest) (read_text f.1.now)) × (length f.1.now < length (38 ∷ text)))
+        MatchOption o (read_text (38 ∷ text) ≡ None)
+        (λ (f : Pair). (read_text (38 ∷ text) ≡ option_map (λ rest. f.0 ∷ rest) (read_text f.1.now))
+        × (length f.1.now < length (38 ∷ text)))
     by_option None e = behind_ampersand text ∙ ap (option_and_then character_of) (sym e)
-    by_option (Some f) e =
-        (behind_ampersand text ∙ ap (option_and_then character_of) (sym e), subst (Shorter (38 ∷ text)) (sym e) (reference_is_shorter text))
+    by_option (Some f) e = (
+      behind_ampersand text
+          ∙ ap (option_and_then character_of) (sym e),
+      subst (Shorter (38 ∷ text)) (sym e)
+          (reference_is_shorter text),
+    )
 
 pub plain_character : (text : List ℕ) → 0 < length text → get_or text 0 0 ≢ 38 →
     (read_text text ≡ option_map (λ rest. get_or text 0 0 ∷ rest) (read_text (take (length text - 1) (drop 1 text))))
@@ -128,7 +145,8 @@ are_bytes-true (b ∷ bytes) is =
     le-ltb' : (c : ℕ) → c < 256 → nat_lt c 256 ≡ true
     le-ltb' c h = grind (arith, nat_tests)
 
-pub is_decoded : (symbols message copy : List ℕ) → decode_of standard symbols ≡ Ok message → IsBytes message → copy ≡ message → Some copy ≡ decoded symbols
+pub is_decoded : (symbols message copy : List ℕ) → decode_of standard symbols ≡ Ok message → IsBytes message →
+    copy ≡ message → Some copy ≡ decoded symbols
 is_decoded symbols message copy decodes is same =
     ap Some same ∙ ap (λ t. cond t (Some message) None) (sym (are_bytes-true message is))
     ∙ ap (λ r. option_and_then as_bytes (result_ok r)) (sym decodes)

@@ -24,12 +24,17 @@ head_of method site cookie path =
 abbrev pub get : Site → Option (List ℕ) → List ℕ → List ℕ
 get site cookie path = head_of (codes "GET") site cookie path ++ codes "\r\n"
 
--- RFC 9110, 9.3.3, with a form as its body (HTML, 4.10.21.8)
+-- RFC 9110, 9.3.3, with a form of this size as its body (HTML, 4.10.21.8)
+abbrev pub form_type : List ℕ
+form_type = codes "application/x-www-form-urlencoded"
+
+abbrev pub post_head : Site → Option (List ℕ) → List ℕ → ℕ → List ℕ
+post_head site cookie path size =
+    head_of (codes "POST") site cookie path ++ field_line (codes "Content-Type") form_type
+    ++ field_line (codes "Content-Length") (decimal size) ++ codes "\r\n"
+
 abbrev pub post : Site → Option (List ℕ) → List ℕ → List ℕ → List ℕ
-post site cookie path form =
-    head_of (codes "POST") site cookie path
-    ++ field_line (codes "Content-Type") (codes "application/x-www-form-urlencoded")
-    ++ field_line (codes "Content-Length") (decimal (length form)) ++ codes "\r\n" ++ form
+post site cookie path form = post_head site cookie path (length form) ++ form
 
 -- the fields of the login page, as its user fills them in
 abbrev pub login_pairs : List ℕ → List ℕ → List ℕ → List Pair

@@ -15,6 +15,9 @@
 //! `post_binding` makes it: a page is one of these exactly where some texts give these bytes, and bytes are one page at
 //! most ([`laws::each_answer_has_one_reading`]).
 //!
+//! A node reads what is sent as a whole request for its path, with its cookie and its form
+//! ([`laws::each_request_is_read`]).
+//!
 //! Each call that takes memory may answer `NoMemory`, and the agent is then as it was.
 #![tactic(auto)]
 

@@ -15,7 +15,8 @@ pub record AreMade (n start number : ℕ) (steps : List Step) : Type 0 where
 pub none_made : (start : ℕ) → start ≤ 2147483647 → AreMade 0 start start []
 none_made start small = record { number_is = refl; small = small; steps_are = refl }
 
-pub one_made : (n start number new : ℕ) (steps with_login with_more : List Step) → AreMade n start number steps → new ≡ next number →
+pub one_made : (n start number new : ℕ) (steps with_login with_more : List Step) → AreMade n start number steps →
+    new ≡ next number →
     with_login ≡ steps ++ login_at (1704067200000 + 1000 * (n + 1)) new → with_more ≡ with_login ++ more_by new →
     AreMade (n + 1) start new with_more
 one_made n start number new steps with_login with_more so_far is_new is_login is_more =

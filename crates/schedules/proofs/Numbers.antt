@@ -17,16 +17,19 @@ few_lines : (bytes : List ℕ) → length (lines bytes) ≤ length bytes
 few_lines [] = omega arith
 few_lines (b ∷ bytes) = by_test (b == line_feed) (few_lines bytes)
   where
-    by_test : (t : Bool) → length (lines bytes) ≤ length bytes → length (cond t ([] ∷ lines bytes) (in_first b (lines bytes))) ≤ suc (length bytes)
+    by_test : (t : Bool) → length (lines bytes) ≤ length bytes →
+        length (cond t ([] ∷ lines bytes) (in_first b (lines bytes))) ≤ suc (length bytes)
     by_test true few = omega arith
     by_test false few = first_is_longer b (lines bytes) (length bytes) few
 
 small_from : (number : ℕ) (ls : List (List ℕ)) → number + length ls ≤ 2 ^ 32 → AreSmall (said_from number ls)
 small_from number [] fits = tt
-small_from number (line ∷ ls) fits = by_tests (not (is_text line)) (is_passed_over line) (small_from (suc number) ls (omega arith))
+small_from number (line ∷ ls) fits =
+    by_tests (not (is_text line)) (is_passed_over line) (small_from (suc number) ls (omega arith))
   where
     by_tests : (t p : Bool) → AreSmall (said_from (suc number) ls) →
-        AreSmall (cond t (NoText number ∷ []) (cond p (said_from (suc number) ls) (Says number line ∷ said_from (suc number) ls)))
+        AreSmall (cond t (NoText number ∷ [])
+        (cond p (said_from (suc number) ls) (Says number line ∷ said_from (suc number) ls)))
     by_tests true p others = (omega arith, tt)
     by_tests false true others = others
     by_tests false false others = (omega arith, others)
