@@ -81,8 +81,3 @@ refusal_pieces digits name =
   where
     grouped : (a b c d : List ℕ) → a ++ (b ++ (c ++ (d ++ []))) ≡ ((a ++ b) ++ c) ++ d
     grouped a b c d = simp (append_assoc, append-nil)
-
-pub status_pieces : (digits : List ℕ) →
-    codes "<!DOCTYPE html><html><body><p>" ++ (digits ++ (codes "</p></body></html>" ++ [])) ≡ page digits
-status_pieces digits =
-    ap (λ xs. codes "<!DOCTYPE html><html><body><p>" ++ (digits ++ xs)) (append-nil (codes "</p></body></html>")) ∙ refl

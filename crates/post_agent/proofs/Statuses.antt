@@ -65,11 +65,6 @@ no_status (a ∷ b ∷ c ∷ []) other =
         absurd (other (digits_are_code a b c (true_lt 48 a one.1) (digit_high a three.0) (digit_low b three.1)
         (digit_high b three.1) (digit_low c two.1) (digit_high c two.1)))
 
-pub found_status : (bytes front : List ℕ) (n : ℕ) → code_digits n ≡ front → front ≡ take 3 bytes → IsStatusCode n →
-    Some (n, drop 3 bytes) ≡ status_in bytes
-found_status bytes front n digits same is =
-    ap (option_map (λ status. (status, drop 3 bytes))) (sym (status_by-code_digits n is) ∙ ap status_by (digits ∙ same))
-
 pub no_status_in : (bytes : List ℕ) → ¬ (IsCodeText (take 3 bytes)) → None ≡ status_in bytes
 no_status_in bytes other = ap (option_map (λ status. (status, drop 3 bytes))) (sym (no_status (take 3 bytes) other))
 

@@ -41,9 +41,6 @@ decimal-status n is =
 other_letter : (d c : ℕ) → d < 58 → 58 ≤ c → (d == c) ≡ false
 other_letter d c low high = grind (arith, nat_tests)
 
-other_letter' : (d c : ℕ) → d < 58 → 58 ≤ c → (c == d) ≡ false
-other_letter' d c low high = grind (arith, nat_tests)
-
 -- a paragraph that begins with a digit
 no_end_there : (d : ℕ) (rest : List ℕ) → d < 58 → is_end (page (d ∷ rest)) ≡ false
 no_end_there d rest low = rw (other_letter d 76 low (omega arith)) refl

@@ -1,5 +1,5 @@
 -- Schedules of many logins are made one behind the other.
-use Rattle.std.proofs.Common.{◌≡◌, ℕ, zero, suc, ◌+◌, ◌*◌, ◌%◌, ◌<◌, ◌≤◌, Bool, true, false, cond, ◌==◌, List, [], ◌∷◌, ◌++◌, length, refl, sym, ap, ◌∙◌, arith, append_assoc}
+use Rattle.std.proofs.Common.{◌≡◌, ℕ, zero, suc, ◌+◌, ◌*◌, ◌%◌, ◌<◌, ◌≤◌, Bool, true, false, cond, ◌==◌, List, [], ◌∷◌, ◌++◌, length, sym, ap, ◌∙◌, arith, append_assoc}
 use Rattle.std.proofs.lemmas.List.{length-append}
 use Rattle.schedules.specs.declared.step.Step.{Step}
 use Rattle.post_agent.specs.declared.site.Site.TheVariants.{Sp}
@@ -11,9 +11,6 @@ pub record AreMade (n start number : ℕ) (steps : List Step) : Type 0 where
   pub number_is : number ≡ drawn start n
   pub small : number ≤ 2147483647
   pub steps_are : steps ≡ made n start
-
-pub none_made : (start : ℕ) → start ≤ 2147483647 → AreMade 0 start start []
-none_made start small = record { number_is = refl; small = small; steps_are = refl }
 
 pub one_made : (n start number new : ℕ) (steps with_login with_more : List Step) → AreMade n start number steps →
     new ≡ next number →
