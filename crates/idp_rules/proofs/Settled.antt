@@ -1,6 +1,5 @@
 -- A form asks for a login or is refused: it can't be that neither holds.
 use Rattle.std.proofs.Common.{◌≡◌, ℕ, Bool, true, false, List, Option, None, Some, Result, Ok, Err, refl, sym, ◌∙◌, ap}
-use Rattle.std.specs.Prelude.{slice_get}
 use Rattle.xml_spec.specs.Tree.{Nodes}
 use Rattle.saml_tree.specs.Documents.{IsSpelled}
 use Rattle.post_binding.specs.Form.{form}
@@ -8,7 +7,6 @@ use Rattle.post_binding.specs.declared.fault.FormFault.{FormFault}
 use Rattle.post_binding.specs.declared.posted.Field.{Field}
 use Rattle.post_binding.specs.declared.posted.Field.TheVariants.{Request, Response}
 use Rattle.post_binding.specs.declared.posted.Posted.{Posted}
-use Rattle.protocol_messages.specs.declared.authn.AuthnRequest.{AuthnRequest}
 use Rattle.verdict_codes.specs.declared.codes.Verdict.{Verdict}
 use Rattle.verdict_codes.specs.declared.codes.Verdict.TheVariants as verdicts
 use Rattle.fault_verdicts.proofs.Settled.{IsJudgement, form_judged, document_settled, signature_settled}

@@ -14,3 +14,4 @@ pub mod Images
 pub mod CompactLaws
 pub mod CompactSteps
 pub mod Draftable
+pub mod Staying
