@@ -18,3 +18,4 @@ pub mod RowTexts
 pub mod DraftedRecords
 pub mod SpentMarks
 pub mod RuleLaws
+pub mod SessionsStaying

@@ -1,14 +1,17 @@
 -- The laws of a ledger.
-use Rattle.std.specs.Prelude.{◌≡◌, ℕ, ◌≤◌, List, IsSome}
+use Rattle.std.specs.Prelude.{◌≡◌, ℕ, ◌≤◌, List, IsSome, Contains}
 use Rattle.ledger_records.specs.declared.sp_record.SpRecord.{SpRecord}
 use Rattle.request_rows.specs.Rows.{asked_row, is_spent, is_seen, session_row}
 use Rattle.record_ledger.specs.Laws as any
-use Rattle.request_ledger.specs.RowsOf.{rows_of}
+use Rattle.request_ledger.specs.RowsOf.{rows_of, opened_rows, closed_if, closes}
 use Rattle.request_ledger.specs.Record.{AreRecords, request_rules}
 use Rattle.request_ledger.specs.Ledger.{Held}
 use Rattle.request_ledger.specs.Drafts.{ending, is_waiting_now}
 use Rattle.request_ledger.specs.Compacting.{IsCompacted}
 use Rattle.request_ledger.specs.Runs.{Event, Leads, AreDifferent, requests_opened, requests_of_run}
+use Rattle.std.specs.List.{list_any}
+use Rattle.request_rows.specs.declared.row.OpenedRow.{OpenedRow}
+use Rattle.record_ledger.specs.Runs.{added, CompactsAt, EndsBehind}
 
 -- At a moment the two rows with their horizons answer all that is asked of them alike: which request was asked, whether it is
 -- spent, whether an assertion was seen, which session lives, which sessions an answered logout ends, and which logout waits.
@@ -39,3 +42,11 @@ NoRequestOpensTwice = (records : List SpRecord) → AreRecords records → AreDi
 -- nor has a whole run, the records that were left out since included
 abbrev pub NoRequestOpensTwiceInARun : Type 0
 NoRequestOpensTwiceInARun = (start held : Held) (events : List Event) → AreRecords start.records → Leads start events held → AreDifferent (requests_of_run start events)
+
+-- A session that is kept, and ends behind each moment at which a run compacts the ledger, has a row to the end of the run: closed
+-- where it was, or where a record that was added since closes it.
+abbrev pub SessionsStay : Type 0
+SessionsStay =
+    (start held : Held) (events : List Event) (moments : List ℕ) (row : OpenedRow) → Leads start events held → CompactsAt moments events
+    → Contains (opened_rows start.records) row → EndsBehind start.header.horizon moments row.until
+    → Contains (opened_rows held.records) (closed_if (list_any (closes row.token) (added events)) row)
