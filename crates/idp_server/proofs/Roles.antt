@@ -11,6 +11,7 @@ use Rattle.idp_ledger.specs.Record.{LAST, idp_rules}
 use Rattle.idp_ledger.specs.Standing.{idp_row_rules}
 use Rattle.idp_rules.specs.Config.{IsUsable}
 use Rattle.idp_rules.specs.declared.config.IdpConfig.{IdpConfig}
+use Rattle.node_steps.specs.Drafted.{drafted_of}
 use Rattle.node_steps.specs.Replies.{AreReplies, IsDrafted}
 use Rattle.node_steps.proofs.Drafting.{drafted_some}
 use Rattle.idp_server.specs.declared.reply.Reply.{Reply}
@@ -43,7 +44,7 @@ of_record P o r is holds = subst (λ (o : Option IdpRecord). IfSome o P) is hold
 pub idp_drafted : (key : List ℕ) (old new : Opened) (now : ℕ) (reply : Reply) (r : IdpRecord) (result : Result (Option IdpRecord) DraftFault) → old.key ≡ key → SameLedger old new
     → found_record old.key old.held now reply ≡ Some r
     → IfSome (found_record old.key old.held now reply) (λ r. DraftsSome old new (is_nothing old.held now reply) r result)
-    → IsDrafted idp_rules old.held (CanCommit new) (λ d. d) (record_for key old.held now reply) result
+    → IsDrafted idp_rules old.held (CanCommit new) (λ d. d) (record_for key old.held now reply) (drafted_of result)
 idp_drafted key old new now reply r result same_key same found drafts =
     let own : found_record key old.held now reply ≡ Some r = subst (λ (k : List ℕ). found_record k old.held now reply ≡ Some r) same_key found in
     let if_nothing = λ (b : Bool). if b then None else found_record key old.held now reply in

@@ -22,26 +22,9 @@ use Rattle.record_ledger.proofs.Records.{AreRecords-push}
 use Rattle.idp_ledger.proofs.LawWords.{Each, next_cons, next_push, parts}
 use Rattle.idp_ledger.proofs.RowLaws.{rows_of-push}
 use Rattle.record_ledger.specs.Runs.{Adds, Compacts, Event, Leads, Opens}
+use Rattle.node_steps.proofs.Runs.{run_records}
 use Rattle.node_steps.specs.Histories.{Another, Includes, Nothing, This}
 use Rattle.idp_server.specs.Histories.{AnEndedSessionStaysEnded, IsDead, IsEnded}
-
--- ---- what events lead to are records
-
-migrated_records : (b : Bool) (one other : Held) → one.records ≡ other.records → AreRecords other.records → AreRecords (if b then one else other).records
-migrated_records true one other same are = subst AreRecords (sym same) are
-migrated_records false one other same are = are
-
-pub run_records : (start held : Held) (events : List (Event IdpRecord)) → AreRecords start.records → Leads idp_rules start events held → AreRecords held.records
-run_records start held [] are leads = subst (λ (h : Held). AreRecords h.records) (sym leads) are
-run_records start held (Adds r ∷ past) are leads =
-    subst (λ (h : Held). AreRecords h.records) (sym leads.4) (AreRecords-push idp_rules leads.0.records r (run_records start leads.0 past are leads.1) leads.2)
-run_records start held (Compacts now ∷ past) are leads = made_records now leads.0 held leads.2 (run_records start leads.0 past are leads.1)
-  where
-    made_records : (now : ℕ) (before held : Held) → IsMade now before held → AreRecords before.records → AreRecords held.records
-    made_records now before held (inl same) are = subst (λ (h : Held). AreRecords h.records) (sym same.1) are
-    made_records now before held (inr made) are = kept_are_records now before.header.horizon before.records held.records are made.1.records
-run_records start held (Opens ∷ past) are leads =
-    subst (λ (h : Held). AreRecords h.records) (sym leads.2) (migrated_records (leads.0.version == 1) _ leads.0 refl (run_records start leads.0 past are leads.1))
 
 -- ---- none is found
 
@@ -251,7 +234,7 @@ module _ (law : CompactionsChangeNoAnswer) (start : Held) (are : AreRecords star
   one_event (Adds r) past held earlier leads =
       subst (λ (h : Held). Never h cookie) (sym leads.4) (added leads.0 r cookie leads.2 leads.3 (earlier leads.0 leads.1))
   one_event (Compacts now) past held earlier leads =
-      compacted now leads.0 held cookie law (run_records start leads.0 past are leads.1) leads.2 (earlier leads.0 leads.1)
+      compacted now leads.0 held cookie law (run_records idp_rules kept_are_records start leads.0 past are leads.1) leads.2 (earlier leads.0 leads.1)
   one_event Opens past held earlier leads = subst (λ (h : Held). Never h cookie) (sym leads.2) (opened_anew leads.0 cookie (earlier leads.0 leads.1))
 
   run_never : (events : List (Event IdpRecord)) (held : Held) → Never start cookie → Leads idp_rules start events held → Never held cookie
@@ -338,7 +321,7 @@ module _ (law : CompactionsChangeNoAnswer) (start : Held) (are : AreRecords star
       elim (front x r records has) [
         | inl here ↦
             let before = leads.0 in
-            let before_are = run_records start before past are leads.1 in
+            let before_are = run_records idp_rules kept_are_records start before past are leads.1 in
             let is : is_record before.records r ≡ true = subst (λ (z : IdpRecord). is_record before.records z ≡ true) here leads.2 in
             subst (λ (h : Held). Never h cookie) (sym (leads.4 ∙ ap (λ (z : IdpRecord). held_with z before) here))
             (at_start (held_with r before) cookie (AreRecords-push idp_rules before.records r before_are is) (ends_it before r cookie is ending))

@@ -14,16 +14,16 @@
 //! | POST `/slo` | the verdict on the posted form; to a LogoutRequest a form with a LogoutResponse, where there are sessions to end, else code 33; to a LogoutResponse the page at the end of the logout that it replies to, else code 34 |
 //! | GET `/metadata` | the metadata of the provider |
 //!
-//! What one request does is one definition, `Steps` of `specs/Step.antt`, by the named cases of `node_steps`: nothing is
-//! recorded; a record is added; it is added after one compaction that made room; there is no room (code 51); the disk failed
-//! (50); it holds no ledger (53); there was no memory (52). What is answered, and with which record, is `Answers`. An answer
-//! that stands for a record is sent only where the record is in every image that a crash may leave. All pages are made before
-//! the record is written, so from then on only the disk can refuse.
+//! What one request does is one definition, `Steps` of `specs/Step.antt`, by the named cases of `node_steps`: nothing
+//! is recorded; a record is added; it is added after one compaction that made room; there is no room (code 51); the
+//! disk failed (50); it holds no ledger (53); there was no memory (52). What is answered, and with which record, is
+//! `Answers`. An answer that stands for a record is sent only where the record is in every image that a crash may
+//! leave. All pages are made before the record is written, so from then on only the disk can refuse.
 //!
-//! Of each step the [`laws`] hold: an Assertion is issued only for a password that was posted and accepted, or in a live session of
-//! the request's cookie; a session is ended exactly where its user leaves it or a peer asks for it, and never lives again; whatever page
-//! or form is answered, its record is in every image that a crash may leave; and the elements that are signed in an answer are those that
-//! its record stands for.
+//! Of each step the [`laws`] hold: an Assertion is issued only for a password that was posted and accepted, or in a
+//! live session of the request's cookie; a session is ended exactly where its user leaves it or a peer asks for it,
+//! and never lives again; whatever page or form is answered, its record is in every image that a crash may leave; and
+//! the elements that are signed in an answer are those that its record stands for.
 #![tactic(auto)]
 
 mod issuing;

@@ -34,7 +34,8 @@ pub enum Reply {
         attributes: Attributes,
         peer: usize,
     },
-    /// A LogoutRequest, as this user leaves the live session of this cookie, which has this index (SAML Profiles, 4.4.3.1).
+    /// A LogoutRequest, as this user leaves the live session of this cookie, which has this index (SAML Profiles,
+    /// 4.4.3.1).
     Leave {
         cookie: Text,
         user: Text,
@@ -105,8 +106,8 @@ impl Reply {
         }
     }
 
-    /// The code that says that there is nothing to record: no session to end, or no logout that waits. For all else it is
-    /// never asked.
+    /// The code that says that there is nothing to record: no session to end, or no logout that waits. For all else
+    /// it is never asked.
     pub(crate) fn refusal(&self) -> u16
         ensures is { result ≡ refusal_of self.now }
         ensures page { IsTrue (is_fixed result) }

@@ -15,8 +15,8 @@ use fault_verdicts::Judged;
 use http_wire::{Answer, HttpRequest};
 use idp_answers::metadata_answer;
 use idp_ledger::laws::compactions_change_no_answer;
-use idp_ledger::{Draft, DraftFault, IdpLedger};
-use node_steps::{Replied, Role};
+use idp_ledger::{Draft, IdpLedger};
+use node_steps::{Drafted, Replied, Role};
 use owned_values::{Blob, NoMemory};
 
 impl IdpRole {
@@ -29,7 +29,8 @@ impl IdpRole {
         reply: Result<Reply, Judged>,
     ) -> Result<Replied<Reply>, NoMemory>
         requires wants { IfOk reply (Wants self.now ledger.now.held (request_view request.now) now) }
-        requires refused { IfErr reply (IsJudged (λ verdict. Answers self.now ledger.now.held (request_view request.now) now (Fixed (number_of verdict)) None)) }
+        requires refused { IfErr reply (IsJudged (λ verdict.
+            Answers self.now ledger.now.held (request_view request.now) now (Fixed (number_of verdict)) None)) }
         ensures { IfOk result (RepliesTo self.now ledger.now.held (request_view request.now) now) }
     {
         match reply {
@@ -95,13 +96,8 @@ impl Role for IdpRole {
         }
     }
 
-    fn draft(
-        &self,
-        reply: &Reply,
-        ledger: &mut IdpLedger,
-        now: u64,
-    ) -> Result<Option<Draft>, DraftFault> {
-        reply.draft(ledger, now)
+    fn draft(&self, reply: &Reply, ledger: &mut IdpLedger, now: u64) -> Drafted<Draft> {
+        Drafted::of(reply.draft(ledger, now))
     }
 
     fn page(&self, reply: &Reply, draft: &Draft, now: u64) -> Result<Blob, NoMemory> {

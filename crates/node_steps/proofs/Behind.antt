@@ -1,5 +1,5 @@
 -- What a provider does behind a draft, a compaction or an opening, seen from before it.
-use Rattle.std.specs.Prelude.{IsErrOf, Option, None, Some, Result, Err}
+use Rattle.std.specs.Prelude.{IfErr, IsErrOf, Option, None, Some, Result, Ok, Err}
 use Rattle.std.proofs.Common.{◌≡◌, inl, inr, ℕ, subst, refl, ap, ◌∙◌}
 use Rattle.http_wire.specs.declared.answer.Answer.{Answer}
 use Rattle.http_wire.specs.declared.answer.Answer.TheVariants.{Fixed}
@@ -62,7 +62,7 @@ module _ {Setup R : Type 0} {rules : RecordRules R} where
 
 module _ {Setup R : Type 0} {rules : RecordRules R} {Answers : AnswersBy Setup R} where
   -- it failed
-  pub serves_uncompacted : (found : Held R) (old new : Provider Setup R) (request : Request) (now : ℕ) (Risen : Type 0) (fault : OpenFault) (other : Answer) (wanted : R)
+  serves_uncompacted : (found : Held R) (old new : Provider Setup R) (request : Request) (now : ℕ) (Risen : Type 0) (fault : OpenFault) (other : Answer) (wanted : R)
       → Answers old.setup found request now other (Some wanted) → CompactsFound rules now found (Err fault) old new → (IsErrOf {T = Unit {0}} (Err fault) DiskFault → Risen)
       → Serves rules Answers found request now Risen (Fixed (code_of fault)) old new
   serves_uncompacted found old new request now Risen fault other wanted wants (MadeAnew held is made whole) risen = cc
@@ -72,3 +72,12 @@ module _ {Setup R : Type 0} {rules : RecordRules R} {Answers : AnswersBy Setup R
   serves_uncompacted found old new request now Risen fault other wanted wants (Fails is broken) risen =
       let same : fault ≡ DiskFault = cc in
       Failed wanted other wants (risen is) (ap (λ (f : OpenFault). Fixed (code_of f)) same) broken
+
+module _ {Setup R : Type 0} {rules : RecordRules R} (Answers : AnswersBy Setup R) where
+  -- a compaction that made no room
+  pub serves_unmade : (found : Held R) (old new : Provider Setup R) (request : Request) (now : ℕ) (Risen : Type 0) (result : Result (Unit {0}) OpenFault) (other : Answer) (wanted : R)
+      → Answers old.setup found request now other (Some wanted) → CompactsFound rules now found result old new → (IsErrOf result DiskFault → Risen)
+      → IfErr result (λ fault. Serves rules Answers found request now Risen (Fixed (code_of fault)) old new)
+  serves_unmade found old new request now Risen (Ok u) other wanted wants compacts risen = tt
+  serves_unmade found old new request now Risen (Err fault) other wanted wants compacts risen =
+      serves_uncompacted found old new request now Risen fault other wanted wants compacts risen

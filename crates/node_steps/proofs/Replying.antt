@@ -1,24 +1,19 @@
 -- What follows where a reply is wanted.
-use Rattle.std.specs.Prelude.{Result, is_some}
+use Rattle.std.specs.Prelude.{OnOk, Result, Ok, Err, is_some}
 use Rattle.std.proofs.Common.{◌≡◌, inl, inr, ℕ, true, false, Option, None, Some, sym, subst, refl, ap, ◌∙◌}
 use Rattle.crash_disk.specs.Disk.{Image}
 use Rattle.http_wire.specs.declared.answer.Answer.{Answer}
 use Rattle.http_wire.specs.declared.answer.Answer.TheVariants.{Fixed, Full}
 use Rattle.http_wire.specs.Requests.{Request}
-use Rattle.ledger_rules.specs.declared.fault.DraftFault.{DraftFault}
+use Rattle.gate_journal.specs.declared.fault.OpenFault.{OpenFault}
 use Rattle.record_ledger.specs.Rules.{RecordRules, AreRecords}
 use Rattle.record_ledger.specs.Ledger.{Held, IsWithOrWithout}
 use Rattle.record_ledger.specs.Compacting.{Compacts}
-use Rattle.node_steps.specs.Replies.{AreReplies, HasNoPlace, IsDrafted, IsPage, ReplyRules}
+use Rattle.node_steps.specs.Replies.{AreReplies, HasNoPlace, IsAgain, IsPage, ReplyRules}
 use Rattle.node_steps.specs.Serving.{Adds}
-use Rattle.node_steps.specs.Step.{AnswersBy, HasPlace, IsWhole, Ledger, MakesRoom, NoPlace, Serves, ServingLeaves, Starved, provider}
+use Rattle.node_steps.specs.Step.{AnswersBy, HasPlace, IsWhole, Ledger, NoPlace, Serves, ServingLeaves, Starved, provider}
 use Rattle.node_steps.specs.declared.codes.TheConstants.{FULL, NO_MEMORY}
 use Rattle.node_steps.proofs.Serving.{adding_leaves, served, served_later, whole_on}
-
--- what became of a draft, seen from the arm of its outcome
-pub drafted_as : {R D : Type 0} (rules : RecordRules R) (held : Held R) (CanCommit : D → Type 0) (record_of : D → R) (wanted : Option R) (one other : Result (Option D) DraftFault) → one ≡ other
-    → IsDrafted rules held CanCommit record_of wanted one → IsDrafted rules held CanCommit record_of wanted other
-drafted_as rules held CanCommit record_of wanted one other is drafted = subst (IsDrafted rules held CanCommit record_of wanted) is drafted
 
 -- what leaves the ledger alone
 pub same_ledger : {Setup R : Type 0} (setup : Setup) (old mid : Ledger R) → old.broken ≡ false → mid ≡ old → IsWhole (provider setup old) (provider setup mid) old.held
@@ -63,16 +58,9 @@ module _ {Setup R Reply : Type 0} (replies : ReplyRules Setup R Reply) (rules : 
 
   -- ---- after a compaction
 
-  -- a compaction was made as there was no place for the record of a reply
-  pub record IsAgain (old anew : Ledger R) (request : Request) (reply : Reply) : Type 0 where
-    pub room : MakesRoom rules Answers setup old.held request now anew.held
-    pub whole : IsWhole (provider setup old) (provider setup anew) anew.held
-    pub wants : replies.wants setup anew.held request now reply
-    pub some : is_some (replies.record_for setup anew.held now reply) ≡ true
-
-  pub again : (old anew : Ledger R) (request : Request) (reply : Reply) → AreRecords rules old.held.records → replies.wants setup old.held request now reply
+  again : (old anew : Ledger R) (request : Request) (reply : Reply) → AreRecords rules old.held.records → replies.wants setup old.held request now reply
       → HasNoPlace rules old.held (replies.record_for setup old.held now reply) → Compacts rules now old.held anew.held × (anew.broken ≡ false) → anew.key ≡ old.key
-      → IsAgain old anew request reply
+      → IsAgain replies rules Answers setup now old anew request reply
   again old anew request reply are wants full made key =
       let other = answer_of old.held request reply full.r (record { wants = wants; is = full.is }) in
       record {
@@ -82,7 +70,13 @@ module _ {Setup R Reply : Type 0} (replies : ReplyRules Setup R Reply) (rules : 
         some = law.stands old.held anew.held request reply are made.0 wants ∙ some_of _ full.r full.is;
       }
 
-  pub serves_again : (old anew mid new : Ledger R) (request : Request) (Risen : Type 0) (answer : Answer) (reply : Reply) (r : R) → IsAgain old anew request reply → mid ≡ anew
+  pub again_where : (old anew : Ledger R) (request : Request) (reply : Reply) (result : Result (Unit {0}) OpenFault) → AreRecords rules old.held.records
+      → replies.wants setup old.held request now reply → HasNoPlace rules old.held (replies.record_for setup old.held now reply)
+      → OnOk result (Compacts rules now old.held anew.held × (anew.broken ≡ false)) → anew.key ≡ old.key → OnOk result (IsAgain replies rules Answers setup now old anew request reply)
+  again_where old anew request reply (Ok u) are wants full made key = again old anew request reply are wants full made key
+  again_where old anew request reply (Err fault) are wants full made key = tt
+
+  pub serves_again : (old anew mid new : Ledger R) (request : Request) (Risen : Type 0) (answer : Answer) (reply : Reply) (r : R) → IsAgain replies rules Answers setup now old anew request reply → mid ≡ anew
       → replies.record_for setup anew.held now reply ≡ Some r → HasPlace rules anew.held r
       → Adds (IsPage replies setup reply r now) r Risen answer (provider setup mid) (provider setup new)
       → Serves rules Answers old.held request now Risen answer (provider setup old) (provider setup new)
@@ -91,26 +85,26 @@ module _ {Setup R Reply : Type 0} (replies : ReplyRules Setup R Reply) (rules : 
       (λ other page. page_answers anew.held request reply r other (record { wants = re.wants; is = is }) page) place
       (subst (λ (l : Ledger R). Adds (IsPage replies setup reply r now) r Risen answer (provider setup l) (provider setup new)) same adds)
 
-  pub again_leaves : (old anew mid : Ledger R) (request : Request) (reply : Reply) (r : R) → IsAgain old anew request reply → mid ≡ anew
+  pub again_leaves : (old anew mid : Ledger R) (request : Request) (reply : Reply) (r : R) → IsAgain replies rules Answers setup now old anew request reply → mid ≡ anew
       → replies.record_for setup anew.held now reply ≡ Some r → HasPlace rules anew.held r
       → (image : Image) → IsWithOrWithout rules r mid.held image → ServingLeaves rules Answers setup old.held request now image
   again_leaves old anew mid request reply r re same is place image left =
       let other = answer_of anew.held request reply r (record { wants = re.wants; is = is }) in
       adding_leaves setup old.held anew.held request now other.0 r (inr re.room) other.1 place image (subst (λ (l : Ledger R). IsWithOrWithout rules r l.held image) same left)
 
-  whole_again : (old anew mid : Ledger R) (request : Request) (reply : Reply) → IsAgain old anew request reply → mid ≡ anew → IsWhole (provider setup old) (provider setup mid) anew.held
+  whole_again : (old anew mid : Ledger R) (request : Request) (reply : Reply) → IsAgain replies rules Answers setup now old anew request reply → mid ≡ anew → IsWhole (provider setup old) (provider setup mid) anew.held
   whole_again old anew mid request reply re same = whole_on (provider setup old) (provider setup anew) (provider setup mid) anew.held anew.held re.whole (same_ledger setup anew mid re.whole.unbroken same)
 
-  pub starved_again : (old anew mid : Ledger R) (request : Request) (Risen : Type 0) (reply : Reply) → IsAgain old anew request reply → mid ≡ anew
+  pub starved_again : (old anew mid : Ledger R) (request : Request) (Risen : Type 0) (reply : Reply) → IsAgain replies rules Answers setup now old anew request reply → mid ≡ anew
       → Serves rules Answers old.held request now Risen (Fixed NO_MEMORY) (provider setup old) (provider setup mid)
   starved_again old anew mid request Risen reply re same = Starved anew.held (inr re.room) refl (whole_again old anew mid request reply re same)
 
-  pub full_again : (old anew mid : Ledger R) (request : Request) (Risen : Type 0) (reply : Reply) → IsAgain old anew request reply → mid ≡ anew
+  pub full_again : (old anew mid : Ledger R) (request : Request) (Risen : Type 0) (reply : Reply) → IsAgain replies rules Answers setup now old anew request reply → mid ≡ anew
       → HasNoPlace rules anew.held (replies.record_for setup anew.held now reply) → Serves rules Answers old.held request now Risen (Fixed FULL) (provider setup old) (provider setup mid)
   full_again old anew mid request Risen reply re same full =
       let other = answer_of anew.held request reply full.r (record { wants = re.wants; is = full.is }) in
       NoPlace anew.held full.r other.0 re.room other.1 full.none refl (whole_again old anew mid request reply re same)
 
   -- there is something to record behind it as before
-  pub not_nothing : (old anew : Ledger R) (request : Request) (reply : Reply) → IsAgain old anew request reply → replies.record_for setup anew.held now reply ≡ None → ⊥
+  pub not_nothing : (old anew : Ledger R) (request : Request) (reply : Reply) → IsAgain replies rules Answers setup now old anew request reply → replies.record_for setup anew.held now reply ≡ None → ⊥
   not_nothing old anew request reply re none = let clash : true ≡ false = sym re.some ∙ ap is_some none in cc

@@ -1,5 +1,6 @@
 pub mod Step
 pub mod Node
+pub mod Drafted
 pub mod Replies
 pub mod Serving
 pub mod Histories

@@ -1,17 +1,17 @@
 -- What a role of a provider says of its replies, and what its calls give.
-use Rattle.std.specs.Prelude.{◌≡◌, ℕ, List, Option, None, Some, is_some, Result, Ok, Err}
+use Rattle.std.specs.Prelude.{◌≡◌, ℕ, true, List, Option, None, Some, is_some}
 use Rattle.http_wire.specs.declared.answer.Answer.{Answer}
 use Rattle.http_wire.specs.declared.answer.Answer.TheVariants.{Fixed, Full}
 use Rattle.http_wire.specs.Requests.{Request}
-use Rattle.ledger_rules.specs.declared.fault.DraftFault.{DraftFault}
-use Rattle.ledger_rules.specs.declared.fault.DraftFault.TheVariants.{LedgerFull, JournalFull, NoMemory}
 use Rattle.node_serve.specs.Worlds.{HasBytes}
 use Rattle.record_ledger.specs.Rules.{RecordRules, AreRecords}
 use Rattle.record_ledger.specs.Ledger.{Held}
 use Rattle.record_ledger.specs.Compacting.{Compacts}
+use Rattle.node_steps.specs.declared.drafted.Drafted.{Drafted}
+use Rattle.node_steps.specs.declared.drafted.Drafted.TheVariants as drafts
 use Rattle.node_steps.specs.declared.replied.Replied.{Replied}
 use Rattle.node_steps.specs.declared.replied.Replied.TheVariants.{Plain, ForRecord}
-use Rattle.node_steps.specs.Step.{AnswersBy, HasPlace}
+use Rattle.node_steps.specs.Step.{AnswersBy, HasPlace, IsWhole, Ledger, MakesRoom, provider}
 
 -- What is said of the replies that stand for records.
 pub record ReplyRules (Setup R Reply : Type 0) : Type 1 where
@@ -37,12 +37,13 @@ pub record HasNoPlace {R : Type 0} (rules : RecordRules R) (held : Held R) (want
 
 -- What became of the draft of what is to be recorded: a draft of it, which can be committed and has its place; there was nothing to
 -- record; there is no place for it; there was no memory.
-abbrev pub IsDrafted : {R D : Type 0} → RecordRules R → Held R → (CanCommit : D → Type 0) (record_of : D → R) (wanted : Option R) → Result (Option D) DraftFault → Type 0
-IsDrafted rules held CanCommit record_of wanted (Ok (Some draft)) = (wanted ≡ Some (record_of draft)) × CanCommit draft × HasPlace rules held (record_of draft)
-IsDrafted rules held CanCommit record_of wanted (Ok None) = wanted ≡ None
-IsDrafted rules held CanCommit record_of wanted (Err (LedgerFull kept)) = HasNoPlace rules held wanted
-IsDrafted rules held CanCommit record_of wanted (Err (JournalFull long room next)) = HasNoPlace rules held wanted
-IsDrafted rules held CanCommit record_of wanted (Err NoMemory) = Unit {0}
+abbrev pub IsDrafted : {R D : Type 0} → RecordRules R → Held R → (CanCommit : D → Type 0) (record_of : D → R) (wanted : Option R)
+    → Drafted D → Type 0
+IsDrafted rules held CanCommit record_of wanted (drafts.Ready draft) =
+    (wanted ≡ Some (record_of draft)) × CanCommit draft × HasPlace rules held (record_of draft)
+IsDrafted rules held CanCommit record_of wanted drafts.Nothing = wanted ≡ None
+IsDrafted rules held CanCommit record_of wanted drafts.NoPlace = HasNoPlace rules held wanted
+IsDrafted rules held CanCommit record_of wanted drafts.NoMemory = Unit {0}
 
 module _ {Setup R Reply : Type 0} (replies : ReplyRules Setup R Reply) where
   -- a reply that a request wanted over some ledger, and the record for which it stood there
@@ -57,6 +58,15 @@ module _ {Setup R Reply : Type 0} (replies : ReplyRules Setup R Reply) where
     pub bytes : List ℕ
     pub shows : replies.shows setup reply r now bytes
     pub is : answer ≡ Full bytes
+
+  -- One compaction was made as there was no place for the record of a reply that a request wants. Behind it the reply is wanted as
+  -- before, and there is something to record.
+  pub record IsAgain (rules : RecordRules R) (Answers : AnswersBy Setup R) (setup : Setup) (now : ℕ) (old new : Ledger R) (request : Request)
+      (reply : Reply) : Type 0 where
+    pub room : MakesRoom rules Answers setup old.held request now new.held
+    pub whole : IsWhole (provider setup old) (provider setup new) new.held
+    pub wants : replies.wants setup new.held request now reply
+    pub some : is_some (replies.record_for setup new.held now reply) ≡ true
 
   -- What is said of the replies agrees with the answers of the provider, of whichever request and ledger at this moment.
   pub record AreReplies (rules : RecordRules R) (Answers : AnswersBy Setup R) (setup : Setup) (now : ℕ) : Type 0 where

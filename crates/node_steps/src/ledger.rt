@@ -37,28 +37,33 @@ pub trait KeepsLedger: Drop {
     /// The ledger has the memory and the room to commit a draft.
     ghost can_commit: { Self.Ledger → Self.Draft → Type 0 };
 
-    /// Opens the ledger of a disk: the records of its journal, or an empty journal where there is none yet. `key` is the key
-    /// of the IDs that are drawn.
+    /// Opens the ledger of a disk: the records of its journal, or an empty journal where there is none yet. `key` is
+    /// the key of the IDs that are drawn.
     ///
-    /// It answers [`OpenFault::Foreign`] exactly where the files hold no such ledger, and [`OpenFault::DiskFault`] only where
-    /// the disk's count of faults rose.
+    /// It answers [`OpenFault::Foreign`] exactly where the files hold no such ledger, and [`OpenFault::DiskFault`] only
+    /// where the disk's count of faults rose.
     fn open<D: Disk>(alloc: Global, disk: &mut D, key: [u8; 32]) -> Result<Self::Ledger, OpenFault>
-        ensures gives { IfSome (D.told disk.old) (λ d. Gives (λ l. (seen l).held) open_fault_of result (taken (ledger_in rules (image_of d)))) }
+        ensures gives { IfSome (D.told disk.old) (λ d.
+            Gives (λ l. (seen l).held) open_fault_of result (taken (ledger_in rules (image_of d)))) }
         ensures whole { IfOk result (λ l. ((seen l).broken ≡ false) × ((seen l).key ≡ key)) }
         ensures own { IfOk result (λ l. Owns rules (D.told disk.new) (seen l)) }
-        ensures moments { LeavesOnly D.moment D.left_since disk.old disk.new (LeftByOpening rules (D.told disk.old)) }
+        ensures moments { LeavesOnly D.moment D.left_since disk.old disk.new
+            (LeftByOpening rules (D.told disk.old)) }
         ensures faults { CausesFaults result (D.faults_of disk.old) (D.faults_of disk.new) };
 
     /// Opens the ledger again, as `open` does. At an error it is broken, and else as it was.
     fn reopen<D: Disk>(ledger: &mut Self::Ledger, disk: &mut D) -> Result<(), OpenFault>
-        ensures gives { IfSome (D.told disk.old) (λ d. Gives (λ _. (seen ledger.new).held) open_fault_of result (taken (ledger_in rules (image_of d)))) }
+        ensures gives { IfSome (D.told disk.old) (λ d.
+            Gives (λ _. (seen ledger.new).held) open_fault_of result (taken (ledger_in rules (image_of d)))) }
         ensures whole { OnOk result ((seen ledger.new).broken ≡ false) }
         ensures own { OnOk result (Owns rules (D.told disk.new) (seen ledger.new)) }
-        ensures err { OnErr result (((seen ledger.new).held ≡ (seen ledger.old).held) × ((seen ledger.new).broken ≡ true)) }
+        ensures err { OnErr result (((seen ledger.new).held ≡ (seen ledger.old).held)
+            × ((seen ledger.new).broken ≡ true)) }
         ensures own_err { OnErr result (Owns rules (D.told disk.old) (record (seen ledger.old) { broken = true })
             → Owns rules (D.told disk.new) (seen ledger.new)) }
         ensures key { (seen ledger.new).key ≡ (seen ledger.old).key }
-        ensures moments { LeavesOnly D.moment D.left_since disk.old disk.new (LeftByOpening rules (D.told disk.old)) }
+        ensures moments { LeavesOnly D.moment D.left_since disk.old disk.new
+            (LeftByOpening rules (D.told disk.old)) }
         ensures faults { CausesFaults result (D.faults_of disk.old) (D.faults_of disk.new) };
 
     /// Whether a call failed since the ledger was opened.
@@ -69,8 +74,8 @@ pub trait KeepsLedger: Drop {
     fn holds_records(ledger: &Self::Ledger)
         ensures { AreRecords rules (seen ledger.now).held.records };
 
-    /// Adds the record of a draft. At `Failed` the ledger is broken, and the disk stands for the records with the new one or
-    /// without.
+    /// Adds the record of a draft. At `Failed` the ledger is broken, and the disk stands for the records with the new
+    /// one or without.
     fn commit<D: Disk>(
         ledger: &mut Self::Ledger,
         disk: &mut D,
@@ -79,25 +84,32 @@ pub trait KeepsLedger: Drop {
         requires own { Owns rules (D.told disk.old) (seen ledger.old) }
         requires whole { (seen ledger.old).broken ≡ false }
         requires can { can_commit ledger.old draft }
-        ensures ok { OnOk result (((seen ledger.new).held ≡ held_with (record_of draft) (seen ledger.old).held) × ((seen ledger.new).broken ≡ false)) }
-        ensures err { OnErr result (((seen ledger.new).held ≡ (seen ledger.old).held) × ((seen ledger.new).broken ≡ true)) }
+        ensures ok { OnOk result (((seen ledger.new).held ≡ held_with (record_of draft) (seen ledger.old).held)
+            × ((seen ledger.new).broken ≡ false)) }
+        ensures err { OnErr result (((seen ledger.new).held ≡ (seen ledger.old).held)
+            × ((seen ledger.new).broken ≡ true)) }
         ensures key { (seen ledger.new).key ≡ (seen ledger.old).key }
         ensures own { Owns rules (D.told disk.new) (seen ledger.new) }
-        ensures moments { LeavesOnly D.moment D.left_since disk.old disk.new (IsWithOrWithout rules (record_of draft) (seen ledger.old).held) }
+        ensures moments { LeavesOnly D.moment D.left_since disk.old disk.new
+            (IsWithOrWithout rules (record_of draft) (seen ledger.old).held) }
         ensures faults { CountsFaults result (D.faults_of disk.old) (D.faults_of disk.new) };
 
-    /// Leaves out each record that no one can ask for any more from the moment `now` on. It answers [`OpenFault::NoMemory`]
-    /// before it changes anything, [`OpenFault::DiskFault`] only where the disk's count of faults rose, and never
-    /// [`OpenFault::Foreign`].
+    /// Leaves out each record that no one can ask for any more from the moment `now` on. It answers
+    /// [`OpenFault::NoMemory`] before it changes anything, [`OpenFault::DiskFault`] only where the disk's count of
+    /// faults rose, and never [`OpenFault::Foreign`].
     fn compact<D: Disk>(ledger: &mut Self::Ledger, disk: &mut D, now: u64) -> Result<(), OpenFault>
         requires own { Owns rules (D.told disk.old) (seen ledger.old) }
         requires whole { (seen ledger.old).broken ≡ false }
-        ensures ok { OnOk result (Compacts rules now (seen ledger.old).held (seen ledger.new).held × ((seen ledger.new).broken ≡ false)) }
-        ensures failed { IsErrOf result OpenFault.DiskFault → ((seen ledger.new).held ≡ (seen ledger.old).held) × ((seen ledger.new).broken ≡ true) }
-        ensures no_memory { IsErrOf result OpenFault.NoMemory → (seen ledger.new ≡ seen ledger.old) × (disk.new ≡ disk.old) }
+        ensures ok { OnOk result (Compacts rules now (seen ledger.old).held (seen ledger.new).held
+            × ((seen ledger.new).broken ≡ false)) }
+        ensures failed { IsErrOf result OpenFault.DiskFault → ((seen ledger.new).held ≡ (seen ledger.old).held)
+            × ((seen ledger.new).broken ≡ true) }
+        ensures no_memory { IsErrOf result OpenFault.NoMemory → (seen ledger.new ≡ seen ledger.old)
+            × (disk.new ≡ disk.old) }
         ensures not_foreign { IfErr result (λ e. open_fault_of e ≡ None) }
         ensures key { (seen ledger.new).key ≡ (seen ledger.old).key }
         ensures own { Owns rules (D.told disk.new) (seen ledger.new) }
-        ensures moments { LeavesOnly D.moment D.left_since disk.old disk.new (IsOldOrCompacted rules now (seen ledger.old).held) }
+        ensures moments { LeavesOnly D.moment D.left_since disk.old disk.new
+            (IsOldOrCompacted rules now (seen ledger.old).held) }
         ensures faults { CausesFaults result (D.faults_of disk.old) (D.faults_of disk.new) };
 }

@@ -32,13 +32,15 @@ impl<R: Role> Model for ProviderNode<R> {
 }
 
 impl<R: Role> ProviderNode<R> {
-    /// Starts a provider: its ledger is opened from the disk. The answers are those of [`KeepsLedger::open`](crate::KeepsLedger::open).
+    /// Starts a provider: its ledger is opened from the disk. The answers are those of
+    /// [`KeepsLedger::open`](crate::KeepsLedger::open).
     pub fn start<D: Disk>(
         alloc: Global,
         role: R,
         disk: &mut D,
     ) -> Result<ProviderNode<R>, OpenFault>
-        ensures gives { IfSome (D.told disk.old) (λ d. Gives (λ n. n.ledger.held) open_fault_of result (taken (ledger_in R.rules (image_of d)))) }
+        ensures gives { IfSome (D.told disk.old) (λ d.
+            Gives (λ n. n.ledger.held) open_fault_of result (taken (ledger_in R.rules (image_of d)))) }
         ensures setup { IfOk result (λ n. n.setup ≡ role) }
         ensures whole { IfOk result (λ n. n.ledger.broken ≡ false) }
         ensures key { IfOk result (λ n. n.ledger.key ≡ R.key role) }

@@ -6,14 +6,15 @@ ghost use Rattle.http_wire.specs.Views.{request_view};
 ghost use Rattle.node_steps.specs.Step.{AnswersBy};
 ghost use Rattle.node_steps.specs.Replies.{AreReplies, IsDrafted, IsReplied, IsWanted, ReplyRules};
 
+use crate::drafted::Drafted;
 use crate::ledger::KeepsLedger;
 use crate::replied::Replied;
 use http_wire::HttpRequest;
-use ledger_rules::DraftFault;
 use owned_values::{Blob, NoMemory};
 use saml_time::LAST;
 
-/// The role of a provider, with what it is set up with. It says where a request goes and what is replied to it, how a reply is drafted, and how it is shown.
+/// The role of a provider, with what it is set up with. It says where a request goes and what is replied to it, how a
+/// reply is drafted, and how it is shown.
 pub trait Role: KeepsLedger {
     /// A reply that stands for a record.
     type Reply: Drop;
@@ -31,7 +32,8 @@ pub trait Role: KeepsLedger {
     fn id_key(&self) -> [u8; 32]
         ensures { result ≡ key self.now };
 
-    /// What is replied to a request over a ledger at a moment: an answer that stands for no record, or a reply that does.
+    /// What is replied to a request over a ledger at a moment: an answer that stands for no record, or a reply that
+    /// does.
     fn reply(
         &self,
         ledger: &Self::Ledger,
@@ -43,18 +45,17 @@ pub trait Role: KeepsLedger {
             (λ answer. answers self.now (Self.seen ledger.now).held (request_view request.now) now answer None)
             (replies.wants self.now (Self.seen ledger.now).held (request_view request.now) now)) };
 
-    /// Drafts the record of a reply; none where there is nothing to record.
-    ///
-    /// Errors: `LedgerFull` and `JournalFull` only where there is no place for it; `NoMemory`.
+    /// Drafts the record of a reply.
     fn draft(
         &self,
         reply: &Self::Reply,
         ledger: &mut Self::Ledger,
         now: u64,
-    ) -> Result<Option<Self::Draft>, DraftFault>
+    ) -> Drafted<Self::Draft>
         requires moment { now ≤ LAST }
         requires key { (Self.seen ledger.old).key ≡ key self.now }
-        requires wanted { (request : Request) × replies.wants self.now (Self.seen ledger.old).held request now reply.now }
+        requires wanted { (request : Request)
+            × replies.wants self.now (Self.seen ledger.old).held request now reply.now }
         ensures drafts { IsDrafted Self.rules (Self.seen ledger.old).held (Self.can_commit ledger.new) Self.record_of
             (replies.record_for self.now (Self.seen ledger.old).held now reply.now) result }
         ensures same { Self.seen ledger.new ≡ Self.seen ledger.old };

@@ -1,20 +1,22 @@
 //! One step over a ledger that is whole: a reply, its record, and the answer.
-ghost use Rattle.std.specs.Prelude.{◌≡◌, ◌≤◌, false};
+ghost use Rattle.std.specs.Prelude.{◌≡◌, ◌≤◌, false, IfErr, OnOk};
 ghost use Rattle.crash_disk.specs.Counts.{Rose};
 ghost use Rattle.crash_disk.specs.Moments.{LeavesOnly};
 ghost use Rattle.http_wire.specs.Views.{request_view};
+ghost use Rattle.http_wire.specs.declared.answer.Answer.TheVariants.{Fixed};
 ghost use Rattle.node_serve.specs.Worlds.{HasBytes};
 ghost use Rattle.record_ledger.specs.Ledger.{IsWithOrWithout};
-ghost use Rattle.node_steps.specs.Replies.{HasNoPlace, IsPage, IsWanted};
-ghost use Rattle.node_steps.specs.Serving.{Adds, CanServe};
+ghost use Rattle.node_steps.specs.Replies.{HasNoPlace, IsAgain, IsPage, IsWanted};
+ghost use Rattle.node_steps.specs.Serving.{Adds, CanServe, code_of};
 ghost use Rattle.node_steps.specs.Step.{Owns, Serves, ServingLeaves, provider};
 
 use crate::codes::{DISK_FAULT, FULL, NO_MEMORY, code_of};
+use crate::drafted::Drafted;
 use crate::replied::Replied;
 use crate::role::Role;
 use crash_disk::Disk;
+use gate_journal::OpenFault;
 use http_wire::{Answer, HttpRequest};
-use ledger_rules::DraftFault;
 
 /// Makes the page of a reply whose record was drafted, and then records it.
 fn added<R: Role, D: Disk>(
@@ -46,6 +48,35 @@ fn added<R: Role, D: Disk>(
     Answer::Full(bytes)
 }
 
+/// Makes room by a compaction, as there was no place for the record of a reply.
+fn make_room<R: Role, D: Disk>(
+    role: &R,
+    ledger: &mut R::Ledger,
+    request: &HttpRequest<'_>,
+    reply: &R::Reply,
+    now: u64,
+    disk: &mut D,
+) -> Result<(), OpenFault>
+    requires can { CanServe R.rules (R.key role.now) (R.seen ledger.old) (D.told disk.old) now }
+    requires wants { R.replies.wants role.now (R.seen ledger.old).held (request_view request.now) now reply.now }
+    requires full { HasNoPlace R.rules (R.seen ledger.old).held
+        (R.replies.record_for role.now (R.seen ledger.old).held now reply.now) }
+    ensures again { OnOk result (IsAgain R.replies R.rules R.answers role.now now
+        (R.seen ledger.old) (R.seen ledger.new) (request_view request.now) reply.now) }
+    ensures serves { IfErr result (λ fault.
+        Serves R.rules R.answers (R.seen ledger.old).held (request_view request.now) now
+        (Rose (D.faults_of disk.old) (D.faults_of disk.new)) (Fixed (code_of fault))
+        (provider role.now (R.seen ledger.old)) (provider role.now (R.seen ledger.new))) }
+    ensures own { Owns R.rules (D.told disk.new) (R.seen ledger.new) }
+    ensures moments { LeavesOnly D.moment D.left_since disk.old disk.new
+        (ServingLeaves R.rules R.answers role.now (R.seen ledger.old).held (request_view request.now) now) }
+    ensures faults { D.faults_of disk.old ≤ D.faults_of disk.new }
+{
+    role.laws_hold(now);
+    R::holds_records(ledger);
+    R::compact(ledger, disk, now)
+}
+
 /// Answers with a reply after a compaction, as there was no place for its record.
 fn serve_again<R: Role, D: Disk>(
     role: &R,
@@ -69,16 +100,14 @@ fn serve_again<R: Role, D: Disk>(
     ensures faults { D.faults_of disk.old ≤ D.faults_of disk.new }
 {
     role.laws_hold(now);
-    R::holds_records(ledger);
-    if let Err(fault) = R::compact(ledger, disk, now) {
+    if let Err(fault) = make_room(role, ledger, request, reply, now, disk) {
         return Answer::Fixed(code_of(fault));
     }
     match role.draft(reply, ledger, now) {
-        Ok(Some(draft)) => added(role, ledger, reply, draft, now, disk),
-        Ok(None) => unreachable!(),
-        Err(DraftFault::NoMemory) => Answer::Fixed(NO_MEMORY),
-        Err(DraftFault::LedgerFull { .. }) => Answer::Fixed(FULL),
-        Err(DraftFault::JournalFull { .. }) => Answer::Fixed(FULL),
+        Drafted::Ready(draft) => added(role, ledger, reply, draft, now, disk),
+        Drafted::Nothing => unreachable!(),
+        Drafted::NoPlace => Answer::Fixed(FULL),
+        Drafted::NoMemory => Answer::Fixed(NO_MEMORY),
     }
 }
 
@@ -104,11 +133,10 @@ fn serve<R: Role, D: Disk>(
 {
     role.laws_hold(now);
     match role.draft(reply, ledger, now) {
-        Ok(Some(draft)) => added(role, ledger, reply, draft, now, disk),
-        Ok(None) => Answer::Fixed(role.refusal(reply)),
-        Err(DraftFault::NoMemory) => Answer::Fixed(NO_MEMORY),
-        Err(DraftFault::LedgerFull { .. }) => serve_again(role, ledger, request, reply, now, disk),
-        Err(DraftFault::JournalFull { .. }) => serve_again(role, ledger, request, reply, now, disk),
+        Drafted::Ready(draft) => added(role, ledger, reply, draft, now, disk),
+        Drafted::Nothing => Answer::Fixed(role.refusal(reply)),
+        Drafted::NoPlace => serve_again(role, ledger, request, reply, now, disk),
+        Drafted::NoMemory => Answer::Fixed(NO_MEMORY),
     }
 }
 

@@ -34,6 +34,7 @@ use Rattle.sp_server.specs.Step.{Setup, Answers, ByAsking, ByLeaving, ByEnding, 
 use Rattle.sp_answers.specs.Answers.{ask_page, opened_answer}
 use Rattle.ledger_rules.specs.Numbers.{is_xml_text}
 use Rattle.saml_time.specs.Instant.{TellsInFull}
+use Rattle.node_steps.specs.Drafted.{drafted_of}
 use Rattle.node_steps.specs.Replies.{AreReplies, IsDrafted, IsWanted}
 use Rattle.node_steps.proofs.Drafting.{drafted_some}
 use Rattle.sp_server.specs.Replies.{CanDraft, IsAnswerTo, IsAnswerable, Wants, is_nothing, record_for, refusal_of, sp_replies, stands_for}
@@ -220,7 +221,7 @@ sp_laws setup now law usable compactions = record {
 -- what became of a draft
 pub sp_drafted : (setup : Setup) (old new : Opened) (now : ℕ) (reply : Reply) (result : Result (Option SpRecord) DraftFault) → old.key ≡ setup.config.id_key → SameLedger old new
     → DraftsSome old new (is_nothing setup.config old.held now reply) (record_for old.key setup.config old.held now reply) result
-    → IsDrafted request_rules old.held (CanCommit new) (λ d. d) (stands_for setup old.held now reply) result
+    → IsDrafted request_rules old.held (CanCommit new) (λ d. d) (stands_for setup old.held now reply) (drafted_of result)
 sp_drafted setup old new now reply result key same drafts =
     let own = record_for setup.config.id_key setup.config old.held now reply in
     drafted_some request_rules request_row_rules old new (is_nothing setup.config old.held now reply) (record_for old.key setup.config old.held now reply) (stands_for setup old.held now reply) result same

@@ -16,14 +16,15 @@
 //! | POST `/slo`, its LogoutResponse to a logout that began here | how the logout ended; that it was confirmed is recorded |
 //! | GET `/metadata` | the metadata of the provider |
 //!
-//! What one request does is one definition, `Steps` of `specs/Step.antt`, by named cases: nothing is recorded; a record is
-//! added; it is added after one compaction that made room; there is no room (code 51); the disk failed (50); it holds no
-//! ledger (53); there was no memory (52). An answer that stands for a record is sent only where the record is in every image
-//! that a crash may leave. All pages are made before the record is written, so from then on only the disk can refuse.
+//! What one request does is one definition, `Steps` of `specs/Step.antt`, by named cases: nothing is recorded; a
+//! record is added; it is added after one compaction that made room; there is no room (code 51); the disk failed
+//! (50); it holds no ledger (53); there was no memory (52). An answer that stands for a record is sent only where the
+//! record is in every image that a crash may leave. All pages are made before the record is written, so from then on
+//! only the disk can refuse.
 //!
-//! Over whole services the [`laws`] hold: a session is opened exactly where a posted form opens one, and closed exactly where its
-//! user leaves it or the identity provider ends it; one that is closed stays so; what an answer acknowledged is in the history of
-//! every ledger that a crash may leave, and no two sessions are of one request.
+//! Over whole services the [`laws`] hold: a session is opened exactly where a posted form opens one, and closed
+//! exactly where its user leaves it or the identity provider ends it; one that is closed stays so; what an answer
+//! acknowledged is in the history of every ledger that a crash may leave, and no two sessions are of one request.
 #![tactic(auto)]
 
 mod app;

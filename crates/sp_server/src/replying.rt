@@ -7,18 +7,18 @@ use crate::role::SpRole;
 use crate::route::{Route, route_of};
 use http_wire::{Answer, HttpRequest};
 use logout_answers::laws::each_logout_has_an_answer;
-use node_steps::{Replied, Role};
+use node_steps::{Drafted, Replied, Role};
 use owned_values::{Blob, NoMemory};
 use request_ledger::laws::compactions_change_no_answer;
-use request_ledger::{Draft, DraftFault, Ledger};
+use request_ledger::{Draft, Ledger};
 use saml_time::{LAST, put_instant};
 use sp_answers::metadata_answer;
 
 /// The code that is answered where the registry of metadata has ended.
 pub(crate) const REGISTRY_EXPIRED: u16 = 70;
 
-/// That a moment has a written form, so that each request for a login has an answer. It is there for the proof, and what it
-/// writes is let go.
+/// That a moment has a written form, so that each request for a login has an answer. It is there for the proof, and
+/// what it writes is let go.
 fn has_instant(now: u64)
     requires { now ≤ LAST }
     ensures { (text : List ℕ) × TellsInFull text now }
@@ -62,13 +62,8 @@ impl Role for SpRole {
         }
     }
 
-    fn draft(
-        &self,
-        reply: &Reply,
-        ledger: &mut Ledger,
-        now: u64,
-    ) -> Result<Option<Draft>, DraftFault> {
-        reply.draft(&self.config, ledger, now)
+    fn draft(&self, reply: &Reply, ledger: &mut Ledger, now: u64) -> Drafted<Draft> {
+        Drafted::of(reply.draft(&self.config, ledger, now))
     }
 
     fn page(&self, reply: &Reply, draft: &Draft, now: u64) -> Result<Blob, NoMemory> {
