@@ -17,3 +17,4 @@ pub mod KeptAnswers
 pub mod CauseLaws
 pub mod FoundDrafts
 pub mod RuleLaws
+pub mod SessionsStaying

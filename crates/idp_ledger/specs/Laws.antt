@@ -1,5 +1,5 @@
 -- The laws of a ledger.
-use Rattle.std.specs.Prelude.{◌≡◌, ℕ, ◌≤◌, false, List, ◌∷◌, ◌++◌, Option, None, Some, IsSome, slice_get}
+use Rattle.std.specs.Prelude.{◌≡◌, ℕ, ◌≤◌, false, List, ◌∷◌, ◌++◌, Option, None, Some, IsSome, slice_get, Contains}
 use Rattle.ledger_records.specs.declared.idp_record.Issued.{Issued}
 use Rattle.ledger_records.specs.declared.idp_record.IdpRecord.{IdpRecord}
 use Rattle.ledger_records.specs.declared.idp_record.IdpRecord.TheVariants as kinds
@@ -7,10 +7,12 @@ use Rattle.idp_ledger.specs.declared.row.PendingRow.{PendingRow}
 use Rattle.idp_ledger.specs.declared.row.SessionRow.{SessionRow}
 use Rattle.record_ledger.specs.Laws as any
 use Rattle.idp_ledger.specs.Finding.{pending_found, session_found, ending, is_partial, last_peer, is_waiting_now}
-use Rattle.idp_ledger.specs.RowsOf.{IdpRows, rows_of}
+use Rattle.idp_ledger.specs.RowsOf.{IdpRows, rows_of, session_rows, ended_if, ends}
 use Rattle.idp_ledger.specs.Record.{AreRecords, idp_rules}
 use Rattle.idp_ledger.specs.Ledger.{Held}
 use Rattle.idp_ledger.specs.Compacting.{IsCompacted}
+use Rattle.std.specs.List.{list_any}
+use Rattle.record_ledger.specs.Runs.{Event, Leads, added, CompactsAt, EndsBehind}
 
 -- At a moment the two rows with their horizons answer all that is asked of them alike: which login is pending, which session
 -- lives, which sessions an answered logout ends and whether it is partial, to which peer the last assertion in a live session
@@ -58,3 +60,11 @@ HasCause rows (Some pending) cookie = HasPending rows pending
 abbrev pub EachIssueHasItsCause : Type 0
 EachIssueHasItsCause =
     (before later : List IdpRecord) (r : Issued) → AreRecords (before ++ kinds.Issued r ∷ later) → HasCause (rows_of before) r.pending r.cookie
+
+-- A session that is kept, and ends behind each moment at which a run compacts the ledger, has a row to the end of the run: ended
+-- where it was, or where a record that was added since ends it.
+abbrev pub SessionsStay : Type 0
+SessionsStay =
+    (start held : Held) (events : List (Event IdpRecord)) (moments : List ℕ) (row : SessionRow) → Leads idp_rules start events held → CompactsAt moments events
+    → Contains (session_rows start.records) row → EndsBehind start.header.horizon moments row.until
+    → Contains (session_rows held.records) (ended_if (list_any (ends row.cookie) (added events)) row)

@@ -8,6 +8,7 @@ pub mod Ledger
 pub mod Draft
 pub mod Ids
 pub mod Drafts
+pub mod Calls
 pub mod Compacting
 pub mod Linking
 pub mod Laws

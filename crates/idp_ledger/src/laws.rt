@@ -1,5 +1,5 @@
 //! Laws of a ledger, each the contract of a function that does nothing.
-ghost use Rattle.idp_ledger.specs.Laws.{ImagesHoldRecords, KeptAreRecords, CompactionsChangeNoAnswer, EachIssueHasItsCause};
+ghost use Rattle.idp_ledger.specs.Laws.{ImagesHoldRecords, KeptAreRecords, CompactionsChangeNoAnswer, EachIssueHasItsCause, SessionsStay};
 
 /// What an image stands for has records of the ledger, each behind those before it.
 pub fn images_hold_records()
@@ -19,4 +19,10 @@ pub fn compactions_change_no_answer()
 /// Each assertion was issued for a login that was pending and not used before, or in a session that was not ended.
 pub fn each_issue_has_its_cause()
     ensures { EachIssueHasItsCause }
+{}
+
+/// A session that is kept, and ends behind each moment at which a run compacts the ledger, has a row to the end of the run, open or
+/// ended as it was left.
+pub fn sessions_stay()
+    ensures { SessionsStay }
 {}

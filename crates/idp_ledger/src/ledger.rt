@@ -4,6 +4,7 @@ ghost use Rattle.owned_values.specs.Gives.{Gives};
 ghost use Rattle.crash_disk.specs.Counts.{CountsFaults};
 ghost use Rattle.crash_disk.specs.Disk.{image_of};
 ghost use Rattle.crash_disk.specs.Moments.{LeavesOnly};
+ghost use Rattle.crash_disk.specs.Plans.{Follows};
 ghost use Rattle.gate_journal.specs.Opening.{open_fault_of, CausesFaults};
 ghost use Rattle.request_rows.specs.Order.{IsOrder};
 ghost use Rattle.idp_ledger.specs.Order.{keys_of};
@@ -11,6 +12,7 @@ ghost use Rattle.idp_ledger.specs.Finding.{is_waiting_now, pending_found, sessio
 ghost use Rattle.idp_ledger.specs.Record.{AreRecords};
 ghost use Rattle.idp_ledger.specs.RowsOf.{rows_of};
 ghost use Rattle.idp_ledger.specs.Ledger.{CanCommit, IsOwn, IsWithOrWithout, LeftByOpening, held_with, ledger_in, next_number, rows_in, taken};
+ghost use Rattle.idp_ledger.specs.Calls.{committing, opening, FollowsCompaction};
 ghost use Rattle.idp_ledger.specs.Compacting.{Compacts, IsOldOrCompacted};
 
 use crate::draft::Draft;
@@ -54,6 +56,7 @@ impl IdpLedger {
         // A crash at any moment of the call leaves what an image at its start stood for, or what is opened from that.
         ensures moments { LeavesOnly D.moment D.left_since disk.old disk.new (LeftByOpening (D.told disk.old)) }
         ensures faults { CausesFaults result (D.faults_of disk.old) (D.faults_of disk.new) }
+        ensures calls { Follows D.told D.moment D.left_since opening disk.old disk.new result }
     {
         Ok(IdpLedger {
             ledger: RecordLedger::start(alloc, disk, key)?,
@@ -71,6 +74,7 @@ impl IdpLedger {
         // A crash at any moment of the call leaves what an image at its start stood for, or what is opened from that.
         ensures moments { LeavesOnly D.moment D.left_since disk.old disk.new (LeftByOpening (D.told disk.old)) }
         ensures faults { CausesFaults result (D.faults_of disk.old) (D.faults_of disk.new) }
+        ensures calls { Follows D.told D.moment D.left_since opening disk.old disk.new result }
     {
         self.ledger.reopen(disk)
     }
@@ -190,6 +194,7 @@ impl IdpLedger {
         // A crash at any moment of the call leaves the records from before it, with the new one or without.
         ensures moments { LeavesOnly D.moment D.left_since disk.old disk.new (IsWithOrWithout draft self.old.held) }
         ensures faults { CountsFaults result (D.faults_of disk.old) (D.faults_of disk.new) }
+        ensures calls { Follows D.told D.moment D.left_since (committing self.old.held draft) disk.old disk.new result }
     {
         self.ledger.commit(disk, draft.drafted)
     }
@@ -214,6 +219,7 @@ impl IdpLedger {
         // A crash at any moment of the call leaves the ledger from before it, or the one that is made anew.
         ensures moments { LeavesOnly D.moment D.left_since disk.old disk.new (IsOldOrCompacted now self.old.held) }
         ensures faults { CausesFaults result (D.faults_of disk.old) (D.faults_of disk.new) }
+        ensures calls { FollowsCompaction D.told D.moment D.left_since now self.old.held disk.old disk.new result }
     {
         self.ledger.compact(disk, now)
     }

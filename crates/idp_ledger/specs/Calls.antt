@@ -1,0 +1,25 @@
+-- Which changing calls of a disk the calls of an identity provider's ledger make, in their order.
+use Rattle.std.specs.Prelude.{ℕ, List, Option, Result}
+use Rattle.crash_disk.specs.declared.change.Change.{Change}
+use Rattle.crash_disk.specs.Disk.{Image, DiskState}
+use Rattle.ledger_records.specs.declared.idp_record.IdpRecord.{IdpRecord}
+use Rattle.record_ledger.specs.Calls as any
+use Rattle.idp_ledger.specs.Record.{idp_rules}
+use Rattle.idp_ledger.specs.Ledger.{Held}
+
+-- What an opening makes, also one again: that of the journal, and then the migration of a version 1.
+abbrev pub opening : DiskState → List Change
+opening = any.opening idp_rules
+
+-- What a compaction makes: the new ledger, in the other file.
+abbrev pub compacting : (made : Held) → DiskState → List Change
+compacting = any.compacting idp_rules
+
+-- What a commit makes: it writes the record behind those that are there.
+abbrev pub committing : Held → IdpRecord → DiskState → List Change
+committing = any.committing idp_rules
+
+-- No changing call was made, or those of one compaction at a moment, as far as the answer says.
+abbrev pub FollowsCompaction : {D T E : Type 0} → (D → Option DiskState) → (D → ℕ) → (D → ℕ → Image → Type 0) → (now : ℕ) → Held
+    → (old new : D) → Result T E → Type 0
+FollowsCompaction told moment left_since now held old new result = any.FollowsCompaction idp_rules told moment left_since now held old new result
