@@ -1,7 +1,7 @@
 -- A session that ends behind each moment of a run has a row to the end of the run.
-use Rattle.std.specs.Prelude.{Contains, ◌||◌, max, nat_lt}
+use Rattle.std.specs.Prelude.{Contains, ◌||◌, max}
 use Rattle.std.specs.List.{list_any}
-use Rattle.std.proofs.Common.{◌≡◌, ◌⊎◌, inl, inr, ℕ, zero, suc, ◌<◌, Bool, true, false, List, [], ◌∷◌, ◌++◌, bytes_eq, refl, sym, ap, ◌∙◌, subst, arith}
+use Rattle.std.proofs.Common.{◌≡◌, inl, inr, ℕ, zero, suc, ◌<◌, Bool, true, false, List, [], ◌∷◌, ◌++◌, bytes_eq, refl, sym, ap, subst, arith}
 use Rattle.std.proofs.lemmas.Bool.{lt-ltb, or_left}
 use Rattle.std.proofs.lemmas.List.Elements.{All-contains}
 use Rattle.ledger_records.specs.declared.sp_record.Opened.{Opened}
