@@ -5,8 +5,9 @@ use Rattle.std.proofs.Common.{ℕ, subst, sym}
 use Rattle.crash_disk.specs.Counts.{Rose}
 use Rattle.crash_disk.specs.Disk.{Image, DiskState}
 use Rattle.http_wire.specs.declared.answer.Answer.{Answer}
-use Rattle.node_serve.specs.Turns.{Asked, Asks, Turn, Taken, Full, StarvedStart, Over, Unknown, Waiting, Answered, Refused, StarvedPiece, asked_by}
+use Rattle.node_serve.specs.Turns.{Asked, Asks, Turn, asked_by}
 use Rattle.node_serve.specs.Worlds.{World}
+use Rattle.node_runs.proofs.Kept.{of_turn}
 use Rattle.node_runs.specs.Runs.{BadSetUp, NotSetUp, NotOpened, Deaf, Serving}
 use Rattle.idp_ledger.specs.Laws.{ImagesHoldRecords}
 use Rattle.idp_server.specs.Histories.{IsProviders, SessionsStayEndedInAService, WhatIsAcknowledgedIsKept}
@@ -72,20 +73,9 @@ module _ (laws : Laws) (asked : Asked Provider) where
   }
 
 module _ (laws : Laws) where
-  of_turn : (turn : Turn Provider) → AllByRecursion GoesExactly (asked_by turn)
-  of_turn (Taken conn) = tt
-  of_turn (Full conn) = tt
-  of_turn (StarvedStart conn) = tt
-  of_turn (Over conn) = tt
-  of_turn (Unknown conn piece) = tt
-  of_turn (Waiting conn piece) = tt
-  of_turn (Answered piece asked) = (goes_exactly laws asked, tt)
-  of_turn (Refused conn piece status) = tt
-  of_turn (StarvedPiece conn piece) = tt
-
   each_goes : (turns : List (Turn Provider)) → EachGoesExactly turns
   each_goes [] = tt
-  each_goes (turn ∷ past) = (of_turn turn, each_goes past)
+  each_goes (turn ∷ past) = (of_turn GoesExactly (goes_exactly laws) turn, each_goes past)
 
   pub headline : (left : ℕ → Image → Type 0) → ARunCarriesTheHeadline left
   headline left told file budget before turns result after (BadSetUp bad line is e bare same) = ServedNothing bare

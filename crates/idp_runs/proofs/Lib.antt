@@ -1,4 +1,2 @@
-pub mod Completing
 pub mod Kept
 pub mod Headlines
-pub mod Moments

@@ -1,73 +1,34 @@
 -- What a run of an identity provider does: it is set up by its config, opens its ledger, listens, and serves.
-use Rattle.std.specs.Prelude.{◌≡◌, ℕ, false, List, Option, Some, is_some, IfSome, IsSomeAnd, IsOk, Result, Ok, Err}
+use Rattle.std.specs.Prelude.{ℕ, List, Option, Result}
 use Rattle.saml_outside.specs.Files.{File}
-use Rattle.crash_disk.specs.Counts.{Rose}
-use Rattle.crash_disk.specs.Disk.{Image, DiskState, MayLeave, image_of}
+use Rattle.crash_disk.specs.Disk.{Image, DiskState}
 use Rattle.node_serve.specs.Turns.{Turn}
+use Rattle.node_runs.specs.Providers as any
+use Rattle.node_runs.specs.Runs.{Outside}
 use Rattle.node_runs.specs.declared.ended.Ended.{Ended}
-use Rattle.node_runs.specs.declared.ended.Ended.TheVariants as ends
 use Rattle.node_runs.specs.declared.ended.RunFault.{RunFault}
-use Rattle.node_runs.specs.declared.ended.RunFault.TheVariants as faults
-use Rattle.node_runs.specs.Runs.{Outside, RunsBy, RunLeavesBy}
-use Rattle.idp_ledger.specs.Ledger.{LeftByOpening, ledger_in, taken}
+use Rattle.idp_ledger.specs.Record.{idp_rules}
 use Rattle.idp_rules.specs.declared.config.IdpConfig.{IdpConfig}
-use Rattle.idp_server.specs.Histories.{IsProviders}
-use Rattle.idp_server.specs.Step.{Provider, OwnsDisk, StepLeaves}
+use Rattle.idp_server.specs.Step.{Provider, Answers}
 use Rattle.idp_setup.specs.Setup.{IsSetUp, IsBadSetUp}
 
--- A PROVIDER IS STARTED
+-- the key of the IDs that a provider draws
+abbrev pub key : IdpConfig → List ℕ
+key config = config.id_key
 
--- A provider with this config, whose ledger is whole: that which is opened from the disk, as far as the disk tells.
-pub record IsStarted (config : IdpConfig) (disk : Option DiskState) (provider : Provider) : Type 0 where
-  pub setup : provider.setup ≡ config
-  pub key : provider.ledger.key ≡ config.id_key
-  pub whole : provider.ledger.broken ≡ false
-  pub holds : IfSome disk (λ d. taken (ledger_in (image_of d)) ≡ Ok provider.ledger.held)
-
--- The config in this file sets such a provider up, its ledger was opened, and else all is as it was. From then on the disk is the
--- provider's own; it tells as it did, and reads as an image that it may leave.
-pub record Begins (told : Option (List File)) (file : List ℕ) (before : Outside) (provider : Provider) (opened : Outside) : Type 0 where
-  pub config : IdpConfig
-  pub set_up : IsSetUp told file config
-  pub started : IsStarted config before.disk provider
-  pub own : OwnsDisk provider opened.disk
-  pub tells : is_some opened.disk ≡ is_some before.disk
-  pub reads : IfSome opened.disk (λ d. MayLeave d (image_of d))
-  pub same : opened ≡ record before { disk = opened.disk; disk_faults = opened.disk_faults; disk_moment = opened.disk_moment }
-
--- Why no ledger was opened: what the disk holds is none, and this is the fault that it has, as far as the disk tells; the disk
--- failed; there was no memory.
-abbrev pub OpeningFails : Outside → Outside → Result Ended RunFault → Type 0
-OpeningFails before after (Ok (ends.Foreign file place)) =
-    IfSome before.disk (λ d. taken (ledger_in (image_of d)) ≡ Err (record { file = file; place = place }))
-OpeningFails before after (Err faults.DiskFault) = Rose before.disk_faults after.disk_faults
-OpeningFails before after (Err faults.NoMemory) = Unit {0}
-OpeningFails before after other = ⊥
-
--- The config in this file sets a provider up, and its ledger is not opened.
-pub record IsNotOpened (told : Option (List File)) (file : List ℕ) (before after : Outside) (result : Result Ended RunFault) : Type 0 where
-  pub config : IdpConfig
-  pub set_up : IsSetUp told file config
-  pub fails : OpeningFails before after result
-
--- A RUN
+-- The config in this file sets such a provider up, its ledger was opened, and else all is as it was.
+abbrev pub Begins : Option (List File) → (file : List ℕ) → (before : Outside) → Provider → (opened : Outside) → Type 0
+Begins = any.Begins IsSetUp key idp_rules
 
 -- How a run by the config in this file goes, with this budget of events: the turns of its provider, and what the run comes to. `left` says of
 -- each moment, seen from the end of the run, what a crash since then might have left.
-abbrev pub Runs : (left : ℕ → Image → Type 0) (told : Option (List File)) (file : List ℕ) (budget : ℕ) (before : Outside) (turns : List (Turn Provider)) (result : Result Ended RunFault) (after : Outside) → Type 0
-Runs left told file budget before turns result after =
-    RunsBy IsProviders StepLeaves left (IsBadSetUp told file) (IsNotOpened told file before) (Begins told file before) budget before turns result after
+abbrev pub Runs : (left : ℕ → Image → Type 0) → Option (List File) → (file : List ℕ) → (budget : ℕ) → (before : Outside) → List (Turn Provider) → Result Ended RunFault → (after : Outside) → Type 0
+Runs = any.Runs IsSetUp IsBadSetUp key idp_rules Answers
 
 -- What a crash at a moment of a run may leave: what one inside the opening of the ledger may, or one inside the answer to a request.
 abbrev pub RunLeaves : Option DiskState → List (Turn Provider) → Image → Type 0
-RunLeaves disk turns image = RunLeavesBy (LeftByOpening disk) StepLeaves turns image
-
--- COMPLETENESS
+RunLeaves = any.RunLeaves idp_rules Answers
 
 -- A provider can be run: the files tell, its config sets it up, and the disk tells that it holds a ledger, or no journal yet.
-pub record IsRunnable (told : Option (List File)) (file : List ℕ) (disk : Option DiskState) : Type 0 where
-  pub files : List File
-  pub tells : told ≡ Some files
-  pub config : IdpConfig
-  pub set_up : IsSetUp (Some files) file config
-  pub holds : IsSomeAnd disk (λ d. IsOk (ledger_in (image_of d)))
+abbrev pub IsRunnable : Option (List File) → (file : List ℕ) → Option DiskState → Type 0
+IsRunnable = any.IsRunnable IsSetUp idp_rules

@@ -1,80 +1,46 @@
 // The run of an identity provider.
 
-ghost use Rattle.std.specs.Prelude.{◌≡◌, ◌≢◌, ◌≤◌, ◌⊎◌, ℕ, List, Option, Err};
-ghost use Rattle.saml_outside.specs.Files.{File};
+ghost use Rattle.std.specs.Prelude.{◌≡◌, ◌≢◌, ◌≤◌, ◌⊎◌, ℕ, List, Err};
 ghost use Rattle.crash_disk.specs.Counts.{Rose};
 ghost use Rattle.crash_disk.specs.Moments.{LeavesOnly};
-ghost use Rattle.node_serve.specs.Serving.{MightLeave};
 ghost use Rattle.node_serve.specs.Turns.{Turn};
-ghost use Rattle.idp_rules.specs.Config.{IsUsable};
-ghost use Rattle.idp_server.specs.Step.{OwnsDisk, StepLeaves, Provider};
-ghost use Rattle.idp_setup.specs.Setup.{IsSetUp};
-ghost use Rattle.node_runs.specs.Runs.{IsNotSetUp, IsServed, Outside, outside};
+ghost use Rattle.idp_server.specs.Step.{Provider};
+ghost use Rattle.node_runs.specs.Runs.{IsNotSetUp, IsServed, outside};
 ghost use Rattle.idp_runs.specs.Headline.{Headline};
-ghost use Rattle.idp_runs.specs.Runs.{Begins, IsRunnable, RunLeaves, Runs};
+ghost use Rattle.idp_runs.specs.Runs.{IsRunnable, RunLeaves, Runs};
 
 use crate::laws::a_run_carries_the_headline;
 use event_link::{Clock, Link};
-use idp_ledger::{Disk, OpenFault};
-use idp_rules::IdpConfig;
-use idp_server::IdpNode;
+use idp_ledger::Disk;
+use idp_server::IdpRole;
 use idp_setup::{SetupFault, set_up};
-use node_runs::{Ended, RunFault, ended_of};
-use node_serve::serve;
+use node_runs::{Ended, RunFault, RunsProvider, run};
 use saml_outside::Files;
 use std::alloc::Global;
 
-/// Listens at the address of a provider that was started, and serves.
-fn listen_and_serve<L: Link, D: Disk, C: Clock>(
-    alloc: Global,
-    node: &mut IdpNode,
-    link: &mut L,
-    disk: &mut D,
-    clock: &mut C,
-    budget: u64,
-) -> Result<Ended, RunFault>
-    requires { OwnsDisk node.old (D.told disk.old) }
-    // Where it was set up and started so, this is how the run goes.
-    ensures runs { (turns : List (Turn Provider))
-        × ((told : Option (List File)) (file : List ℕ) (before : Outside) → Begins told file before node.old (outside (D.told disk.old) (D.faults_of disk.old) (D.moment disk.old) (L.told link.old) (L.faults_of link.old) (L.send_faults_of link.old) (C.to_come clock.old)) →
-        Runs (D.left_since disk.new) told file budget before turns result (outside (D.told disk.new) (D.faults_of disk.new) (D.moment disk.new) (L.told link.new) (L.faults_of link.new) (L.send_faults_of link.new) (C.to_come clock.new)))
-        × LeavesOnly D.moment D.left_since disk.old disk.new (MightLeave StepLeaves (D.told disk.old) turns) }
-    ensures disk_never_falls { D.faults_of disk.old ≤ D.faults_of disk.new }
-    ensures link_never_falls { L.faults_of link.old ≤ L.faults_of link.new }
-    ensures set_up { ¬ (IsNotSetUp result) }
-    ensures disk_fault { result ≢ Err RunFault.DiskFault }
-    ensures link_fault { result ≡ Err RunFault.LinkFault → Rose (L.faults_of link.old) (L.faults_of link.new) }
-{
-    link.listen(node.config().listen.as_str())?;
-    ended_of(serve(alloc, node, link, disk, clock, budget))
-}
+/// What runs as an identity provider.
+struct IdentityProvider;
 
-/// Opens the ledger of a provider that was set up, listens, and serves.
-fn run_by<L: Link, D: Disk, C: Clock>(
-    alloc: Global,
-    config: IdpConfig,
-    link: &mut L,
-    disk: &mut D,
-    clock: &mut C,
-    budget: u64,
-) -> Result<Ended, RunFault>
-    requires { IsUsable config }
-    // Where it was set up so, this is how the run goes.
-    ensures runs { (turns : List (Turn Provider))
-        × ((told : Option (List File)) (file : List ℕ) → IsSetUp told file config →
-        Runs (D.left_since disk.new) told file budget (outside (D.told disk.old) (D.faults_of disk.old) (D.moment disk.old) (L.told link.old) (L.faults_of link.old) (L.send_faults_of link.old) (C.to_come clock.old)) turns result (outside (D.told disk.new) (D.faults_of disk.new) (D.moment disk.new) (L.told link.new) (L.faults_of link.new) (L.send_faults_of link.new) (C.to_come clock.new)))
-        × LeavesOnly D.moment D.left_since disk.old disk.new (RunLeaves (D.told disk.old) turns) }
-    ensures disk_never_falls { D.faults_of disk.old ≤ D.faults_of disk.new }
-    ensures link_never_falls { L.faults_of link.old ≤ L.faults_of link.new }
-    ensures set_up { ¬ (IsNotSetUp result) }
-    ensures disk_fault { result ≡ Err RunFault.DiskFault → Rose (D.faults_of disk.old) (D.faults_of disk.new) }
-    ensures link_fault { result ≡ Err RunFault.LinkFault → Rose (L.faults_of link.old) (L.faults_of link.new) }
-{
-    match IdpNode::start(alloc, config, disk) {
-        Ok(mut node) => listen_and_serve(alloc, &mut node, link, disk, clock, budget),
-        Err(OpenFault::Foreign { file, place }) => Ok(Ended::Foreign { file, place }),
-        Err(OpenFault::DiskFault) => Err(RunFault::DiskFault),
-        Err(OpenFault::NoMemory) => Err(RunFault::NoMemory),
+impl RunsProvider for IdentityProvider {
+    ghost use Rattle.idp_setup.specs.Setup.{IsBadSetUp, IsSetUp};
+
+    type Role = IdpRole;
+
+    ghost sets_up = { IsSetUp };
+
+    ghost is_bad = { IsBadSetUp };
+
+    fn set_up<F: Files>(alloc: Global, files: &mut F, config: &str) -> Result<IdpRole, SetupFault> {
+        let config = set_up(alloc, files, config)?;
+        Ok(IdpRole::new(alloc, config))
+    }
+
+    fn address(role: &IdpRole) -> &str {
+        role.config().listen.as_str()
+    }
+
+    fn never_both() {
+        idp_setup::laws::a_config_has_one_outcome();
     }
 }
 
@@ -118,12 +84,6 @@ pub fn run_idp<F: Files, L: Link, D: Disk, C: Clock>(
     ensures disk_never_falls { D.faults_of disk.old ≤ D.faults_of disk.new }
     ensures link_never_falls { L.faults_of link.old ≤ L.faults_of link.new }
 {
-    idp_setup::laws::a_config_has_one_outcome();
     a_run_carries_the_headline::<D>();
-    match set_up(alloc, files, config) {
-        Ok(config) => run_by(alloc, config, link, disk, clock, budget),
-        Err(SetupFault::BadFile { file, line }) => Ok(Ended::BadFile { file, line }),
-        Err(SetupFault::ReadFault) => Err(RunFault::ReadFault),
-        Err(SetupFault::NoMemory) => Err(RunFault::NoMemory),
-    }
+    run::<IdentityProvider, F, L, D, C>(alloc, files, config, link, disk, clock, budget)
 }

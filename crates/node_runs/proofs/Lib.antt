@@ -2,3 +2,4 @@ pub mod Completing
 pub mod Ending
 pub mod Moments
 pub mod Serving
+pub mod Kept

@@ -1,12 +1,14 @@
 -- What a crash may leave while a node runs.
-use Rattle.std.specs.Prelude.{ℕ, ◌≤◌, List, Option}
-use Rattle.std.proofs.Common.{inl, inr, ⊎_elim}
+use Rattle.std.specs.Prelude.{ℕ, ◌≤◌, List, Option, None, Some}
+use Rattle.std.proofs.Common.{inl, inr, refl, ⊎_elim}
 use Rattle.crash_disk.specs.Disk.{Image, DiskState}
 use Rattle.crash_disk.specs.Moments.{Leaves, LeavesOnly}
 use Rattle.crash_disk.specs.Steps.{started, then, weaker}
 use Rattle.node_serve.specs.Turns.{Turn}
 use Rattle.node_serve.specs.Serving.{MightLeave}
 use Rattle.node_serve.specs.Worlds.{NodeLeaves}
+use Rattle.record_ledger.specs.Ledger.{LeftByOpening}
+use Rattle.record_ledger.specs.Rules.{RecordRules}
 use Rattle.node_runs.specs.Runs.{RunLeavesBy}
 
 module _ {N D : Type 0} (moment : D → ℕ) (left_since : D → ℕ → Image → Type 0) (told : D → Option DiskState)
@@ -30,3 +32,8 @@ module _ {N D : Type 0} (moment : D → ℕ) (left_since : D → ℕ → Image �
   served counts_now old mid new turns opening serving =
       then moment left_since old mid new (OpeningLeaves (told old)) (MightLeave leaves (told mid) turns) (RunLeavesBy (OpeningLeaves (told old)) leaves turns) opening serving (λ image. inl)
       (λ image. ⊎_elim (λ left. inl (opening.each image (counts_now mid (moment old) image opening.later left))) inr)
+
+-- what is left now is left by an opening, too: it stands for what it stands for
+pub leaves_opening : {R : Type 0} (rules : RecordRules R) (told : Option DiskState) (image : Image) → Leaves told image → LeftByOpening rules told image
+leaves_opening rules None image left = absurd left
+leaves_opening rules (Some disk) image left = (image, left, inl refl)

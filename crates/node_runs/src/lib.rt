@@ -1,18 +1,22 @@
-//! What a run of a node comes to: it is set up, its ledger is opened, it listens, and it serves.
+//! The run of a provider: it is set up, its ledger is opened, it listens, and it serves.
 //!
 //! ```
-//! match ended_of(serve(alloc, node, link, disk, clock, budget))? {
+//! match run::<P, _, _, _, _>(alloc, files, "sp.conf", link, disk, clock, 1_000_000)? {
 //!     Ended::Served(served) => { /* served.events were taken; served.stopped says whether the link gave Stop */ }
 //!     Ended::BadFile { file, line } => { /* this file, or its line, can't be used */ }
 //!     Ended::Foreign { file, place } => { /* what this file of the disk holds at this place is no ledger */ }
 //! }
 //! ```
 //!
-//! A contract sees how a run goes as one of five cases (`RunsBy` of `specs/Runs.antt`): a file can't be used; the node was not
-//! set up; its ledger was not opened; the link did not listen; it served. The words stand here once for each kind of node,
-//! which says what its setup, its ledger and its steps are.
+//! What runs says by [`RunsProvider`] how its role is set up by a config, and at which address it listens. A contract sees
+//! how a run goes as one of five cases (`RunsBy` of `specs/Runs.antt`, `Runs` of `specs/Providers.antt`): a file can't be
+//! used; the provider was not set up; its ledger was not opened; the link did not listen; it served.
 #![tactic(auto)]
 
 mod ended;
+mod running;
+mod runs_provider;
 
 pub use ended::{Ended, RunFault, ended_of};
+pub use running::run;
+pub use runs_provider::RunsProvider;

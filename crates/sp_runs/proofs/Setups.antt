@@ -92,13 +92,13 @@ asked_same first last (turn ∷ past) kept asked (old, before, given, run, next,
 
 pub served_by_one : EachRequestIsServedByTheSameSetup
 served_by_one told file before opened provider turns kept behind asked begins run there =
-    asked_same (world_of provider opened) behind turns kept asked run there ∙ begins.started.serves_by
+    asked_same (world_of provider opened) behind turns kept asked run there ∙ begins.set_up.serves_by
 
 -- ---- registries
 
 pub told_in_a_run : ARegistryTellsTheProvider → ARunUsesWhatItsRegistryLists
 told_in_a_run tells told file before opened provider line begins named =
-    (tells told _ file begins.lines begins.setup line begins.set_up named, begins.started.serves_by)
+    (tells told _ file begins.set_up.lines begins.set_up.setup line begins.set_up.is named, begins.set_up.serves_by)
 
 -- where a registry has ended nothing is recorded
 ended_adds : (setup : Setup) (held : Held) (request : Request) (now : ℕ) (answer : Answer) (adds : Option SpRecord) (r : SpRecord) → is_expired setup.expiry now ≡ true →
@@ -135,7 +135,7 @@ is_over asked until setup by ends late =
 pub ended : AnEndedRegistryRecordsNothing
 ended told file before opened provider turns kept behind asked until r begins run ends there late stands =
     let by = served_by_one told file before opened provider turns kept behind asked begins run there in
-    stands_for_none asked (Some r) r (is_over asked until begins.setup by ends late) refl stands
+    stands_for_none asked (Some r) r (is_over asked until begins.set_up.setup by ends late) refl stands
 
 -- what is answered then
 without : (setup : Setup) (held : Held) (request : Request) (now : ℕ) (answer : Answer) (adds : Option SpRecord) → is_expired setup.expiry now ≡ true →
@@ -210,12 +210,12 @@ asks_nothing told file before opened provider turns kept behind asked until begi
     let by = served_by_one told file before opened provider turns kept behind asked begins run there in
     let here = did (world_of provider opened) behind turns kept asked run there in
     subst (λ (s : Setup). AsksAndOpensNothing s asked.request asked.answer) by
-    (step_without asked.node here.disk asked.request asked.now (Rose here.faults here.later) asked.answer here.new (is_over asked until begins.setup by ends late) here.step)
+    (step_without asked.node here.disk asked.request asked.now (Rose here.faults here.later) asked.answer here.new (is_over asked until begins.set_up.setup by ends late) here.step)
 
 pub never_expired : WithoutARegistryNothingEnds → WithoutARegistryNothingIsExpired
 never_expired endless told file before opened provider turns kept behind asked begins run none there =
     let by = served_by_one told file before opened provider turns kept behind asked begins run there in
     let no_end : asked.node.setup.expiry ≡ None =
-    ap (λ (s : Setup). s.expiry) by ∙ endless told _ file begins.lines begins.setup begins.set_up none in
+    ap (λ (s : Setup). s.expiry) by ∙ endless told _ file begins.set_up.lines begins.set_up.setup begins.set_up.is none in
     let here = did (world_of provider opened) behind turns kept asked run there in
     step_unexpired asked.node here.disk asked.request asked.now (Rose here.faults here.later) asked.answer here.new no_end here.step

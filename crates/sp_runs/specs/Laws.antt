@@ -80,8 +80,8 @@ EachSessionWasSigned =
 abbrev pub ARunUsesWhatItsRegistryLists : Type 0
 ARunUsesWhatItsRegistryLists =
     (told : Option (List File)) (file : List ℕ) (before opened : Outside) (provider : Provider) (line : RegistryLine)
-    → (begins : Begins told file before provider opened) → Contains begins.lines.files (Registry line)
-    → IsFromRegistry told line begins.setup × (provider.setup ≡ served_by begins.setup)
+    → (begins : Begins told file before provider opened) → Contains begins.set_up.lines.files (Registry line)
+    → IsFromRegistry told line begins.set_up.setup × (provider.setup ≡ served_by begins.set_up.setup)
 
 -- And so at each request of the run: the provider serves by what it was started with.
 abbrev pub EachRequestIsServedByTheSameSetup : Type 0
@@ -89,7 +89,7 @@ EachRequestIsServedByTheSameSetup =
     (told : Option (List File)) (file : List ℕ) (before opened : Outside) (provider : Provider) (turns : List (Turn Provider)) (kept : Table) (behind : World Provider)
     (asked : Asked Provider) → (begins : Begins told file before provider opened)
     → Run IsProviders (world_of provider opened) turns kept behind
-    → Contains (asked_in turns) asked → asked.node.setup ≡ served_by begins.setup
+    → Contains (asked_in turns) asked → asked.node.setup ≡ served_by begins.set_up.setup
 
 -- From the moment on at which its registry ends no answer of a run stands for a record: no login is asked for, no session is opened, and
 -- none is left or ended.
@@ -98,7 +98,7 @@ AnEndedRegistryRecordsNothing =
     (told : Option (List File)) (file : List ℕ) (before opened : Outside) (provider : Provider) (turns : List (Turn Provider)) (kept : Table) (behind : World Provider)
     (asked : Asked Provider) (until : ℕ) (r : SpRecord) → (begins : Begins told file before provider opened)
     → Run IsProviders (world_of provider opened) turns kept behind
-    → begins.setup.expiry ≡ Some until → Contains (asked_in turns) asked → until ≤ asked.now → ¬ (Stands asked (Some r))
+    → begins.set_up.setup.expiry ≡ Some until → Contains (asked_in turns) asked → until ≤ asked.now → ¬ (Stands asked (Some r))
 
 -- an answer that is no form which asks for a login, and gives no session: a code, the metadata, or the page of a session that lives
 abbrev pub AsksAndOpensNothing : Setup → Request → Answer → Type 0
@@ -112,8 +112,8 @@ AnEndedRegistryAsksNothing =
     (told : Option (List File)) (file : List ℕ) (before opened : Outside) (provider : Provider) (turns : List (Turn Provider)) (kept : Table) (behind : World Provider)
     (asked : Asked Provider) (until : ℕ) → (begins : Begins told file before provider opened)
     → Run IsProviders (world_of provider opened) turns kept behind
-    → begins.setup.expiry ≡ Some until → Contains (asked_in turns) asked → until ≤ asked.now
-    → AsksAndOpensNothing (served_by begins.setup) asked.request asked.answer
+    → begins.set_up.setup.expiry ≡ Some until → Contains (asked_in turns) asked → until ≤ asked.now
+    → AsksAndOpensNothing (served_by begins.set_up.setup) asked.request asked.answer
 
 -- The code for an ended registry is answered in no run whose config has none.
 abbrev pub WithoutARegistryNothingIsExpired : Type 0
@@ -121,7 +121,7 @@ WithoutARegistryNothingIsExpired =
     (told : Option (List File)) (file : List ℕ) (before opened : Outside) (provider : Provider) (turns : List (Turn Provider)) (kept : Table) (behind : World Provider)
     (asked : Asked Provider) → (begins : Begins told file before provider opened)
     → Run IsProviders (world_of provider opened) turns kept behind
-    → ((line : RegistryLine) → ¬ (Contains begins.lines.files (Registry line))) → Contains (asked_in turns) asked → asked.answer ≢ Fixed REGISTRY_EXPIRED
+    → ((line : RegistryLine) → ¬ (Contains begins.set_up.lines.files (Registry line))) → Contains (asked_in turns) asked → asked.answer ≢ Fixed REGISTRY_EXPIRED
 
 -- POLICIES
 

@@ -1,64 +1,10 @@
-use Rattle.std.proofs.Common.{◌≢◌, [], Err, inl, inr, refl, sym, subst}
-use Rattle.node_runs.specs.declared.ended.RunFault.TheVariants as faults
-use Rattle.node_runs.specs.Runs.{BadSetUp, NotSetUp, IsNotSetUp}
-use Rattle.idp_runs.specs.Headline.{ServedNothing}
-use Rattle.idp_runs.proofs.Completing.{complete}
-use Rattle.node_runs.proofs.Moments.{untouched}
-use Rattle.idp_ledger.specs.Ledger.{LeftByOpening}
-use Rattle.idp_server.specs.Step.{StepLeaves}
-use Rattle.idp_runs.proofs.Moments.{leaves_opening}
 use Rattle.idp_runs.proofs.run.run_idp.Goals as goal
 
-pub returns-in-Ok-clause-runs : goal.returns-in-Ok-clause-runs
-returns-in-Ok-clause-runs g c =
-    let (turns, goes, leaves) = c.run_by.ensures.runs in
-    let from = c.in-Ok.ensures.ok in
-    let told = g.F.Files.holds c.args.files.now in
-    let runs = goes told c.args.config.now from in
-    (turns, runs, c.a_run_carries_the_headline.ensures c.run_by.new.disk told c.args.config.now c.args.budget _ turns c.run_by.result _ runs, leaves)
-
-pub returns-in-Ok-clause-complete : goal.returns-in-Ok-clause-complete
-returns-in-Ok-clause-complete g c = λ can no_read no_link no_disk.
-    let (turns, goes, leaves) = c.run_by.ensures.runs in
-    let from = c.in-Ok.ensures.ok in
-    let told = g.F.Files.holds c.args.files.now in
-    let result = c.run_by.result in
-    let unread : result ≢ Err faults.ReadFault = λ e. c.run_by.ensures.set_up (subst IsNotSetUp (sym e) tt) in
-    let unlinked : result ≢ Err faults.LinkFault = λ e. no_link (c.run_by.ensures.link_fault e) in
-    complete result unread no_disk unlinked c.a_config_has_one_outcome.ensures.never_both (g.D.Disk.left_since c.run_by.new.disk) told c.args.config.now c.args.budget _ _ turns can
-    (goes told c.args.config.now from)
-
-pub returns-in-Ok-clause-untouched : goal.returns-in-Ok-clause-untouched
-returns-in-Ok-clause-untouched g c = λ not. absurd (c.run_by.ensures.set_up not)
-
-pub returns-in-Err-BadFile-clause-runs : goal.returns-in-Err-BadFile-clause-runs
-returns-in-Err-BadFile-clause-runs g c =
-    let is = rw c.in-Err-BadFile.field-0-is at c.in-Err-BadFile.ensures.err in
-    rw c.in-Err-BadFile.field-0-is (
-      [],
-      BadSetUp c.in-Err-BadFile.file c.in-Err-BadFile.line is refl refl refl,
-      ServedNothing refl,
-      untouched g.D.Disk.moment g.D.Disk.left_since g.D.Disk.told LeftByOpening StepLeaves (λ disk image left. leaves_opening (g.D.Disk.told disk) image (g.met.D.Disk.only_now disk image left)) c.args.disk.now [],
+pub returns-clause-runs : goal.returns-clause-runs
+returns-clause-runs g c =
+    let (turns, runs, leaves) = c.run.ensures.runs in (
+      turns,
+      runs,
+      c.a_run_carries_the_headline.ensures c.run.new.disk (g.F.Files.holds c.args.files.now) c.args.config.now c.args.budget _ turns c.run.result _ runs,
+      leaves,
     )
-
-pub returns-in-Err-BadFile-clause-complete : goal.returns-in-Err-BadFile-clause-complete
-returns-in-Err-BadFile-clause-complete g c = λ can no_read no_link no_disk.
-    let is = rw c.in-Err-BadFile.field-0-is at c.in-Err-BadFile.ensures.err in
-    absurd (c.a_config_has_one_outcome.ensures.never_both can.files c.args.config.now can.config c.in-Err-BadFile.file c.in-Err-BadFile.line
-    can.set_up (rw can.tells at is))
-
-pub returns-in-Err-ReadFault-clause-runs : goal.returns-in-Err-ReadFault-clause-runs
-returns-in-Err-ReadFault-clause-runs g c = (
-  [],
-  NotSetUp (inl refl) refl refl,
-  ServedNothing refl,
-  untouched g.D.Disk.moment g.D.Disk.left_since g.D.Disk.told LeftByOpening StepLeaves (λ disk image left. leaves_opening (g.D.Disk.told disk) image (g.met.D.Disk.only_now disk image left)) c.args.disk.now [],
-)
-
-pub returns-in-Err-NoMemory-clause-runs : goal.returns-in-Err-NoMemory-clause-runs
-returns-in-Err-NoMemory-clause-runs g c = (
-  [],
-  NotSetUp (inr refl) refl refl,
-  ServedNothing refl,
-  untouched g.D.Disk.moment g.D.Disk.left_since g.D.Disk.told LeftByOpening StepLeaves (λ disk image left. leaves_opening (g.D.Disk.told disk) image (g.met.D.Disk.only_now disk image left)) c.args.disk.now [],
-)

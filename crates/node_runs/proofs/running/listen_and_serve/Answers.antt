@@ -4,11 +4,10 @@ use Rattle.node_serve.specs.Serving.{MightLeave}
 use Rattle.node_runs.specs.declared.ended.RunFault.TheVariants as faults
 use Rattle.node_runs.specs.Runs.{Deaf, outside}
 use Rattle.node_runs.proofs.Serving.{only_listened, served_so}
-use Rattle.idp_server.specs.Histories.{IsProviders}
-use Rattle.idp_server.specs.Step.{StepLeaves}
-use Rattle.idp_setup.specs.Setup.{IsBadSetUp}
-use Rattle.idp_runs.specs.Runs.{Begins, IsNotOpened}
-use Rattle.idp_runs.proofs.run.listen_and_serve.Goals as goal
+use Rattle.node_steps.specs.Histories.{IsProviders}
+use Rattle.node_steps.specs.Step.{StepLeaves}
+use Rattle.node_runs.specs.Providers.{Begins, IsNotOpened}
+use Rattle.node_runs.proofs.running.listen_and_serve.Goals as goal
 
 pub returns-in_err-listen-clause-runs : goal.returns-in_err-listen-clause-runs
 returns-in_err-listen-clause-runs g c =
@@ -24,7 +23,7 @@ returns-in_err-listen-clause-runs g c =
     (g.L.Link.send_faults_of link) (g.L.Link.send_faults_of heard) clock c.in_err-listen.ensures.same c.in_err-listen.ensures.send_faults in (
       [],
       λ files file before begins. Deaf c.args.node.now opened begins is c.in_err-listen.ensures.faults.failed refl only,
-      started g.D.Disk.moment g.D.Disk.left_since c.args.disk.now (MightLeave StepLeaves told []) (λ image left. inl (g.met.D.Disk.only_now c.args.disk.now image left)),
+      started g.D.Disk.moment g.D.Disk.left_since c.args.disk.now (MightLeave (StepLeaves g.R.Role.KeepsLedger.rules g.R.Role.Role.answers) told []) (λ image left. inl (g.met.D.Disk.only_now c.args.disk.now image left)),
     )
 
 pub returns-clause-runs : goal.returns-clause-runs
@@ -44,7 +43,8 @@ returns-clause-runs g c =
     (g.L.Link.send_faults_of link) (g.L.Link.send_faults_of heard) clock c.in_ok-listen.ensures.same c.in_ok-listen.ensures.send_faults in
     let (turns, serves, leaves) = c.serve.ensures.serves in (
       turns,
-      λ files file before begins. served_so IsProviders StepLeaves (g.D.Disk.left_since now.disk) (IsBadSetUp files file) (IsNotOpened files file before) (Begins files file before) c.args.budget turns c.serve.result c.ended_of.result
+      λ files file before begins. served_so (IsProviders g.R.Role.KeepsLedger.rules g.R.Role.Role.answers) (StepLeaves g.R.Role.KeepsLedger.rules g.R.Role.Role.answers) (g.D.Disk.left_since now.disk) (g.R.RunsProvider.is_bad files file)
+          (IsNotOpened g.R.RunsProvider.sets_up g.R.Role.KeepsLedger.rules files file before) (Begins g.R.RunsProvider.sets_up g.R.Role.Role.key g.R.Role.KeepsLedger.rules files file before) c.args.budget turns c.serve.result c.ended_of.result
           c.args.node.now now.node before opened listening after only serves c.ended_of.ensures begins,
       leaves,
     )
