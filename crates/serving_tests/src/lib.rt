@@ -6,14 +6,4 @@ mod conn_table_tests;
 #[cfg(test)]
 mod http_wire_tests;
 #[cfg(test)]
-mod idp_answers_tests;
-#[cfg(test)]
-mod idp_server_tests;
-#[cfg(test)]
-mod logout_answers_tests;
-#[cfg(test)]
 mod node_serve_tests;
-#[cfg(test)]
-mod sp_answers_tests;
-#[cfg(test)]
-mod sp_server_tests;

@@ -7,7 +7,7 @@ use Rattle.user_store.specs.declared.user.User.{User}
 use Rattle.idp_rules.specs.Config.{IsTextPeer, IsTextUser}
 use Rattle.idp_rules.specs.declared.config.TheConstants.{MOST_PEERS}
 use Rattle.idp_answers.proofs.Texts.{letter_text}
-use Rattle.serving_tests.proofs.idp_server_tests.config.Goals as goal
+use Rattle.provider_tests.proofs.idp_server_tests.config.Goals as goal
 
 -- peers with which a provider can be started
 record CanBePeers (peers : List LogoutPeer) : Type 0 where

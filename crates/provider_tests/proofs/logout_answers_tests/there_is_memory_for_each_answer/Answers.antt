@@ -2,7 +2,7 @@ use Rattle.std.proofs.Common.{subst}
 use Rattle.xml_spec.specs.Characters.{IsText}
 use Rattle.logout_answers.proofs.Addresses.{same_address}
 use Rattle.logout_answers.proofs.Texts.{letter_text}
-use Rattle.serving_tests.proofs.logout_answers_tests.there_is_memory_for_each_answer.Goals as goal
+use Rattle.provider_tests.proofs.logout_answers_tests.there_is_memory_for_each_answer.Goals as goal
 
 pub leaving_answer-requires-clause-address : goal.leaving_answer-requires-clause-address
 leaving_answer-requires-clause-address c x is = subst IsText (same_address c.in_ok-peer.peer.peer.logout _ x c.in_ok-peer.ensures is) letter_text

@@ -1,5 +1,5 @@
 use Rattle.sp_answers.proofs.Texts.{letter_text}
-use Rattle.serving_tests.proofs.sp_answers_tests.there_is_memory_for_each_answer.Goals as goal
+use Rattle.provider_tests.proofs.sp_answers_tests.there_is_memory_for_each_answer.Goals as goal
 
 pub ask_answer-requires-clause-config : goal.ask_answer-requires-clause-config
 ask_answer-requires-clause-config c = c.in_ok-config.ensures

@@ -1,7 +1,7 @@
 use Rattle.std.proofs.Common.{sym, subst}
 use Rattle.xml_spec.specs.Characters.{IsText}
 use Rattle.sp_answers.proofs.Texts.{letter_text}
-use Rattle.serving_tests.proofs.sp_answers_tests.config.Goals as goal
+use Rattle.provider_tests.proofs.sp_answers_tests.config.Goals as goal
 
 pub returns : goal.returns
 returns c = record {

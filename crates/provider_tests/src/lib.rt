@@ -1,0 +1,13 @@
+//! What the clauses of the providers do not say: that each call succeeds with ample memory.
+#![tactic(auto)]
+
+#[cfg(test)]
+mod idp_answers_tests;
+#[cfg(test)]
+mod idp_server_tests;
+#[cfg(test)]
+mod logout_answers_tests;
+#[cfg(test)]
+mod sp_answers_tests;
+#[cfg(test)]
+mod sp_server_tests;
