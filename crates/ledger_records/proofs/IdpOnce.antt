@@ -1,13 +1,7 @@
 -- A payload is one record of an identity provider at most, and is read as that one.
-use Rattle.std.proofs.Common.{◌≡◌, ℕ, ◌<◌, ◌^◌, length, None, cond, eqb, Bool, true, false, nat_lt, ◌≤◌, List, Option, Some, refl, sym, ap, ◌∙◌}
+use Rattle.std.proofs.Common.{◌≡◌, ℕ, ◌<◌, ◌^◌, length, None, cond, Bool, true, false, nat_lt, ◌≤◌, List, Option, Some, refl, sym, ap, ◌∙◌}
 use Rattle.std.specs.Prelude.{map}
 use Rattle.std.proofs.lemmas.Bool.{lt-ltb, le-ltb}
-use Rattle.ledger_records.specs.declared.idp_record.Pending.{Pending}
-use Rattle.ledger_records.specs.declared.idp_record.Issued.{Issued}
-use Rattle.ledger_records.specs.declared.idp_record.Ended.{Ended}
-use Rattle.ledger_records.specs.declared.idp_record.Left.{Left}
-use Rattle.ledger_records.specs.declared.idp_record.Confirmed.{Confirmed}
-use Rattle.ledger_records.specs.declared.idp_record.Spoke.{Spoke}
 use Rattle.ledger_records.specs.declared.idp_record.IdpRecord.{IdpRecord}
 use Rattle.ledger_records.specs.declared.idp_record.IdpRecord.TheVariants as kinds
 use Rattle.ledger_records.specs.Fields.{Field}

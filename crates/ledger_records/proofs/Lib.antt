@@ -3,3 +3,4 @@ pub mod Lists
 pub mod Loop
 pub mod SpOnce
 pub mod IdpOnce
+pub mod HubOnce

@@ -2,6 +2,8 @@ pub mod Examples
 pub mod Fields
 pub mod SpRecord
 pub mod IdpRecord
+pub mod HubRecord
 pub mod Reading
 pub mod Found
+pub mod HubFound
 pub mod Writing

@@ -1,4 +1,4 @@
-//! The records that the ledgers of the two providers keep in their journals, as payloads.
+//! The records that the ledgers of the providers keep in their journals, as payloads.
 //!
 //! ```
 //! let record = SpRecord::Left(sp_record::Left { first: 4, moment, until, token, request });
@@ -8,15 +8,16 @@
 //! ```
 //!
 //! A contract sees a record as its fields, and a payload as bytes. What a payload says is one definition for each
-//! provider: `IsSpPayload` of `specs/SpRecord.antt` and `IsIdpPayload` of `specs/IdpRecord.antt` list the fields of each
-//! kind of record in order, and `specs/Fields.antt` has the bytes of each kind of field. A payload is one record at most
+//! provider: `IsSpPayload` of `specs/SpRecord.antt`, `IsIdpPayload` of `specs/IdpRecord.antt` and `IsHubPayload` of
+//! `specs/HubRecord.antt` list the fields of each kind of record in order, and `specs/Fields.antt` has the bytes of each kind of field. A payload is one record at most
 //! ([`laws`]).
 //!
-//! [`read_sp_record`] and [`read_idp_record`] answer none exactly where the payload is no record. A list grows as its items
+//! [`read_sp_record`], [`read_idp_record`] and [`read_hub_record`] answer none exactly where the payload is no record. A list grows as its items
 //! are read and is not reserved by its count, so memory and time are linear in the payload. `NoMemory` may come from each
 //! call that takes an allocator. `payload_len` takes no memory.
 #![tactic(auto)]
 
+pub mod hub_record;
 pub mod idp_record;
 mod key_number;
 pub mod laws;
@@ -24,6 +25,7 @@ mod reading;
 pub mod sp_record;
 mod writing;
 
+pub use hub_record::{HubRecord, read_hub_record};
 pub use idp_record::{IdpRecord, read_idp_record};
 pub use key_number::KeyNumber;
 pub use sp_record::{SpRecord, read_sp_record};

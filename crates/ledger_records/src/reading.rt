@@ -120,7 +120,7 @@ impl<'a> Fields<'a> {
 
     /// The number of a key.
     #[tactic(auto, unfolding(crate::specs::Reading::key_at))]
-    fn key(&mut self) -> Result<KeyNumber, Unread>
+    pub(crate) fn key(&mut self) -> Result<KeyNumber, Unread>
         ensures { Reads (λ key. (key, self.new.rest.now)) result (key_at self.old.rest.now) }
     {
         let [number, rest @ ..] = self.rest else {

@@ -1,0 +1,97 @@
+-- The record that a login names, which no other names.
+use Rattle.std.proofs.Common.{◌≡◌, ℕ, ◌<◌, ◌≤◌, true, false, not, List, [], ◌∷◌, slice_get, Some, bytes_eq, refl, sym, ◌∙◌, subst, arith}
+use Rattle.std.proofs.lemmas.Bool.{false≢true, and_parts, not-true}
+use Rattle.ledger_records.specs.declared.hub_record.Backed.{Backed}
+use Rattle.ledger_records.specs.declared.hub_record.HubRecord.{HubRecord}
+use Rattle.ledger_records.specs.declared.hub_record.HubRecord.TheVariants as kinds
+use Rattle.ledger_rules.specs.Numbers.{Drawn}
+use Rattle.request_rows.specs.Rows.{is_spent}
+use Rattle.record_ledger.specs.Linking.{has_id, is_among, FreeRow, LinkLaws}
+use Rattle.record_ledger.proofs.Words.{other_way, same_text}
+use Rattle.record_ledger.proofs.LinkRows.{alone, other_not, among_one, none_at}
+use Rattle.request_ledger.proofs.LinkFree.{some_at}
+use Rattle.hub_ledger.specs.RowsOf.{asked_rows, below_rows, opened_rows}
+use Rattle.hub_ledger.specs.Record.{drawn, goes_to, is_record, is_routed, hub_rules}
+use Rattle.hub_ledger.specs.Naming.{names, names_routed}
+use Rattle.hub_ledger.specs.Linking.{named, rank, row_found, hub_links}
+use Rattle.hub_ledger.specs.RowsOf.{below_row}
+use Rattle.hub_ledger.proofs.Words.{backs, routes, routed_any, spent_any, parts}
+
+-- a record that is named has one of the IDs
+names_routed_has : (request : List ℕ) (x : HubRecord) → names_routed request x ≡ true → has_id hub_rules hub_links (request ∷ []) x ≡ true
+names_routed_has request (kinds.Routed a) is = alone (bytes_eq request a.request) (other_way a.request request is)
+names_routed_has request (kinds.Backed x) is = absurd (false≢true is)
+names_routed_has request (kinds.Spoke x) is = absurd (false≢true is)
+
+names_has : (r x : HubRecord) → names r x ≡ true → has_id hub_rules hub_links (named r) x ≡ true
+names_has (kinds.Routed r) x is = absurd (false≢true is)
+names_has (kinds.Backed r) x is = names_routed_has r.request x is
+names_has (kinds.Spoke r) x is = absurd (false≢true is)
+
+-- a record to which a login goes is named
+pub routes_names : (b : Backed) (x : HubRecord) → routes b x ≡ true → names_routed b.request x ≡ true
+routes_names b (kinds.Routed r) is = (and_parts (bytes_eq r.request b.request) (goes_to b (below_row r)) is).0
+routes_names b (kinds.Backed r) is = absurd (false≢true is)
+routes_names b (kinds.Spoke r) is = absurd (false≢true is)
+
+-- a record does not name what it does not answer
+unanswered : (request : List ℕ) (x y : HubRecord) → names_routed request x ≡ true → backs request y ≡ false → names y x ≡ false
+unanswered request (kinds.Routed a) (kinds.Routed r) asks none = refl
+unanswered request (kinds.Routed a) (kinds.Backed r) asks none =
+    let same = same_text a.request request asks in
+    subst (λ t. bytes_eq t r.request ≡ false) (sym same) (other_not r.request request none)
+unanswered request (kinds.Routed a) (kinds.Spoke r) asks none = refl
+unanswered request (kinds.Backed a) y asks none = absurd (false≢true asks)
+unanswered request (kinds.Spoke a) y asks none = absurd (false≢true asks)
+
+free_row : (before : List HubRecord) (r : HubRecord) (id : List ℕ) → is_record before r ≡ true → is_among id (named r) ≡ true
+    → FreeRow hub_rules hub_links before r id
+free_row before (kinds.Routed r) id is among = absurd (false≢true among)
+free_row before (kinds.Spoke r) id is among = absurd (false≢true among)
+free_row before (kinds.Backed r) id is among =
+    let same : id ≡ r.request = among_one r.request id among in
+    let both = and_parts (is_routed (asked_rows before) (below_rows before) r) (not (is_spent (opened_rows before) r.request)) (parts before (kinds.Backed r) is).free in
+    let none = sym (spent_any before r.request) ∙ not-true (is_spent (opened_rows before) r.request) both.1 in
+    let at = some_at (routes r) before (sym (routed_any before r) ∙ both.0) in
+    let is_named = routes_names r at.1.0 at.1.2 in
+    record {
+      place = at.0;
+      row = at.1.0;
+      there = at.1.1;
+      has = subst (λ t. has_id hub_rules hub_links (t ∷ []) at.1.0 ≡ true) (sym same) (names_has (kinds.Backed r) at.1.0 is_named);
+      named_is = is_named;
+      free = λ l y less there. unanswered r.request at.1.0 y is_named (none_at (backs r.request) before none l y there);
+    }
+
+found_drawn : (r : HubRecord) (d : Drawn) → row_found r ≡ Some d → (k : ℕ) × (slice_get (drawn r) k ≡ Some d)
+found_drawn (kinds.Routed r) d is = (0, is)
+found_drawn (kinds.Backed r) d is = absurd (cc)
+found_drawn (kinds.Spoke r) d is = absurd (cc)
+
+rank_routed : (request : List ℕ) (x : HubRecord) → names_routed request x ≡ true → rank x ≡ 0
+rank_routed request (kinds.Routed r) is = refl
+rank_routed request (kinds.Backed r) is = absurd (false≢true is)
+rank_routed request (kinds.Spoke r) is = absurd (false≢true is)
+
+names_rank : (y x : HubRecord) → names y x ≡ true → rank x < rank y
+names_rank (kinds.Routed r) x is = absurd (false≢true is)
+names_rank (kinds.Backed r) x is = let e = rank_routed r.request x is in omega (arith, e)
+names_rank (kinds.Spoke r) x is = absurd (false≢true is)
+
+most : (r : HubRecord) → rank r ≤ 3
+most (kinds.Routed r) = omega arith
+most (kinds.Backed r) = omega arith
+most (kinds.Spoke r) = omega arith
+
+pub link_laws : LinkLaws hub_rules hub_links
+link_laws = record {
+  drawn = found_drawn;
+  named = names_has;
+  free = free_row;
+  within = λ before r id is some. absurd (cc);
+  within_names = λ r x id some is. absurd (cc);
+  within_none = λ r id some. absurd (cc);
+  up = names_rank;
+  down = λ y x is. absurd (false≢true is);
+  most = most;
+}

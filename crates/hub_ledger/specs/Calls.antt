@@ -1,0 +1,25 @@
+-- Which changing calls of a disk the calls of a hub's ledger make, in their order.
+use Rattle.std.specs.Prelude.{ℕ, List, Option, Result}
+use Rattle.crash_disk.specs.declared.change.Change.{Change}
+use Rattle.crash_disk.specs.Disk.{Image, DiskState}
+use Rattle.ledger_records.specs.declared.hub_record.HubRecord.{HubRecord}
+use Rattle.record_ledger.specs.Calls as any
+use Rattle.hub_ledger.specs.Record.{hub_rules}
+use Rattle.hub_ledger.specs.Ledger.{Held}
+
+-- What an opening makes, also one again: that of the journal, and then the migration of a version 1.
+abbrev pub opening : DiskState → List Change
+opening = any.opening hub_rules
+
+-- What a compaction makes: the new ledger, in the other file.
+abbrev pub compacting : (made : Held) → DiskState → List Change
+compacting = any.compacting hub_rules
+
+-- What a commit makes: it writes the record behind those that are there.
+abbrev pub committing : Held → HubRecord → DiskState → List Change
+committing = any.committing hub_rules
+
+-- No changing call was made, or those of one compaction at a moment, as far as the answer says.
+abbrev pub FollowsCompaction : {D T E : Type 0} → (D → Option DiskState) → (D → ℕ) → (D → ℕ → Image → Type 0) → (now : ℕ) → Held
+    → (old new : D) → Result T E → Type 0
+FollowsCompaction told moment left_since now held old new result = any.FollowsCompaction hub_rules told moment left_since now held old new result

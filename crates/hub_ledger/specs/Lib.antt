@@ -1,0 +1,11 @@
+pub mod RowsOf
+pub mod Naming
+pub mod Record
+pub mod Finding
+pub mod Standing
+pub mod Ledger
+pub mod Calls
+pub mod Compacting
+pub mod Linking
+pub mod Runs
+pub mod Laws

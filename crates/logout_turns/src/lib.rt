@@ -1,0 +1,16 @@
+//! Whom a logout tells: one turn for each provider that has to be asked (SAML Profiles, 4.4.3.3).
+//!
+//! ```
+//! let mut turns = Turns::new(alloc);
+//! turns.push(Turn { peer, name, indexes })?;                    // a LogoutRequest to `peer` with these indexes
+//! ```
+//!
+//! A contract sees a list of turns as the list of what it holds. `new` takes no memory; each call that does answers
+//! `NoMemory` where there is none, and what it was lent is then as before.
+#![tactic(auto)]
+
+mod part;
+mod turns;
+
+pub use part::{Asker, Part};
+pub use turns::{Turn, Turns};
