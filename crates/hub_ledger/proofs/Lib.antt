@@ -7,3 +7,4 @@ pub mod Runs
 pub mod KeptAnswers
 pub mod Draftable
 pub mod Places
+pub mod Drafted

@@ -4,6 +4,9 @@ pub mod Record
 pub mod Finding
 pub mod Standing
 pub mod Ledger
+pub mod Draft
+pub mod Ids
+pub mod Drafts
 pub mod Calls
 pub mod Compacting
 pub mod Linking

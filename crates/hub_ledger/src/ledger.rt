@@ -1,6 +1,7 @@
 //! An opened ledger.
 ghost use Rattle.std.specs.Prelude.{◌≡◌, true, false, None, IfErr, IfOk, IfSome, IsErrOf, OnOk, OnErr};
 ghost use Rattle.owned_values.specs.Gives.{Gives};
+ghost use Rattle.crash_disk.specs.Counts.{CountsFaults};
 ghost use Rattle.crash_disk.specs.Disk.{image_of};
 ghost use Rattle.crash_disk.specs.Moments.{LeavesOnly};
 ghost use Rattle.crash_disk.specs.Plans.{Follows};
@@ -8,13 +9,14 @@ ghost use Rattle.gate_journal.specs.Opening.{open_fault_of, CausesFaults};
 ghost use Rattle.std.specs.Option.{option_map};
 ghost use Rattle.hub_ledger.specs.Finding.{routed_row, routed_view};
 ghost use Rattle.hub_ledger.specs.Record.{AreRecords};
-ghost use Rattle.hub_ledger.specs.Ledger.{IsOwn, LeftByOpening, ledger_in, rows_in, taken};
-ghost use Rattle.hub_ledger.specs.Calls.{opening, FollowsCompaction};
+ghost use Rattle.hub_ledger.specs.Ledger.{CanCommit, IsOwn, IsWithOrWithout, LeftByOpening, held_with, ledger_in, next_number, rows_in, taken};
+ghost use Rattle.hub_ledger.specs.Calls.{committing, opening, FollowsCompaction};
 ghost use Rattle.hub_ledger.specs.Compacting.{Compacts, IsOldOrCompacted};
 
+use crate::draft::Draft;
 use crate::row::RoutedRow;
 use crate::standing::Standing;
-use gate_journal::{Disk, Header, OpenFault};
+use gate_journal::{Disk, Failed, Header, OpenFault};
 use record_ledger::RecordLedger;
 use request_rows::Rows;
 use std::alloc::Global;
@@ -97,6 +99,20 @@ impl HubLedger {
         self.ledger.is_broken()
     }
 
+    /// The key of the IDs that are drawn.
+    pub(crate) fn key(&self) -> &[u8; 32]
+        ensures { result.now ≡ self.now.key }
+    {
+        self.ledger.key()
+    }
+
+    /// The next number to be drawn: the larger of the header's and one more than the greatest that a record drew.
+    pub(crate) fn next_number(&self) -> u64
+        ensures { result ≡ next_number self.now.held }
+    {
+        self.ledger.next_number()
+    }
+
     /// That the records are records of a ledger, each behind those before it. It does nothing.
     pub fn holds_records(&self)
         ensures { AreRecords self.now.held.records }
@@ -110,6 +126,24 @@ impl HubLedger {
     {
         let horizon = self.header().horizon;
         self.ledger.standing().routed(request, now, horizon)
+    }
+
+    /// Adds the record of a draft. It takes no memory. At `Failed` the ledger is broken, and has to be opened again; the
+    /// disk then stands for the records with the new one or without.
+    pub fn commit<D: Disk>(&mut self, disk: &mut D, draft: Draft) -> Result<(), Failed>
+        requires own { IsOwn (D.told disk.old) self.old }
+        requires whole { self.old.broken ≡ false }
+        requires can { CanCommit self.old draft }
+        ensures ok { OnOk result ((self.new.held ≡ held_with draft self.old.held) × (self.new.broken ≡ false)) }
+        ensures err { OnErr result ((self.new.held ≡ self.old.held) × (self.new.broken ≡ true)) }
+        ensures key { self.new.key ≡ self.old.key }
+        ensures own { IsOwn (D.told disk.new) self.new }
+        // A crash at any moment of the call leaves the records from before it, with the new one or without.
+        ensures moments { LeavesOnly D.moment D.left_since disk.old disk.new (IsWithOrWithout draft self.old.held) }
+        ensures faults { CountsFaults result (D.faults_of disk.old) (D.faults_of disk.new) }
+        ensures calls { Follows D.told D.moment D.left_since (committing self.old.held draft) disk.old disk.new result }
+    {
+        self.ledger.commit(disk, draft.drafted)
     }
 
     /// Leaves out each record that no one can ask for any more from the moment `now` on: a record is kept where a row of it is

@@ -3,6 +3,8 @@
 //!
 //! ```
 //! let mut ledger = HubLedger::start(alloc, &mut disk, key)?;       // the records of the disk's journal
+//! let draft = ledger.draft_route(now, &below)?;                     // takes all the memory that is needed
+//! ledger.commit(&mut disk, draft)?;                                // in every image that a crash may leave from now on
 //! ledger.routed("_0000000000000001..", now);                       // the request below for which that one was sent
 //! ledger.compact(&mut disk, now)?;                                 // leaves out what no one can ask for any more
 //! ```
@@ -16,6 +18,9 @@
 #![tactic(auto)]
 
 mod checks;
+mod draft;
+mod drafting;
+mod ids;
 pub mod laws;
 mod ledger;
 mod naming;
@@ -23,6 +28,8 @@ mod row;
 mod rules;
 mod standing;
 
-pub use gate_journal::{Disk, FileNo, Header, OpenFault};
+pub use draft::Draft;
+pub use gate_journal::{Disk, Failed, FileNo, Header, OpenFault};
 pub use ledger::HubLedger;
+pub use ledger_rules::DraftFault;
 pub use row::{BelowRow, RoutedRow};
