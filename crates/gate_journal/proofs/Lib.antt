@@ -3,6 +3,7 @@ pub mod Beside
 pub mod Bodies
 pub mod Choosing
 pub mod Closing
+pub mod Coming
 pub mod Commits
 pub mod Filling
 pub mod First

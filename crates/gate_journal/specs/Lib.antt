@@ -5,3 +5,4 @@ pub mod Journal
 pub mod Making
 pub mod Opening
 pub mod Reading
+pub mod Texts

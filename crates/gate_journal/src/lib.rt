@@ -6,6 +6,8 @@
 //! journal.append(&mut disk, b"abc")?;                  // in every image that a crash may leave from now on
 //! journal.records().len();
 //! journal.compact(&mut disk, &kept, horizon, next)?;   // these payloads alone from now on, in the other file
+//!
+//! let found = newer(read_text(&zero)?, read_text(&one)?)?;   // what two texts stand for, read where they lie
 //! ```
 //!
 //! What two files stand for is a function of their bytes alone, `journal` of `specs/Format.antt`: a list of payloads, a
@@ -30,6 +32,7 @@ mod opening;
 mod reading;
 mod record;
 mod remaking;
+mod texts;
 mod writing;
 
 pub use crash_disk::{Disk, Failed, FileNo};
@@ -38,3 +41,4 @@ pub use header::Header;
 pub use journal::Journal;
 pub use opening::open_journal;
 pub use record::Record;
+pub use texts::{FilePayloads, FileText, newer, read_text};

@@ -15,19 +15,19 @@ pub(crate) const LETTERS: [u8; 7] = *b"SAMLJNL";
 
 pub(crate) const COMMITTED: u8 = 1;
 
-const VERSION: usize = 32;
+pub(crate) const VERSION: usize = 32;
 
-const GATE: usize = 70;
+pub(crate) const GATE: usize = 70;
 
-const OPEN: u8 = 1;
+pub(crate) const OPEN: u8 = 1;
 
-const LONGEST_FILE: usize = 134_217_728;
+pub(crate) const LONGEST_FILE: usize = 134_217_728;
 
-const LONGEST_FILE_ONE: usize = 67_108_864;
+pub(crate) const LONGEST_FILE_ONE: usize = 67_108_864;
 
-const LONGEST_PAYLOAD: usize = 1_048_576;
+pub(crate) const LONGEST_PAYLOAD: usize = 1_048_576;
 
-const LONGEST_PAYLOAD_ONE: usize = 524_288;
+pub(crate) const LONGEST_PAYLOAD_ONE: usize = 524_288;
 
 /// The records of a file, and where the next one begins.
 #[derive(Debug, Drop)]
@@ -57,7 +57,7 @@ impl Model for Stored {
 }
 
 /// The number of eight bytes from a place on.
-fn number_of(file: &[u8], at: usize) -> u64
+pub(crate) fn number_of(file: &[u8], at: usize) -> u64
     requires { at + 8 ≤ length file.now }
     ensures { result ≡ number_at file.now at }
 {
@@ -74,7 +74,7 @@ fn number_of(file: &[u8], at: usize) -> u64
 }
 
 /// How long the payload of the first of these bodies is, where that body is whole.
-fn whole_body(bodies: &[u8], longest: usize) -> Option<usize>
+pub(crate) fn whole_body(bodies: &[u8], longest: usize) -> Option<usize>
     ensures { MatchOption result (is_whole longest bodies.now ≡ false) (λ n. (n ≡ size_of bodies.now) × (is_whole longest bodies.now ≡ true)) }
 {
     if bodies.len() < 5 {

@@ -1,0 +1,213 @@
+//! Files of a journal that are read where they lie. No disk is asked and nothing is made; no memory is taken, and each
+//! payload is a slice of its file.
+ghost use Rattle.std.specs.Prelude.{◌≡◌, ◌+◌, ◌≤◌, ◌∷◌, [], true, length, is_ok, Ok, Err, IfSome, MatchOption, MatchResult};
+ghost use Rattle.std.specs.Option.{option_map};
+ghost use Rattle.gate_journal.specs.Format.{committed_of, file_of, joined, payloads_of, with_payloads};
+
+use crate::reading::{
+    COMMITTED, GATE, HEAD, LETTERS, LONGEST_FILE, LONGEST_FILE_ONE, LONGEST_PAYLOAD,
+    LONGEST_PAYLOAD_ONE, OPEN, VERSION, number_of, whole_body,
+};
+use crate::{FileNo, Header};
+use std::marker::Model;
+
+/// Where the generation stands.
+const GENERATION: usize = 8;
+
+/// The payloads of a file that are still to come, one after the other.
+#[derive(Debug, Drop)]
+pub struct FilePayloads<'a> {
+    bodies: &'a [u8],
+    gate: u8,
+    place: u64,
+    longest: usize,
+}
+
+impl<'a> Model for FilePayloads<'a> {
+    ghost use Rattle.std.specs.Prelude.{◌≡◌, ◌+◌, ◌≤◌, true, length, is_ok};
+    ghost use Rattle.gate_journal.specs.Format.{payloads_from};
+    ghost use Rattle.gate_journal.specs.Texts.{Coming, coming};
+
+    ghost Value = { Coming };
+
+    ghost view = { λ p. coming p.longest p.place p.gate p.bodies.now };
+
+    ghost invariant = { λ p. (is_ok (payloads_from p.longest p.place p.gate p.bodies.now) ≡ true) × (p.place + length p.bodies.now ≤ 134217728) × (p.longest ≤ 1048576) };
+}
+
+impl<'a> FilePayloads<'a> {
+    /// The place in the file of the length of the next payload, in bytes; behind the last one the place of the end.
+    pub fn place(&self) -> u64
+        ensures place { result ≡ self.now.place }
+        ensures within { result ≤ 134217728 }
+    {
+        self.place
+    }
+
+    /// The next payload; none where no more is to come.
+    pub fn next_payload(&mut self) -> Option<&'a [u8]>
+        ensures payload { MatchOption result ((self.old.payloads ≡ []) × (self.new ≡ self.old)) (λ p. self.old.payloads ≡ p.now ∷ self.new.payloads) }
+        ensures place { MatchOption result (self.new.place ≡ self.old.place) (λ p. self.new.place ≡ self.old.place + (length p.now + 5)) }
+        ensures within { self.new.place ≤ 134217728 }
+        ensures short { IfSome result (λ p. length p.now ≤ 1048576) }
+    {
+        if self.gate != OPEN {
+            return None;
+        }
+        let size = whole_body(self.bodies, self.longest)?;
+        let payload = &self.bodies[4..4 + size];
+        self.gate = self.bodies[4 + size];
+        self.bodies = &self.bodies[size + 5..];
+        self.place += size as u64 + 5;
+        Some(payload)
+    }
+}
+
+/// What a committed file holds, read where it lies.
+#[derive(Debug, Drop)]
+pub struct FileText<'a> {
+    version: u8,
+    header: Header,
+    payloads: FilePayloads<'a>,
+}
+
+impl<'a> Model for FileText<'a> {
+    ghost use Rattle.std.specs.Prelude.{◌≡◌};
+    ghost use Rattle.gate_journal.specs.Format.{Committed};
+    ghost use Rattle.gate_journal.specs.Texts.{committed};
+
+    ghost Value = { Committed };
+
+    ghost view = { λ t. committed t.version t.header t.payloads };
+
+    ghost invariant = { λ t. t.payloads.place ≡ 72 };
+}
+
+impl<'a> FileText<'a> {
+    /// The version of the journal, 1 or 2.
+    pub fn version(&self) -> u8
+        ensures { result ≡ self.now.version }
+    {
+        self.version
+    }
+
+    /// Its payloads, from the first on.
+    pub fn payloads(&self) -> FilePayloads<'a>
+        ensures { result ≡ record { place = 72; payloads = self.now.payloads } }
+    {
+        FilePayloads {
+            bodies: self.payloads.bodies,
+            gate: self.payloads.gate,
+            place: self.payloads.place,
+            longest: self.payloads.longest,
+        }
+    }
+}
+
+/// Walks over the records of a file, up to the first that is there and is not whole: then its place.
+fn walk(file: &[u8], longest: usize) -> Result<(), u64>
+    requires long { 72 ≤ length file.now }
+    requires longest { longest ≤ 1048576 }
+    ensures { MatchResult result (λ _. is_ok (payloads_of longest file.now) ≡ true) (λ place. payloads_of longest file.now ≡ Err place) }
+{
+    let mut at = HEAD;
+    let mut gate = file[GATE];
+    while gate == OPEN {
+        let Some(size) = whole_body(&file[at..], longest) else {
+            return Err(at as u64);
+        };
+        let end = at + 4 + size;
+        gate = file[end];
+        at = end + 1;
+    }
+    Ok(())
+}
+
+/// What a committed file holds whose payloads have at most this length, by its records.
+fn read_records(file: &[u8], longest: usize) -> Result<Option<FileText<'_>>, u64>
+    requires long { 72 ≤ length file.now }
+    requires short { length file.now ≤ 134217728 }
+    requires longest { longest ≤ 1048576 }
+    ensures { result ≡ with_payloads file.now (payloads_of longest file.now) }
+{
+    walk(file, longest)?;
+    let header = Header {
+        generation: number_of(file, GENERATION),
+        horizon: number_of(file, 16),
+        next: number_of(file, 24),
+    };
+    let payloads = FilePayloads {
+        bodies: &file[HEAD..],
+        gate: file[GATE],
+        place: HEAD as u64,
+        longest,
+    };
+    Ok(Some(FileText {
+        version: file[VERSION],
+        header,
+        payloads,
+    }))
+}
+
+/// What a committed file holds.
+#[tactic(auto, unfolding(crate::specs::Format::committed_of))]
+fn read_committed(file: &[u8]) -> Result<Option<FileText<'_>>, u64>
+    requires long { 72 ≤ length file.now }
+    requires short { length file.now ≤ 134217728 }
+    ensures { result ≡ committed_of file.now }
+{
+    match file[VERSION] {
+        1 if file.len() > LONGEST_FILE_ONE => Err(LONGEST_FILE_ONE as u64),
+        1 if number_of(file, GENERATION) == u64::MAX => Err(GENERATION as u64),
+        1 => read_records(file, LONGEST_PAYLOAD_ONE),
+        2 => read_records(file, LONGEST_PAYLOAD),
+        _ => Err(VERSION as u64),
+    }
+}
+
+/// What a file of a journal holds, read where it lies: nothing where it is shorter than its header or not committed, and
+/// else the place of its fault, in bytes. It takes no memory.
+#[tactic(auto, unfolding(crate::specs::Format::file_of))]
+pub fn read_text(file: &[u8]) -> Result<Option<FileText<'_>>, u64>
+    ensures { result ≡ file_of file.now }
+{
+    if file.len() < HEAD {
+        return Ok(None);
+    }
+    if &file[1..8] != LETTERS.as_slice() {
+        return Err(1);
+    }
+    if file.len() > LONGEST_FILE {
+        return Err(LONGEST_FILE as u64);
+    }
+    if file[0] != COMMITTED {
+        return Ok(None);
+    }
+    read_committed(file)
+}
+
+/// What two files stand for that are no fault by themselves: what the one with the greater generation holds, and which
+/// that is; nothing where neither is committed. Two of one generation are a fault of file 1, at this place.
+pub fn newer<'a>(
+    zero: Option<FileText<'a>>,
+    one: Option<FileText<'a>>,
+) -> Result<Option<(FileNo, FileText<'a>)>, u64>
+    ensures { MatchResult result
+        (λ found. joined (Ok zero.entry) (Ok one.entry) ≡ Ok (option_map (λ pair. record { file = pair.0; holds = pair.1 }) found))
+        (λ place. joined (Ok zero.entry) (Ok one.entry) ≡ Err (record { file = FileNo.One; place = place })) }
+{
+    let (zero, one) = match (zero, one) {
+        (None, None) => return Ok(None),
+        (Some(zero), None) => return Ok(Some((FileNo::Zero, zero))),
+        (None, Some(one)) => return Ok(Some((FileNo::One, one))),
+        (Some(zero), Some(one)) => (zero, one),
+    };
+    if zero.header.generation == one.header.generation {
+        return Err(GENERATION as u64);
+    }
+    if zero.header.generation > one.header.generation {
+        Ok(Some((FileNo::Zero, zero)))
+    } else {
+        Ok(Some((FileNo::One, one)))
+    }
+}
