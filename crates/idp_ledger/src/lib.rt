@@ -44,5 +44,7 @@ pub use gate_journal::{Disk, Failed, FileNo, Header, OpenFault};
 pub use key::IdpKey;
 pub use ledger::IdpLedger;
 pub use ledger_rules::DraftFault;
+pub use noted::Noted;
 pub use record_ledger::MOST_ROWS;
 pub use row::{Ask, IssuedRow, LeftRow, PendingRow, SessionRow};
+pub use standing::Standing;

@@ -10,7 +10,7 @@ use std::marker::Model;
 
 /// A record, and the row of the session that it begins. Contracts see it as the record.
 #[derive(Debug, Drop)]
-pub(crate) struct Noted {
+pub struct Noted {
     pub(crate) entry: IdpRecord,
     pub(crate) session: Option<SessionRow>,
 }
@@ -57,7 +57,7 @@ impl Noted {
     }
 
     /// The record.
-    pub(crate) fn entry(&self) -> &IdpRecord
+    pub fn entry(&self) -> &IdpRecord
         ensures { result.now ≡ self.now }
     {
         &self.entry

@@ -25,7 +25,7 @@ use std::marker::Model;
 
 /// The rows of records, and the least number above all that were drawn.
 #[derive(Debug, Drop)]
-pub(crate) struct Standing {
+pub struct Standing {
     pendings: Pendings,
     sessions: Sessions,
     lefts: Lefts,

@@ -34,4 +34,5 @@ pub use draft::Draft;
 pub use gate_journal::{Disk, Failed, FileNo, Header, OpenFault};
 pub use ledger::Ledger;
 pub use ledger_rules::DraftFault;
+pub use marked::Marked;
 pub use record_ledger::MOST_ROWS;

@@ -14,7 +14,7 @@ use std::marker::Model;
 /// What the records of a service provider stand for, and for each request that was asked a mark whether it is spent: while
 /// rows are gathered no index says this, and none is left when they have their indexes.
 #[derive(Debug, Drop)]
-pub(crate) struct Marked {
+pub struct Marked {
     standing: Standing,
     marks: Option<Vec<bool>>,
 }

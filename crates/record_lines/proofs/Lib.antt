@@ -1,0 +1,5 @@
+pub mod Instants
+pub mod JudgedPayloads
+pub mod OneLine
+pub mod Reading
+pub mod Told
