@@ -10,7 +10,9 @@ use Rattle.httparse.specs.Ascii.{crlf_bytes}
 use Rattle.http.specs.StatusCode.{reason_phrase}
 use Rattle.http_wire.specs.declared.answer.TheConstants.{VERSION, LINES_TO_SIZE, LINES_FROM_SIZE}
 use Rattle.http_wire.specs.declared.fixed.TheConstants.{PAGE_HEAD, PAGE_TAIL}
+use Rattle.owned_values.specs.declared.attributes.Attribute.{Attribute}
 use Rattle.http_wire.specs.Answers.{status_line, page_lines, field_line, location_line, cookie_line, answer, page}
+use Rattle.http_wire.specs.Vouched.{escaped_name, attributes_form, vouched_answer}
 
 -- ---- pieces
 
@@ -114,13 +116,14 @@ page_pieces status number status_text phrase size label number_text space name i
 
 -- ---- all bytes of an answer
 
-head_and_rest : (version status space phrase to size from rest : List ℕ) →
-    version ++ (status ++ (space ++ (phrase ++ (to ++ (size ++ (from ++ [])))))) ++ rest
-    ≡ version ++ (status ++ (space ++ (phrase ++ (to ++ (size ++ (from ++ rest))))))
-head_and_rest version status space phrase to size from rest = simp (append_assoc, append-nil)
+behind_old : (old line lines : List ℕ) → old ++ (line ++ lines ++ []) ≡ old ++ line ++ lines
+behind_old old line lines = simp (append_assoc, append-nil)
 
-behind_group : (head location cookie end body : List ℕ) → head ++ location ++ cookie ++ end ++ body ≡ head ++ (location ++ (cookie ++ (end ++ body)))
-behind_group head location cookie end body = simp append_assoc
+pub head_steps : (status size : ℕ) (status_text phrase size_text old new : List ℕ) → status_text ≡ decimal status → phrase ≡ unwrap_or (reason_phrase status) [] →
+    size_text ≡ decimal size → new ≡ old ++ head_of status_text phrase size_text [] → new ≡ old ++ status_line status ++ page_lines size
+head_steps status size status_text phrase size_text old new is_status is_phrase is_size is =
+    is ∙ (λ i. old ++ head_of (is_status i) (is_phrase i) (is_size i) []) ∙ ap (λ xs. old ++ xs) (sym (head_group status size []))
+    ∙ behind_old old (status_line status) (page_lines size)
 
 -- the line of a field that is given or not
 abbrev given_line : List ℕ → Option (Bor (List ℕ)) → List ℕ → List ℕ
@@ -137,21 +140,31 @@ same_cookie (Some text) = grouped text.now (codes "; Path=/; HttpOnly") crlf_byt
     grouped : (value more end : List ℕ) → codes "Set-Cookie: " ++ value ++ (more ++ end) ≡ codes "Set-Cookie: " ++ (value ++ more) ++ end
     grouped value more end = simp append_assoc
 
-pub answer_steps : (status : ℕ) (location cookie : Option (Bor (List ℕ))) (status_text phrase size body none one two three four five : List ℕ) →
-    status_text ≡ decimal status → phrase ≡ unwrap_or (reason_phrase status) [] → size ≡ decimal (length body) → none ≡ [] →
-    one ≡ none ++ head_of status_text phrase size [] → two ≡ one ++ given_line (codes "Location: ") location (codes "\r\n")
+pub answer_steps : (status : ℕ) (location cookie : Option (Bor (List ℕ))) (body none one two three four five : List ℕ) → none ≡ [] →
+    one ≡ none ++ status_line status ++ page_lines (length body) → two ≡ one ++ given_line (codes "Location: ") location (codes "\r\n")
     → three ≡ two ++ given_line (codes "Set-Cookie: ") cookie (codes "; Path=/; HttpOnly\r\n") → four ≡ three ++ codes "\r\n" → five ≡ four ++ body →
     five ≡ answer status (option_map (λ (text : Bor (List ℕ)). text.now) location) (option_map (λ (text : Bor (List ℕ)). text.now) cookie) body
-answer_steps status location cookie status_text phrase size body none one two three four five is_status is_phrase is_size is_none is_one is_two is_three is_four is_five =
-    let location' = option_map (λ (text : Bor (List ℕ)). text.now) location in
-    let cookie' = option_map (λ (text : Bor (List ℕ)). text.now) cookie in
-    let head : one ≡ head_of (decimal status) (unwrap_or (reason_phrase status) []) (decimal (length body)) [] =
-    is_one ∙ (λ i. is_none i ++ head_of (is_status i) (is_phrase i) (is_size i) []) in
-    let second : two ≡ one ++ location_line location' = is_two ∙ ap (λ xs. one ++ xs) (same_location location) in
-    let third : three ≡ two ++ cookie_line cookie' = is_three ∙ ap (λ xs. two ++ xs) (same_cookie cookie) in
+unfolding answer
+answer_steps status location cookie body none one two three four five is_none is_one is_two is_three is_four is_five =
+    let head : one ≡ status_line status ++ page_lines (length body) =
+    is_one ∙ ap (λ xs. xs ++ status_line status ++ page_lines (length body)) is_none in
     is_five
-    ∙ ap (λ xs. xs ++ body) (is_four ∙ ap (λ xs. xs ++ codes "\r\n") (third ∙ ap (λ xs. xs ++ cookie_line cookie') (second ∙ ap (λ xs. xs ++ location_line location') head)))
-    ∙ behind_group (head_of (decimal status) (unwrap_or (reason_phrase status) []) (decimal (length body)) []) (location_line location') (cookie_line cookie') crlf_bytes body
-    ∙ head_and_rest VERSION.now (decimal status) (codes " ") (unwrap_or (reason_phrase status) []) LINES_TO_SIZE.now (decimal (length body)) LINES_FROM_SIZE.now
-    (location_line location' ++ (cookie_line cookie' ++ (crlf_bytes ++ body)))
-    ∙ sym (whole_answer status location' cookie' body)
+    ∙ ap (λ xs. xs ++ body) (is_four ∙ ap (λ xs. xs ++ codes "\r\n") (is_three ∙ (λ i. is_two i ++ same_cookie cookie i) ∙ (λ i. head i ++ same_location location i
+    ++ cookie_line (option_map (λ (text : Bor (List ℕ)). text.now) cookie))))
+
+-- and of one that vouches for someone
+vouched_group : (line lines user name attributes form end : List ℕ) →
+    line ++ lines ++ user ++ name ++ (end ++ attributes) ++ form ++ (end ++ end) ≡ line ++ lines ++ (user ++ name ++ end) ++ (attributes ++ form ++ end) ++ end
+vouched_group line lines user name attributes form end = simp append_assoc
+
+pub vouched_steps : (name : List ℕ) (attributes : List Attribute) (form none one two three four five six : List ℕ) → form ≡ attributes_form attributes → none ≡ [] →
+    one ≡ none ++ status_line 200 ++ page_lines 0 → two ≡ one ++ codes "Remote-User: " → three ≡ two ++ escaped_name name → four ≡ three ++ codes "\r\nRemote-Attributes: "
+    → five ≡ four ++ form → six ≡ five ++ codes "\r\n\r\n" → six ≡ vouched_answer name attributes
+unfolding vouched_answer
+vouched_steps name attributes form none one two three four five six is_form is_none is_one is_two is_three is_four is_five is_six =
+    let head : one ≡ status_line 200 ++ page_lines 0 = is_one ∙ ap (λ xs. xs ++ status_line 200 ++ page_lines 0) is_none in
+    let middle : four ≡ status_line 200 ++ page_lines 0 ++ codes "Remote-User: " ++ escaped_name name ++ codes "\r\nRemote-Attributes: " =
+    is_four ∙ ap (λ xs. xs ++ codes "\r\nRemote-Attributes: ") (is_three ∙ ap (λ xs. xs ++ escaped_name name) (is_two ∙ ap (λ xs. xs ++ codes "Remote-User: ") head)) in
+    is_six
+    ∙ ap (λ xs. xs ++ codes "\r\n\r\n") (is_five ∙ (λ i. middle i ++ is_form i))
+    ∙ vouched_group (status_line 200) (page_lines 0) (codes "Remote-User: ") (escaped_name name) (codes "Remote-Attributes: ") (attributes_form attributes) crlf_bytes

@@ -44,7 +44,7 @@ digits_are_value (d ∷ ds) all =
 -- ---- the status line
 
 -- three digits, and a phrase without control characters
-abbrev is_good : ℕ → Bool
+abbrev pub is_good : ℕ → Bool
 is_good status = (length (decimal status) == 3) && list_all is_ascii_digit (decimal status) && list_all is_value_byte (unwrap_or (reason_phrase status) [])
 
 pages_are_good : list_all is_good PAGE_STATUSES ≡ true
@@ -55,7 +55,7 @@ fixed_are_good : list_all is_good FIXED_STATUSES ≡ true
 unfolding digits
 fixed_are_good = refl
 
-good : (status : ℕ) → is_answered status ≡ true → is_good status ≡ true
+pub good : (status : ℕ) → is_answered status ≡ true → is_good status ≡ true
 good status is =
     elim (either_true (list_any (λ known. known == status) PAGE_STATUSES) (list_any (λ known. known == status) FIXED_STATUSES) is) [
       | inl page ↦ any_holds is_good PAGE_STATUSES status page pages_are_good
@@ -85,7 +85,7 @@ cookie_valid : (cookie : Option (List ℕ)) → IfSome cookie (λ v. IsTrue (is_
 cookie_valid None valid = tt
 cookie_valid (Some cookie) valid = both_values cookie (codes "; Path=/; HttpOnly") valid refl
 
-fields_valid : (location cookie : Option (List ℕ)) (size : ℕ) → size < 2 ^ 64 → IfSome location (λ v. IsTrue (is_field_value v)) → IfSome cookie (λ v. IsTrue (is_field_value v)) →
+pub fields_valid : (location cookie : Option (List ℕ)) (size : ℕ) → size < 2 ^ 64 → IfSome location (λ v. IsTrue (is_field_value v)) → IfSome cookie (λ v. IsTrue (is_field_value v)) →
     All IsField (fields_of location cookie size)
 unfolding is_token_byte
 fields_valid location cookie size small l c =

@@ -10,3 +10,5 @@ pub mod Pairs
 pub mod Table
 pub mod Answering
 pub mod Clients
+pub mod Statuses
+pub mod Vouching

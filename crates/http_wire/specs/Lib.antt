@@ -7,5 +7,8 @@ pub mod Heads
 pub mod Laws
 pub mod Lines
 pub mod Requests
+pub mod Statuses
 pub mod Values
 pub mod Views
+pub mod Vouched
+pub mod Vouching

@@ -3,7 +3,7 @@ ghost use Rattle.std.specs.Prelude.{◌≡◌, ◌++◌, [], IfOk, OnOk, IsTrue,
 ghost use Rattle.std.specs.List.{flat_map};
 ghost use Rattle.std.specs.Option.{option_map, option_map_or, ForSome};
 ghost use Rattle.http.specs.StatusCode.{IsStatusCode, reason_phrase};
-ghost use Rattle.http_wire.specs.Answers.{answer, is_page_status, is_one_line};
+ghost use Rattle.http_wire.specs.Answers.{answer, is_page_status, is_one_line, page_lines, status_line};
 
 use crate::status::{FORBIDDEN, OK, SEE_OTHER};
 use http::StatusCode;
@@ -69,6 +69,26 @@ fn put_line(
     }
 }
 
+/// Puts the status line, and the lines of each answer whose body has this size.
+pub(crate) fn put_head(status: u16, size: usize, out: &mut Blob) -> Result<(), NoMemory>
+    requires { IsStatusCode status }
+    ensures { OnOk result (out.new ≡ out.old ++ status_line status ++ page_lines size) }
+{
+    let mut status_digits = Buffer::new();
+    let mut size_digits = Buffer::new();
+    let pieces = [
+        VERSION,
+        status_digits.format(status),
+        " ",
+        phrase(status),
+        LINES_TO_SIZE,
+        size_digits.format(size),
+        LINES_FROM_SIZE,
+    ];
+    put_pieces(&pieces, out)?;
+    Ok(())
+}
+
 /// All bytes of an answer with this status, which goes on at `location` and sets `cookie`, as `NAME=TOKEN`, where they are
 /// given: a page of HTML that no one keeps, on a connection that it ends. Neither text holds CR or LF.
 pub fn full_answer(
@@ -83,19 +103,8 @@ pub fn full_answer(
     requires cookie { ForSome cookie (λ text. IsTrue (is_one_line text.now)) }
     ensures { IfOk result (λ bytes. bytes ≡ answer status (option_map (λ text. text.now) location.entry) (option_map (λ text. text.now) cookie.entry) body.now) }
 {
-    let mut status_digits = Buffer::new();
-    let mut size_digits = Buffer::new();
-    let head = [
-        VERSION,
-        status_digits.format(status),
-        " ",
-        phrase(status),
-        LINES_TO_SIZE,
-        size_digits.format(body.len()),
-        LINES_FROM_SIZE,
-    ];
     let mut answer = Blob::new(alloc);
-    put_pieces(&head, &mut answer)?;
+    put_head(status, body.len(), &mut answer)?;
     put_line("Location: ", location, "\r\n", &mut answer)?;
     put_line(
         "Set-Cookie: ",

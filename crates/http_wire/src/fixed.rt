@@ -8,7 +8,7 @@ ghost use Rattle.http_wire.specs.Answers.{answer, page, status_of, verdict_of, i
 use crate::answer::{LINES_FROM_SIZE, LINES_TO_SIZE, VERSION, phrase};
 use crate::status::{
     BAD_REQUEST, FORBIDDEN, LENGTH_REQUIRED, METHOD_NOT_ALLOWED, NOT_FOUND, NOT_IMPLEMENTED,
-    PAYLOAD_TOO_LARGE, SERVICE_UNAVAILABLE, UNSUPPORTED_MEDIA_TYPE,
+    PAYLOAD_TOO_LARGE, SERVICE_UNAVAILABLE, UNAUTHORIZED, UNSUPPORTED_MEDIA_TYPE,
 };
 use itoa::Buffer;
 use verdict_codes::Verdict;
@@ -61,8 +61,9 @@ const VERDICTS: [Verdict; 40] = [
 ];
 
 // The statuses that are answered alone.
-const FIXED_STATUSES: [u16; 8] = [
+const FIXED_STATUSES: [u16; 9] = [
     BAD_REQUEST,
+    UNAUTHORIZED,
     NOT_FOUND,
     METHOD_NOT_ALLOWED,
     LENGTH_REQUIRED,
@@ -168,8 +169,8 @@ fn put_page(
     put_pieces(&pieces, out)
 }
 
-/// Writes the whole answer for the number of a verdict, or for a status that is answered alone (400, 404, 405, 411, 413,
-/// 415, 501 and 503), to the front of `out`, and returns its length. What stands behind it is left. It takes no memory.
+/// Writes the whole answer for the number of a verdict, or for a status that is answered alone (400, 401, 404, 405, 411,
+/// 413, 415, 501 and 503), to the front of `out`, and returns its length. What stands behind it is left. It takes no memory.
 pub fn put_fixed(code: u16, out: &mut [u8; FIXED_ROOM]) -> usize
     requires { IsTrue (is_fixed code) }
     ensures text { out.new ≡ fixed code ++ drop result out.old }

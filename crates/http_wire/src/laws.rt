@@ -1,5 +1,7 @@
 //! Laws of requests and answers, each the contract of a function that does nothing.
 ghost use Rattle.http_wire.specs.Clients.{AnswerIsReadAgain};
+ghost use Rattle.http_wire.specs.Statuses.{AnAnswerHasOneStatus, EachAnswerHasItsStatus};
+ghost use Rattle.http_wire.specs.Vouching.{AVouchedAnswerIsReadAgain, EachLineIsPrintable, NothingIsLost};
 ghost use Rattle.http_wire.specs.Laws.{BytesHaveOneReading, MoreBytesChangeNothing, BeginningIsMoreOrTheSame, WholeRequestEndsAtOnePlace, WhatIsKnownStaysTrue, EachVerdictHasItsAnswer, FixedAnswersHaveRoom};
 
 /// All bytes so far say what they are: how they were cut on their way changes nothing.
@@ -41,4 +43,18 @@ pub fn fixed_answers_have_room()
 /// `location` and `cookie` hold no control characters but tabs.
 pub fn an_answer_is_read_again()
     ensures { AnswerIsReadAgain }
+{}
+
+/// A client reads an answer that vouches for someone as its status and just its own fields: neither the name nor a value ends a
+/// line or begins another, since no byte of the two lines is outside 0x20 to 0x7E. From them the name and the values are read back.
+pub fn a_vouched_answer_is_read_again()
+    ensures read { AVouchedAnswerIsReadAgain }
+    ensures lines { EachLineIsPrintable }
+    ensures told { NothingIsLost }
+{}
+
+/// Each answer has its status, and no other.
+pub fn an_answer_has_one_status()
+    ensures has { EachAnswerHasItsStatus }
+    ensures one { AnAnswerHasOneStatus }
 {}

@@ -28,8 +28,9 @@
 //!
 //! [`cookie_of`] and [`is_form_type`] read two of the fields. [`full_answer`] makes an answer around a body, and
 //! [`put_fixed`] writes the one that names a verdict or a status; both write the text that `answer` says, which a client reads
-//! as the same status, fields and body ([`laws::an_answer_is_read_again`]). Only [`full_answer`] takes memory; there
-//! `NoMemory` may come in place of its answer.
+//! as the same status, fields and body ([`laws::an_answer_is_read_again`]). [`vouched_answer`] tells a proxy who a request comes
+//! from, in two lines that hold no byte outside 0x20 to 0x7E ([`laws::a_vouched_answer_is_read_again`]). These two take memory;
+//! there `NoMemory` may come in place of the answer.
 #![tactic(auto)]
 
 mod answer;
@@ -44,6 +45,7 @@ mod media;
 mod method;
 mod request;
 mod status;
+mod vouched;
 
 pub use answer::{Answer, full_answer};
 pub use cookie::cookie_of;
@@ -52,3 +54,4 @@ pub use limits::{BODY_LIMIT, HEAD_LIMIT, LINE_LIMIT};
 pub use media::is_form_type;
 pub use method::Method;
 pub use request::{Awaited, Found, HttpRequest, request_of};
+pub use vouched::vouched_answer;

@@ -6,6 +6,8 @@ pub(crate) const SEE_OTHER: u16 = 303;
 
 pub(crate) const BAD_REQUEST: u16 = 400;
 
+pub(crate) const UNAUTHORIZED: u16 = 401;
+
 pub(crate) const FORBIDDEN: u16 = 403;
 
 pub(crate) const NOT_FOUND: u16 = 404;

@@ -1,8 +1,9 @@
 //! Heads, cookies and answers whose meaning was found elsewhere, and each call that takes memory.
 use http_wire::{
     Awaited, FIXED_ROOM, Found, HttpRequest, Method, cookie_of, full_answer, is_form_type,
-    put_fixed, request_of,
+    put_fixed, request_of, vouched_answer,
 };
+use owned_values::{Attribute, Attributes, Text, Texts};
 use std::test::Fail;
 
 fn get(path: &str) -> HttpRequest<'_> {
@@ -77,5 +78,20 @@ fn answers_are_written(rt: HostRuntime) -> Result<(), Fail> {
     assert_eq!(rt; &out[..length], text.as_slice());
     assert_eq!(rt; cookie_of("x; a=b=c;b=2 ", "a"), Some("b=c"));
     assert!(rt; is_form_type("Application/X-WWW-Form-Urlencoded\t; charset=utf-8"));
+    Ok(())
+}
+
+#[test]
+fn a_proxy_is_told_who_it_is(rt: HostRuntime) -> Result<(), Fail> {
+    let alloc = rt.alloc();
+    let mut values = Texts::new(alloc);
+    values.push(Text::of(alloc, "a\r\nX: b&c=\u{e9}")?)?;
+    let mut attributes = Attributes::new(alloc);
+    let name = Text::of(alloc, "group 1")?;
+    attributes.push(Attribute { name, values })?;
+    let told = vouched_answer(alloc, "100% al\u{ef}ce\r\n", &attributes)?;
+    let text =
+        b"HTTP/1.1 200 OK\r\nContent-Type: text/html; charset=utf-8\r\nContent-Length: 0\r\nCache-Control: no-store\r\nConnection: close\r\nRemote-User: 100%25%20al%C3%AFce%0D%0A\r\nRemote-Attributes: group+1=a%0D%0AX%3A+b%26c%3D%C3%A9\r\n\r\n";
+    assert_eq!(rt; told.as_slice(), text.as_slice());
     Ok(())
 }
