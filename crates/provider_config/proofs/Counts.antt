@@ -51,7 +51,7 @@ complete_is f config e = which f.entity f.base f.listen f.skew (has_files f.file
   where
     which : (entity base listen : Option (List ℕ)) (skew : Option ℕ) (t : Bool) →
         option_and_then (λ entity. option_and_then (λ base. option_and_then (λ listen. option_and_then (λ skew.
-        cond t (Some (record { entity = entity; base = base; listen = listen; skew = skew; files = f.files; next_in = f.next_in; asked = f.asked; opened = f.opened })) None)
+        cond t (Some (record { entity = entity; base = base; listen = listen; skew = skew; files = f.files; next_in = f.next_in; guard = f.guard; asked = f.asked; opened = f.opened })) None)
         skew) listen) base) entity ≡ Some config →
         (f.asked ≡ config.asked) × (f.opened ≡ config.opened)
     which (Some a) (Some b) (Some c) (Some d) true e = (cc, cc)

@@ -1,6 +1,6 @@
 -- What the code finds line by line is what the definition says of all lines.
 use Rattle.std.proofs.Common.{◌≡◌, ℕ, Bool, false, cond, List, [], ◌∷◌, ◌++◌, Option, None, Some, Result, Ok, Err, codes, is_some, ok_or, IfSome, refl, sym, ap, ◌∙◌}
-use Rattle.std.specs.List.{filter_map}
+use Rattle.std.specs.List.{filter_map, list_any}
 use Rattle.std.specs.Option.{option_map_or}
 use Rattle.std.specs.Str.{bytes_eq}
 use Rattle.text_lines.specs.Lines.{Said, Says, NoText, said}
@@ -9,11 +9,11 @@ use Rattle.provider_config.specs.declared.config.FileRole.TheVariants as roles
 use Rattle.provider_config.specs.declared.config.SpFile.{SpFile}
 use Rattle.provider_config.specs.declared.line.Purpose.{Purpose}
 use Rattle.provider_config.specs.declared.line.SpLine.{SpLine}
-use Rattle.provider_config.specs.declared.line.SpLine.TheVariants.{Entity, Base, Listen, Idp, KeyIn, KeyOut, IdKey, Skew, NextIn, Policy, Registry, Asked, Opened}
+use Rattle.provider_config.specs.declared.line.SpLine.TheVariants.{Entity, Base, Listen, Idp, KeyIn, KeyOut, IdKey, Skew, NextIn, Policy, Registry, Guard, Asked, Opened}
 use Rattle.provider_config.specs.Line.{line_of}
-use Rattle.provider_config.specs.Config.{Config, entity, base, listen, skew, times, file, asked, opened, found, same_role, role_of, has_file, key_of, doubles, fresh, line_behind, lines_from, complete, sp_config}
+use Rattle.provider_config.specs.Config.{Config, entity, base, listen, skew, times, file, is_guard, asked, opened, found, same_role, role_of, has_file, key_of, doubles, fresh, line_behind, lines_from, complete, sp_config}
 use Rattle.provider_config.specs.Shared.{and_then}
-use Rattle.provider_config.proofs.Sharing.{the-push, filter_map-push, is_some-the, any_filtered}
+use Rattle.provider_config.proofs.Sharing.{the-push, filter_map-push, any-push, is_some-the, any_filtered}
 use Rattle.provider_config.specs.Drafts.{taken, stands, unless_found, next_line, config_from}
 
 -- ---- one more line
@@ -26,6 +26,7 @@ found-push lines line = λ i. record {
   skew = the-push skew lines line i;
   files = filter_map-push file lines line i;
   next_in = the-push times lines line i;
+  guard = any-push is_guard lines line i;
   asked = filter_map-push asked lines line i;
   opened = filter_map-push opened lines line i;
 }
@@ -81,6 +82,10 @@ policy_key : (line : SpLine) → option_map_or (is_for roles.Policy) (file line)
 policy_key (Policy name) = refl
 policy_key line = refl
 
+guard_key : (line : SpLine) → is_guard line ≡ has_key (codes "guard") line
+guard_key Guard = refl
+guard_key line = refl
+
 stands-found : (line : SpLine) (before : List SpLine) → stands line (found before) ≡ doubles line before
 stands-found (Entity name) before = is_some-the entity (has_key (codes "entity")) entity_key before
 stands-found (Base address) before = is_some-the base (has_key (codes "base")) base_key before
@@ -93,6 +98,7 @@ stands-found (Skew milliseconds) before = is_some-the skew (has_key (codes "skew
 stands-found (NextIn name moments) before = is_some-the times (has_key (codes "next_in")) next_in_key before
 stands-found (Policy name) before = any_filtered file (is_for roles.Policy) (has_key (codes "policy")) policy_key before
 stands-found (Registry line) before = any_filtered file (is_for roles.Idp) (has_key (codes "idp")) idp_key before
+stands-found Guard before = λ i. list_any (λ line. guard_key line i) before
 stands-found (Asked row) before = refl
 stands-found (Opened row) before = refl
 

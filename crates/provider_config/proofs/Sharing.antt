@@ -1,5 +1,5 @@
 -- What lines say together, with one line more or by a test: the words that the configs of both roles share.
-use Rattle.std.proofs.Common.{◌≡◌, ◌+◌, Bool, false, ◌||◌, cond, List, [], ◌∷◌, ◌++◌, Option, None, Some, is_some, count_by, refl, sym, ap, ◌∙◌, arith}
+use Rattle.std.proofs.Common.{◌≡◌, ◌+◌, Bool, true, false, ◌||◌, cond, List, [], ◌∷◌, ◌++◌, Option, None, Some, is_some, count_by, refl, sym, ap, ◌∙◌, arith}
 use Rattle.std.specs.List.{filter_map, cons_option, list_any}
 use Rattle.std.specs.Option.{option_map_or}
 use Rattle.std.proofs.lemmas.List.Sums.{sum_by-cons}
@@ -45,6 +45,15 @@ pub is_some-the : {Line X : Type 0} (says : Line → Option X) (test : Line → 
 is_some-the says test same [] = refl
 is_some-the says test same (line ∷ lines) =
     some_either (the says lines) (says line) ∙ ap (λ b. b || is_some (the says lines)) (same line) ∙ ap (λ b. test line || b) (is_some-the says test same lines)
+
+swapped : (a b c : Bool) → (a || (b || c)) ≡ (b || (a || c))
+swapped true true c = refl
+swapped true false c = refl
+swapped false b c = refl
+
+pub any-push : {X : Type 0} (test : X → Bool) (xs : List X) (x : X) → list_any test (xs ++ x ∷ []) ≡ (test x || list_any test xs)
+any-push test [] x = refl
+any-push test (y ∷ xs) x = ap (λ b. test y || b) (any-push test xs x) ∙ swapped (test y) (test x) (list_any test xs)
 
 any_option : {X : Type 0} (test : X → Bool) (o : Option X) (xs : List X) → list_any test (cons_option o xs) ≡ option_map_or test o false || list_any test xs
 any_option test None xs = refl

@@ -15,7 +15,7 @@ use Rattle.provider_config.specs.declared.config.SpLines.{SpLines}
 use Rattle.provider_config.specs.declared.line.TheConstants.{MILLIS, MOST_SKEW}
 use Rattle.provider_config.specs.declared.line.Purpose.{Purpose}
 use Rattle.provider_config.specs.declared.line.SpLine.{SpLine}
-use Rattle.provider_config.specs.declared.line.SpLine.TheVariants.{Entity, Base, Listen, Idp, KeyIn, KeyOut, IdKey, Skew, NextIn, Policy, Registry, Asked, Opened}
+use Rattle.provider_config.specs.declared.line.SpLine.TheVariants.{Entity, Base, Listen, Idp, KeyIn, KeyOut, IdKey, Skew, NextIn, Policy, Registry, Guard, Asked, Opened}
 use Rattle.provider_config.specs.Line.{line_of}
 use Rattle.provider_config.specs.Shared.{and_then, the, ◌>>=◌}
 
@@ -34,6 +34,7 @@ key_of (Skew milliseconds) = codes "skew"
 key_of (NextIn name times) = codes "next_in"
 key_of (Policy name) = codes "policy"
 key_of (Registry line) = codes "idp"
+key_of Guard = codes "guard"
 key_of (Asked line) = codes "asked"
 key_of (Opened line) = codes "opened"
 
@@ -112,6 +113,10 @@ file (Policy name) = one roles.Policy name
 file (Registry line) = Some (names.Registry line)
 file line = None
 
+abbrev pub is_guard : SpLine → Bool
+is_guard Guard = true
+is_guard line = false
+
 abbrev pub asked : SpLine → Option AskedLine
 asked (Asked row) = Some row
 asked line = None
@@ -128,6 +133,7 @@ pub record Found : Type 0 where
   pub skew : Option ℕ
   pub files : List SpFile
   pub next_in : Option Times
+  pub guard : Bool
   pub asked : List AskedLine
   pub opened : List OpenedLine
 
@@ -140,13 +146,14 @@ found lines =
       skew = the skew lines;
       files = filter_map file lines;
       next_in = the times lines;
+      guard = list_any is_guard lines;
       asked = filter_map asked lines;
       opened = filter_map opened lines;
     }
 
 -- ---- a config
 
--- the names and places, the files in the order of their lines, and the rows
+-- the names and places, the files in the order of their lines, whether there is a guard, and the rows
 pub record Config : Type 0 where
   pub entity : List ℕ
   pub base : List ℕ
@@ -154,6 +161,7 @@ pub record Config : Type 0 where
   pub skew : ℕ
   pub files : List SpFile
   pub next_in : Option Times
+  pub guard : Bool
   pub asked : List AskedLine
   pub opened : List OpenedLine
 
@@ -191,7 +199,7 @@ complete found = do
   base ← found.base
   listen ← found.listen
   skew ← found.skew
-  if has_files found.files then Some (record { entity = entity; base = base; listen = listen; skew = skew; files = found.files; next_in = found.next_in; asked = found.asked; opened = found.opened }) else None
+  if has_files found.files then Some (record { entity = entity; base = base; listen = listen; skew = skew; files = found.files; next_in = found.next_in; guard = found.guard; asked = found.asked; opened = found.opened }) else None
 
 -- the config of a text, or the number of the first line that is bad; 0 where no line is bad and a key is missing
 abbrev pub sp_config : Purpose → List ℕ → Result Config ℕ
@@ -208,6 +216,7 @@ config_view lines =
       skew = lines.skew;
       files = lines.files.items;
       next_in = lines.next_in;
+      guard = lines.guard;
       asked = lines.asked.items;
       opened = lines.opened.items;
     }

@@ -1,12 +1,12 @@
 -- Words by which the code keeps the definitions: what is found so far, and what one more line adds.
-use Rattle.std.specs.Prelude.{ℕ, Bool, false, List, [], ◌∷◌, Option, None, Some, Result, Err, ok_or, is_some, if◌then◌else◌}
+use Rattle.std.specs.Prelude.{ℕ, Bool, false, ◌||◌, List, [], ◌∷◌, Option, None, Some, Result, Err, ok_or, is_some, if◌then◌else◌}
 use Rattle.text_lines.specs.Lines.{Said, Says, NoText}
 use Rattle.provider_config.specs.declared.config.FileRole.TheVariants as roles
 use Rattle.provider_config.specs.declared.line.Purpose.{Purpose}
 use Rattle.provider_config.specs.declared.line.SpLine.{SpLine}
-use Rattle.provider_config.specs.declared.line.SpLine.TheVariants.{Entity, Base, Listen, Idp, KeyIn, KeyOut, IdKey, Skew, NextIn, Policy, Registry, Asked, Opened}
+use Rattle.provider_config.specs.declared.line.SpLine.TheVariants.{Entity, Base, Listen, Idp, KeyIn, KeyOut, IdKey, Skew, NextIn, Policy, Registry, Guard, Asked, Opened}
 use Rattle.provider_config.specs.Line.{line_of}
-use Rattle.provider_config.specs.Config.{Found, Config, entity, base, listen, skew, times, file, asked, opened, has_file, complete}
+use Rattle.provider_config.specs.Config.{Found, Config, entity, base, listen, skew, times, file, is_guard, asked, opened, has_file, complete}
 use Rattle.provider_config.specs.Shared.{and_then, or_else, pushed}
 
 -- what is found with one more line
@@ -19,6 +19,7 @@ taken line found =
       skew = or_else (skew line) found.skew;
       files = pushed found.files (file line);
       next_in = or_else (times line) found.next_in;
+      guard = is_guard line || found.guard;
       asked = pushed found.asked (asked line);
       opened = pushed found.opened (opened line);
     }
@@ -36,6 +37,7 @@ stands (Skew milliseconds) found = is_some found.skew
 stands (NextIn name moments) found = is_some found.next_in
 stands (Policy name) found = has_file roles.Policy found.files
 stands (Registry line) found = has_file roles.Idp found.files
+stands Guard found = found.guard
 stands (Asked row) found = false
 stands (Opened row) found = false
 

@@ -1,5 +1,5 @@
 -- The definitions at worked examples.
-use Rattle.std.specs.Prelude.{◌≡◌, ℕ, List, [], ◌∷◌, ◌++◌, None, Some, Ok, Err, codes, refl}
+use Rattle.std.specs.Prelude.{◌≡◌, ℕ, true, false, List, [], ◌∷◌, ◌++◌, None, Some, Ok, Err, codes, refl}
 use Rattle.std.specs.Str.{chars}
 use lib.Utf8.{encode}
 use Rattle.provider_config.specs.declared.config.FileRole.{FileRole}
@@ -60,6 +60,7 @@ a_config : sp_config Serve (most ++ codes "next_in n 1 2\n\nskew 60")
       skew = 60000;
       files = one roles.IdKey (codes "d") ∷ one roles.KeyOut (codes "o") ∷ one roles.KeyIn (codes "k") ∷ one roles.Idp (codes "i") ∷ one roles.NextIn (codes "n") ∷ [];
       next_in = Some (record { from = 1; until = 2 });
+      guard = false;
       asked = [];
       opened = [];
     })
@@ -75,11 +76,32 @@ with_registry : sp_config Serve (codes "policy p\nid_key d\nregistry a k e\nkey_
       skew = 1000;
       files = one roles.Policy (codes "p") ∷ one roles.IdKey (codes "d") ∷ Registry (record { file = codes "a"; key = codes "k"; entity = codes "e" }) ∷ one roles.KeyOut (codes "o") ∷ one roles.KeyIn (codes "i") ∷ [];
       next_in = None;
+      guard = false;
       asked = [];
       opened = [];
     })
 unfolding chars encode one
 with_registry = refl
+
+-- a guard has no word, stands once and anywhere, and is said for either purpose
+guards : (line_of Serve (codes "guard") ≡ Some lines.Guard) × (line_of Check (codes "guard") ≡ Some lines.Guard) × (line_of Serve (codes "guard yes") ≡ None)
+    × (line_of Serve (codes "guard ") ≡ None) × (line_of Serve (codes "GUARD") ≡ None)
+guards = (refl, refl, refl, refl, refl)
+
+with_guard : sp_config Check (codes "guard\n" ++ most ++ codes "skew 1\n")
+    ≡ Ok (record {
+      entity = codes "e";
+      base = codes "b";
+      listen = codes "l";
+      skew = 1000;
+      files = one roles.IdKey (codes "d") ∷ one roles.KeyOut (codes "o") ∷ one roles.KeyIn (codes "k") ∷ one roles.Idp (codes "i") ∷ [];
+      next_in = None;
+      guard = true;
+      asked = [];
+      opened = [];
+    })
+unfolding chars encode most one
+with_guard = refl
 
 -- a missing key; a bad line behind it comes first
 missing : (sp_config Serve most ≡ Err 0) × (sp_config Serve (most ++ codes "x") ≡ Err 8) × (sp_config Serve [] ≡ Err 0)
@@ -88,9 +110,9 @@ missing = (refl, refl, refl)
 
 -- of two lines of a key the later is bad, unless one before it is; all lines are counted
 doubled : (sp_config Serve (codes "entity a\n# c\nentity b\n") ≡ Err 3) × (sp_config Serve (codes "entity a\nx\nentity b\n") ≡ Err 2)
-    × (sp_config Serve (codes "idp a\nnext_in n 1 2\nnext_in m 3 4\n") ≡ Err 3)
+    × (sp_config Serve (codes "idp a\nnext_in n 1 2\nnext_in m 3 4\n") ≡ Err 3) × (sp_config Serve (codes "guard\nidp a\nguard\n") ≡ Err 3)
 unfolding chars encode
-doubled = (refl, refl, refl)
+doubled = (refl, refl, refl, refl)
 
 -- of metadata and registry the later is bad, in whichever order; neither is a missing key
 in_place : (sp_config Serve (most ++ codes "registry a k e\nskew 1\n") ≡ Err 8) × (sp_config Serve (codes "registry a k e\nidp i\n") ≡ Err 2)

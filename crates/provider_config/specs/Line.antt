@@ -10,7 +10,7 @@ use Rattle.provider_config.specs.declared.line.TheConstants.{MOST_SKEW, MILLIS}
 use Rattle.provider_config.specs.declared.line.Purpose.{Purpose}
 use Rattle.provider_config.specs.declared.line.Purpose.TheVariants.{Check, Serve}
 use Rattle.provider_config.specs.declared.line.SpLine.{SpLine}
-use Rattle.provider_config.specs.declared.line.SpLine.TheVariants.{Entity, Base, Listen, Idp, KeyIn, KeyOut, IdKey, Skew, NextIn, Policy, Registry, Asked, Opened}
+use Rattle.provider_config.specs.declared.line.SpLine.TheVariants.{Entity, Base, Listen, Idp, KeyIn, KeyOut, IdKey, Skew, NextIn, Policy, Registry, Guard, Asked, Opened}
 
 -- milliseconds, which a line says in seconds, of which there are few
 abbrev pub skew_of : List ℕ → Option ℕ
@@ -69,8 +69,13 @@ abbrev pub takes_rows : Purpose → Bool
 takes_rows Check = true
 takes_rows Serve = false
 
+-- `guard`, with no word behind it
+abbrev pub alone : List ℕ → Option SpLine
+alone key = if bytes_eq key (codes "guard") then Some Guard else None
+
 -- the line of these words
 abbrev pub spelled : Purpose → List (List ℕ) → Option SpLine
+spelled purpose (key ∷ []) = alone key
 spelled purpose (key ∷ value ∷ []) = valued key value
 spelled purpose (key ∷ first ∷ second ∷ third ∷ []) = of_three key first second third
 spelled purpose (key ∷ first ∷ second ∷ third ∷ until ∷ []) =

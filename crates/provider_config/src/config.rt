@@ -91,6 +91,8 @@ pub struct SpLines {
     pub files: Vec<SpFile>,
     /// When the second key of the identity provider counts, where there is one.
     pub next_in: Option<Times>,
+    /// Whether the provider tells a proxy who a request comes from.
+    pub guard: bool,
     /// What was asked, in the order of the lines.
     pub asked: Vec<AskedLine>,
     /// What was answered, in the order of the lines.

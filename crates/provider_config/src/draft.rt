@@ -67,6 +67,7 @@ pub(crate) struct Draft {
     skew: Option<u64>,
     files: Vec<SpFile>,
     next_in: Option<Times>,
+    guard: bool,
     asked: Vec<AskedLine>,
     opened: Vec<OpenedLine>,
 }
@@ -80,7 +81,7 @@ impl Model for Draft {
 
     ghost Value = { spec.Found };
 
-    ghost view = { λ d. record { entity = d.entity; base = d.base; listen = d.listen; skew = d.skew; files = d.files.items; next_in = d.next_in; asked = d.asked.items; opened = d.opened.items } };
+    ghost view = { λ d. record { entity = d.entity; base = d.base; listen = d.listen; skew = d.skew; files = d.files.items; next_in = d.next_in; guard = d.guard; asked = d.asked.items; opened = d.opened.items } };
 
     ghost invariant = { λ d. ForSome d.entity IsText × ForSome d.base IsText × ForSome d.listen IsText × ForSome d.skew (λ milliseconds. milliseconds ≤ MILLIS * MOST_SKEW) × ForSome d.next_in spec.AreInOrder };
 }
@@ -97,6 +98,7 @@ impl Draft {
             skew: None,
             files: Vec::new(alloc),
             next_in: None,
+            guard: false,
             asked: Vec::new(alloc),
             opened: Vec::new(alloc),
         }
@@ -119,6 +121,7 @@ impl Draft {
             SpLine::Skew(_) => self.skew.is_some(),
             SpLine::NextIn { .. } => self.next_in.is_some(),
             SpLine::Policy(_) => has_file(self.files.as_slice(), FileRole::Policy),
+            SpLine::Guard => self.guard,
             SpLine::Asked(_) | SpLine::Opened(_) => false,
         }
     }
@@ -151,6 +154,7 @@ impl Draft {
             }
             SpLine::Policy(name) => self.name_file(FileRole::Policy, name)?,
             SpLine::Registry(line) => self.files.push(SpFile::Registry(line))?,
+            SpLine::Guard => self.guard = true,
             SpLine::Asked(row) => self.asked.push(row)?,
             SpLine::Opened(row) => self.opened.push(row)?,
         }
@@ -172,6 +176,7 @@ impl Draft {
             skew,
             files,
             next_in,
+            guard,
             asked,
             opened,
         } = self;
@@ -185,6 +190,7 @@ impl Draft {
             skew: skew?,
             files,
             next_in,
+            guard,
             asked,
             opened,
         })

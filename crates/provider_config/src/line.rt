@@ -54,6 +54,7 @@ pub(crate) enum SpLine {
     NextIn { file: Text, times: Times },
     Policy(Text),
     Registry(RegistryLine),
+    Guard,
     Asked(AskedLine),
     Opened(OpenedLine),
 }
@@ -190,6 +191,7 @@ fn spelled(alloc: Global, purpose: Purpose, words: &[Text]) -> Result<Option<SpL
     ensures sound { IfOk result (λ line. IfSome line IsSound) }
 {
     match words {
+        [key] if key.as_str() == "guard" => Ok(Some(SpLine::Guard)),
         [key, value] => valued(alloc, key.as_str(), value.as_str()),
         [key, first, second, third] => of_three(key.as_str(), first, second, third),
         [key, request, relay, target, until] if purpose.takes_rows() && key.as_str() == "asked" => {

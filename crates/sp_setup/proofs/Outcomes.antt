@@ -291,7 +291,8 @@ module _ (one_registry : OneRegistry) (never : NeverRefused) where
       same_config one.config other.config (sym a.is ∙ ap (λ (l : Config). config_of l a.loaded) is ∙ ap (λ (l : Loaded). config_of others l) all ∙ b.is) in
       let policy : one.policy ≡ other.policy = sym a.policy ∙ ap (λ (l : Loaded). l.policy) all ∙ b.policy in
       let expiry : one.expiry ≡ other.expiry = sym a.expiry ∙ ap (λ (l : Loaded). l.expiry) all ∙ b.expiry in
-      (is, λ i. record { config = config i; policy = policy i; expiry = expiry i })
+      let guard : one.guard ≡ other.guard = sym a.guard ∙ ap (λ (l : Config). l.guard) is ∙ b.guard in
+      (is, λ i. record { config = config i; policy = policy i; expiry = expiry i; guard = guard i })
 
   pub set_up_good : (files : List File) (purpose : Purpose) (config : List ℕ) (lines : Config) (one : Setup) (file : List ℕ) (line : ℕ) →
       IsSetUp (Some files) purpose config lines one → IsBadSetUp (Some files) purpose config file line → ⊥

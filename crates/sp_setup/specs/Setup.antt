@@ -1,7 +1,7 @@
 -- What a service provider is set up with: its config, and the files that the config names. They are read right behind it, in the
 -- order of its lines; of a registry its own file comes before that of its key. What a file holds is judged before the next line's
 -- is read, for either purpose.
-use Rattle.std.specs.Prelude.{◌≡◌, ◌≢◌, ℕ, ◌<◌, ◌≤◌, ◌⊎◌, List, [], ◌∷◌, length, Option, None, Some, Ok, Err}
+use Rattle.std.specs.Prelude.{◌≡◌, ◌≢◌, ℕ, Bool, ◌<◌, ◌≤◌, ◌⊎◌, List, [], ◌∷◌, length, Option, None, Some, Ok, Err}
 use Rattle.xml_spec.specs.declared.TheConstants.{MAX_DOCUMENT_LENGTH}
 use Rattle.saml_outside.specs.Files.{File, Reads, IsUnread}
 use Rattle.saml_outside.specs.declared.reading.FileRead.TheVariants as reads
@@ -172,12 +172,13 @@ config_of lines loaded = do
     skew = lines.skew;
   })
 
--- What a provider is set up with: its config, the rules of its policy where it has one, and the moment at which its registry of
--- metadata ends where it has one.
+-- What a provider is set up with: its config, the rules of its policy where it has one, the moment at which its registry of metadata
+-- ends where it has one, and whether it has a guard.
 pub record Setup : Type 0 where
   pub config : SpConfig
   pub policy : Option (List Rule)
   pub expiry : Option ℕ
+  pub guard : Bool
 
 -- The config in this file has these lines, and they and the files that they name set a provider up so.
 pub record IsSetUp (told : Option (List File)) (purpose : Purpose) (file : List ℕ) (lines : Config) (setup : Setup) : Type 0 where
@@ -189,6 +190,7 @@ pub record IsSetUp (told : Option (List File)) (purpose : Purpose) (file : List 
   pub is : config_of lines loaded ≡ Some setup.config
   pub policy : loaded.policy ≡ setup.policy
   pub expiry : loaded.expiry ≡ setup.expiry
+  pub guard : lines.guard ≡ setup.guard
 
 -- The first file that can't be used, the config or one that it names, and its line: the number that the grammar of configs tells
 -- of a bad line, that of policies of one of its own, or else 0 for the whole file.

@@ -25,13 +25,14 @@ IsNoKey told name file line =
 
 -- what is set up, without the rows
 abbrev pub setup_view : SetUp → Setup
-setup_view setup = record { config = setup.config; policy = setup.policy; expiry = setup.expiry }
+setup_view setup = record { config = setup.config; policy = setup.policy; expiry = setup.expiry; guard = setup.guard }
 
 -- the lines and the files set a provider up so
 pub record IsConfigOf (lines : Config) (loaded : Loaded) (setup : SetUp) : Type 0 where
   pub config : config_of lines loaded ≡ Some setup.config
   pub policy : loaded.policy ≡ setup.policy
   pub expiry : loaded.expiry ≡ setup.expiry
+  pub guard : lines.guard ≡ setup.guard
   pub asked : setup.asked.items ≡ lines.asked
   pub opened : setup.opened.items ≡ lines.opened
 

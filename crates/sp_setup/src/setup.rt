@@ -26,6 +26,8 @@ pub struct SetUp {
     /// The moment at which the registry ends that lists the identity provider, in milliseconds since 1970; none without a
     /// registry.
     pub expiry: Option<u64>,
+    /// Whether it tells a proxy who a request comes from.
+    pub guard: bool,
     /// What it asked before, in the order of the config's lines.
     pub asked: Vec<AskedLine>,
     /// What was answered before.
@@ -69,6 +71,7 @@ fn config_of(lines: SpLines, loaded: Loaded) -> Option<SetUp>
         config,
         policy: loaded.policy,
         expiry: loaded.expiry,
+        guard: lines.guard,
         asked: lines.asked,
         opened: lines.opened,
     })
