@@ -62,17 +62,18 @@ fn answers(node: &mut SpNode, disk: &mut MemDisk) -> bool
 {
     let asked = code_answered(node, disk, b"GET /app HTTP/1.1\r\n\r\n");
     let shown = code_answered(node, disk, b"GET /metadata HTTP/1.1\r\n\r\n");
+    let guarded = code_answered(node, disk, b"GET /auth/app HTTP/1.1\r\n\r\n");
     let left = code_answered(node, disk, LEAVE);
     let posted = code_answered(node, disk, POSTED);
-    let codes = (asked, shown, left, posted);
-    codes == (0, 0, 33, 30) && node.compact(disk, 0).is_ok() && node.restart(disk).is_ok()
+    let codes = (asked, shown, guarded, left, posted);
+    codes == (0, 0, 401, 33, 30) && node.compact(disk, 0).is_ok() && node.restart(disk).is_ok()
 }
 
 #[test]
 fn there_is_memory_for_each_call(rt: HostRuntime) -> Result<(), Fail> {
     let alloc = rt.alloc();
     let mut disk = MemDisk::new(alloc);
-    let role = SpRole::new(alloc, config(alloc)?, None, None);
+    let role = SpRole::new(alloc, config(alloc)?, None, None, true);
     let mut node = SpNode::start(alloc, role, &mut disk)?;
     assert!(rt; answers(&mut node, &mut disk));
     Ok(())

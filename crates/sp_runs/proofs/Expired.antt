@@ -31,12 +31,13 @@ use Rattle.sp_rules.specs.declared.config.SpConfig.{SpConfig}
 use Rattle.sp_rules.specs.Meant.{consumer, is_from, is_for, is_sent_to, is_in_time}
 use Rattle.sp_rules.specs.Outstanding.{asked_for, is_outstanding, is_unspent, is_unseen, is_relayed}
 use Rattle.sp_rules.specs.Verdict.{form_refusal, number_refusal, first_failing, IsRefused, by_form, by_document, by_root, by_head, by_signature, by_assertion, by_login}
-use Rattle.sp_server.specs.Routes.{Route, Service, App, Consumer, Metadata, Logout, SingleLogout, To, Refused, is_target, is_method, is_typed, at_target, checked, service_at}
+use Rattle.sp_server.specs.Routes.{Route, Service, App, Consumer, Metadata, Logout, SingleLogout, Guard, To, Refused, is_guarded, is_target, is_method, is_typed, at_target, checked, service_at}
 use Rattle.sp_server.specs.Peer.{idp_at, logout_address, second_key}
 use Rattle.node_steps.specs.Step as any
 use Rattle.node_steps.specs.declared.codes.TheConstants as codes
 use Rattle.sp_server.specs.Step as steps
-use Rattle.sp_server.specs.Step.{Setup, Provider, Answers, Steps, REGISTRY_EXPIRED, is_expired}
+use Rattle.sp_server.specs.Step.{Setup, Provider, Answers, Steps, REGISTRY_EXPIRED, is_expired, session_for}
+use Rattle.sp_runs.proofs.Guarded.{guard_other}
 
 -- ---- the verdict on a form has another number
 
@@ -147,6 +148,7 @@ disobeyed_small peers second address skew now body verdict (logouts.by_message c
 -- none of the code's number
 abbrev IsOther : Route → Type 0
 IsOther (To service) = Unit {0}
+IsOther Guard = Unit {0}
 IsOther (Refused status) = status ≢ 70
 
 chosen : (b : Bool) (one other : Route) → IsOther one → IsOther other → IsOther (if b then one else other)
@@ -181,10 +183,12 @@ other_code answer n differs is e = differs (number_in n REGISTRY_EXPIRED (sym is
 unexpired : (setup : Setup) (held : Held) (request : Request) (now : ℕ) (answer : Answer) (adds : Option SpRecord) → setup.expiry ≡ None → Answers setup held request now answer adds →
     answer ≡ Fixed REGISTRY_EXPIRED → ⊥
 unexpired setup held request now answer adds none (steps.ByStatus status to is nothing) e =
-    subst IsOther to (checked_other request (service_at request.path)) (number_in status REGISTRY_EXPIRED (sym is ∙ e))
+    subst IsOther to (chosen (is_guarded request.path) Guard (checked request (service_at request.path)) tt (checked_other request (service_at request.path))) (number_in status REGISTRY_EXPIRED (sym is ∙ e))
 unexpired setup held request now answer adds none (steps.ByMetadata to is nothing) e = not_full _ REGISTRY_EXPIRED (sym is ∙ e)
 unexpired setup held request now answer adds none (steps.BySession row to found is nothing) e = not_full _ REGISTRY_EXPIRED (sym is ∙ e)
 unexpired setup held request now answer adds none (steps.ByAsking bytes to out before id relay page is ids shown) e = not_full bytes REGISTRY_EXPIRED (sym shown ∙ e)
+unexpired setup held request now answer adds none (steps.ByGuard to is nothing) e =
+    guard_other setup.guard setup.policy request (session_for held now request) (sym is ∙ e)
 unexpired setup held request now answer adds none (steps.ByOpening b row to before opens token is has shown) e = not_full _ REGISTRY_EXPIRED (sym shown ∙ e)
 unexpired setup held request now answer adds none (steps.ByVerdict verdict to before refused is nothing) e =
     let few = refused_small setup.config _ held.header.horizon now request.body verdict refused in

@@ -1,16 +1,16 @@
 -- The headline follows from how a run goes.
 use Rattle.std.specs.Prelude.{List, [], ◌∷◌, Option}
-use Rattle.std.specs.List.{AllByRecursion}
 use Rattle.std.proofs.Common.{◌≡◌, ℕ, subst, sym}
 use Rattle.crash_disk.specs.Counts.{Rose}
 use Rattle.crash_disk.specs.Disk.{Image, DiskState}
 use Rattle.http_wire.specs.declared.answer.Answer.{Answer}
 use Rattle.http_wire.specs.declared.answer.Answer.TheVariants as answers
 use Rattle.http_wire.specs.Requests.{Request}
-use Rattle.node_serve.specs.Turns.{Asked, Asks, Turn, asked_by}
+use Rattle.node_serve.specs.Turns.{Asked, Asks, Turn}
 use Rattle.node_serve.specs.Worlds.{World}
 use Rattle.node_runs.proofs.Kept.{of_turn}
 use Rattle.node_runs.specs.Runs.{BadSetUp, NotSetUp, NotOpened, Deaf, Serving}
+use Rattle.sp_server.specs.Guarding.{AGuardTellsExactly, OnlyASessionIsVouchedFor}
 use Rattle.sp_server.specs.Histories.{IsProviders}
 use Rattle.sp_server.specs.Logouts.{NothingElseCloses, OnlyWhereAUserLeaves, OnlyWhereSessionsEnd, WhereverAUserLeaves, WhereverSessionsEnd}
 use Rattle.sp_server.specs.Recorded.{WhatIsAnsweredIsRecorded, WhatIsAskedIsRecorded}
@@ -18,7 +18,7 @@ use Rattle.sp_server.specs.Sessions.{OnlyWhereAFormOpens, WhereverAFormOpens}
 use Rattle.sp_server.specs.Step.{Provider, Serves, Steps}
 use Rattle.request_ledger.specs.Laws.{ImagesHoldRecords}
 use Rattle.request_ledger.specs.Ledger.{Held}
-use Rattle.sp_runs.specs.Headline.{ARunCarriesTheHeadline, ClosesExactly, EachGoesExactly, GoesExactly, IsRecordedFirst, OpensExactly, ServedNothing, ServedSo}
+use Rattle.sp_runs.specs.Headline.{ARunCarriesTheHeadline, ClosesExactly, EachGoesExactly, GoesExactly, GuardsExactly, IsRecordedFirst, OpensExactly, ServedNothing, ServedSo}
 use Rattle.sp_runs.specs.Laws.{EachSessionWasSigned, SessionsStayClosedInARun, WhatARunAcknowledgedIsKeptOnce}
 use Rattle.sp_runs.proofs.Kept.{kept_ever_since}
 
@@ -34,6 +34,8 @@ pub record Laws : Type 0 where
   pub wherever_ended : WhereverSessionsEnd
   pub posted : WhatIsAnsweredIsRecorded
   pub requested : WhatIsAskedIsRecorded
+  pub guard_tells : AGuardTellsExactly
+  pub guard_only : OnlyASessionIsVouchedFor
   pub hold : ImagesHoldRecords
   pub kept : WhatARunAcknowledgedIsKeptOnce
   pub closed : SessionsStayClosedInARun
@@ -84,12 +86,21 @@ module _ (laws : Laws) (asked : Asked Provider) where
         (serves_of found asked.request asked.now (Rose before.disk_faults after.disk_faults) asked.answer (answers.Full bytes) asked.node after.node is serves) asks.answers.owns app none;
   }
 
+  guards_exactly : (before after : World Provider) → Asks IsProviders asked before after → GuardsExactly asked before after
+  guards_exactly before after asks = record {
+    tells = λ found asking serves.
+        laws.guard_tells found asked.request asked.now before.disk_faults after.disk_faults asked.answer asked.node after.node asking serves;
+    only = λ at ok.
+        laws.guard_only asked.node after.node asked.disk asked.request asked.now before.disk_faults after.disk_faults asked.answer at (stepped asked before after asks) ok;
+  }
+
   goes_exactly : GoesExactly asked
   goes_exactly = record {
     steps = stepped asked;
     opens = λ before after asks. opens_exactly before after;
     closes = λ before after asks. closes_exactly before after;
     recorded = recorded_first;
+    guards = guards_exactly;
     signed = λ issued held r all unforged none gives. laws.signed issued asked.node.setup held asked.request asked.now r asked.answer all unforged none gives;
   }
 

@@ -1,4 +1,5 @@
 pub mod Headlines
+mod Guarded
 mod Expired
 mod Kept
 mod Setups

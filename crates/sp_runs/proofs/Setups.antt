@@ -14,7 +14,7 @@ use Rattle.request_ledger.specs.Ledger.{Held}
 use Rattle.node_steps.specs.Step as any
 use Rattle.node_steps.specs.declared.codes.TheConstants as codes
 use Rattle.sp_server.specs.Step as steps
-use Rattle.sp_server.specs.Step.{Setup, Provider, Answers, Steps, is_expired}
+use Rattle.sp_server.specs.Step.{Setup, Provider, Answers, Steps, is_expired, session_for}
 use Rattle.node_steps.specs.Histories.{ForRecord, ForNone, ForCode}
 use Rattle.sp_server.specs.Histories.{IsProviders, Stands}
 use Rattle.sp_setup.specs.Laws.{ARegistryTellsTheProvider, WithoutARegistryNothingEnds}
@@ -23,6 +23,7 @@ use Rattle.sp_setup.specs.Setup as setups
 use Rattle.node_runs.specs.Runs.{world_of}
 use Rattle.sp_runs.specs.Runs.{served_by}
 use Rattle.sp_runs.proofs.Expired.{step_unexpired}
+use Rattle.sp_runs.proofs.Guarded.{guarded}
 
 -- ---- one request
 
@@ -107,6 +108,7 @@ ended_adds setup held request now answer adds r ended some (steps.ByStatus statu
 ended_adds setup held request now answer adds r ended some (steps.ByMetadata to is none) = cc
 ended_adds setup held request now answer adds r ended some (steps.BySession row to found is none) = cc
 ended_adds setup held request now answer adds r ended some (steps.ByAsking bytes to none unexpired id relay page is ids shown) = let e = sym ended ∙ unexpired in cc
+ended_adds setup held request now answer adds r ended some (steps.ByGuard to is none) = cc
 ended_adds setup held request now answer adds r ended some (steps.ByOpening b row to unexpired opens token is has shown) = let e = sym ended ∙ unexpired in cc
 ended_adds setup held request now answer adds r ended some (steps.ByVerdict verdict to unexpired refused is none) = cc
 ended_adds setup held request now answer adds r ended some (steps.ByExpiry at expired is none) = cc
@@ -142,8 +144,9 @@ without : (setup : Setup) (held : Held) (request : Request) (now : ℕ) (answer 
     Answers setup held request now answer adds → AsksAndOpensNothing setup request answer
 without setup held request now answer adds over (steps.ByStatus status to is none) = inl (status, is)
 without setup held request now answer adds over (steps.ByMetadata to is none) = inr (inl is)
-without setup held request now answer adds over (steps.BySession row to found is none) = inr (inr (row, is))
+without setup held request now answer adds over (steps.BySession row to found is none) = inr (inr (inl (row, is)))
 without setup held request now answer adds over (steps.ByAsking bytes to unexpired_none unexpired id relay page is ids shown) = absurd (let e = sym over ∙ unexpired in cc)
+without setup held request now answer adds over (steps.ByGuard to is none) = guarded setup request answer (session_for held now request) is
 without setup held request now answer adds over (steps.ByOpening b row to unexpired opens token is has shown) = absurd (let e = sym over ∙ unexpired in cc)
 without setup held request now answer adds over (steps.ByVerdict verdict to unexpired refused is none) = inl (_, is)
 without setup held request now answer adds over (steps.ByExpiry at expired is none) = inl (steps.REGISTRY_EXPIRED, is)

@@ -29,6 +29,7 @@ shown setup held request now answer adds row app live (steps.BySession found to 
     let same : found ≡ row = let e : Some found ≡ Some row = sym session ∙ live in cc in
     record { page = is ∙ ap (λ (r : OpenedRow). Full (shown_to setup.policy request.path r)) same; nothing = none }
 shown setup held request now answer adds row app live (steps.ByAsking bytes to none unexpired id relay page is ids what) = absurd (let e = sym live ∙ none in cc)
+shown setup held request now answer adds row app live (steps.ByGuard to is none) = absurd (let e = sym app ∙ to in cc)
 shown setup held request now answer adds row app live (steps.ByOpening b asked to unexpired opens token is has what) = absurd (let e = sym app ∙ to in cc)
 shown setup held request now answer adds row app live (steps.ByVerdict verdict to unexpired refused is none) = absurd (let e = sym app ∙ to in cc)
 shown setup held request now answer adds row app live (steps.ByExpiry (inl to) expired is none) = absurd (let e = sym app ∙ to in cc)

@@ -7,6 +7,8 @@ use Rattle.saml_outside.specs.Files.{File}
 use Rattle.crash_disk.specs.Counts.{Rose}
 use Rattle.crash_disk.specs.Disk.{Image}
 use Rattle.http_wire.specs.declared.answer.Answer.TheVariants.{Fixed, Full}
+use Rattle.http_wire.specs.Statuses.{HasStatus}
+use Rattle.http_wire.specs.Views.{answer_bytes}
 use Rattle.ledger_records.specs.declared.sp_record.Ended.{Ended as EndedRecord}
 use Rattle.ledger_records.specs.declared.sp_record.Left.{Left as LeftRecord}
 use Rattle.ledger_records.specs.declared.sp_record.Opened.{Opened as OpenedRecord}
@@ -31,12 +33,13 @@ use Rattle.sp_rules.specs.Opening.{Brought}
 use Rattle.sp_server.specs.Histories.{IsProviders, AreKeptOnce}
 use Rattle.sp_server.specs.Logouts.{EndsOver, IsClosed, IsClosedWith, IsEndedBy, IsLeftBy, LeavesOver, StayClosed}
 use Rattle.sp_server.specs.Recorded.{IsRecorded, TakesPosts}
-use Rattle.sp_server.specs.Routes.{App, To, route}
+use Rattle.sp_server.specs.Guarding.{AsksGuard, IsVouchedAt, TellsExactly}
+use Rattle.sp_server.specs.Routes.{App, Guard, To, route}
 use Rattle.sp_server.specs.Sessions.{GivesSession, OpensOver, record_of}
 use Rattle.node_steps.specs.declared.codes.TheConstants.{NO_MEMORY}
 use Rattle.node_steps.specs.Lasting.{AreKeptSince}
 use Rattle.node_steps.specs.Points.{points}
-use Rattle.sp_server.specs.Step.{Provider, Answers, HasPlace, Serves, StepLeaves, Steps, ended_by, ended_record, left_record, session_for}
+use Rattle.sp_server.specs.Step.{Provider, Answers, HasPlace, IsWhole, Serves, StepLeaves, Steps, ended_by, ended_record, left_record, session_for}
 use Rattle.node_runs.specs.Runs.{Outside, world_of}
 use Rattle.node_runs.specs.declared.ended.Ended.{Ended}
 use Rattle.node_runs.specs.declared.ended.RunFault.{RunFault}
@@ -100,6 +103,16 @@ IsOfASignedLogin asked =
     (issued : List Signed) (held : Held) (r : SpRecord) → AllByRecursion IsSigned issued → Unforged issued asked.node.setup.config asked.now asked.request.body
     → NoCollision issued asked.request.body → (gives : GivesSession asked.node.setup held asked.request asked.now r asked.answer) → IsLoginOf issued gives.brought.login
 
+-- A proxy that asks at /auth is answered 200 exactly where the session of the request's cookie lives at that moment over the ledger that the
+-- step found, and no policy denies it the path, which is plain then; the answer names that session's user and values, or there was no memory.
+-- And with whatever setup and ledger: where it is answered 200, it is for such a session. Nothing is recorded.
+pub record GuardsExactly (asked : Asked Provider) (before after : World Provider) : Type 0 where
+  pub tells : (found : Held) → AsksGuard asked.node.setup asked.request
+      → Serves found asked.request asked.now (Rose before.disk_faults after.disk_faults) asked.answer asked.node after.node
+      → ((asked.answer ≡ Fixed NO_MEMORY) ⊎ TellsExactly asked.node.setup found asked.request asked.now asked.answer) × IsWhole asked.node after.node found
+  pub only : route asked.request ≡ Guard → HasStatus 200 (answer_bytes asked.answer)
+      → IsVouchedAt asked.node asked.disk asked.request asked.now (answer_bytes asked.answer)
+
 -- ---- the run
 
 -- a request is answered by one step, and so it is of it, whatever the worlds are in which the provider was asked
@@ -109,6 +122,7 @@ pub record GoesExactly (asked : Asked Provider) : Type 0 where
   pub opens : (before after : World Provider) → Asks IsProviders asked before after → OpensExactly asked before after
   pub closes : (before after : World Provider) → Asks IsProviders asked before after → ClosesExactly asked before after
   pub recorded : (before after : World Provider) → Asks IsProviders asked before after → IsRecordedFirst asked before after
+  pub guards : (before after : World Provider) → Asks IsProviders asked before after → GuardsExactly asked before after
   pub signed : IsOfASignedLogin asked
 
 -- and of each request that the provider was asked

@@ -1,5 +1,5 @@
 -- The laws of whole runs.
-use Rattle.std.specs.Prelude.{◌≡◌, ◌≢◌, ◌≤◌, ◌⊎◌, ℕ, false, List, Contains, Option, IsSome, Some, Ok, Result}
+use Rattle.std.specs.Prelude.{◌≡◌, ◌≢◌, ◌≤◌, ◌⊎◌, ℕ, true, false, List, Contains, Option, IsSome, Some, Ok, Result}
 use Rattle.std.specs.List.{AllByRecursion}
 use Rattle.saml_outside.specs.Files.{File}
 use Rattle.crash_disk.specs.Counts.{Rose}
@@ -24,6 +24,7 @@ use Rattle.request_ledger.specs.Record.{request_rules}
 use Rattle.request_ledger.specs.Runs.{AreDifferent, requests_opened}
 use Rattle.request_rows.specs.declared.row.OpenedRow.{OpenedRow}
 use Rattle.sp_answers.specs.Answers.{metadata_answer}
+use Rattle.sp_server.specs.Guard.{path_asked, vouched_to}
 use Rattle.sp_server.specs.Routes.{App, To, route}
 use Rattle.node_steps.specs.declared.codes.TheConstants.{NO_MEMORY}
 use Rattle.node_steps.specs.Points.{points}
@@ -100,11 +101,14 @@ AnEndedRegistryRecordsNothing =
     → Run IsProviders (world_of provider opened) turns kept behind
     → begins.set_up.setup.expiry ≡ Some until → Contains (asked_in turns) asked → until ≤ asked.now → ¬ (Stands asked (Some r))
 
--- an answer that is no form which asks for a login, and gives no session: a code, the metadata, or the page of a session that lives
+-- an answer that is no form which asks for a login, and gives no session: a code, the metadata, the page of a session that lives, or what
+-- a guard says of one
 abbrev pub AsksAndOpensNothing : Setup → Request → Answer → Type 0
 AsksAndOpensNothing setup request answer =
     ((code : ℕ) × (answer ≡ Fixed code))
-    ⊎ ((answer ≡ Full (metadata_answer setup.config)) ⊎ ((row : OpenedRow) × (answer ≡ Full (shown_to setup.policy request.path row))))
+    ⊎ ((answer ≡ Full (metadata_answer setup.config))
+    ⊎ (((row : OpenedRow) × (answer ≡ Full (shown_to setup.policy request.path row)))
+    ⊎ ((setup.guard ≡ true) × ((row : OpenedRow) × (answer ≡ Full (vouched_to setup.policy (path_asked request.path) row))))))
 
 -- And each is such an answer.
 abbrev pub AnEndedRegistryAsksNothing : Type 0

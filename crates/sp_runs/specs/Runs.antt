@@ -16,7 +16,7 @@ use Rattle.sp_setup.specs.Setup.{Setup, IsSetUp, IsBadSetUp}
 
 -- a provider serves by all that it is set up with
 abbrev pub served_by : Setup → steps.Setup
-served_by setup = record { config = setup.config; policy = setup.policy; expiry = setup.expiry }
+served_by setup = record { config = setup.config; policy = setup.policy; expiry = setup.expiry; guard = setup.guard }
 
 -- The config in this file sets a provider up, which serves by this.
 pub record IsServedBy (told : Option (List File)) (file : List ℕ) (by : steps.Setup) : Type 0 where

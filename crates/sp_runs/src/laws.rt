@@ -70,7 +70,7 @@ pub fn a_session_is_shown_by_its_row()
 /// A run opens sessions exactly where a posted form opens one, each of a login that was signed where only the identity provider
 /// makes HMACs that match, and no two sessions are of one request, wherever a crash stops. It closes sessions exactly where their
 /// users leave them or the identity provider ends them, and one that is closed is never live again. No message of a logout is sent
-/// before its record is durable. From each point of the run on, also inside later requests, what was acknowledged by then is in the
+/// before its record is durable. A guard answers 200 exactly to the sessions that live and that no policy denies. From each point of the run on, also inside later requests, what was acknowledged by then is in the
 /// history of each ledger that a crash might leave.
 pub fn a_run_carries_the_headline<D: Disk>()
     ensures { (disk : D) → ARunCarriesTheHeadline (D.left_since disk) }
@@ -79,6 +79,7 @@ pub fn a_run_carries_the_headline<D: Disk>()
     sp_server::laws::a_session_opens_exactly();
     sp_server::laws::a_session_is_closed_exactly();
     sp_server::laws::what_is_answered_is_recorded();
+    sp_server::laws::a_guard_tells_exactly();
     each_session_was_signed();
     what_a_run_acknowledged_is_kept_once();
     sessions_stay_closed_in_a_run();

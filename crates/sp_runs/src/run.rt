@@ -32,7 +32,7 @@ impl RunsProvider for ServiceProvider {
 
     fn set_up<F: Files>(alloc: Global, files: &mut F, config: &str) -> Result<SpRole, SetupFault> {
         let setup = set_up(alloc, files, config, Purpose::Serve)?;
-        Ok(SpRole::new(alloc, setup.config, setup.policy, setup.expiry))
+        Ok(SpRole::new(alloc, setup.config, setup.policy, setup.expiry, setup.guard))
     }
 
     fn address(role: &SpRole) -> &str {
@@ -60,7 +60,8 @@ pub fn run_sp<F: Files, L: Link, D: Disk, C: Clock>(
     budget: u64,
 ) -> Result<Ended, RunFault>
     // The run goes so; it opens sessions exactly where a posted form opens one, each of a login that was signed, and no two of one
-    // request; it closes them exactly where their users leave them or the identity provider ends them, for good; what its answers
+    // request; it closes them exactly where their users leave them or the identity provider ends them, for good; a guard vouches for
+    // exactly the sessions that live and that no policy denies; what its answers
     // acknowledged is from then on in every image that a crash might leave; and a crash at any moment of it leaves what one inside the
     // opening or inside an answer may leave.
     ensures runs { (turns : List (Turn Provider))

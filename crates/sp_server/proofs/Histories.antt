@@ -29,6 +29,7 @@ above setup held request now answer adds r (steps.BySession row to found is none
 above setup held request now answer adds r (steps.ByAsking bytes to none unexpired id relay page is ids shown) some =
     let same : asked setup.config.id_key (next_number held) now request.path ≡ r = cc in
     subst (IsAbove held) same (above_of_each held (asked setup.config.id_key (next_number held) now request.path) (omega arith, (omega arith, tt)))
+above setup held request now answer adds r (steps.ByGuard to is none) some = absurd (cc)
 above setup held request now answer adds r (steps.ByOpening b row to unexpired opens token is has shown) some =
     let session = session_of setup.config now b.key.number b.login in
     let same : opened setup.config.id_key (next_number held) now session ≡ r = cc in

@@ -8,7 +8,9 @@ pub mod Replies
 pub mod Rows
 pub mod Targets
 pub mod Texts
+mod Asked
 mod Closing
+mod Guarding
 mod Recorded
 mod Services
 mod Sessions

@@ -10,7 +10,7 @@ use Rattle.http_wire.specs.Requests.{Request}
 use Rattle.ledger_records.specs.declared.sp_record.SpRecord.{SpRecord}
 use Rattle.request_ledger.specs.Record.{request_rules}
 use Rattle.request_ledger.specs.Ledger.{Held, held_with, ledger_in}
-use Rattle.sp_server.specs.Routes.{App, Metadata, Route, To, route}
+use Rattle.sp_server.specs.Routes.{App, Guard, Metadata, Route, To, route}
 use Rattle.node_steps.specs.Step as any
 use Rattle.sp_server.specs.Step as steps
 use Rattle.sp_server.specs.Step.{Setup, Provider, Answers, IsWhole, OwnsDisk, Serves, Steps, session_for}
@@ -28,6 +28,11 @@ not_posted_metadata to is (inl at) = let e = sym is ∙ at in cc
 not_posted_metadata to is (inr (inl at)) = let e = sym is ∙ at in cc
 not_posted_metadata to is (inr (inr at)) = let e = sym is ∙ at in cc
 
+not_posted_guard : (to : Route) → to ≡ Guard → TakesPosts to → ⊥
+not_posted_guard to is (inl at) = let e = sym is ∙ at in cc
+not_posted_guard to is (inr (inl at)) = let e = sym is ∙ at in cc
+not_posted_guard to is (inr (inr at)) = let e = sym is ∙ at in cc
+
 no_page : (answer : Answer) (code : ℕ) (bytes : List ℕ) → answer ≡ Fixed code → answer ≡ Full bytes → ⊥
 no_page answer code bytes is shown = let e = sym is ∙ shown in cc
 
@@ -38,6 +43,7 @@ unrecorded setup held request now answer adds bytes nothing shown posts (steps.B
 unrecorded setup held request now answer adds bytes nothing shown posts (steps.ByMetadata to is none) = not_posted_metadata (route request) to posts
 unrecorded setup held request now answer adds bytes nothing shown posts (steps.BySession row to live is none) = not_posted_app (route request) to posts
 unrecorded setup held request now answer adds bytes nothing shown posts (steps.ByAsking page to none unexpired id relay asks is ids what) = not_posted_app (route request) to posts
+unrecorded setup held request now answer adds bytes nothing shown posts (steps.ByGuard to is none) = not_posted_guard (route request) to posts
 unrecorded setup held request now answer adds bytes nothing shown posts (steps.ByOpening b row to unexpired opens token is has what) = let e = sym is ∙ nothing in cc
 unrecorded setup held request now answer adds bytes nothing shown posts (steps.ByVerdict verdict to unexpired refused is none) = no_page answer _ bytes is shown
 unrecorded setup held request now answer adds bytes nothing shown posts (steps.ByExpiry at expired is none) = no_page answer _ bytes is shown
@@ -56,6 +62,7 @@ unasked setup held request now answer adds bytes nothing shown app none (steps.B
 unasked setup held request now answer adds bytes nothing shown app none (steps.ByMetadata to is no_record) = let e = sym app ∙ to in cc
 unasked setup held request now answer adds bytes nothing shown app none (steps.BySession row to live is no_record) = let e = sym live ∙ none in cc
 unasked setup held request now answer adds bytes nothing shown app none (steps.ByAsking page to gone unexpired id relay asks is ids what) = let e = sym is ∙ nothing in cc
+unasked setup held request now answer adds bytes nothing shown app none (steps.ByGuard to is no_record) = let e = sym app ∙ to in cc
 unasked setup held request now answer adds bytes nothing shown app none (steps.ByOpening b row to unexpired opens token is has what) = let e = sym app ∙ to in cc
 unasked setup held request now answer adds bytes nothing shown app none (steps.ByVerdict verdict to unexpired refused is no_record) = let e = sym app ∙ to in cc
 unasked setup held request now answer adds bytes nothing shown app none (steps.ByExpiry at expired is no_record) = no_page answer _ bytes is shown

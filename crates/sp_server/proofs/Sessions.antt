@@ -38,6 +38,7 @@ given setup held request now answer adds r some (steps.ByStatus status to is non
 given setup held request now answer adds r some (steps.ByMetadata to is none) = absurd (cc)
 given setup held request now answer adds r some (steps.BySession row to found is none) = absurd (cc)
 given setup held request now answer adds r some (steps.ByAsking bytes to none unexpired id relay page is ids shown) = absurd (cc)
+given setup held request now answer adds r some (steps.ByGuard to is none) = absurd (cc)
 given setup held request now answer adds r some (steps.ByOpening b row to unexpired opens token is has shown) =
     let same : record_of setup held now b ≡ kinds.Opened r = cc in
     record {
@@ -74,6 +75,7 @@ answered not_refused setup held request now answer adds b row over (steps.ByStat
 answered not_refused setup held request now answer adds b row over (steps.ByMetadata to is none) = absurd (let e = sym over.posted ∙ to in cc)
 answered not_refused setup held request now answer adds b row over (steps.BySession found to live is none) = absurd (let e = sym over.posted ∙ to in cc)
 answered not_refused setup held request now answer adds b row over (steps.ByAsking bytes to none unexpired id relay page is ids shown) = absurd (let e = sym over.posted ∙ to in cc)
+answered not_refused setup held request now answer adds b row over (steps.ByGuard to is none) = absurd (let e = sym over.posted ∙ to in cc)
 answered not_refused setup held request now answer adds b row over (steps.ByOpening c asked to unexpired opens token is has shown) = record {
   r = record_of setup held now c;
   is = is;

@@ -1,5 +1,5 @@
 -- A path to which a user can be sent back is a text of XML.
-use Rattle.std.proofs.Common.{◌≡◌, ℕ, ◌<◌, ◌≤◌, Bool, true, false, List, [], ◌∷◌, refl, ap, ◌∙◌, arith}
+use Rattle.std.proofs.Common.{◌≡◌, ℕ, ◌<◌, ◌≤◌, Bool, true, false, List, [], ◌∷◌, refl, ap, ◌∙◌, subst, arith}
 use Rattle.std.specs.List.{list_all}
 use Rattle.std.specs.Prelude.{zero, suc, Option, None, Some, if◌then◌else◌}
 use Rattle.std.specs.Str.{chars, IsAscii}
@@ -8,9 +8,10 @@ use Rattle.std.proofs.lemmas.Bool.Decides.{nat_tests}
 use Rattle.xml_spec.specs.Characters.{is_char}
 use Rattle.xml_spec.proofs.Tests.{and_true, both_true}
 use Rattle.http_wire.specs.declared.method.Method.{Method}
+use Rattle.http_wire.specs.Answers.{is_fixed}
 use Rattle.http_wire.specs.Requests.{Request}
 use Rattle.ledger_rules.specs.Numbers.{is_xml_text}
-use Rattle.sp_server.specs.Routes.{To, Refused, Service, App, Consumer, Metadata, Logout, SingleLogout, checked, is_method, is_path_byte, is_target, is_typed, route, service_at}
+use Rattle.sp_server.specs.Routes.{Route, Guard, To, Refused, Service, App, Consumer, Metadata, Logout, SingleLogout, at_target, checked, is_guarded, is_method, is_path_byte, is_target, is_typed, route, service_at}
 
 graphic : (b : ℕ) → is_path_byte b ≡ true → (45 ≤ b) × (b < 127)
 graphic b h = grind (arith, nat_tests)
@@ -74,5 +75,39 @@ at_any : (request : Request) (at : Option (Method × Service)) → checked reque
 at_any request None is = cc
 at_any request (Some at) is = at_service request at.0 at.1 is
 
+elsewhere : (guarded : Bool) (at : Route) → (if guarded then Guard else at) ≡ To App → at ≡ To App
+elsewhere true at is = absurd (cc)
+elsewhere false at is = is
+
 pub path_is_text : (request : Request) → route request ≡ To App → is_xml_text request.path ≡ true
-path_is_text request is = target_is_text request.path (at_any request (service_at request.path) is)
+path_is_text request is =
+    target_is_text request.path (at_any request (service_at request.path) (elsewhere (is_guarded request.path) (checked request (service_at request.path)) is))
+
+-- ---- the status of a request that is not served has a page
+
+-- it is one that is answered alone
+abbrev IsAnswered : Route → Type 0
+IsAnswered (To service) = Unit {0}
+IsAnswered Guard = Unit {0}
+IsAnswered (Refused status) = is_fixed status ≡ true
+
+chosen : (b : Bool) (one other : Route) → IsAnswered one → IsAnswered other → IsAnswered (if b then one else other)
+chosen true one other h k = h
+chosen false one other h k = k
+
+target_answered : (path : List ℕ) (service : Service) → IsAnswered (at_target path service)
+target_answered path App = chosen (is_target path) (To App) (Refused 404) tt refl
+target_answered path Consumer = tt
+target_answered path Metadata = tt
+target_answered path Logout = tt
+target_answered path SingleLogout = tt
+
+checked_answered : (request : Request) (at : Option (Method × Service)) → IsAnswered (checked request at)
+checked_answered request None = refl
+checked_answered request (Some (method, service)) =
+    chosen (is_method method request.method) (if is_typed method request.content_type then at_target request.path service else Refused 415) (Refused 405)
+    (chosen (is_typed method request.content_type) (at_target request.path service) (Refused 415) (target_answered request.path service) refl) refl
+
+pub refused_answered : (request : Request) (status : ℕ) → route request ≡ Refused status → is_fixed status ≡ true
+refused_answered request status is =
+    subst IsAnswered is (chosen (is_guarded request.path) Guard (checked request (service_at request.path)) tt (checked_answered request (service_at request.path)))

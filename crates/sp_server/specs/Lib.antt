@@ -1,4 +1,7 @@
 pub mod Routes
+pub mod Guard
+pub mod GuardExamples
+pub mod Guarding
 pub mod Peer
 pub mod Step
 pub mod Config

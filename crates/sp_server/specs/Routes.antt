@@ -21,6 +21,10 @@ pub data Service : Type 0 where
   -- the address to which messages of a logout are posted: SAML Metadata, 2.4.2, SingleLogoutService
   SingleLogout : Service
 
+-- /auth, and a path behind it
+abbrev pub is_guarded : List ℕ → Bool
+is_guarded path = starts_with nat_eq path (codes "/auth/")
+
 -- /app, and each path below it
 abbrev pub is_app : List ℕ → Bool
 is_app path = bytes_eq path (codes "/app") || starts_with nat_eq path (codes "/app/")
@@ -56,9 +60,10 @@ is_typed Other content_type = true
 
 -- RFC 9110, 15.5: a service, or the status that is answered in its place: 404 where there is none at the path, 405 where it
 -- takes another method, 415 where it takes a form and something else is posted, and 404 for a path of the application to which
--- no user can be sent back.
+-- no user can be sent back. Or a proxy asks who a request comes from: what it is answered, and whether it is, the guard says.
 pub data Route : Type 0 where
   To : Service → Route
+  Guard : Route
   Refused : ℕ → Route
 
 abbrev pub at_target : List ℕ → Service → Route
@@ -76,4 +81,4 @@ checked request (Some (method, service)) =
     else Refused 405
 
 abbrev pub route : Request → Route
-route request = checked request (service_at request.path)
+route request = if is_guarded request.path then Guard else checked request (service_at request.path)

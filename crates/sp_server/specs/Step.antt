@@ -30,15 +30,17 @@ use Rattle.sp_rules.specs.Shown.{session_of}
 use Rattle.sp_rules.specs.Verdict.{IsRefused}
 use Rattle.sp_answers.specs.Answers.{IsAskAnswer, user_answer, denied_answer, opened_answer, metadata_answer}
 use Rattle.node_steps.specs.Step as any
-use Rattle.sp_server.specs.Routes.{App, Consumer, Metadata, Logout, SingleLogout, To, Refused, route}
+use Rattle.sp_server.specs.Routes.{App, Consumer, Metadata, Logout, SingleLogout, Guard, To, Refused, route}
+use Rattle.sp_server.specs.Guard.{guard_answer}
 use Rattle.sp_server.specs.Peer.{idp_at, is_partial, IsObeyed, IsNotObeyed}
 
--- what a provider is set up with: its config, the rules of its policy where it has one, and the moment at which its registry
--- of metadata ends where it has one
+-- what a provider is set up with: its config, the rules of its policy where it has one, the moment at which its registry of metadata
+-- ends where it has one, and whether it has a guard
 pub record Setup : Type 0 where
   pub config : SpConfig
   pub policy : Option (List Rule)
   pub expiry : Option ℕ
+  pub guard : Bool
 
 -- whether the registry has ended
 abbrev pub is_expired : Option ℕ → ℕ → Bool
@@ -107,6 +109,9 @@ pub data Answers (setup : Setup) (held : Held) (request : Request) (now : ℕ) (
       → (id relay : List ℕ) → IsAskAnswer setup.config id relay now bytes
       → adds ≡ Some (asked setup.config.id_key (next_number held) now request.path) → HasIds (asked setup.config.id_key (next_number held) now request.path) id relay
       → answer ≡ Full bytes → Answers setup held request now answer adds
+  -- a proxy asks the guard who a request comes from
+  ByGuard : route request ≡ Guard → answer ≡ guard_answer setup.guard setup.policy request (session_for held now request) → adds ≡ None
+      → Answers setup held request now answer adds
   -- a posted form that opens a session
   ByOpening : (b : Brought) (row : AskedRow) → route request ≡ To Consumer → is_expired setup.expiry now ≡ false
       → Opens setup.config (rows_seen (rows_of held.records)) held.header.horizon now request.body b row

@@ -1,4 +1,5 @@
 //! Laws of a service provider, each the contract of a function that does nothing.
+ghost use Rattle.sp_server.specs.Guarding.{AGuardTellsExactly, EqualRowsAreVouchedForAlike, OnlyASessionIsVouchedFor};
 ghost use Rattle.sp_server.specs.Histories.{WhatIsAcknowledgedIsKeptOnce};
 ghost use Rattle.sp_server.specs.Logouts.{OnlyWhereAUserLeaves, OnlyWhereSessionsEnd, NothingElseCloses, WhereverAUserLeaves, WhereverSessionsEnd, AClosedSessionStaysClosed, SessionsStayClosedInAService};
 ghost use Rattle.sp_server.specs.Recorded.{WhatIsAnsweredIsRecorded, WhatIsAskedIsRecorded};
@@ -82,4 +83,16 @@ pub fn compactions_change_no_verdict()
     ensures { CompactionsChangeNoVerdict }
 {
     request_ledger::laws::compactions_change_no_answer();
+}
+
+/// A guard answers 200 exactly where the session of the request's cookie lives at that moment, and there is no policy or it allows the path,
+/// which is plain then; want of memory aside. It names that session's user and values, in two lines that hold nothing else, depends on
+/// nothing but the session's row, and records nothing.
+pub fn a_guard_tells_exactly()
+    ensures tells { AGuardTellsExactly }
+    ensures only { OnlyASessionIsVouchedFor }
+    ensures alike { EqualRowsAreVouchedForAlike }
+{
+    http_wire::laws::an_answer_has_one_status();
+    http_wire::laws::a_vouched_answer_is_read_again();
 }

@@ -1,7 +1,7 @@
 //! The service provider: what it answers to each request, and what it records.
 //!
 //! ```
-//! let role = SpRole::new(alloc, config, policy, expiry);       // what it is set up with
+//! let role = SpRole::new(alloc, config, policy, expiry, guard); // what it is set up with
 //! let mut node = SpNode::start(alloc, role, &mut disk)?;       // opens the ledger of the disk
 //! let answer = node.answer(&request, now, &mut disk);          // one step: an answer, and at most one record
 //! ```
@@ -15,6 +15,7 @@
 //! | POST `/slo`, a LogoutRequest of the identity provider | the sessions that it lists end, which is recorded, and a form tells it so |
 //! | POST `/slo`, its LogoutResponse to a logout that began here | how the logout ended; that it was confirmed is recorded |
 //! | GET `/metadata` | the metadata of the provider |
+//! | GET `/auth` and a path behind it, with a guard | a proxy is told who a live session is of, where no policy denies it that path; nothing is recorded |
 //!
 //! What one request does is one definition, `Steps` of `specs/Step.antt`, by named cases: nothing is recorded; a
 //! record is added; it is added after one compaction that made room; there is no room (code 51); the disk failed
@@ -29,6 +30,7 @@
 
 mod app;
 mod consumer;
+mod guard;
 pub mod laws;
 mod leave;
 mod ledger;

@@ -59,6 +59,7 @@ impl Role for SpRole {
             Route::Consumer => self.reply_form(ledger, request, now),
             Route::Logout => self.reply_leave(ledger, request, now),
             Route::SingleLogout => self.reply_logout(ledger, request, now),
+            Route::Guard => self.reply_guard(ledger, request, now),
         }
     }
 

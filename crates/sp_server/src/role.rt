@@ -14,6 +14,7 @@ pub struct SpRole {
     pub(crate) config: SpConfig,
     pub(crate) policy: Option<Policy>,
     pub(crate) expiry: Option<u64>,
+    pub(crate) guard: bool,
     pub(crate) alloc: Global,
 }
 
@@ -23,7 +24,7 @@ impl Model for SpRole {
 
     ghost Value = { Setup };
 
-    ghost view = { λ r. record { config = r.config; policy = r.policy; expiry = r.expiry } };
+    ghost view = { λ r. record { config = r.config; policy = r.policy; expiry = r.expiry; guard = r.guard } };
 
     ghost invariant = { λ r. IsUsable r.config };
 }
@@ -31,20 +32,23 @@ impl Model for SpRole {
 impl SpRole {
     /// A service provider with this config. `policy` decides on the pages of live sessions; without one each is
     /// allowed. `expiry` is the moment at which its registry of metadata ends, in milliseconds since
-    /// 1970-01-01T00:00:00Z: from then on nothing is asked, no session is opened, and no logout is served.
+    /// 1970-01-01T00:00:00Z: from then on nothing is asked, no session is opened, and no logout is served. With `guard` it
+    /// tells a proxy who a request comes from.
     pub fn new(
         alloc: Global,
         config: SpConfig,
         policy: Option<Policy>,
         expiry: Option<u64>,
+        guard: bool,
     ) -> SpRole
         requires { IsUsable config }
-        ensures { result ≡ record { config = config; policy = policy; expiry = expiry } }
+        ensures { result ≡ record { config = config; policy = policy; expiry = expiry; guard = guard } }
     {
         SpRole {
             config,
             policy,
             expiry,
+            guard,
             alloc,
         }
     }

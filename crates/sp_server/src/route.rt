@@ -15,6 +15,7 @@ pub(crate) enum Route {
     Metadata,
     Logout,
     SingleLogout,
+    Guard,
     Refused(u16),
 }
 
@@ -36,17 +37,24 @@ fn are_path_bytes(path: &str) -> bool
 }
 
 /// Whether a user can be sent back to a path.
-fn is_target(path: &str) -> bool
+pub(crate) fn is_target(path: &str) -> bool
     ensures { result ≡ spec.is_target path.now }
 {
     path.len() <= LONGEST_TARGET && are_path_bytes(path)
 }
 
 /// Whether a path is `/app` or below it.
-fn is_app(path: &str) -> bool
+pub(crate) fn is_app(path: &str) -> bool
     ensures { result ≡ spec.is_app path.now }
 {
     path == "/app" || path.starts_with("/app/")
+}
+
+/// Whether a path is one behind `/auth`.
+fn is_guarded(path: &str) -> bool
+    ensures { result ≡ spec.is_guarded path.now }
+{
+    path.starts_with("/auth/")
 }
 
 /// Where a request goes whose path takes the form of a service.
@@ -70,7 +78,9 @@ pub(crate) fn route_of(request: &HttpRequest<'_>) -> Route
     ensures { route_view result ≡ spec.route (request_view request.now) }
 {
     let path = request.path;
-    if is_app(path) {
+    if is_guarded(path) {
+        Route::Guard
+    } else if is_app(path) {
         if request.method != Method::Get {
             Route::Refused(405)
         } else if is_target(path) {

@@ -14,7 +14,7 @@ draft-requires-clause-can c = can_draft c.args.self.now c.args.ledger.now.held c
 
 pub returns-clause-drafts : goal.returns-clause-drafts
 returns-clause-drafts c =
-    let own : Setup = record { config = c.self.inside.config; policy = c.self.inside.policy; expiry = c.self.inside.expiry } in
+    let own : Setup = record { config = c.self.inside.config; policy = c.self.inside.policy; expiry = c.self.inside.expiry; guard = c.self.inside.guard } in
     subst (IsDrafted request_rules c.args.ledger.now.held (CanCommit c.draft.new.ledger) (λ d. d) (stands_for c.args.self.now c.args.ledger.now.held c.args.now c.args.reply.now)) (sym c.of.ensures)
     (subst (λ (s : Setup). IsDrafted request_rules c.args.ledger.now.held (CanCommit c.draft.new.ledger) (λ d. d) (stands_for s c.args.ledger.now.held c.args.now c.args.reply.now) (drafted_of c.draft.result))
     c.self.view_is
