@@ -1,20 +1,21 @@
 -- The headline follows from how a run goes.
-use Rattle.std.specs.Prelude.{List, [], ◌∷◌, Option}
-use Rattle.std.specs.List.{AllByRecursion}
+use Rattle.std.specs.Prelude.{List, [], ◌∷◌, IfSome, Option}
 use Rattle.std.proofs.Common.{ℕ, subst, sym}
 use Rattle.crash_disk.specs.Counts.{Rose}
-use Rattle.crash_disk.specs.Disk.{Image, DiskState}
+use Rattle.crash_disk.specs.Disk.{Image, DiskState, MayLeave, image_of}
 use Rattle.http_wire.specs.declared.answer.Answer.{Answer}
-use Rattle.node_serve.specs.Turns.{Asked, Asks, Turn, asked_by}
+use Rattle.node_serve.specs.Turns.{Asked, Asks, Turn}
 use Rattle.node_serve.specs.Worlds.{World}
 use Rattle.node_runs.proofs.Kept.{of_turn}
 use Rattle.node_runs.specs.Runs.{BadSetUp, NotSetUp, NotOpened, Deaf, Serving}
+use Rattle.node_steps.proofs.Added.{new_is_of_the_request}
 use Rattle.idp_ledger.specs.Laws.{ImagesHoldRecords}
+use Rattle.idp_ledger.specs.Record.{idp_rules}
 use Rattle.idp_server.specs.Histories.{IsProviders, SessionsStayEndedInAService, WhatIsAcknowledgedIsKept}
 use Rattle.idp_server.specs.Issues.{AnswersHaveUsers, WhatIsAnsweredIsRecorded}
 use Rattle.idp_server.specs.Logouts.{AnswersEndExactly, ServicesEndExactly, WhatIsAnsweredToALogoutIsRecorded, WhereverAPeerEnds, WhereverAUserLeaves}
 use Rattle.idp_server.specs.Signed.{EachSignedElementIsOfARecord}
-use Rattle.idp_server.specs.Step.{Provider, Steps}
+use Rattle.idp_server.specs.Step.{Provider, Answers, Steps, StepsOnDisk}
 use Rattle.idp_runs.specs.Headline.{ARunCarriesTheHeadline, EachGoesExactly, EndsExactly, GoesExactly, IssuesOnlyToUsers, ServedNothing, ServedSo}
 use Rattle.idp_runs.proofs.Kept.{ended_behind, kept_behind, kept_ever_since}
 
@@ -34,17 +35,18 @@ pub record Laws : Type 0 where
 
 -- the step by which a request was answered
 stepped : (asked : Asked Provider) (before told : World Provider) → Asks IsProviders asked before told
-    → Steps asked.node asked.disk asked.request asked.now (Rose before.disk_faults told.disk_faults) asked.answer told.node
+    → StepsOnDisk asked.node asked.disk asked.request asked.now (Rose before.disk_faults told.disk_faults) asked.answer told.node told.disk
 stepped asked before told asks =
-    subst (λ (n : Provider). Steps n asked.disk asked.request asked.now (Rose before.disk_faults told.disk_faults) asked.answer told.node) (sym asks.node)
-    (subst (λ (d : Option DiskState). Steps before.node d asked.request asked.now (Rose before.disk_faults told.disk_faults) asked.answer told.node) (sym asks.disk) asks.answers.does)
+    subst (λ (n : Provider). StepsOnDisk n asked.disk asked.request asked.now (Rose before.disk_faults told.disk_faults) asked.answer told.node told.disk) (sym asks.node)
+    (subst (λ (d : Option DiskState). StepsOnDisk before.node d asked.request asked.now (Rose before.disk_faults told.disk_faults) asked.answer told.node told.disk)
+    (sym asks.disk) asks.answers.does)
 
 module _ (laws : Laws) (asked : Asked Provider) where
   issues : (before after : World Provider) → Asks IsProviders asked before after → IssuesOnlyToUsers asked before after
   issues before after asks =
-      let steps = stepped asked before after asks in
+      let steps = (stepped asked before after asks).step in
       record {
-        users = λ held r answers. laws.users asked.node.setup held asked.request asked.now asked.answer r answers;
+        users = λ held answer r answers. laws.users asked.node.setup held asked.request asked.now answer r answers;
         signed = λ held bytes r answers. laws.signed asked.node.setup held asked.request asked.now bytes r answers;
         recorded = λ bytes is to.
             laws.recorded asked.node after.node asked.disk after.disk asked.request asked.now before.disk_faults after.disk_faults bytes
@@ -56,7 +58,7 @@ module _ (laws : Laws) (asked : Asked Provider) where
 
   ends_exactly : (before after : World Provider) → EndsExactly asked before after
   ends_exactly before after = record {
-    only = λ held r answers. laws.only asked.node.setup held asked.request asked.now asked.answer r answers;
+    only = λ held answer r answers. laws.only asked.node.setup held asked.request asked.now answer r answers;
     nothing_else = λ found serves whole.
         laws.services found asked.request asked.now before.disk_faults after.disk_faults asked.answer asked.node after.node serves whole;
     wherever_left = λ found row serves leaves place calm.
@@ -70,6 +72,9 @@ module _ (laws : Laws) (asked : Asked Provider) where
     steps = stepped asked;
     issues = issues;
     ends = λ before after asks. ends_exactly before after;
+    added = λ before after asks image held r tells left is there new.
+        new_is_of_the_request idp_rules Answers asked.node asked.disk asked.request asked.now image held r tells
+        (subst (λ (d : Option DiskState). IfSome d (λ x. MayLeave x (image_of x))) (sym asks.disk) asks.answers.reads) left is there new;
   }
 
 module _ (laws : Laws) where

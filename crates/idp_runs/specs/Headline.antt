@@ -1,12 +1,13 @@
 -- What a run of an identity provider comes to: each Assertion is issued to a user with a password or a session, each signed element is one
 -- of a record that is durable before it is sent; sessions are ended exactly where their users leave them or a peer ends them, and one that
 -- is ended never lives again.
-use Rattle.std.specs.Prelude.{◌≡◌, ◌⊎◌, ℕ, true, false, List, [], ◌∷◌, Option, IsSome, Some, Result}
+use Rattle.std.specs.Prelude.{◌≡◌, ◌⊎◌, ℕ, true, false, List, [], ◌∷◌, Contains, Option, IsSome, Some, Ok, Result}
 use Rattle.std.specs.List.{AllByRecursion}
 use Rattle.saml_outside.specs.Files.{File}
 use Rattle.crash_disk.specs.Counts.{Rose}
 use Rattle.crash_disk.specs.Disk.{Image}
 use Rattle.conn_table.specs.Table.{Table}
+use Rattle.http_wire.specs.declared.answer.Answer.{Answer}
 use Rattle.http_wire.specs.declared.answer.Answer.TheVariants.{Fixed, Full}
 use Rattle.ledger_records.specs.declared.idp_record.IdpRecord.{IdpRecord}
 use Rattle.ledger_records.specs.declared.idp_record.IdpRecord.TheVariants as kinds
@@ -19,12 +20,13 @@ use Rattle.node_runs.specs.declared.ended.RunFault.{RunFault}
 use Rattle.peer_keys.specs.declared.peers.LogoutPeer.{LogoutPeer}
 use Rattle.protocol_messages.specs.declared.logout.LogoutRequest.{LogoutRequest}
 use Rattle.idp_ledger.specs.declared.row.SessionRow.{SessionRow}
-use Rattle.idp_ledger.specs.Ledger.{Held}
+use Rattle.idp_ledger.specs.Ledger.{Held, ledger_in}
 use Rattle.idp_ledger.specs.RowsOf.{is_among}
 use Rattle.node_steps.specs.declared.codes.TheConstants.{NO_MEMORY}
 use Rattle.node_serve.specs.Serving as node_serving
 use Rattle.node_serve.specs.declared.served.Served.{Served}
 use Rattle.node_serve.specs.declared.served.ServeFault.{ServeFault}
+use Rattle.node_steps.specs.Added.{IsAddedBy, IsNew}
 use Rattle.node_steps.specs.Lasting.{AreKeptSince}
 use Rattle.node_steps.specs.Points.{points}
 use Rattle.node_steps.specs.Starts.{IsServed}
@@ -34,16 +36,16 @@ use Rattle.idp_server.specs.Issues.{IsOfUser, IsRecorded}
 use Rattle.idp_server.specs.Logouts.{Ends, EndsOver, IsOfLogoutIfEnding, LeavesOver}
 use Rattle.idp_server.specs.Routes.{Login, Logout, SignOn, SingleLogout, To, route}
 use Rattle.idp_server.specs.Signed.{Carries}
-use Rattle.idp_server.specs.Step.{Provider, Answers, HasPlace, Serves, StepLeaves, Steps, ended_by, ending_by, left_by}
+use Rattle.idp_server.specs.Step.{Provider, Answers, HasPlace, Serves, StepLeaves, StepsOnDisk, ended_by, ending_by, left_by}
 use Rattle.idp_runs.specs.Runs.{Begins, Runs}
 
 -- ---- one request, which the provider was asked in one world, and which left another behind
 
--- An Assertion is issued with its answer only for a user whose password was posted for a login that was pending, or in the user's live
+-- An Assertion is issued, with whatever answer, only for a user whose password was posted for a login that was pending, or in the user's live
 -- session; each signed element in the answer, a message of a logout too, is one that its record stands for; and the answer's record is in
 -- every image that a crash may leave once the provider has answered, before a byte is sent.
 pub record IssuesOnlyToUsers (asked : Asked Provider) (before after : World Provider) : Type 0 where
-  pub users : (held : Held) (r : Issued) → Answers asked.node.setup held asked.request asked.now asked.answer (Some (kinds.Issued r))
+  pub users : (held : Held) (answer : Answer) (r : Issued) → Answers asked.node.setup held asked.request asked.now answer (Some (kinds.Issued r))
       → IsOfUser asked.node.setup held asked.request asked.now r
   pub signed : (held : Held) (bytes : List ℕ) (r : IdpRecord) → Answers asked.node.setup held asked.request asked.now (Full bytes) (Some r)
       → Carries asked.node.setup held r bytes
@@ -52,11 +54,11 @@ pub record IssuesOnlyToUsers (asked : Asked Provider) (before after : World Prov
   pub logout_recorded : (bytes : List ℕ) → asked.answer ≡ Full bytes → (route asked.request ≡ To Logout) ⊎ (route asked.request ≡ To SingleLogout)
       → IsRecorded asked.node.setup asked.request asked.now (Full bytes) after.disk
 
--- A record that ends a session is added with its answer only where the user of that live session leaves it, or a peer asks for it by a
+-- A record that ends a session is added, with whatever answer, only where the user of that live session leaves it, or a peer asks for it by a
 -- LogoutRequest that is accepted; and nothing but a record and a compaction changes the ledger. And wherever one of them does, over the
 -- ledger that the step found, where there is room and the disk does not fail, the session is ended behind the step; or there was no memory.
 pub record EndsExactly (asked : Asked Provider) (before after : World Provider) : Type 0 where
-  pub only : (held : Held) (r : IdpRecord) → Answers asked.node.setup held asked.request asked.now asked.answer (Some r)
+  pub only : (held : Held) (answer : Answer) (r : IdpRecord) → Answers asked.node.setup held asked.request asked.now answer (Some r)
       → IsOfLogoutIfEnding asked.node.setup held asked.request asked.now r
   pub nothing_else : (found : Held) → Serves found asked.request asked.now (Rose before.disk_faults after.disk_faults) asked.answer asked.node after.node
       → after.node.ledger.broken ≡ false → Ends asked.node.setup found asked.request asked.now after.node
@@ -72,14 +74,23 @@ pub record EndsExactly (asked : Asked Provider) (before after : World Provider) 
       → ¬ (Rose before.disk_faults after.disk_faults)
       → (asked.answer ≡ Fixed NO_MEMORY) ⊎ IsEnded after.node.ledger.held cookie
 
+-- Each record that stands in an image which a crash inside the answer may leave, or one behind it, be it behind page 50, and stood nowhere
+-- before is one that the request adds over some ledger with some answer, so that it is of it what is said of these.
+abbrev pub AddsOnlyItsOwn : Asked Provider → Type 0
+AddsOnlyItsOwn asked =
+    (image : Image) (held : Held) (r : IdpRecord) → IsSome asked.disk → StepLeaves asked.node asked.disk asked.request asked.now image
+    → ledger_in image ≡ Ok (Some held) → Contains held.records r → IsNew idp_rules asked.node asked.disk r
+    → IsAddedBy Answers asked.node.setup asked.request asked.now r
+
 -- ---- the run
 
 -- a request is answered by one step, and so it is of it, whatever the worlds are in which the provider was asked
 pub record GoesExactly (asked : Asked Provider) : Type 0 where
   pub steps : (before after : World Provider) → Asks IsProviders asked before after
-      → Steps asked.node asked.disk asked.request asked.now (Rose before.disk_faults after.disk_faults) asked.answer after.node
+      → StepsOnDisk asked.node asked.disk asked.request asked.now (Rose before.disk_faults after.disk_faults) asked.answer after.node after.disk
   pub issues : (before after : World Provider) → Asks IsProviders asked before after → IssuesOnlyToUsers asked before after
   pub ends : (before after : World Provider) → Asks IsProviders asked before after → EndsExactly asked before after
+  pub added : (before after : World Provider) → Asks IsProviders asked before after → AddsOnlyItsOwn asked
 
 -- and of each request that the provider was asked
 abbrev pub EachGoesExactly : List (Turn Provider) → Type 0

@@ -1,5 +1,6 @@
 //! The laws of whole runs, each the contract of a function that does nothing.
 ghost use Rattle.idp_runs.specs.Headline.{ARunCarriesTheHeadline, ARunIsAStart};
+ghost use Rattle.idp_runs.specs.Joining.{EachImageOfARunGoesOn};
 
 use idp_ledger::Disk;
 
@@ -25,6 +26,15 @@ pub fn a_run_carries_the_headline<D: Disk>()
 /// what is ended stays so, over restarts with crashes between them.
 pub fn a_run_is_a_start()
     ensures { ARunIsAStart }
+{
+    idp_ledger::laws::images_hold_records();
+}
+
+/// Where a run is next behind starts of its provider, on a disk that tells, each image that a crash at one of its moments may leave is
+/// one from which a later start goes on, as behind a start of this run that was cut at that moment: so runs that a crash cut join into
+/// one service, of which the laws of starts speak.
+pub fn each_image_of_a_run_goes_on<D: Disk>()
+    ensures { (disk : D) → EachImageOfARunGoesOn (D.left_since disk) }
 {
     idp_ledger::laws::images_hold_records();
 }

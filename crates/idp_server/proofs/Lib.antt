@@ -18,3 +18,4 @@ pub mod Shown
 mod Signed
 pub mod Walks
 mod Starts
+mod Starving

@@ -8,3 +8,4 @@ pub mod Signed
 pub mod Logouts
 pub mod Views
 pub mod Examples
+pub mod Starving

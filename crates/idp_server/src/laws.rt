@@ -3,6 +3,7 @@ ghost use Rattle.idp_server.specs.Issues.{AnswersHaveUsers, ServicesHaveUsers, W
 ghost use Rattle.idp_server.specs.Histories.{AnEndedSessionStaysEnded, SessionsStayEndedInAService, SessionsStayEndedOverStarts, WhatIsAcknowledgedIsKept, WhatIsAcknowledgedIsKeptOverStarts};
 ghost use Rattle.idp_server.specs.Logouts.{AnswersEndExactly, ServicesEndExactly, WhatIsAnsweredToALogoutIsRecorded, WhereverAPeerEnds, WhereverAUserLeaves};
 ghost use Rattle.idp_server.specs.Signed.{EachSignedElementIsOfARecord};
+ghost use Rattle.idp_server.specs.Starving.{WhatIsVisibleStays};
 
 /// Each Assertion that is issued has a password or a session: it answers a login that was pending and not used, for a user whose
 /// password was posted with it; or it lies in a session that lives, of the request's cookie, and states the user of that.
@@ -83,4 +84,12 @@ pub fn each_signed_element_is_of_a_record()
     ensures { EachSignedElementIsOfARecord }
 {
     logout_profile::laws::what_an_obeyed_form_says();
+}
+
+/// Where there was no memory for an answer and the ledger was not broken, all that may be asked of its rows at that moment is
+/// answered behind the request as before.
+pub fn what_is_visible_stays()
+    ensures { WhatIsVisibleStays }
+{
+    idp_ledger::laws::compactions_change_no_answer();
 }

@@ -1,11 +1,10 @@
 -- What a run of a provider acknowledged is kept.
 use Rattle.std.specs.Prelude.{IfSome, IsSome, Option, None, Some, Result, Ok, Err}
-use Rattle.std.proofs.Common.{◌≡◌, ℕ, ◌+◌, ◌==◌, if◌then◌else◌, Bool, true, false, List, ◌∷◌, sym, subst, refl, ap, ◌∙◌}
+use Rattle.std.proofs.Common.{◌≡◌, ℕ, ◌==◌, List, ◌∷◌, sym, subst, refl, ap, ◌∙◌}
 use Rattle.std.specs.List.{AllByRecursion}
 use Rattle.saml_outside.specs.Files.{File}
 use Rattle.conn_table.specs.Table.{Table}
 use Rattle.crash_disk.specs.Disk.{Image, DiskState, image_of}
-use Rattle.crash_disk.specs.Torn.{other_file}
 use Rattle.gate_journal.specs.Format.{Fault}
 use Rattle.node_serve.specs.declared.served.Served.{Served}
 use Rattle.node_serve.specs.declared.served.ServeFault.{ServeFault}
@@ -20,6 +19,7 @@ use Rattle.node_steps.specs.Lasting.{AreKeptSince}
 use Rattle.node_steps.specs.Points.{Point, point, point_in, points, points_asked}
 use Rattle.node_steps.specs.Starts.{IsServed}
 use Rattle.node_steps.specs.Step.{AnswersBy, Provider, StepLeaves}
+use Rattle.node_steps.proofs.Added.{migrated_records}
 use Rattle.node_steps.proofs.Histories.{DrawsAbove}
 use Rattle.node_steps.proofs.Lasting.{kept_since}
 use Rattle.node_runs.specs.Runs.{Outside, world_of}
@@ -29,13 +29,6 @@ use Rattle.node_runs.specs.Providers.{Begins, SetUpBy}
 
 -- what is opened holds records of a ledger
 module _ {R : Type 0} (rules : RecordRules R) (hold : ImagesHoldRecords rules) where
-  migrated_records : (held : Held R) (b : Bool)
-      → (if b
-      then record held { file = other_file held.file; version = 2; header = record (held.header) { generation = held.header.generation + 1 } }
-      else held).records ≡ held.records
-  migrated_records held true = refl
-  migrated_records held false = refl
-
   opened_records : (image : Image) (found : Result (Option (Held R)) Fault) (held : Held R) → ledger_in rules image ≡ found → taken found ≡ Ok held
       → AreRecords rules held.records
   opened_records image (Ok None) held is opens =

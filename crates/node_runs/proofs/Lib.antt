@@ -3,3 +3,4 @@ pub mod Ending
 pub mod Moments
 pub mod Serving
 pub mod Kept
+pub mod Joining

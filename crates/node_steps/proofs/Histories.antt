@@ -12,7 +12,7 @@ use Rattle.ledger_rules.specs.Numbers.{Drawn}
 use Rattle.node_serve.specs.Worlds.{World, OnlySends}
 use Rattle.node_serve.specs.Turns.{AreTold, Asked, Asks, Turn, Taken, Full, StarvedStart, Over, Unknown, Waiting, Answered, Refused, StarvedPiece, Does, Run, asked_by}
 use Rattle.record_ledger.specs.Rules.{RecordRules}
-use Rattle.record_ledger.specs.Ledger.{Held, LeftByOpening, held_with, ledger_in, migrated, next_number, taken}
+use Rattle.record_ledger.specs.Ledger.{Held, IsWithOrWithout, LeftByOpening, held_with, ledger_in, migrated, next_number, taken}
 use Rattle.record_ledger.specs.Compacting.{Compacts}
 use Rattle.record_ledger.specs.Laws.{ImagesHoldRecords}
 use Rattle.record_ledger.specs.Linking.{as_list}
@@ -22,8 +22,9 @@ use Rattle.record_ledger.proofs.Records.{record_there}
 use Rattle.node_steps.specs.declared.codes.TheConstants.{DISK_FAULT, FOREIGN, FULL, NO_MEMORY}
 use Rattle.node_serve.proofs.Telling.{goes_on_reading, goes_on_telling}
 use Rattle.node_steps.specs.Histories.{Another, AreAcknowledged, AreKept, CameFrom, ForCode, ForNone, ForRecord, HoldsWhatCame, IsAtStart, IsProviders, Nothing, Stands, StepOf, This}
+use Rattle.node_steps.specs.Calls.{MakesCompaction}
 use Rattle.node_steps.specs.Step as steps
-use Rattle.node_steps.specs.Step.{AnswersBy, Ledger, Owns, Provider, IsWhole, MakesRoom, OwnsDisk, Serves, ServingLeaves, StepLeaves, Steps}
+use Rattle.node_steps.specs.Step.{Adding, AnswersBy, Ledger, Owns, Provider, IsWhole, MakesRoom, OwnsDisk, Serves, ServingLeaves, StepLeaves, Steps}
 use Rattle.node_steps.proofs.Serving.{settled}
 
 -- ---- what came of a ledger
@@ -86,15 +87,32 @@ module _ {Setup R : Type 0} (rules : RecordRules R) (Answers : AnswersBy Setup R
   roomed records setup found held request now (inl same) came = subst (CameFrom rules start records) (sym same) came
   roomed records setup found held request now (inr room) came = compacted rules start records now found held room.made came
 
-  serving_left : (records : List R) (setup : Setup) (found : Held R) (request : Request) (now : ℕ) (image : Image) → CameFrom rules start records found
-      → ServingLeaves rules Answers setup found request now image → HoldsWhatCame rules start records image
-  serving_left records setup found request now image came (steps.Same is) = (found, is, came)
-  serving_left records setup found request now image came (steps.Compacted held room is) = (held, is, compacted rules start records now found held room.made came)
-  serving_left records setup found request now image came (steps.With held r answer which answers place is) = (
-    held_with r held,
-    is,
-    added_unknown rules start records held r (is_new held r image is) (numbers setup held request now answer r answers) (roomed records setup found held request now which came),
-  )
+  -- the ledger over which a record is added
+  over_what : (records : List R) (setup : Setup) (found : Held R) (request : Request) (now : ℕ) (told : Option DiskState) (one : Adding rules Answers setup found request now told)
+      → CameFrom rules start records found → CameFrom rules start records one.held
+  over_what records setup found request now told one came = of_case one.over
+    where
+      of_case : ((one.held ≡ found) × (one.disk ≡ told)) ⊎ (MakesRoom rules Answers setup found request now one.held × MakesCompaction rules now found told one.disk)
+          → CameFrom rules start records one.held
+      of_case (inl (same, disk)) = subst (CameFrom rules start records) (sym same) came
+      of_case (inr (room, calls)) = compacted rules start records now found one.held room.made came
+
+  serving_left : (records : List R) (setup : Setup) (found : Held R) (request : Request) (now : ℕ) (told : Option DiskState) (image : Image) → CameFrom rules start records found
+      → ServingLeaves rules Answers setup found request now told image → HoldsWhatCame rules start records image
+  serving_left records setup found request now told image came (steps.AtFirst is may) = (found, is, came)
+  serving_left records setup found request now told image came (steps.InCompaction (inl is) amid) = (found, is, came)
+  serving_left records setup found request now told image came (steps.InCompaction (inr (held, room, is)) amid) =
+      (held, is, compacted rules start records now found held room.made came)
+  serving_left records setup found request now told image came (steps.InCommit one left) = of_case left.stands
+    where
+      of_case : IsWithOrWithout rules one.r one.held image → HoldsWhatCame rules start records image
+      of_case (inl is) = (one.held, is, over_what records setup found request now told one came)
+      of_case (inr is) = (
+        held_with one.r one.held,
+        is,
+        added_unknown rules start records one.held one.r (is_new one.held one.r image is) (numbers setup one.held request now one.answer one.r one.adds)
+            (over_what records setup found request now told one came),
+      )
 
 module _ {Setup R : Type 0} (rules : RecordRules R) (Answers : AnswersBy Setup R) (law : ImagesHoldRecords rules) (numbers : DrawsAbove rules Answers) (start : Held R) where
   abbrev Known : World (Provider Setup R) → List R → Type 0
@@ -119,10 +137,10 @@ module _ {Setup R : Type 0} (rules : RecordRules R) (Answers : AnswersBy Setup R
   pub step_left : (records : List R) (w : World (Provider Setup R)) (request : Request) (now : ℕ) (image : Image) → IsSome w.disk → IfSome w.disk (λ d. MayLeave d (image_of d))
       → Known w records → StepLeaves rules Answers w.node w.disk request now image → HoldsWhatCame rules start records image
   step_left records w request now image tells reads holds (steps.InLedger whole left) =
-      serving_left rules Answers law numbers start records w.node.setup w.node.ledger.held request now image (found_whole records w.disk w.node.ledger tells reads whole holds.own holds.disk) left
-  step_left records w request now image tells reads holds (steps.InOpened found broken is left) =
-      serving_left rules Answers law numbers start records w.node.setup found request now image (found_told rules start records w.disk found tells reads holds.disk is) left
-  step_left records w request now image tells reads holds (steps.InOpening broken left) = opening_left rules start records w.disk image tells holds.disk left
+      serving_left rules Answers law numbers start records w.node.setup w.node.ledger.held request now w.disk image (found_whole records w.disk w.node.ledger tells reads whole holds.own holds.disk) left
+  step_left records w request now image tells reads holds (steps.InOpened found opened broken is made left) =
+      serving_left rules Answers law numbers start records w.node.setup found request now opened image (found_told rules start records w.disk found tells reads holds.disk is) left
+  step_left records w request now image tells reads holds (steps.InOpening broken left) = opening_left rules start records w.disk image tells holds.disk left.stands
 
   -- a provider that is whole behind a request, and one that is broken
   whole_behind : (records : List R) (w later : World (Provider Setup R)) (held : Held R) → CameFrom rules start records held → IsWhole w.node later.node held → OwnsDisk rules later.node later.disk
@@ -186,7 +204,7 @@ module _ {Setup R : Type 0} (rules : RecordRules R) (Answers : AnswersBy Setup R
       → Goes records one later
   asked_goes one w later records tells holds asks =
       stepped one w later records (subst IsSome asks.disk tells) asks.node asks.answers.reads holds asks.answers.owns asks.answers.left
-      (Rose w.disk_faults later.disk_faults) asks.answers.does
+      (Rose w.disk_faults later.disk_faults) asks.answers.does.step
 
   -- ---- the world from turn to turn
 

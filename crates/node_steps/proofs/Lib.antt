@@ -1,3 +1,4 @@
+pub mod Calling
 pub mod Serving
 pub mod Behind
 pub mod Reopening
@@ -5,6 +6,9 @@ pub mod Histories
 pub mod Points
 pub mod Runs
 pub mod Starts
+pub mod Added
+pub mod Starving
+pub mod Joining
 pub mod Lasting
 pub mod Replying
 pub mod Drafting

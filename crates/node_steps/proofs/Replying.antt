@@ -1,19 +1,20 @@
 -- What follows where a reply is wanted.
 use Rattle.std.specs.Prelude.{OnOk, Result, Ok, Err, is_some}
 use Rattle.std.proofs.Common.{◌≡◌, inl, inr, ℕ, true, false, Option, None, Some, sym, subst, refl, ap, ◌∙◌}
-use Rattle.crash_disk.specs.Disk.{Image}
+use Rattle.crash_disk.specs.Disk.{Image, DiskState}
 use Rattle.http_wire.specs.declared.answer.Answer.{Answer}
 use Rattle.http_wire.specs.declared.answer.Answer.TheVariants.{Fixed, Full}
 use Rattle.http_wire.specs.Requests.{Request}
 use Rattle.gate_journal.specs.declared.fault.OpenFault.{OpenFault}
 use Rattle.record_ledger.specs.Rules.{RecordRules, AreRecords}
-use Rattle.record_ledger.specs.Ledger.{Held, IsWithOrWithout}
+use Rattle.record_ledger.specs.Ledger.{Held}
 use Rattle.record_ledger.specs.Compacting.{Compacts}
 use Rattle.node_steps.specs.Replies.{AreReplies, HasNoPlace, IsAgain, IsPage, ReplyRules}
 use Rattle.node_steps.specs.Serving.{Adds}
-use Rattle.node_steps.specs.Step.{AnswersBy, HasPlace, IsWhole, Ledger, NoPlace, Serves, ServingLeaves, Starved, provider}
+use Rattle.node_steps.specs.Calls.{CommittingLeaves, MakesCompaction}
+use Rattle.node_steps.specs.Step.{AnswersBy, HasPlace, InCommit, IsWhole, Ledger, NoPlace, ServesOnDisk, ServingLeaves, Starved, provider}
 use Rattle.node_steps.specs.declared.codes.TheConstants.{FULL, NO_MEMORY}
-use Rattle.node_steps.proofs.Serving.{adding_leaves, served, served_later, whole_on}
+use Rattle.node_steps.proofs.Serving.{served, served_later, whole_on}
 
 -- what leaves the ledger alone
 pub same_ledger : {Setup R : Type 0} (setup : Setup) (old mid : Ledger R) → old.broken ≡ false → mid ≡ old → IsWhole (provider setup old) (provider setup mid) old.held
@@ -42,19 +43,21 @@ module _ {Setup R Reply : Type 0} (replies : ReplyRules Setup R Reply) (rules : 
 
   -- ---- at once
 
-  pub serves_reply : (old mid new : Ledger R) (request : Request) (Risen : Type 0) (answer : Answer) (reply : Reply) (r : R) → mid ≡ old → Stands old.held request reply r
-      → HasPlace rules old.held r → Adds (IsPage replies setup reply r now) r Risen answer (provider setup mid) (provider setup new)
-      → Serves rules Answers old.held request now Risen answer (provider setup old) (provider setup new)
-  serves_reply old mid new request Risen answer reply r same stands place adds =
-      served (provider setup old) (provider setup new) request now Risen answer r (IsPage replies setup reply r now)
+  pub serves_reply : (old mid new : Ledger R) (request : Request) (Risen : Type 0) (answer : Answer) (reply : Reply) (r : R) (told later : Option DiskState) → mid ≡ old
+      → Stands old.held request reply r → HasPlace rules old.held r
+      → Adds rules (IsPage replies setup reply r now) r Risen answer (provider setup mid) (provider setup new) told later
+      → ServesOnDisk rules Answers old.held request now Risen answer (provider setup old) (provider setup new) told later
+  serves_reply old mid new request Risen answer reply r told later same stands place adds =
+      served rules Answers (provider setup old) (provider setup new) request now Risen answer r (IsPage replies setup reply r now) told later
       (λ other page. page_answers old.held request reply r other stands page) place
-      (subst (λ (l : Ledger R). Adds (IsPage replies setup reply r now) r Risen answer (provider setup l) (provider setup new)) same adds)
+      (subst (λ (l : Ledger R). Adds rules (IsPage replies setup reply r now) r Risen answer (provider setup l) (provider setup new) told later) same adds)
 
-  pub reply_leaves : (old mid : Ledger R) (request : Request) (reply : Reply) (r : R) → mid ≡ old → Stands old.held request reply r → HasPlace rules old.held r
-      → (image : Image) → IsWithOrWithout rules r mid.held image → ServingLeaves rules Answers setup old.held request now image
-  reply_leaves old mid request reply r same stands place image left =
+  pub reply_leaves : (old mid : Ledger R) (request : Request) (reply : Reply) (r : R) (told : Option DiskState) → mid ≡ old → Stands old.held request reply r → HasPlace rules old.held r
+      → (image : Image) → CommittingLeaves rules r mid.held told image → ServingLeaves rules Answers setup old.held request now told image
+  reply_leaves old mid request reply r told same stands place image left =
       let other = answer_of old.held request reply r stands in
-      adding_leaves setup old.held old.held request now other.0 r (inl refl) other.1 place image (subst (λ (l : Ledger R). IsWithOrWithout rules r l.held image) same left)
+      InCommit (record { held = old.held; disk = told; over = inl (refl, refl); r = r; answer = other.0; adds = other.1; place = place })
+      (subst (λ (l : Ledger R). CommittingLeaves rules r l.held told image) same left)
 
   -- ---- after a compaction
 
@@ -76,34 +79,40 @@ module _ {Setup R Reply : Type 0} (replies : ReplyRules Setup R Reply) (rules : 
   again_where old anew request reply (Ok u) are wants full made key = again old anew request reply are wants full made key
   again_where old anew request reply (Err fault) are wants full made key = tt
 
-  pub serves_again : (old anew mid new : Ledger R) (request : Request) (Risen : Type 0) (answer : Answer) (reply : Reply) (r : R) → IsAgain replies rules Answers setup now old anew request reply → mid ≡ anew
+  pub serves_again : (old anew mid new : Ledger R) (request : Request) (Risen : Type 0) (answer : Answer) (reply : Reply) (r : R) (told between later : Option DiskState)
+      → IsAgain replies rules Answers setup now old anew request reply → MakesCompaction rules now old.held told between → mid ≡ anew
       → replies.record_for setup anew.held now reply ≡ Some r → HasPlace rules anew.held r
-      → Adds (IsPage replies setup reply r now) r Risen answer (provider setup mid) (provider setup new)
-      → Serves rules Answers old.held request now Risen answer (provider setup old) (provider setup new)
-  serves_again old anew mid new request Risen answer reply r re same is place adds =
-      served_later (provider setup old) (provider setup anew) (provider setup new) request now Risen answer r (IsPage replies setup reply r now) re.room re.whole
-      (λ other page. page_answers anew.held request reply r other (record { wants = re.wants; is = is }) page) place
-      (subst (λ (l : Ledger R). Adds (IsPage replies setup reply r now) r Risen answer (provider setup l) (provider setup new)) same adds)
+      → Adds rules (IsPage replies setup reply r now) r Risen answer (provider setup mid) (provider setup new) between later
+      → ServesOnDisk rules Answers old.held request now Risen answer (provider setup old) (provider setup new) told later
+  serves_again old anew mid new request Risen answer reply r told between later re made same is place adds =
+      served_later rules Answers (provider setup old) (provider setup anew) (provider setup new) request now Risen answer r (IsPage replies setup reply r now) told between later
+      re.room made re.whole (λ other page. page_answers anew.held request reply r other (record { wants = re.wants; is = is }) page) place
+      (subst (λ (l : Ledger R). Adds rules (IsPage replies setup reply r now) r Risen answer (provider setup l) (provider setup new) between later) same adds)
 
-  pub again_leaves : (old anew mid : Ledger R) (request : Request) (reply : Reply) (r : R) → IsAgain replies rules Answers setup now old anew request reply → mid ≡ anew
-      → replies.record_for setup anew.held now reply ≡ Some r → HasPlace rules anew.held r
-      → (image : Image) → IsWithOrWithout rules r mid.held image → ServingLeaves rules Answers setup old.held request now image
-  again_leaves old anew mid request reply r re same is place image left =
+  pub again_leaves : (old anew mid : Ledger R) (request : Request) (reply : Reply) (r : R) (told between : Option DiskState) → IsAgain replies rules Answers setup now old anew request reply
+      → MakesCompaction rules now old.held told between → mid ≡ anew → replies.record_for setup anew.held now reply ≡ Some r → HasPlace rules anew.held r
+      → (image : Image) → CommittingLeaves rules r mid.held between image → ServingLeaves rules Answers setup old.held request now told image
+  again_leaves old anew mid request reply r told between re made same is place image left =
       let other = answer_of anew.held request reply r (record { wants = re.wants; is = is }) in
-      adding_leaves setup old.held anew.held request now other.0 r (inr re.room) other.1 place image (subst (λ (l : Ledger R). IsWithOrWithout rules r l.held image) same left)
+      InCommit (record { held = anew.held; disk = between; over = inr (re.room, made); r = r; answer = other.0; adds = other.1; place = place })
+      (subst (λ (l : Ledger R). CommittingLeaves rules r l.held between image) same left)
 
   whole_again : (old anew mid : Ledger R) (request : Request) (reply : Reply) → IsAgain replies rules Answers setup now old anew request reply → mid ≡ anew → IsWhole (provider setup old) (provider setup mid) anew.held
   whole_again old anew mid request reply re same = whole_on (provider setup old) (provider setup anew) (provider setup mid) anew.held anew.held re.whole (same_ledger setup anew mid re.whole.unbroken same)
 
-  pub starved_again : (old anew mid : Ledger R) (request : Request) (Risen : Type 0) (reply : Reply) → IsAgain replies rules Answers setup now old anew request reply → mid ≡ anew
-      → Serves rules Answers old.held request now Risen (Fixed NO_MEMORY) (provider setup old) (provider setup mid)
-  starved_again old anew mid request Risen reply re same = Starved anew.held (inr re.room) refl (whole_again old anew mid request reply re same)
+  pub starved_again : (old anew mid : Ledger R) (request : Request) (Risen : Type 0) (reply : Reply) (told later : Option DiskState)
+      → IsAgain replies rules Answers setup now old anew request reply → MakesCompaction rules now old.held told later → mid ≡ anew
+      → ServesOnDisk rules Answers old.held request now Risen (Fixed NO_MEMORY) (provider setup old) (provider setup mid) told later
+  starved_again old anew mid request Risen reply told later re made same =
+      record { serves = Starved anew.held (inr re.room) refl (whole_again old anew mid request reply re same); calls = made }
 
-  pub full_again : (old anew mid : Ledger R) (request : Request) (Risen : Type 0) (reply : Reply) → IsAgain replies rules Answers setup now old anew request reply → mid ≡ anew
-      → HasNoPlace rules anew.held (replies.record_for setup anew.held now reply) → Serves rules Answers old.held request now Risen (Fixed FULL) (provider setup old) (provider setup mid)
-  full_again old anew mid request Risen reply re same full =
+  pub full_again : (old anew mid : Ledger R) (request : Request) (Risen : Type 0) (reply : Reply) (told later : Option DiskState)
+      → IsAgain replies rules Answers setup now old anew request reply → MakesCompaction rules now old.held told later → mid ≡ anew
+      → HasNoPlace rules anew.held (replies.record_for setup anew.held now reply)
+      → ServesOnDisk rules Answers old.held request now Risen (Fixed FULL) (provider setup old) (provider setup mid) told later
+  full_again old anew mid request Risen reply told later re made same full =
       let other = answer_of anew.held request reply full.r (record { wants = re.wants; is = full.is }) in
-      NoPlace anew.held full.r other.0 re.room other.1 full.none refl (whole_again old anew mid request reply re same)
+      record { serves = NoPlace anew.held full.r other.0 re.room other.1 full.none refl (whole_again old anew mid request reply re same); calls = made }
 
   -- there is something to record behind it as before
   pub not_nothing : (old anew : Ledger R) (request : Request) (reply : Reply) → IsAgain replies rules Answers setup now old anew request reply → replies.record_for setup anew.held now reply ≡ None → ⊥

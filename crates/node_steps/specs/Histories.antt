@@ -10,11 +10,12 @@ use Rattle.record_ledger.specs.Rules.{RecordRules, AreRecords}
 use Rattle.record_ledger.specs.Ledger.{Held, ledger_in}
 use Rattle.record_ledger.specs.Linking.{as_list}
 use Rattle.record_ledger.specs.Runs.{Event, Adds, Leads}
-use Rattle.node_steps.specs.Step.{AnswersBy, Provider, OwnsDisk, Steps, StepLeaves}
+use Rattle.node_steps.specs.Step.{AnswersBy, Provider, OwnsDisk, StepsOnDisk, StepLeaves}
 
--- what an answer of a provider does, and what a crash may leave
+-- what an answer of a provider does, with the calls on its disk, and what a crash may leave
 abbrev pub StepOf : {Setup R : Type 0} → RecordRules R → AnswersBy Setup R → NodeStep (Provider Setup R)
-StepOf rules Answers old disk request now before after answer new later = Steps rules Answers old disk request now (Rose before after) answer new
+StepOf rules Answers old disk request now before after answer new later =
+    StepsOnDisk rules Answers old disk request now (Rose before after) answer new later
 
 abbrev pub IsProviders : {Setup R : Type 0} → RecordRules R → AnswersBy Setup R → NodeStep (Provider Setup R)
 IsProviders rules Answers = IsAnswered (OwnsDisk rules) (StepOf rules Answers) (StepLeaves rules Answers)

@@ -1,3 +1,4 @@
+pub mod Calls
 pub mod Step
 pub mod Node
 pub mod Drafted
@@ -6,4 +7,7 @@ pub mod Serving
 pub mod Histories
 pub mod Points
 pub mod Starts
+pub mod Added
+pub mod Starving
+pub mod Joining
 pub mod Lasting

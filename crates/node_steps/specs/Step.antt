@@ -1,15 +1,18 @@
 -- What a provider that keeps a ledger does at one request. What it answers, and which record it adds with an answer, is a definition of
 -- its own, which stands in the place of `Answers`.
 use Rattle.std.specs.Prelude.{◌≡◌, ◌⊎◌, ℕ, Bool, true, false, List, Option, None, Some, IfSome, Ok, Err}
-use Rattle.crash_disk.specs.Disk.{Image, DiskState, image_of}
+use Rattle.std.proofs.Common.{inl, inr}
+use Rattle.crash_disk.specs.Disk.{Image, DiskState, MayLeave, image_of}
 use Rattle.gate_journal.specs.Format.{Fault}
 use Rattle.http_wire.specs.declared.answer.Answer.{Answer}
 use Rattle.http_wire.specs.declared.answer.Answer.TheVariants.{Fixed}
 use Rattle.http_wire.specs.Requests.{Request}
 use Rattle.record_ledger.specs.Rules.{RecordRules}
-use Rattle.record_ledger.specs.Ledger.{Held, Opened, IsFitting, IsOwn, LeftByOpening, ledger_in, taken, held_with}
+use Rattle.record_ledger.specs.Ledger.{Held, Opened, IsFitting, IsOwn, ledger_in, taken, held_with}
+use Rattle.record_ledger.specs.Calls.{opening, committing}
 use Rattle.record_ledger.specs.Drafts.{is_full}
 use Rattle.record_ledger.specs.Compacting.{Compacts}
+use Rattle.node_steps.specs.Calls.{BeginsCompaction, Begins, CommittingLeaves, IsAmidCompaction, Makes, MakesCompaction, OpeningLeaves}
 use Rattle.node_steps.specs.declared.codes.TheConstants.{DISK_FAULT, FOREIGN, FULL, NO_MEMORY}
 
 -- a ledger, as a step sees it: what it holds, the key of its IDs, and whether a call failed since it was opened
@@ -97,25 +100,80 @@ pub data Steps {Setup R : Type 0} (rules : RecordRules R) (Answers : AnswersBy S
       → IsBroken old new → Steps rules Answers old disk request now Risen answer new
   StarvedAtOpening : old.ledger.broken ≡ true → answer ≡ Fixed NO_MEMORY → IsBroken old new → Steps rules Answers old disk request now Risen answer new
 
--- What a crash while a request is served over a ledger may leave: this ledger, or it after the one compaction, and either with the record
--- that the request adds.
-pub data ServingLeaves {Setup R : Type 0} (rules : RecordRules R) (Answers : AnswersBy Setup R) (setup : Setup) (found : Held R) (request : Request) (now : ℕ)
-    (image : Image) : Type 0 where
-  Same : ledger_in rules image ≡ Ok (Some found) → ServingLeaves rules Answers setup found request now image
-  Compacted : (held : Held R) → MakesRoom rules Answers setup found request now held → ledger_in rules image ≡ Ok (Some held)
-      → ServingLeaves rules Answers setup found request now image
-  With : (held : Held R) (r : R) (answer : Answer) → (held ≡ found) ⊎ MakesRoom rules Answers setup found request now held → Answers setup held request now answer (Some r)
-      → HasPlace rules held r → ledger_in rules image ≡ Ok (Some (held_with r held)) → ServingLeaves rules Answers setup found request now image
+-- WHICH CALLS IT MAKES ON ITS DISK
 
--- What a crash at a moment of a request may leave: that, and while a broken ledger is opened again what the disk stood for, or what is
--- opened from it.
+-- A record that a request adds, from the moment on at which it is begun to be written: over the ledger that was found, with nothing
+-- written before, or over that which one compaction made, behind the calls of this.
+pub record Adding {Setup R : Type 0} (rules : RecordRules R) (Answers : AnswersBy Setup R) (setup : Setup) (found : Held R) (request : Request) (now : ℕ)
+    (told : Option DiskState) : Type 0 where
+  pub held : Held R
+  pub disk : Option DiskState
+  pub over : ((held ≡ found) × (disk ≡ told)) ⊎ (MakesRoom rules Answers setup found request now held × MakesCompaction rules now found told disk)
+  pub r : R
+  pub answer : Answer
+  pub adds : Answers setup held request now answer (Some r)
+  pub place : HasPlace rules held r
+
+-- What the disk tells before and after, in each case of what is done over a ledger.
+module _ {Setup R : Type 0} (rules : RecordRules R) (Answers : AnswersBy Setup R) (found : Held R) (request : Request) (now : ℕ) (Risen : Type 0)
+    (answer : Answer) (old new : Provider Setup R) (told later : Option DiskState) where
+  abbrev pub ServingCalls : Serves rules Answers found request now Risen answer old new → Type 0
+  -- no call; all those of a commit; of a compaction and then of a commit; of a compaction
+  ServingCalls (Plain answers whole) = later ≡ told
+  ServingCalls (Recorded r answers place whole) = Makes (committing rules found r) told later
+  ServingCalls (RecordedAfterCompaction held r room answers place whole) =
+      (between : Option DiskState) × MakesCompaction rules now found told between × Makes (committing rules held r) between later
+  ServingCalls (NoPlace held r another room answers still is whole) = MakesCompaction rules now found told later
+  -- a beginning of those of a compaction, or of a commit: over the ledger that was found, or behind all those of the one compaction
+  ServingCalls (Failed wanted other wants risen is broken) =
+      BeginsCompaction rules now found told later
+      ⊎ ((one : Adding rules Answers old.setup found request now told) × Begins (committing rules one.held one.r) one.disk later)
+  ServingCalls (Starved held (inl same) is whole) = later ≡ told
+  ServingCalls (Starved held (inr room) is whole) = MakesCompaction rules now found told later
+
+  -- What is done over a ledger, by its cases, and in the same case which calls are made.
+  pub record ServesOnDisk : Type 0 where
+    pub serves : Serves rules Answers found request now Risen answer old new
+    pub calls : ServingCalls serves
+
+-- And in each case of a step. Those of the opening of a broken ledger come first; where it is not opened, a beginning of them.
+module _ {Setup R : Type 0} (rules : RecordRules R) (Answers : AnswersBy Setup R) (old : Provider Setup R) (disk : Option DiskState) (request : Request)
+    (now : ℕ) (Risen : Type 0) (answer : Answer) (new : Provider Setup R) (later : Option DiskState) where
+  abbrev pub StepCalls : Steps rules Answers old disk request now Risen answer new → Type 0
+  StepCalls (WithLedger whole serves) = ServingCalls rules Answers old.ledger.held request now Risen answer old new disk later serves
+  StepCalls (WithOpened found broken is serves) =
+      (opened : Option DiskState) × Makes (opening rules) disk opened × ServingCalls rules Answers found request now Risen answer old new opened later serves
+  StepCalls (NotOpened was risen is broken) = Begins (opening rules) disk later
+  StepCalls (Strange was none is broken) = Begins (opening rules) disk later
+  StepCalls (StarvedAtOpening was is broken) = Begins (opening rules) disk later
+
+  -- What a step does, by its cases, and in the same case which calls are made.
+  pub record StepsOnDisk : Type 0 where
+    pub step : Steps rules Answers old disk request now Risen answer new
+    pub calls : StepCalls step
+
+-- WHAT A CRASH LEAVES
+
+-- What a crash while a request is served over a ledger may leave, with what the disk tells as that begins: this ledger, before a call; it, or
+-- it after the one compaction, amid the calls of this; either with the record that the request adds or without, amid those of its commit.
+pub data ServingLeaves {Setup R : Type 0} (rules : RecordRules R) (Answers : AnswersBy Setup R) (setup : Setup) (found : Held R) (request : Request) (now : ℕ)
+    (told : Option DiskState) (image : Image) : Type 0 where
+  AtFirst : ledger_in rules image ≡ Ok (Some found) → IfSome told (λ d. MayLeave d image) → ServingLeaves rules Answers setup found request now told image
+  InCompaction : (ledger_in rules image ≡ Ok (Some found))
+      ⊎ ((held : Held R) × MakesRoom rules Answers setup found request now held × (ledger_in rules image ≡ Ok (Some held)))
+      → IsAmidCompaction rules now found told image → ServingLeaves rules Answers setup found request now told image
+  InCommit : (one : Adding rules Answers setup found request now told) → CommittingLeaves rules one.r one.held one.disk image
+      → ServingLeaves rules Answers setup found request now told image
+
+-- What a crash at a moment of a request may leave: that, and while a broken ledger is opened again what one inside the opening may leave.
 pub data StepLeaves {Setup R : Type 0} (rules : RecordRules R) (Answers : AnswersBy Setup R) (old : Provider Setup R) (disk : Option DiskState) (request : Request)
     (now : ℕ) (image : Image) : Type 0 where
-  InLedger : old.ledger.broken ≡ false → ServingLeaves rules Answers old.setup old.ledger.held request now image
+  InLedger : old.ledger.broken ≡ false → ServingLeaves rules Answers old.setup old.ledger.held request now disk image
       → StepLeaves rules Answers old disk request now image
-  InOpened : (found : Held R) → old.ledger.broken ≡ true → IfSome disk (λ d. taken (ledger_in rules (image_of d)) ≡ Ok found)
-      → ServingLeaves rules Answers old.setup found request now image → StepLeaves rules Answers old disk request now image
-  InOpening : old.ledger.broken ≡ true → LeftByOpening rules disk image → StepLeaves rules Answers old disk request now image
+  InOpened : (found : Held R) (opened : Option DiskState) → old.ledger.broken ≡ true → IfSome disk (λ d. taken (ledger_in rules (image_of d)) ≡ Ok found)
+      → Makes (opening rules) disk opened → ServingLeaves rules Answers old.setup found request now opened image
+      → StepLeaves rules Answers old disk request now image
+  InOpening : old.ledger.broken ≡ true → OpeningLeaves rules disk image → StepLeaves rules Answers old disk request now image
 
 -- a ledger as one that is opened and has no memory ready
 abbrev pub opened_as : {R : Type 0} → Ledger R → Opened R (Unit {0})

@@ -12,24 +12,25 @@ use node_serve::Node;
 
 impl<R: Role> Node for ProviderNode<R> {
     ghost use Rattle.crash_disk.specs.Counts.{Rose};
-    ghost use Rattle.record_ledger.specs.Ledger.{LeftByOpening};
+    ghost use Rattle.node_steps.specs.Calls.{OpeningLeaves};
     ghost use Rattle.node_steps.specs.Node.{MayOpen, Restarts, CompactionOf, CompactionLeaves};
-    ghost use Rattle.node_steps.specs.Step.{OwnsDisk, Steps, StepLeaves};
+    ghost use Rattle.node_steps.specs.Step.{OwnsDisk, StepsOnDisk, StepLeaves};
 
     ghost own = { OwnsDisk R.rules };
 
-    ghost step = { λ old disk request now before after answer new _.
-        Steps R.rules R.answers old disk request now (Rose before after) answer new };
+    ghost step = { λ old disk request now before after answer new later.
+        StepsOnDisk R.rules R.answers old disk request now (Rose before after) answer new later };
 
     ghost leaves = { StepLeaves R.rules R.answers };
 
     ghost may_open = { MayOpen R.rules };
 
-    ghost reopens = { λ old disk _ _ result new _. Restarts R.rules old disk result new };
+    ghost reopens = { λ old disk _ _ result new later. Restarts R.rules old disk result new later };
 
-    ghost reopening_leaves = { λ _ disk. LeftByOpening R.rules disk };
+    ghost reopening_leaves = { λ _ disk. OpeningLeaves R.rules disk };
 
-    ghost compacts = { λ old disk now _ _ result new _. CompactionOf R.rules old disk now result new };
+    ghost compacts = { λ old disk now _ _ result new later.
+        CompactionOf R.rules old disk now result new later };
 
     ghost compaction_leaves = { CompactionLeaves R.rules };
 

@@ -4,8 +4,10 @@ ghost use Rattle.owned_values.specs.Gives.{Gives};
 ghost use Rattle.crash_disk.specs.Counts.{CountsFaults};
 ghost use Rattle.crash_disk.specs.Disk.{image_of};
 ghost use Rattle.crash_disk.specs.Moments.{LeavesOnly};
+ghost use Rattle.crash_disk.specs.Plans.{Follows};
 ghost use Rattle.gate_journal.specs.Opening.{open_fault_of, CausesFaults};
 ghost use Rattle.record_ledger.specs.Rules.{RecordRules, AreRecords};
+ghost use Rattle.record_ledger.specs.Calls.{FollowsCompaction, committing, opening};
 ghost use Rattle.record_ledger.specs.Ledger.{IsWithOrWithout, LeftByOpening, held_with, ledger_in, taken};
 ghost use Rattle.record_ledger.specs.Compacting.{Compacts, IsOldOrCompacted};
 ghost use Rattle.node_steps.specs.Step.{Ledger, Owns};
@@ -49,7 +51,8 @@ pub trait KeepsLedger: Drop {
         ensures own { IfOk result (λ l. Owns rules (D.told disk.new) (seen l)) }
         ensures moments { LeavesOnly D.moment D.left_since disk.old disk.new
             (LeftByOpening rules (D.told disk.old)) }
-        ensures faults { CausesFaults result (D.faults_of disk.old) (D.faults_of disk.new) };
+        ensures faults { CausesFaults result (D.faults_of disk.old) (D.faults_of disk.new) }
+        ensures calls { Follows D.told D.moment D.left_since (opening rules) disk.old disk.new result };
 
     /// Opens the ledger again, as `open` does. At an error it is broken, and else as it was.
     fn reopen<D: Disk>(ledger: &mut Self::Ledger, disk: &mut D) -> Result<(), OpenFault>
@@ -64,7 +67,8 @@ pub trait KeepsLedger: Drop {
         ensures key { (seen ledger.new).key ≡ (seen ledger.old).key }
         ensures moments { LeavesOnly D.moment D.left_since disk.old disk.new
             (LeftByOpening rules (D.told disk.old)) }
-        ensures faults { CausesFaults result (D.faults_of disk.old) (D.faults_of disk.new) };
+        ensures faults { CausesFaults result (D.faults_of disk.old) (D.faults_of disk.new) }
+        ensures calls { Follows D.told D.moment D.left_since (opening rules) disk.old disk.new result };
 
     /// Whether a call failed since the ledger was opened.
     fn is_broken(ledger: &Self::Ledger) -> bool
@@ -92,7 +96,9 @@ pub trait KeepsLedger: Drop {
         ensures own { Owns rules (D.told disk.new) (seen ledger.new) }
         ensures moments { LeavesOnly D.moment D.left_since disk.old disk.new
             (IsWithOrWithout rules (record_of draft) (seen ledger.old).held) }
-        ensures faults { CountsFaults result (D.faults_of disk.old) (D.faults_of disk.new) };
+        ensures faults { CountsFaults result (D.faults_of disk.old) (D.faults_of disk.new) }
+        ensures calls { Follows D.told D.moment D.left_since
+            (committing rules (seen ledger.old).held (record_of draft)) disk.old disk.new result };
 
     /// Leaves out each record that no one can ask for any more from the moment `now` on. It answers
     /// [`OpenFault::NoMemory`] before it changes anything, [`OpenFault::DiskFault`] only where the disk's count of
@@ -111,5 +117,7 @@ pub trait KeepsLedger: Drop {
         ensures own { Owns rules (D.told disk.new) (seen ledger.new) }
         ensures moments { LeavesOnly D.moment D.left_since disk.old disk.new
             (IsOldOrCompacted rules now (seen ledger.old).held) }
-        ensures faults { CausesFaults result (D.faults_of disk.old) (D.faults_of disk.new) };
+        ensures faults { CausesFaults result (D.faults_of disk.old) (D.faults_of disk.new) }
+        ensures calls { FollowsCompaction rules D.told D.moment D.left_since now (seen ledger.old).held
+            disk.old disk.new result };
 }

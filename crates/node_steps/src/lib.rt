@@ -26,6 +26,7 @@
 mod answering;
 mod codes;
 mod drafted;
+pub mod laws;
 mod ledger;
 mod provider;
 mod replied;

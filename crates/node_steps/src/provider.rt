@@ -3,7 +3,9 @@ ghost use Rattle.std.specs.Prelude.{◌≡◌, false, IfOk, IfSome};
 ghost use Rattle.owned_values.specs.Gives.{Gives};
 ghost use Rattle.crash_disk.specs.Disk.{image_of};
 ghost use Rattle.crash_disk.specs.Moments.{LeavesOnly};
+ghost use Rattle.crash_disk.specs.Plans.{Follows};
 ghost use Rattle.gate_journal.specs.Opening.{open_fault_of, CausesFaults};
+ghost use Rattle.record_ledger.specs.Calls.{opening};
 ghost use Rattle.record_ledger.specs.Ledger.{LeftByOpening, ledger_in, taken};
 ghost use Rattle.node_steps.specs.Step.{OwnsDisk};
 
@@ -47,6 +49,7 @@ impl<R: Role> ProviderNode<R> {
         ensures own { IfOk result (λ n. OwnsDisk R.rules n (D.told disk.new)) }
         ensures moments { LeavesOnly D.moment D.left_since disk.old disk.new (LeftByOpening R.rules (D.told disk.old)) }
         ensures faults { CausesFaults result (D.faults_of disk.old) (D.faults_of disk.new) }
+        ensures calls { Follows D.told D.moment D.left_since (opening R.rules) disk.old disk.new result }
     {
         let ledger = R::open(alloc, disk, role.id_key())?;
         Ok(ProviderNode { role, ledger })

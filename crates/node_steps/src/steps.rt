@@ -5,10 +5,10 @@ ghost use Rattle.crash_disk.specs.Moments.{LeavesOnly};
 ghost use Rattle.http_wire.specs.Views.{request_view};
 ghost use Rattle.http_wire.specs.declared.answer.Answer.TheVariants.{Fixed};
 ghost use Rattle.node_serve.specs.Worlds.{HasBytes};
-ghost use Rattle.record_ledger.specs.Ledger.{IsWithOrWithout};
+ghost use Rattle.node_steps.specs.Calls.{CommittingLeaves, MakesCompaction};
 ghost use Rattle.node_steps.specs.Replies.{HasNoPlace, IsAgain, IsPage, IsWanted};
 ghost use Rattle.node_steps.specs.Serving.{Adds, CanServe, code_of};
-ghost use Rattle.node_steps.specs.Step.{Owns, Serves, ServingLeaves, provider};
+ghost use Rattle.node_steps.specs.Step.{Owns, ServesOnDisk, ServingLeaves, provider};
 
 use crate::codes::{DISK_FAULT, FULL, NO_MEMORY, code_of};
 use crate::drafted::Drafted;
@@ -30,13 +30,14 @@ fn added<R: Role, D: Disk>(
     requires can { CanServe R.rules (R.key role.now) (R.seen ledger.old) (D.told disk.old) now }
     requires wanted { IsWanted R.replies role.now now reply.now (R.record_of draft) }
     requires fits { R.can_commit ledger.old draft }
-    ensures adds { Adds (IsPage R.replies role.now reply.now (R.record_of draft) now) (R.record_of draft)
+    ensures adds { Adds R.rules (IsPage R.replies role.now reply.now (R.record_of draft) now) (R.record_of draft)
         (Rose (D.faults_of disk.old) (D.faults_of disk.new)) result
-        (provider role.now (R.seen ledger.old)) (provider role.now (R.seen ledger.new)) }
+        (provider role.now (R.seen ledger.old)) (provider role.now (R.seen ledger.new))
+        (D.told disk.old) (D.told disk.new) }
     ensures has_bytes { HasBytes result }
     ensures own { Owns R.rules (D.told disk.new) (R.seen ledger.new) }
     ensures moments { LeavesOnly D.moment D.left_since disk.old disk.new
-        (IsWithOrWithout R.rules (R.record_of draft) (R.seen ledger.old).held) }
+        (CommittingLeaves R.rules (R.record_of draft) (R.seen ledger.old).held (D.told disk.old)) }
     ensures faults { D.faults_of disk.old ≤ D.faults_of disk.new }
 {
     let Ok(bytes) = role.page(reply, &draft, now) else {
@@ -63,13 +64,17 @@ fn make_room<R: Role, D: Disk>(
         (R.replies.record_for role.now (R.seen ledger.old).held now reply.now) }
     ensures again { OnOk result (IsAgain R.replies R.rules R.answers role.now now
         (R.seen ledger.old) (R.seen ledger.new) (request_view request.now) reply.now) }
+    ensures made { OnOk result
+        (MakesCompaction R.rules now (R.seen ledger.old).held (D.told disk.old) (D.told disk.new)) }
     ensures serves { IfErr result (λ fault.
-        Serves R.rules R.answers (R.seen ledger.old).held (request_view request.now) now
+        ServesOnDisk R.rules R.answers (R.seen ledger.old).held (request_view request.now) now
         (Rose (D.faults_of disk.old) (D.faults_of disk.new)) (Fixed (code_of fault))
-        (provider role.now (R.seen ledger.old)) (provider role.now (R.seen ledger.new))) }
+        (provider role.now (R.seen ledger.old)) (provider role.now (R.seen ledger.new))
+        (D.told disk.old) (D.told disk.new)) }
     ensures own { Owns R.rules (D.told disk.new) (R.seen ledger.new) }
     ensures moments { LeavesOnly D.moment D.left_since disk.old disk.new
-        (ServingLeaves R.rules R.answers role.now (R.seen ledger.old).held (request_view request.now) now) }
+        (ServingLeaves R.rules R.answers role.now (R.seen ledger.old).held (request_view request.now) now
+        (D.told disk.old)) }
     ensures faults { D.faults_of disk.old ≤ D.faults_of disk.new }
 {
     role.laws_hold(now);
@@ -90,13 +95,15 @@ fn serve_again<R: Role, D: Disk>(
     requires wants { R.replies.wants role.now (R.seen ledger.old).held (request_view request.now) now reply.now }
     requires full { HasNoPlace R.rules (R.seen ledger.old).held
         (R.replies.record_for role.now (R.seen ledger.old).held now reply.now) }
-    ensures serves { Serves R.rules R.answers (R.seen ledger.old).held (request_view request.now) now
+    ensures serves { ServesOnDisk R.rules R.answers (R.seen ledger.old).held (request_view request.now) now
         (Rose (D.faults_of disk.old) (D.faults_of disk.new)) result
-        (provider role.now (R.seen ledger.old)) (provider role.now (R.seen ledger.new)) }
+        (provider role.now (R.seen ledger.old)) (provider role.now (R.seen ledger.new))
+        (D.told disk.old) (D.told disk.new) }
     ensures has_bytes { HasBytes result }
     ensures own { Owns R.rules (D.told disk.new) (R.seen ledger.new) }
     ensures moments { LeavesOnly D.moment D.left_since disk.old disk.new
-        (ServingLeaves R.rules R.answers role.now (R.seen ledger.old).held (request_view request.now) now) }
+        (ServingLeaves R.rules R.answers role.now (R.seen ledger.old).held (request_view request.now) now
+        (D.told disk.old)) }
     ensures faults { D.faults_of disk.old ≤ D.faults_of disk.new }
 {
     role.laws_hold(now);
@@ -122,13 +129,15 @@ fn serve<R: Role, D: Disk>(
 ) -> Answer
     requires can { CanServe R.rules (R.key role.now) (R.seen ledger.old) (D.told disk.old) now }
     requires wants { R.replies.wants role.now (R.seen ledger.old).held (request_view request.now) now reply.now }
-    ensures serves { Serves R.rules R.answers (R.seen ledger.old).held (request_view request.now) now
+    ensures serves { ServesOnDisk R.rules R.answers (R.seen ledger.old).held (request_view request.now) now
         (Rose (D.faults_of disk.old) (D.faults_of disk.new)) result
-        (provider role.now (R.seen ledger.old)) (provider role.now (R.seen ledger.new)) }
+        (provider role.now (R.seen ledger.old)) (provider role.now (R.seen ledger.new))
+        (D.told disk.old) (D.told disk.new) }
     ensures has_bytes { HasBytes result }
     ensures own { Owns R.rules (D.told disk.new) (R.seen ledger.new) }
     ensures moments { LeavesOnly D.moment D.left_since disk.old disk.new
-        (ServingLeaves R.rules R.answers role.now (R.seen ledger.old).held (request_view request.now) now) }
+        (ServingLeaves R.rules R.answers role.now (R.seen ledger.old).held (request_view request.now) now
+        (D.told disk.old)) }
     ensures faults { D.faults_of disk.old ≤ D.faults_of disk.new }
 {
     role.laws_hold(now);
@@ -149,13 +158,15 @@ pub(crate) fn answer_whole<R: Role, D: Disk>(
     disk: &mut D,
 ) -> Answer
     requires can { CanServe R.rules (R.key role.now) (R.seen ledger.old) (D.told disk.old) now }
-    ensures serves { Serves R.rules R.answers (R.seen ledger.old).held (request_view request.now) now
+    ensures serves { ServesOnDisk R.rules R.answers (R.seen ledger.old).held (request_view request.now) now
         (Rose (D.faults_of disk.old) (D.faults_of disk.new)) result
-        (provider role.now (R.seen ledger.old)) (provider role.now (R.seen ledger.new)) }
+        (provider role.now (R.seen ledger.old)) (provider role.now (R.seen ledger.new))
+        (D.told disk.old) (D.told disk.new) }
     ensures has_bytes { HasBytes result }
     ensures own { Owns R.rules (D.told disk.new) (R.seen ledger.new) }
     ensures moments { LeavesOnly D.moment D.left_since disk.old disk.new
-        (ServingLeaves R.rules R.answers role.now (R.seen ledger.old).held (request_view request.now) now) }
+        (ServingLeaves R.rules R.answers role.now (R.seen ledger.old).held (request_view request.now) now
+        (D.told disk.old)) }
     ensures faults { D.faults_of disk.old ≤ D.faults_of disk.new }
 {
     match role.reply(ledger, request, now) {

@@ -1,25 +1,31 @@
 -- The headline follows from how a run goes.
-use Rattle.std.specs.Prelude.{List, [], ◌∷◌, Option}
+use Rattle.std.specs.Prelude.{List, [], ◌∷◌, IfSome, Option}
+use Rattle.saml_outside.specs.Files.{File}
+use Rattle.conn_table.specs.Table.{Table}
+use Rattle.std.specs.List.{AllByRecursion}
 use Rattle.std.proofs.Common.{◌≡◌, ℕ, subst, sym}
 use Rattle.crash_disk.specs.Counts.{Rose}
-use Rattle.crash_disk.specs.Disk.{Image, DiskState}
+use Rattle.crash_disk.specs.Disk.{Image, DiskState, MayLeave, image_of}
 use Rattle.http_wire.specs.declared.answer.Answer.{Answer}
 use Rattle.http_wire.specs.declared.answer.Answer.TheVariants as answers
 use Rattle.http_wire.specs.Requests.{Request}
-use Rattle.node_serve.specs.Turns.{Asked, Asks, Turn}
+use Rattle.node_serve.specs.Turns.{Asked, Asks, Run, Turn, asked_by}
 use Rattle.node_serve.specs.Worlds.{World}
 use Rattle.node_runs.proofs.Kept.{of_turn}
-use Rattle.node_runs.specs.Runs.{BadSetUp, NotSetUp, NotOpened, Deaf, Serving}
+use Rattle.node_runs.specs.Runs.{Outside, BadSetUp, NotSetUp, NotOpened, Deaf, Serving, world_of}
+use Rattle.node_steps.proofs.Added.{new_is_of_the_request}
 use Rattle.sp_server.specs.Guarding.{AGuardTellsExactly, OnlyASessionIsVouchedFor}
 use Rattle.sp_server.specs.Histories.{IsProviders}
 use Rattle.sp_server.specs.Logouts.{NothingElseCloses, OnlyWhereAUserLeaves, OnlyWhereSessionsEnd, WhereverAUserLeaves, WhereverSessionsEnd}
 use Rattle.sp_server.specs.Recorded.{WhatIsAnsweredIsRecorded, WhatIsAskedIsRecorded}
 use Rattle.sp_server.specs.Sessions.{OnlyWhereAFormOpens, WhereverAFormOpens}
-use Rattle.sp_server.specs.Step.{Provider, Serves, Steps}
+use Rattle.sp_server.specs.Step.{Provider, Answers, Serves, Steps, StepsOnDisk}
 use Rattle.request_ledger.specs.Laws.{ImagesHoldRecords}
 use Rattle.request_ledger.specs.Ledger.{Held}
-use Rattle.sp_runs.specs.Headline.{ARunCarriesTheHeadline, ClosesExactly, EachGoesExactly, GoesExactly, GuardsExactly, IsRecordedFirst, OpensExactly, ServedNothing, ServedSo}
-use Rattle.sp_runs.specs.Laws.{EachSessionWasSigned, SessionsStayClosedInARun, WhatARunAcknowledgedIsKeptOnce}
+use Rattle.request_ledger.specs.Record.{request_rules}
+use Rattle.sp_runs.specs.Headline.{ARunCarriesTheHeadline, ClosesExactly, EachGoesExactly, GoesExactly, IsRecordedFirst, KeepsToItsConfig, OpensExactly, ServedNothing, ServedSo, GuardsExactly}
+use Rattle.sp_runs.specs.Laws.{AnEndedRegistryAsksNothing, AnEndedRegistryRecordsNothing, ARunUsesWhatItsRegistryLists, ASessionIsShownByItsRow, EachRequestIsServedByTheSameSetup, EachSessionWasSigned, SessionsStayClosedInARun, WhatARunAcknowledgedIsKeptOnce, WithoutARegistryNothingIsExpired}
+use Rattle.sp_runs.specs.Runs.{Begins}
 use Rattle.sp_runs.proofs.Kept.{kept_ever_since}
 
 -- the laws on which it stands
@@ -39,13 +45,20 @@ pub record Laws : Type 0 where
   pub hold : ImagesHoldRecords
   pub kept : WhatARunAcknowledgedIsKeptOnce
   pub closed : SessionsStayClosedInARun
+  pub tells : ARunUsesWhatItsRegistryLists
+  pub same : EachRequestIsServedByTheSameSetup
+  pub ends : AnEndedRegistryRecordsNothing
+  pub asks : AnEndedRegistryAsksNothing
+  pub without : WithoutARegistryNothingIsExpired
+  pub shown : ASessionIsShownByItsRow
 
 -- what a request does, by the provider and the disk that it came to
 stepped : (asked : Asked Provider) (before told : World Provider) → Asks IsProviders asked before told
-    → Steps asked.node asked.disk asked.request asked.now (Rose before.disk_faults told.disk_faults) asked.answer told.node
+    → StepsOnDisk asked.node asked.disk asked.request asked.now (Rose before.disk_faults told.disk_faults) asked.answer told.node told.disk
 stepped asked before told asks =
-    subst (λ (n : Provider). Steps n asked.disk asked.request asked.now (Rose before.disk_faults told.disk_faults) asked.answer told.node) (sym asks.node)
-    (subst (λ (d : Option DiskState). Steps before.node d asked.request asked.now (Rose before.disk_faults told.disk_faults) asked.answer told.node) (sym asks.disk) asks.answers.does)
+    subst (λ (n : Provider). StepsOnDisk n asked.disk asked.request asked.now (Rose before.disk_faults told.disk_faults) asked.answer told.node told.disk) (sym asks.node)
+    (subst (λ (d : Option DiskState). StepsOnDisk before.node d asked.request asked.now (Rose before.disk_faults told.disk_faults) asked.answer told.node told.disk)
+    (sym asks.disk) asks.answers.does)
 
 step_of : (old : Provider) (disk : Option DiskState) (request : Request) (now : ℕ) (Risen : Type 0) (one other : Answer) (new : Provider) → one ≡ other
     → Steps old disk request now Risen one new → Steps old disk request now Risen other new
@@ -58,15 +71,15 @@ serves_of found request now Risen one other old new same serves = subst (λ (a :
 module _ (laws : Laws) (asked : Asked Provider) where
   opens_exactly : (before after : World Provider) → OpensExactly asked before after
   opens_exactly before after = record {
-    only = λ held r answers. laws.opens_only asked.node.setup held asked.request asked.now asked.answer r answers;
+    only = λ held answer r answers. laws.opens_only asked.node.setup held asked.request asked.now answer r answers;
     wherever = λ found b row serves opens place calm.
         laws.opens_wherever found asked.request asked.now before.disk_faults after.disk_faults asked.answer asked.node after.node b row opens place calm serves;
   }
 
   closes_exactly : (before after : World Provider) → ClosesExactly asked before after
   closes_exactly before after = record {
-    only_left = λ held r answers. laws.only_left asked.node.setup held asked.request asked.now asked.answer r answers;
-    only_ended = λ held r answers. laws.only_ended asked.node.setup held asked.request asked.now asked.answer r answers;
+    only_left = λ held answer r answers. laws.only_left asked.node.setup held asked.request asked.now answer r answers;
+    only_ended = λ held answer r answers. laws.only_ended asked.node.setup held asked.request asked.now answer r answers;
     nothing_else = λ found token row are serves whole live none.
         laws.nothing_else found asked.request asked.now before.disk_faults after.disk_faults asked.answer asked.node after.node token row are serves whole live none;
     wherever_left = λ found row serves leaves place calm.
@@ -79,7 +92,7 @@ module _ (laws : Laws) (asked : Asked Provider) where
   recorded_first before after asks = record {
     posted = λ bytes is posts.
         laws.posted asked.node after.node asked.disk after.disk asked.request asked.now before.disk_faults after.disk_faults bytes
-        (step_of asked.node asked.disk asked.request asked.now (Rose before.disk_faults after.disk_faults) asked.answer (answers.Full bytes) after.node is (stepped asked before after asks))
+        (step_of asked.node asked.disk asked.request asked.now (Rose before.disk_faults after.disk_faults) asked.answer (answers.Full bytes) after.node is (stepped asked before after asks).step)
         asks.answers.owns posts;
     requested = λ found bytes is serves app none.
         laws.requested found asked.request asked.now before.disk_faults after.disk_faults bytes asked.node after.node after.disk
@@ -91,7 +104,7 @@ module _ (laws : Laws) (asked : Asked Provider) where
     tells = λ found asking serves.
         laws.guard_tells found asked.request asked.now before.disk_faults after.disk_faults asked.answer asked.node after.node asking serves;
     only = λ at ok.
-        laws.guard_only asked.node after.node asked.disk asked.request asked.now before.disk_faults after.disk_faults asked.answer at (stepped asked before after asks) ok;
+        laws.guard_only asked.node after.node asked.disk asked.request asked.now before.disk_faults after.disk_faults asked.answer at (stepped asked before after asks).step ok;
   }
 
   goes_exactly : GoesExactly asked
@@ -101,10 +114,27 @@ module _ (laws : Laws) (asked : Asked Provider) where
     closes = λ before after asks. closes_exactly before after;
     recorded = recorded_first;
     guards = guards_exactly;
-    signed = λ issued held r all unforged none gives. laws.signed issued asked.node.setup held asked.request asked.now r asked.answer all unforged none gives;
+    signed = λ issued held answer r all unforged none gives. laws.signed issued asked.node.setup held asked.request asked.now r answer all unforged none gives;
+    added = λ before after asks image held r tells left is there new.
+        new_is_of_the_request request_rules Answers asked.node asked.disk asked.request asked.now image held r tells
+        (subst (λ (d : Option DiskState). IfSome d (λ x. MayLeave x (image_of x))) (sym asks.disk) asks.answers.reads) left is there new;
+    shown = λ before after asks row whole app live.
+        laws.shown asked.node after.node asked.disk asked.request asked.now before.disk_faults after.disk_faults asked.answer row whole app live
+        (stepped asked before after asks).step;
   }
 
 module _ (laws : Laws) where
+  to_its_config : (told : Option (List File)) (file : List ℕ) (before opened : Outside) (provider : Provider) (turns : List (Turn Provider)) (kept : Table) (behind : World Provider)
+      → (begins : Begins told file before provider opened) → Run IsProviders (world_of provider opened) turns kept behind
+      → KeepsToItsConfig told file before provider opened begins turns
+  to_its_config told file before opened provider turns kept behind begins run = record {
+    tells = λ line lists. laws.tells told file before opened provider line begins lists;
+    same = λ asked there. laws.same told file before opened provider turns kept behind asked begins run there;
+    ends = λ asked until r expires there late. laws.ends told file before opened provider turns kept behind asked until r begins run expires there late;
+    asks = λ asked until expires there late. laws.asks told file before opened provider turns kept behind asked until begins run expires there late;
+    without = λ asked none there. laws.without told file before opened provider turns kept behind asked begins run none there;
+  }
+
   each_goes : (turns : List (Turn Provider)) → EachGoesExactly turns
   each_goes [] = tt
   each_goes (turn ∷ past) = (of_turn GoesExactly (goes_exactly laws) turn, each_goes past)
@@ -115,7 +145,8 @@ module _ (laws : Laws) where
   headline left told file budget before turns result after (NotOpened why bare same) = ServedNothing bare
   headline left told file budget before turns result after (Deaf node opened begins e rose bare same) = ServedNothing bare
   headline left told file budget before turns result after (Serving node last opened served begins serves e) =
-      ServedSo node last opened budget served begins serves (each_goes turns)
+      ServedSo node last opened budget served begins serves
+      (to_its_config told file before opened node turns serves.kept serves.last begins serves.run) (each_goes turns)
       (λ tells. laws.kept told file budget before opened after node last turns serves.kept serves.last served tells begins serves.run serves.ends)
       (λ tells. kept_ever_since laws.hold left told file budget before opened after node last turns served tells begins serves)
       (λ tells. laws.closed told file budget before opened after node last turns serves.kept serves.last served tells begins serves.run serves.ends)

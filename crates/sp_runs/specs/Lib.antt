@@ -1,3 +1,4 @@
 pub mod Headline
 pub mod Laws
 pub mod Runs
+pub mod Joining

@@ -18,3 +18,4 @@ mod StayingClosed
 mod Unclosed
 mod Verdicts
 mod Starts
+mod Starving

@@ -13,3 +13,4 @@ pub mod Verdicts
 pub mod Logouts
 pub mod Recorded
 pub mod Starts
+pub mod Starving

@@ -9,7 +9,9 @@ use Rattle.ledger_records.specs.declared.sp_record.SpRecord.{SpRecord}
 use Rattle.ledger_records.specs.declared.sp_record.SpRecord.TheVariants as kinds
 use Rattle.request_rows.specs.declared.row.AskedRow.{AskedRow}
 use Rattle.request_ledger.specs.RowsOf.{rows_of}
+use Rattle.request_ledger.specs.Compacting.{Compacts}
 use Rattle.request_ledger.specs.Ledger.{Held, next_number, held_with}
+use Rattle.request_ledger.specs.Record.{AreRecords}
 use Rattle.request_ledger.specs.Drafts.{opened}
 use Rattle.sp_rules.specs.Opening.{Brought, Opens}
 use Rattle.sp_rules.specs.Shown.{session_of}
@@ -45,11 +47,25 @@ OnlyWhereAFormOpens =
     (setup : Setup) (held : Held) (request : Request) (now : ℕ) (answer : Answer) (r : OpenedRecord)
     → Answers setup held request now answer (Some (kinds.Opened r)) → GivesSession setup held request now (kinds.Opened r) answer
 
+-- There is room for the session of a login: there is a place for its record at once, or in a ledger of records behind one compaction at
+-- the moment.
+abbrev pub HasRoom : Setup → (found : Held) → (now : ℕ) → Brought → Type 0
+HasRoom setup found now b =
+    HasPlace found (record_of setup found now b)
+    ⊎ (AreRecords found.records × ((held : Held) → Compacts now found held → HasPlace held (record_of setup held now b)))
+
+-- The session of a login is recorded behind the records of the ledger that was found, or, where there was no place behind these, of what
+-- one compaction made of it; and it is given.
+pub record IsOpened (setup : Setup) (found : Held) (request : Request) (now : ℕ) (b : Brought) (answer : Answer) (new : Held) : Type 0 where
+  pub held : Held
+  pub over : (held ≡ found) ⊎ (¬ (HasPlace found (record_of setup found now b)) × Compacts now found held)
+  pub gives : GivesSession setup held request now (record_of setup held now b) answer
+  pub added : new ≡ held_with (record_of setup held now b) held
+
 -- And wherever one does, there is room for it and the disk does not fail, the session is recorded and given; or there was no memory.
 abbrev pub WhereverAFormOpens : Type 0
 WhereverAFormOpens =
     (found : Held) (request : Request) (now faults later : ℕ) (answer : Answer) (old new : Provider) (b : Brought) (row : AskedRow)
-    → OpensOver old.setup found request now b row → HasPlace found (record_of old.setup found now b)
+    → OpensOver old.setup found request now b row → HasRoom old.setup found now b
     → ¬ (Rose faults later) → Serves found request now (Rose faults later) answer old new
-    → (answer ≡ Fixed NO_MEMORY)
-    ⊎ (GivesSession old.setup found request now (record_of old.setup found now b) answer × (new.ledger.held ≡ held_with (record_of old.setup found now b) found))
+    → (answer ≡ Fixed NO_MEMORY) ⊎ IsOpened old.setup found request now b answer new.ledger.held

@@ -185,8 +185,13 @@ Serves = any.Serves request_rules Answers
 abbrev pub Steps : (old : Provider) → Option DiskState → Request → (now : ℕ) → (Risen : Type 0) → Answer → (new : Provider) → Type 0
 Steps = any.Steps request_rules Answers
 
+-- And in the same case which changing calls it makes on its disk, with what this tells behind it.
+abbrev pub StepsOnDisk : (old : Provider) → Option DiskState → Request → (now : ℕ) → (Risen : Type 0) → Answer → (new : Provider)
+    → (later : Option DiskState) → Type 0
+StepsOnDisk = any.StepsOnDisk request_rules Answers
+
 -- What a crash while a request is served over a ledger may leave.
-abbrev pub ServingLeaves : Setup → (found : Held) → Request → (now : ℕ) → Image → Type 0
+abbrev pub ServingLeaves : Setup → (found : Held) → Request → (now : ℕ) → Option DiskState → Image → Type 0
 ServingLeaves = any.ServingLeaves request_rules Answers
 
 -- What a crash at a moment of a request may leave.

@@ -4,6 +4,7 @@ ghost use Rattle.sp_server.specs.Histories.{WhatIsAcknowledgedIsKeptOnce};
 ghost use Rattle.sp_server.specs.Logouts.{OnlyWhereAUserLeaves, OnlyWhereSessionsEnd, NothingElseCloses, WhereverAUserLeaves, WhereverSessionsEnd, AClosedSessionStaysClosed, SessionsStayClosedInAService};
 ghost use Rattle.sp_server.specs.Recorded.{WhatIsAnsweredIsRecorded, WhatIsAskedIsRecorded};
 ghost use Rattle.sp_server.specs.Sessions.{OnlyWhereAFormOpens, WhereverAFormOpens};
+ghost use Rattle.sp_server.specs.Starving.{WhatIsVisibleStays};
 ghost use Rattle.sp_server.specs.Starts.{SessionsStayClosedOverStarts, WhatIsAcknowledgedIsKeptOnceOverStarts};
 ghost use Rattle.sp_server.specs.Verdicts.{CompactionsChangeNoVerdict};
 
@@ -33,13 +34,14 @@ pub fn sessions_stay_closed_over_starts()
     a_closed_session_stays_closed();
 }
 
-/// A session is recorded only where a posted form opens it, and wherever one does, where there is room, the disk does not
-/// fail and memory is found.
+/// A session is recorded only where a posted form opens it, and wherever one does, where there is room, at once or behind one
+/// compaction, the disk does not fail and memory is found.
 pub fn a_session_opens_exactly()
     ensures only { OnlyWhereAFormOpens }
     ensures wherever { WhereverAFormOpens }
 {
     sp_rules::laws::a_form_has_one_verdict();
+    request_ledger::laws::compactions_change_no_answer();
 }
 
 /// A session is closed only where its user leaves it or the identity provider ends it, by nothing else, and wherever either does,
@@ -95,4 +97,12 @@ pub fn a_guard_tells_exactly()
 {
     http_wire::laws::an_answer_has_one_status();
     http_wire::laws::a_vouched_answer_is_read_again();
+}
+
+/// Where there was no memory for an answer and the ledger was not broken, all that may be asked of its rows at that moment is
+/// answered behind the request as before.
+pub fn what_is_visible_stays()
+    ensures { WhatIsVisibleStays }
+{
+    request_ledger::laws::compactions_change_no_answer();
 }

@@ -19,4 +19,10 @@ returns g c = λ disk.
       hold = c.images_hold_records.ensures;
       kept = c.what_a_run_acknowledged_is_kept_once.ensures;
       closed = c.sessions_stay_closed_in_a_run.ensures;
+      tells = c.a_registry_tells_and_ends.ensures.tells;
+      same = c.a_registry_tells_and_ends.ensures.same;
+      ends = c.a_registry_tells_and_ends.ensures.ends;
+      asks = c.a_registry_tells_and_ends.ensures.asks;
+      without = c.a_registry_tells_and_ends.ensures.without;
+      shown = c.a_session_is_shown_by_its_row.ensures.shown;
     }) (g.D.Disk.left_since disk)

@@ -1,0 +1,9 @@
+use Rattle.node_runs.proofs.Joining.{each_image_of_a_run_goes_on}
+use Rattle.idp_ledger.specs.Record.{idp_rules}
+use Rattle.idp_server.specs.Step.{Answers}
+use Rattle.idp_setup.specs.Setup.{IsSetUp, IsBadSetUp}
+use Rattle.idp_runs.specs.Runs.{key}
+use Rattle.idp_runs.proofs.laws.each_image_of_a_run_goes_on.Goals as goal
+
+pub returns : goal.returns
+returns g c = λ disk. each_image_of_a_run_goes_on IsSetUp IsBadSetUp key idp_rules Answers c.images_hold_records.ensures (g.D.Disk.left_since disk)
