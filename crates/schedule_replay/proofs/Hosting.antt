@@ -1,0 +1,35 @@
+-- What becomes of a node at a piece.
+use Rattle.std.specs.Prelude.{◌≡◌, ℕ, false, List, length, Option, None, Some}
+use Rattle.std.proofs.Common.{refl, ap, ◌∙◌, arith}
+use Rattle.crash_disk.specs.Memory.{DiskInMemory, LeftSince, state_of}
+use Rattle.crash_disk.specs.Soundness.{left_now}
+use Rattle.http_wire.specs.Answers.{fixed}
+use Rattle.node_serve.specs.Serving.{MightLeave}
+use Rattle.node_serve.specs.Turns.{Turn}
+use Rattle.node_serve.specs.Worlds.{NodeLeaves, OnlySends, Whole}
+use Rattle.node_serve.proofs.Leaving.{untouched}
+use Rattle.schedule_replay.specs.declared.host.Reply.{Reply}
+use Rattle.schedule_replay.specs.Hosts.{Host, Rules, Comes, Leaving, outcome_of, told, world_of}
+use Rattle.schedule_replay.specs.Views.{outcome_view}
+
+-- a disk that did not stop lets an answer out
+pub comes_still : {N : Type 0} (rules : Rules N) (turn : Turn N) (behind : Host N) (reply : Option Reply) →
+    behind.disk.stopped ≡ false → outcome_view reply ≡ outcome_of turn → Comes rules turn behind (outcome_view reply) behind
+comes_still rules turn behind None still is = (still, is, refl)
+comes_still rules turn behind (Some reply) still is = (still, is, refl)
+
+-- a node and a disk that are as they were are in the world that was
+pub same_world : {N : Type 0} (now : ℕ) (old new : Host N) → new.node ≡ old.node → new.disk ≡ old.disk → world_of now new ≡ world_of now old
+same_world now old new node disk =
+    ap (λ n. world_of now (record new { node = n })) node ∙ ap (λ (d : DiskInMemory). world_of now (record new { node = old.node; disk = d })) disk
+
+-- where no link is, a page goes out and all else is as it was
+pub sends_page : {N : Type 0} (conn code now : ℕ) (old new : Host N) → new.node ≡ old.node → new.disk ≡ old.disk →
+    OnlySends conn (fixed code) (world_of now old) (world_of now new)
+sends_page conn code now old new node disk = record { out = Whole refl (omega arith); same = same_world now old new node disk }
+
+-- a disk that is as it was leaves what it may leave
+pub leaves_same : {N : Type 0} (leaves : NodeLeaves N) (old new : Host N) (turns : List (Turn N)) → new.disk ≡ old.disk →
+    Leaving old new (MightLeave leaves (told old) turns)
+leaves_same leaves old new turns same =
+    untouched leaves (λ (disk : DiskInMemory). length disk.log) LeftSince (λ disk. Some (state_of disk)) left_now old.disk new.disk turns same

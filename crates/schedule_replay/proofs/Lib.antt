@@ -1,0 +1,4 @@
+mod Arriving
+mod Hosting
+mod Replaying
+mod Rounding

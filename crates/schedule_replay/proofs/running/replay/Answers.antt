@@ -1,0 +1,42 @@
+use Rattle.std.proofs.Common.{◌≡◌, [], ap, refl, sym, subst, rules, Err, List, Result}
+use Rattle.conn_table.specs.Table.{Table}
+use Rattle.schedules.specs.declared.step.Step.{Step}
+use Rattle.schedule_replay.specs.declared.fault.ReplayFault.{ReplayFault}
+use Rattle.schedule_replay.specs.declared.fault.ReplayFault.TheVariants.{NoMemory}
+use Rattle.schedule_replay.specs.declared.tally.Tally.{Tally}
+use Rattle.schedule_replay.specs.Deployments.{Deployment}
+use Rattle.schedule_replay.specs.Hosts.{rules as node_rules}
+use Rattle.schedule_replay.specs.Runs.{Ends, alone, beginning}
+use Rattle.schedule_replay.specs.Views.{HasNodes, stage_in}
+use Rattle.schedule_replay.proofs.Replaying.{ends_so, is_beginning, printed_none}
+use Rattle.schedule_replay.proofs.running.replay.Goals as goal
+
+pub returns-in_err-sp_conns-clause-ends : goal.returns-in_err-sp_conns-clause-ends
+returns-in_err-sp_conns-clause-ends g c =
+    let sp = node_rules g.S.Node.own g.S.Node.step g.S.Node.leaves g.S.Node.reopens g.S.Node.reopening_leaves g.S.Node.compacts g.S.Node.compaction_leaves in
+    let idp = node_rules g.P.Node.own g.P.Node.step g.P.Node.leaves g.P.Node.reopens g.P.Node.reopening_leaves g.P.Node.compacts g.P.Node.compaction_leaves in
+    let same : c.from_residual.result ≡ Err NoMemory = search rules in
+    let first = beginning (alone c.args.sp.now c.args.sp_disk.now) (alone c.args.idp.now c.args.idp_disk.now) in
+    let taken = g.K.Sink.taken c.args.out.now in
+    subst
+    (λ (r : Result Tally ReplayFault). Ends sp idp c.args.schedule.now c.args.quiet first r
+    (λ last. Unit {0}) taken taken)
+    (sym same) (0, [], first, (refl, refl), printed_none c.args.quiet taken)
+
+pub returns-clause-ends : goal.returns-clause-ends
+returns-clause-ends g c =
+    let sp = node_rules g.S.Node.own g.S.Node.step g.S.Node.leaves g.S.Node.reopens g.S.Node.reopening_leaves g.S.Node.compacts g.S.Node.compaction_leaves in
+    let idp = node_rules g.P.Node.own g.P.Node.step g.P.Node.leaves g.P.Node.reopens g.P.Node.reopening_leaves g.P.Node.compacts g.P.Node.compaction_leaves in
+    let first = beginning (alone c.args.sp.now c.args.sp_disk.now) (alone c.args.idp.now c.args.idp_disk.now) in
+    let now = stage_in c.perform.new.self in
+    let before = g.K.Sink.taken c.args.out.now in
+    let after = g.K.Sink.taken c.perform.new.out in
+    let result = c.perform.result in
+    let begins = is_beginning _ c.args.sp.now c.args.sp_disk.now c.args.idp.now c.args.idp_disk.now refl
+    (ap (λ (t : Table). record (alone c.args.sp.now c.args.sp_disk.now) { kept = t }) c.in_ok-sp_conns.ensures.0)
+    (ap (λ (t : Table). record (alone c.args.idp.now c.args.idp_disk.now) { kept = t }) c.in_ok-sp_conns.ensures.1)
+    c.new.ensures c.new-2.ensures c.new-3.ensures.items in
+    ends_so sp idp c.args.schedule.now c.args.quiet first result (λ last. HasNodes last now) (λ last. Unit {0}) before after (λ last has. tt)
+    (subst (λ (steps : List Step). Ends sp idp steps c.args.quiet first result (λ last. HasNodes last now) before after) c.steps.ensures.steps
+    (subst (λ (d : Deployment g.row.S.Denot g.row.P.Denot). Ends sp idp c.steps.result.now c.args.quiet d result (λ last. HasNodes last now) before after)
+    begins c.perform.ensures.ends))

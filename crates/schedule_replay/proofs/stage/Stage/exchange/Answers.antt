@@ -1,0 +1,24 @@
+use Rattle.std.proofs.Common.{subst}
+use Rattle.schedule_replay.specs.Deployments.{Deployment, Starts}
+use Rattle.schedule_replay.specs.Hosts.{rules}
+use Rattle.schedule_replay.specs.Views.{sending_view, stage_in}
+use Rattle.schedule_replay.proofs.Arriving.{where_ok}
+use Rattle.schedule_replay.proofs.stage.Stage.exchange.Goals as goal
+
+pub returns-clause-ok : goal.returns-clause-ok
+returns-clause-ok g c =
+    let sp = rules g.S.Node.own g.S.Node.step g.S.Node.leaves g.S.Node.reopens g.S.Node.reopening_leaves g.S.Node.compacts g.S.Node.compaction_leaves in
+    let idp = rules g.P.Node.own g.P.Node.step g.P.Node.leaves g.P.Node.reopens g.P.Node.reopening_leaves g.P.Node.compacts g.P.Node.compaction_leaves in
+    let one = stage_in c.start.new.self in
+    where_ok c.rounds.result c.rounds.ensures.ok
+    (λ came. record {
+      one = one;
+      both = stage_in c.start-2.new.self;
+      starts =
+          subst (λ (d : Deployment g.row.S.Denot g.row.P.Denot). Starts sp idp (sending_view c.args.first) d one) c.in_ok-disconnect.ensures.ok
+          c.in_ok-start.ensures.ok;
+      starts_other = c.in_ok-start-2.ensures.ok;
+      rounds = came.0;
+      all = came.1;
+      arrive = came.2;
+    })

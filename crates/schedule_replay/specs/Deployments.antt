@@ -1,0 +1,137 @@
+-- Two nodes and the user agents that reach them.
+use Rattle.std.specs.Prelude.{◌≡◌, ◌≢◌, ℕ, ◌*◌, ◌≤◌, zero, suc, max, min, Bool, true, false, List, [], ◌∷◌, ◌++◌, length, codes, take, drop, Option, None, Some, Result}
+use Rattle.std.specs.Option.{option_map}
+use Rattle.saml_time.specs.declared.TheConstants.{LAST}
+use Rattle.gate_journal.specs.declared.fault.OpenFault.{OpenFault}
+use Rattle.node_serve.specs.Turns.{Taken}
+use Rattle.post_agent.specs.declared.seen.Seen.{Seen}
+use Rattle.post_agent.specs.declared.site.Site.{Site}
+use Rattle.post_agent.specs.declared.site.Site.TheVariants.{Sp, Idp}
+use Rattle.post_agent.specs.Agents.{fresh}
+use Rattle.post_agent.specs.Received.{Receives}
+use Rattle.post_agent.specs.States.{State}
+use Rattle.schedule_replay.specs.declared.sending.Sending.{Sending}
+use Rattle.schedule_replay.specs.declared.tally.Tally.{Tally}
+use Rattle.schedule_replay.specs.Counting.{counted, restarted}
+use Rattle.schedule_replay.specs.Hosts.{Host, Rules, Outcome, Silent, Sent, Stopped, Serves, Brings, RestartEnds, CompactionEnds, without_connections}
+use Rattle.schedule_replay.specs.Lines.{line, answer_words, stopped_words, result_words}
+
+-- The clock of both nodes, the nodes, what each agent keeps, what was counted, and the lines of the step that is done.
+pub record Deployment (S P : Type 0) : Type 0 where
+  pub clock : ℕ
+  pub sp : Host S
+  pub idp : Host P
+  pub agents : ℕ → State
+  pub tally : Tally
+  pub lines : List ℕ
+
+abbrev pub saying : {S P : Type 0} → ℕ → List ℕ → Deployment S P → Deployment S P
+saying number words world = record world { lines = world.lines ++ line number words }
+
+-- something is done at one node, and the other is as it was
+abbrev pub OnSite : {S P : Type 0} → Site → (Host S → Host S → Type 0) → (Host P → Host P → Type 0) → Deployment S P → Deployment S P → Type 0
+OnSite Sp sp_does idp_does before after = sp_does before.sp after.sp × (after ≡ record before { sp = after.sp })
+OnSite Idp sp_does idp_does before after = idp_does before.idp after.idp × (after ≡ record before { idp = after.idp })
+
+-- one agent keeps something else, and the others what they kept
+pub record Keeps (agent : ℕ) (state : State) (before after : ℕ → State) : Type 0 where
+  pub its : after agent ≡ state
+  pub others : (other : ℕ) → other ≢ agent → after other ≡ before other
+
+-- Bytes come back to the agent that sent a request: it receives them, or they were lost on their way and it is as it was. What they show
+-- is seen all the same.
+abbrev pub ComesBack : (lost : Bool) (agent : ℕ) → Site → List ℕ → (ℕ → State) → Seen → (ℕ → State) → Type 0
+ComesBack true agent site bytes before seen after = (state : State) × Receives site bytes fresh seen state × (after ≡ before)
+ComesBack false agent site bytes before seen after =
+    (state : State) × Receives site bytes (before agent) seen state × Keeps agent state before after
+
+-- a piece of a request from this place on
+abbrev pub piece_at : (at size : ℕ) → List ℕ → List ℕ
+piece_at at size bytes = take size (drop at bytes)
+
+-- how many bytes a request has
+abbrev pub length_of : Option Sending → ℕ
+length_of None = 0
+length_of (Some sending) = length sending.request.bytes
+
+-- What an agent and the output get of a piece: nothing; the answer is counted, received and printed; the restart is counted, and that
+-- the node stopped is printed.
+abbrev pub Hears : {S P : Type 0} → ℕ → Sending → Outcome → Deployment S P → Deployment S P → Type 0
+Hears number sending Silent before after = after ≡ before
+Hears number sending (Sent path bytes) before after =
+    (seen : Seen) × ComesBack sending.lost sending.agent sending.request.site bytes before.agents seen after.agents
+    × (after ≡ saying number (answer_words sending.request.site seen) (record before { agents = after.agents; tally = counted path seen before.tally }))
+Hears number sending Stopped before after =
+    after ≡ saying number (stopped_words sending.request.site) (record before { tally = restarted before.tally })
+
+-- the connections of an earlier step have ended
+abbrev pub unconnected : {S P : Type 0} → Deployment S P → Deployment S P
+unconnected world = record world { sp = without_connections world.sp; idp = without_connections world.idp }
+
+-- How a call that opens or compacts ended is printed; where the disk stopped in it, that, and the start behind it is counted.
+abbrev pub shows : {S P : Type 0} → ℕ → Site → Option (List ℕ) → Deployment S P → Deployment S P
+shows number site None world = saying number (stopped_words site) (record world { tally = restarted world.tally })
+shows number site (Some words) world = saying number words world
+
+module _ {S P : Type 0} (sp : Rules S) (idp : Rules P) where
+  -- A piece of a request comes to its node.
+  pub record Arrives (number : ℕ) (sending : Sending) (piece : List ℕ) (before after : Deployment S P) : Type 0 where
+    pub outcome : Outcome
+    pub behind : Deployment S P
+    pub brings :
+        OnSite sending.request.site (λ old new. Brings sp before.clock sending.conn piece old outcome new)
+        (λ old new. Brings idp before.clock sending.conn piece old outcome new) before behind
+    pub hears : Hears number sending outcome behind after
+
+  -- It comes where it has bytes.
+  abbrev pub ArrivesIfAny : ℕ → Sending → List ℕ → Deployment S P → Deployment S P → Type 0
+  ArrivesIfAny number sending [] before after = after ≡ before
+  ArrivesIfAny number sending (byte ∷ piece) before after = Arrives number sending (byte ∷ piece) before after
+
+  -- the piece from this place on, of a request that there is
+  abbrev pub ArrivesAt : ℕ → (at size : ℕ) → Option Sending → Deployment S P → Deployment S P → Type 0
+  ArrivesAt number at size None before after = after ≡ before
+  ArrivesAt number at size (Some sending) before after =
+      ArrivesIfAny number sending (piece_at at size sending.request.bytes) before after
+
+  -- So many rounds: in each comes the next piece of the first request, and then that of the second.
+  abbrev pub Rounds : ℕ → (size : ℕ) → Option Sending → Option Sending → ℕ → Deployment S P → Deployment S P → Type 0
+  Rounds number size first second zero before after = after ≡ before
+  Rounds number size first second (suc rounds) before after =
+      (old : Deployment S P) × (between : Deployment S P) × Rounds number size first second rounds before old
+      × ArrivesAt number (rounds * size) size first old between × ArrivesAt number (rounds * size) size second between after
+
+  -- A connection of its own starts for a request that there is.
+  abbrev pub Starts : Option Sending → Deployment S P → Deployment S P → Type 0
+  Starts None before after = after ≡ before
+  Starts (Some sending) before after =
+      OnSite sending.request.site (λ old new. Serves sp before.clock (Taken sending.conn) old new)
+      (λ old new. Serves idp before.clock (Taken sending.conn) old new) before after
+
+  -- One or two requests come to their nodes, in pieces of at most so many bytes, the two in turn, until all bytes came.
+  pub record Exchanges (number size : ℕ) (first second : Option Sending) (before after : Deployment S P) : Type 0 where
+    pub one : Deployment S P
+    pub both : Deployment S P
+    pub starts : Starts first (unconnected before) one
+    pub starts_other : Starts second one both
+    pub rounds : ℕ
+    pub all : max (length_of first) (length_of second) ≤ rounds * size
+    pub arrive : Rounds number size first second rounds both after
+
+  -- A node is started again, as a schedule asks for; the start is counted.
+  pub record RestartsAt (number : ℕ) (site : Site) (before after : Deployment S P) : Type 0 where
+    pub shown : Option (Result (Unit {0}) OpenFault)
+    pub behind : Deployment S P
+    pub ends : OnSite site (λ old new. RestartEnds sp old shown new) (λ old new. RestartEnds idp old shown new) before behind
+    pub shows :
+        after
+        ≡ shows number site (option_map (result_words (codes "restart")) shown) (record behind { tally = restarted behind.tally })
+
+  -- A node compacts, at the moment of the clock.
+  pub record CompactsAt (number : ℕ) (site : Site) (before after : Deployment S P) : Type 0 where
+    pub shown : Option (Result (Unit {0}) OpenFault)
+    pub behind : Deployment S P
+    pub ends :
+        OnSite site (λ old new. CompactionEnds sp (min before.clock LAST) old shown new)
+        (λ old new. CompactionEnds idp (min before.clock LAST) old shown new) before behind
+    pub shows : after ≡ shows number site (option_map (result_words (codes "compact")) shown) behind

@@ -1,0 +1,153 @@
+-- A node with its disk in memory and the connections that it keeps, and what each event does to it.
+use Rattle.std.specs.Prelude.{◌≡◌, ◌≢◌, ℕ, true, false, List, [], ◌∷◌, length, Option, None, Some, Result, Err}
+use Rattle.std.specs.FinMap as map
+use Rattle.crash_disk.specs.Disk.{Image, DiskState}
+use Rattle.crash_disk.specs.Memory.{DiskInMemory, LeftSince, state_of}
+use Rattle.crash_disk.specs.Moments.{LeavesOnly}
+use Rattle.gate_journal.specs.declared.fault.OpenFault.{OpenFault}
+use Rattle.gate_journal.specs.declared.fault.OpenFault.TheVariants as faults
+use Rattle.gate_journal.specs.Opening.{CausesFaults}
+use Rattle.http_wire.specs.Answers.{fixed}
+use Rattle.http_wire.specs.Views.{answer_bytes}
+use Rattle.conn_table.specs.Events.{Piece}
+use Rattle.conn_table.specs.Table.{Table}
+use Rattle.node_serve.specs.Serving.{MightLeave}
+use Rattle.node_serve.specs.Turns.{Turn, Taken, Full, StarvedStart, Over, Unknown, Waiting, Answered, Refused, StarvedPiece, Does, event_at}
+use Rattle.node_serve.specs.Worlds.{NodeStep, NodeLeaves, NodeOwns, World, IsAnswered, world}
+
+-- What a node's own contract says of its calls, in the words of node_serve's trait `Node`.
+pub record Rules (N : Type 0) : Type 1 where
+  -- the disk is its own
+  pub own : NodeOwns N
+  -- what an answer does, and what a crash inside it may leave
+  pub step : NodeStep N
+  pub leaves : NodeLeaves N
+  -- what a restart does, and what a crash inside it may leave
+  pub reopens : N → Option DiskState → ℕ → ℕ → Result (Unit {0}) OpenFault → N → Option DiskState → Type 0
+  pub reopening_leaves : N → Option DiskState → Image → Type 0
+  -- what a compaction at a moment does, and what a crash inside it may leave
+  pub compacts : N → Option DiskState → ℕ → ℕ → ℕ → Result (Unit {0}) OpenFault → N → Option DiskState → Type 0
+  pub compaction_leaves : N → Option DiskState → ℕ → Image → Type 0
+
+abbrev pub rules :
+    {N : Type 0} → NodeOwns N → NodeStep N → NodeLeaves N
+    → (N → Option DiskState → ℕ → ℕ → Result (Unit {0}) OpenFault → N → Option DiskState → Type 0)
+    → (N → Option DiskState → Image → Type 0)
+    → (N → Option DiskState → ℕ → ℕ → ℕ → Result (Unit {0}) OpenFault → N → Option DiskState → Type 0)
+    → (N → Option DiskState → ℕ → Image → Type 0) → Rules N
+rules own step leaves reopens reopening_leaves compacts compaction_leaves = record {
+  own = own;
+  step = step;
+  leaves = leaves;
+  reopens = reopens;
+  reopening_leaves = reopening_leaves;
+  compacts = compacts;
+  compaction_leaves = compaction_leaves;
+}
+
+-- a node, its disk, and the connections that it keeps
+pub record Host (N : Type 0) : Type 0 where
+  pub node : N
+  pub disk : DiskInMemory
+  pub kept : Table
+
+-- what its disk tells
+abbrev pub told : {N : Type 0} → Host N → Option DiskState
+told host = Some (state_of host.disk)
+
+-- the world in which it serves: no link is between it and the agents, and its clock stands at this moment
+abbrev pub world_of : {N : Type 0} → ℕ → Host N → World N
+world_of now host = world host.node (told host) host.disk.faults (length host.disk.log) None 0 (Some (now ∷ []))
+
+-- from the one disk to the other a crash leaves only what has P
+abbrev pub Leaving : {N : Type 0} → Host N → Host N → (Image → Type 0) → Type 0
+Leaving before after P = LeavesOnly (λ disk. length disk.log) LeftSince before.disk after.disk P
+
+-- its disk is as before, and was started again where it had stopped
+abbrev pub resumed : {N : Type 0} → Host N → Host N
+resumed host = record host { disk = record host.disk { stopped = false } }
+
+-- a failure and a stop of its disk, counted from its next changing call
+abbrev pub failing : {N : Type 0} → ℕ → Host N → Host N
+failing call host = record host { disk = record host.disk { failing = call } }
+
+abbrev pub stopping : {N : Type 0} → ℕ → ℕ → Host N → Host N
+stopping call pick host = record host { disk = record host.disk { stopping = call; pick = pick } }
+
+-- its connections are gone
+abbrev pub without_connections : {N : Type 0} → Host N → Host N
+without_connections host = record host { kept = map.empty }
+
+-- What comes of a piece of a request: nothing yet; bytes, for a request for a path where it was one; the disk stopped, and nothing came.
+pub data Outcome : Type 0 where
+  Silent : Outcome
+  Sent : (path : Option (List ℕ)) (bytes : List ℕ) → Outcome
+  Stopped : Outcome
+
+-- what a turn of serving sends on its connection
+abbrev pub outcome_of : {N : Type 0} → Turn N → Outcome
+outcome_of (Taken conn) = Silent
+outcome_of (Full conn) = Sent None (fixed 503)
+outcome_of (StarvedStart conn) = Sent None (fixed 52)
+outcome_of (Over conn) = Silent
+outcome_of (Unknown conn piece) = Silent
+outcome_of (Waiting conn piece) = Silent
+outcome_of (Answered piece asked) = Sent (Some asked.request.path) (answer_bytes asked.answer)
+outcome_of (Refused conn piece status) = Sent None (fixed status)
+outcome_of (StarvedPiece conn piece) = Sent None (fixed 52)
+
+module _ {N : Type 0} (rules : Rules N) where
+  -- A link event: at this moment of the clock this turn of serving is done, as node_serve defines it.
+  pub record Serves (now : ℕ) (turn : Turn N) (before after : Host N) : Type 0 where
+    pub does : Does (IsAnswered rules.own rules.step rules.leaves) before.kept (world_of now before) turn after.kept (world_of now after)
+    pub leaves : Leaving before after (MightLeave rules.leaves (told before) (turn ∷ []))
+
+  -- A restart: the node opens what its disk holds, and its connections are gone.
+  pub record Restarts (before : Host N) (result : Result (Unit {0}) OpenFault) (after : Host N) : Type 0 where
+    pub does : rules.reopens before.node (told before) before.disk.faults after.disk.faults result after.node (told after)
+    pub leaves : Leaving before after (rules.reopening_leaves before.node (told before))
+    pub faults : CausesFaults result before.disk.faults after.disk.faults
+    pub gone : after.kept ≡ map.empty
+
+  -- A compaction at a moment.
+  pub record Compacts (now : ℕ) (before : Host N) (result : Result (Unit {0}) OpenFault) (after : Host N) : Type 0 where
+    pub does : rules.compacts before.node (told before) now before.disk.faults after.disk.faults result after.node (told after)
+    pub leaves : Leaving before after (rules.compaction_leaves before.node (told before) now)
+    pub faults : CausesFaults result before.disk.faults after.disk.faults
+    pub kept : after.kept ≡ before.kept
+
+  -- A disk that stopped is started again, and then the node, whatever the stop left.
+  pub record Recovers (before after : Host N) : Type 0 where
+    pub result : Result (Unit {0}) OpenFault
+    pub memory : result ≢ Err faults.NoMemory
+    pub restarts : Restarts (resumed before) result after
+
+  -- how a turn ends: the disk stopped in it, or its answer goes out
+  abbrev pub Comes : Turn N → Host N → Outcome → Host N → Type 0
+  Comes turn behind Stopped after = (behind.disk.stopped ≡ true) × Recovers behind after
+  Comes turn behind outcome after = (behind.disk.stopped ≡ false) × (outcome ≡ outcome_of turn) × (after ≡ behind)
+
+  -- A piece comes on a connection.
+  pub record Brings (now conn : ℕ) (piece : List ℕ) (before : Host N) (outcome : Outcome) (after : Host N) : Type 0 where
+    pub turn : Turn N
+    pub behind : Host N
+    pub event : event_at turn ≡ Piece conn piece
+    pub serves : Serves now turn before behind
+    pub comes : Comes turn behind outcome after
+
+  -- How a restart or a compaction that a schedule asks for ends: the disk stopped in it and nothing is known of its result, or this is it.
+  abbrev pub Ends : Host N → Result (Unit {0}) OpenFault → Option (Result (Unit {0}) OpenFault) → Host N → Type 0
+  Ends behind result None after = (behind.disk.stopped ≡ true) × Recovers behind after
+  Ends behind result (Some shown) after = (behind.disk.stopped ≡ false) × (shown ≡ result) × (result ≢ Err faults.NoMemory) × (after ≡ behind)
+
+  pub record RestartEnds (before : Host N) (shown : Option (Result (Unit {0}) OpenFault)) (after : Host N) : Type 0 where
+    pub result : Result (Unit {0}) OpenFault
+    pub behind : Host N
+    pub restarts : Restarts before result behind
+    pub ends : Ends behind result shown after
+
+  pub record CompactionEnds (now : ℕ) (before : Host N) (shown : Option (Result (Unit {0}) OpenFault)) (after : Host N) : Type 0 where
+    pub result : Result (Unit {0}) OpenFault
+    pub behind : Host N
+    pub compacts : Compacts now before result behind
+    pub ends : Ends behind result shown after

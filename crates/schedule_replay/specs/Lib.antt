@@ -1,0 +1,7 @@
+pub mod Counting
+pub mod Deployments
+pub mod Hosts
+pub mod Lines
+pub mod Runs
+pub mod Steps
+pub mod Views

@@ -1,0 +1,101 @@
+-- What a step of a schedule does, and a run of them.
+use Rattle.std.specs.Prelude.{◌≡◌, ℕ, zero, suc, Bool, ◌||◌, true, false, List, [], ◌++◌, codes, slice_get, max, Option, None, Some}
+use Rattle.post_agent.specs.declared.seen.Outgoing.{Outgoing}
+use Rattle.post_agent.specs.declared.site.Site.{Site}
+use Rattle.post_agent.specs.declared.site.Site.TheVariants.{Sp, Idp}
+use Rattle.post_agent.specs.Agents.{fresh, visited, submitted, logged_in, followed, left}
+use Rattle.schedules.specs.declared.step.Pick.{Pick}
+use Rattle.schedules.specs.declared.step.Pick.TheVariants.{Synced, Pending, Marked}
+use Rattle.schedules.specs.declared.step.Step.{Step}
+use Rattle.schedules.specs.declared.step.Step.TheVariants as steps
+use Rattle.schedule_replay.specs.declared.sending.Sending.{Sending}
+use Rattle.schedule_replay.specs.Deployments.{Deployment, Keeps, Exchanges, RestartsAt, CompactsAt, saying, length_of}
+use Rattle.schedule_replay.specs.Hosts.{Host, Rules, failing, stopping}
+
+-- what a stop is to leave, as crash_disk numbers it
+abbrev pub pick_number : Pick → ℕ
+pick_number Synced = 0
+pick_number Pending = 1
+pick_number Marked = 2
+
+-- the request of an agent, on a connection
+abbrev pub sending : Bool → (agent conn : ℕ) → Outgoing → Sending
+sending lost agent conn request = record { lost = lost; agent = agent; conn = conn; request = request }
+
+abbrev pub sending_of : Bool → (agent conn : ℕ) → Option Outgoing → Option Sending
+sending_of lost agent conn None = None
+sending_of lost agent conn (Some request) = Some (sending lost agent conn request)
+
+-- where an agent has nothing to send, that is printed
+abbrev pub saying_none : {S P : Type 0} → ℕ → Option Sending → Deployment S P → Deployment S P
+saying_none number None world = saying number (codes "none") world
+saying_none number (Some request) world = world
+
+-- something is done to a node's disk
+abbrev pub armed : {S P : Type 0} → ℕ → Site → (Host S → Host S) → (Host P → Host P) → Deployment S P → Deployment S P
+armed number Sp arm other world = saying number (codes "armed") (record world { sp = arm world.sp })
+armed number Idp other arm world = saying number (codes "armed") (record world { idp = arm world.idp })
+
+-- an agent forgets all
+abbrev pub Forgets : {S P : Type 0} → ℕ → (agent : ℕ) → Deployment S P → Deployment S P → Type 0
+Forgets number agent before after =
+    Keeps agent fresh before.agents after.agents × (after ≡ saying number (codes "fresh") (record before { agents = after.agents }))
+
+-- the step is a request of an agent
+abbrev pub IsRequest : Step → Type 0
+IsRequest (steps.Now moment) = ⊥
+IsRequest (steps.Pair first second size) = ⊥
+IsRequest (steps.Fresh agent) = ⊥
+IsRequest (steps.Restart site) = ⊥
+IsRequest (steps.Crash site call pick) = ⊥
+IsRequest (steps.Fail site call) = ⊥
+IsRequest (steps.Compact site) = ⊥
+IsRequest step = Unit {0}
+
+-- a disk found no memory
+abbrev pub is_starved : {S P : Type 0} → Deployment S P → Bool
+is_starved world = world.sp.disk.starved || world.idp.disk.starved
+
+module _ {S P : Type 0} (sp : Rules S) (idp : Rules P) where
+  -- one request comes whole, where there is one
+  abbrev pub Requests : ℕ → Option Sending → Deployment S P → Deployment S P → Type 0
+  Requests number request before after =
+      Exchanges sp idp number (max (length_of request) 1) request None (saying_none number request before) after
+
+  -- two come in turn, in pieces of so many bytes; that there is nothing to send is printed first
+  abbrev pub RequestsTwo : (number size : ℕ) → Option Sending → Option Sending → Deployment S P → Deployment S P → Type 0
+  RequestsTwo number size first second before after =
+      Exchanges sp idp number (max size 1) first second (saying_none number second (saying_none number first before)) after
+
+  -- a step, by its number
+  abbrev pub Does : ℕ → Step → Deployment S P → Deployment S P → Type 0
+  -- the clock of both nodes stands at this moment
+  Does number (steps.Now moment) before after = after ≡ saying number (codes "now") (record before { clock = moment })
+  Does number (steps.Visit agent path) before after =
+      Requests number (sending_of false agent 0 (Some (visited path (before.agents agent)))) before after
+  Does number (steps.Submit agent) before after = Requests number (sending_of false agent 0 (submitted (before.agents agent))) before after
+  Does number (steps.Lose agent) before after = Requests number (sending_of true agent 0 (submitted (before.agents agent))) before after
+  Does number (steps.Login agent user password) before after =
+      Requests number (sending_of false agent 0 (logged_in user password (before.agents agent))) before after
+  Does number (steps.Follow agent) before after = Requests number (sending_of false agent 0 (followed (before.agents agent))) before after
+  Does number (steps.Leave agent site) before after =
+      Requests number (sending_of false agent 0 (Some (left site (before.agents agent)))) before after
+  Does number (steps.Pair first second size) before after =
+      RequestsTwo number size (sending_of false first 0 (submitted (before.agents first)))
+      (sending_of false second 1 (submitted (before.agents second))) before after
+  Does number (steps.Fresh agent) before after = Forgets number agent before after
+  Does number (steps.Restart site) before after = RestartsAt sp idp number site before after
+  Does number (steps.Crash site call pick) before after =
+      after ≡ armed number site (λ host. stopping call (pick_number pick) host) (λ host. stopping call (pick_number pick) host) before
+  Does number (steps.Fail site call) before after = after ≡ armed number site (λ host. failing call host) (λ host. failing call host) before
+  Does number (steps.Compact site) before after = CompactsAt sp idp number site before after
+
+  -- The first so many steps of a schedule were done, one after the other, from this deployment on, and no disk found no memory. All that
+  -- they print is `text`.
+  abbrev pub Replays : ℕ → List Step → Deployment S P → List ℕ → Deployment S P → Type 0
+  Replays zero all first text now = (text ≡ []) × (now ≡ first)
+  Replays (suc done) all first text now =
+      (step : Step) × (before : Deployment S P) × (after : Deployment S P) × (earlier : List ℕ)
+      × Replays done all first earlier before × (slice_get all done ≡ Some step) × Does (suc done) step before after
+      × (is_starved after ≡ false)
+      × (now ≡ record after { lines = [] }) × (text ≡ earlier ++ after.lines)

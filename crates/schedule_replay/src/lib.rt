@@ -1,0 +1,40 @@
+//! Whole runs of a deployment: a service provider, an identity provider and their users' agents, step by step as a
+//! schedule says, with disks that fail and stop where it says so.
+//!
+//! ```
+//! let schedule = read_schedule(alloc, b"now 1704067200000\nvisit a /app\nsubmit a\n")?;
+//! let tally = replay(alloc, &schedule, &mut sp, &mut idp, &mut sp_disk, &mut idp_disk, false, &mut out)?;
+//! // 1 now
+//! // 2 sp 200 form
+//! // 3 idp 200 login
+//! // opened 0 responses 0 refused 0 restarts 0
+//! ```
+//!
+//! Any two nodes are run ([`node_serve::Node`]), each over a disk in memory. An agent's request comes to its node on a
+//! connection of its own, whole or, in a `pair`, in pieces that alternate with those of another agent; the node answers
+//! it at the moment of the clock, and the agent receives what it sends. Where a disk stops in a request, a restart or a
+//! compaction, nothing of it is known but that the node stopped, and the node starts from what the disk holds.
+//!
+//! A contract sees a deployment (`specs/Deployments.antt`): the clock, each node with its disk and its connections
+//! (`specs/Hosts.antt`), what each agent keeps, and what was counted. `Does` of `specs/Steps.antt` says what each step of
+//! the grammar does and prints, in the words of the nodes' own contracts and of node_serve's turns; `Replays` is the run
+//! of the first so many steps, and `Ends` of `specs/Runs.antt` says how [`replay`] ended and what it printed. Nothing is
+//! assumed of the nodes but their contract, and that a disk of theirs can be opened again whatever a crash left.
+//!
+//! [`replay`] answers [`ReplayFault::WriteFault`] only where the sink's count of faults rose. [`ReplayFault::NoMemory`]
+//! may come in place of any answer; it comes where a disk found no memory, before the lines of that step are printed.
+#![tactic(auto)]
+
+mod agents;
+mod fault;
+mod host;
+mod running;
+mod sending;
+mod stage;
+mod steps;
+mod tally;
+mod words;
+
+pub use fault::ReplayFault;
+pub use running::replay;
+pub use tally::Tally;
