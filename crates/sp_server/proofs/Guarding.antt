@@ -22,6 +22,7 @@ use Rattle.node_steps.specs.declared.codes.TheConstants.{NO_MEMORY}
 use Rattle.request_ledger.specs.Ledger.{Held}
 use Rattle.request_rows.specs.declared.row.OpenedRow.{OpenedRow}
 use Rattle.sp_answers.specs.Answers.{denied_answer}
+use Rattle.sp_server.proofs.Held.{session_record}
 use Rattle.sp_server.specs.Guard.{decide_plain, guard_answer, is_plain, path_asked, to_session, vouched_by, vouched_to}
 use Rattle.sp_server.specs.Guarding.{AGuardTellsExactly, AsksGuard, EqualRowsAreVouchedForAlike, Finds, IsAllowed, IsVouchedAt, IsVouchedFor, LetsIn, OnlyASessionIsVouchedFor, TellsExactly}
 use Rattle.sp_server.specs.Routes.{Guard, is_method, route}
@@ -138,6 +139,7 @@ module _ (laws : AnswerLaws) where
   vouched_for setup held request now bytes row let_in says = record {
     row = row;
     let_in = let_in;
+    recorded = session_record held request now row let_in.live;
     says = says;
     read = subst (λ (b : List ℕ). IsReadAsVouched b row.name row.attributes) (sym says) (laws.read row.name row.attributes);
   }

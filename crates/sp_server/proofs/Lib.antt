@@ -11,6 +11,7 @@ pub mod Texts
 mod Asked
 mod Closing
 mod Guarding
+mod Held
 mod Recorded
 mod Services
 mod Sessions

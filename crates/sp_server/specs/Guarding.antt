@@ -1,6 +1,6 @@
 -- What a guard tells: it answers 200 exactly where the session of the request's cookie lives at that moment and no policy denies it the
 -- path; then it names that session's user and values. What it says depends on nothing but that row, and nothing is recorded.
-use Rattle.std.specs.Prelude.{◌≡◌, ◌⊎◌, ℕ, true, false, List, Option, None, Some, IfSome, Ok, IsTrue}
+use Rattle.std.specs.Prelude.{◌≡◌, ◌⊎◌, ℕ, true, false, List, Contains, Option, None, Some, IfSome, Ok, IsTrue}
 use Rattle.access_policy.specs.declared.rule.Rule.{Rule}
 use Rattle.access_policy.specs.Decide as policies
 use Rattle.crash_disk.specs.Counts.{Rose}
@@ -13,8 +13,11 @@ use Rattle.http_wire.specs.Statuses.{HasStatus}
 use Rattle.http_wire.specs.Views.{answer_bytes}
 use Rattle.http_wire.specs.Vouched.{vouched_answer}
 use Rattle.http_wire.specs.Vouching.{IsReadAsVouched}
+use Rattle.ledger_records.specs.declared.sp_record.Opened.{Opened as OpenedRecord}
+use Rattle.ledger_records.specs.declared.sp_record.SpRecord.TheVariants as kinds
 use Rattle.node_steps.specs.declared.codes.TheConstants.{NO_MEMORY}
 use Rattle.request_ledger.specs.Ledger.{Held, ledger_in, taken}
+use Rattle.request_ledger.specs.RowsOf.{opened_row}
 use Rattle.request_rows.specs.declared.row.OpenedRow.{OpenedRow}
 use Rattle.sp_answers.specs.Answers.{denied_answer}
 use Rattle.sp_server.specs.Guard.{is_plain, path_asked}
@@ -37,10 +40,18 @@ pub record LetsIn (setup : Setup) (held : Held) (request : Request) (now : ℕ) 
   pub live : session_for held now request ≡ Some row
   pub allowed : IsAllowed setup.policy (path_asked request.path) row
 
--- The answer of status 200 is for such a session: it has just the two lines that name its user and its values, as a client reads it.
+-- The row is that of a record of the ledger, which opened the session and which no later one closed.
+pub record IsOfRecord (held : Held) (row : OpenedRow) : Type 0 where
+  pub r : OpenedRecord
+  pub there : Contains held.records (kinds.Opened r)
+  pub is : row ≡ opened_row false r
+
+-- The answer of status 200 is for such a session, which a record of the ledger opened: it has just the two lines that name its user and its
+-- values, as a client reads it.
 pub record IsVouchedFor (setup : Setup) (held : Held) (request : Request) (now : ℕ) (bytes : List ℕ) : Type 0 where
   pub row : OpenedRow
   pub let_in : LetsIn setup held request now row
+  pub recorded : IsOfRecord held row
   pub says : bytes ≡ vouched_answer row.name row.attributes
   pub read : IsReadAsVouched bytes row.name row.attributes
 
