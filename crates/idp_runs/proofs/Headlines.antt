@@ -35,10 +35,13 @@ pub record Laws : Type 0 where
 
 -- the step by which a request was answered
 stepped : (asked : Asked Provider) (before told : World Provider) → Asks IsProviders asked before told
-    → StepsOnDisk asked.node asked.disk asked.request asked.now (Rose before.disk_faults told.disk_faults) asked.answer told.node told.disk
+    → StepsOnDisk asked.node asked.disk asked.request asked.now
+    (Rose before.disk_faults told.disk_faults) asked.answer told.node told.disk
 stepped asked before told asks =
-    subst (λ (n : Provider). StepsOnDisk n asked.disk asked.request asked.now (Rose before.disk_faults told.disk_faults) asked.answer told.node told.disk) (sym asks.node)
-    (subst (λ (d : Option DiskState). StepsOnDisk before.node d asked.request asked.now (Rose before.disk_faults told.disk_faults) asked.answer told.node told.disk)
+    subst (λ (n : Provider). StepsOnDisk n asked.disk asked.request asked.now
+    (Rose before.disk_faults told.disk_faults) asked.answer told.node told.disk) (sym asks.node)
+    (subst (λ (d : Option DiskState). StepsOnDisk before.node d asked.request asked.now
+    (Rose before.disk_faults told.disk_faults) asked.answer told.node told.disk)
     (sym asks.disk) asks.answers.does)
 
 module _ (laws : Laws) (asked : Asked Provider) where
@@ -49,22 +52,29 @@ module _ (laws : Laws) (asked : Asked Provider) where
         users = λ held answer r answers. laws.users asked.node.setup held asked.request asked.now answer r answers;
         signed = λ held bytes r answers. laws.signed asked.node.setup held asked.request asked.now bytes r answers;
         recorded = λ bytes is to.
-            laws.recorded asked.node after.node asked.disk after.disk asked.request asked.now before.disk_faults after.disk_faults bytes
-            (subst (λ (a : Answer). Steps asked.node asked.disk asked.request asked.now (Rose before.disk_faults after.disk_faults) a after.node) is steps) asks.answers.owns to;
+            laws.recorded asked.node after.node asked.disk after.disk asked.request asked.now before.disk_faults
+            after.disk_faults bytes
+            (subst (λ (a : Answer). Steps asked.node asked.disk asked.request asked.now
+            (Rose before.disk_faults after.disk_faults) a after.node) is steps) asks.answers.owns to;
         logout_recorded = λ bytes is to.
-            laws.logouts asked.node after.node asked.disk after.disk asked.request asked.now before.disk_faults after.disk_faults bytes
-            (subst (λ (a : Answer). Steps asked.node asked.disk asked.request asked.now (Rose before.disk_faults after.disk_faults) a after.node) is steps) asks.answers.owns to;
+            laws.logouts asked.node after.node asked.disk after.disk asked.request asked.now before.disk_faults
+            after.disk_faults bytes
+            (subst (λ (a : Answer). Steps asked.node asked.disk asked.request asked.now
+            (Rose before.disk_faults after.disk_faults) a after.node) is steps) asks.answers.owns to;
       }
 
   ends_exactly : (before after : World Provider) → EndsExactly asked before after
   ends_exactly before after = record {
     only = λ held answer r answers. laws.only asked.node.setup held asked.request asked.now answer r answers;
     nothing_else = λ found serves whole.
-        laws.services found asked.request asked.now before.disk_faults after.disk_faults asked.answer asked.node after.node serves whole;
+        laws.services found asked.request asked.now before.disk_faults after.disk_faults asked.answer asked.node
+        after.node serves whole;
     wherever_left = λ found row serves leaves place calm.
-        laws.wherever_left found asked.request asked.now before.disk_faults after.disk_faults asked.answer asked.node after.node row leaves place calm serves;
+        laws.wherever_left found asked.request asked.now before.disk_faults after.disk_faults asked.answer asked.node
+        after.node row leaves place calm serves;
     wherever_ended = λ found message peer cookie serves over among place calm.
-        laws.wherever_ended found asked.request asked.now before.disk_faults after.disk_faults asked.answer asked.node after.node message peer cookie over among place calm serves;
+        laws.wherever_ended found asked.request asked.now before.disk_faults after.disk_faults asked.answer asked.node
+        after.node message peer cookie over among place calm serves;
   }
 
   goes_exactly : GoesExactly asked
@@ -74,7 +84,8 @@ module _ (laws : Laws) (asked : Asked Provider) where
     ends = λ before after asks. ends_exactly before after;
     added = λ before after asks image held r tells left is there new.
         new_is_of_the_request idp_rules Answers asked.node asked.disk asked.request asked.now image held r tells
-        (subst (λ (d : Option DiskState). IfSome d (λ x. MayLeave x (image_of x))) (sym asks.disk) asks.answers.reads) left is there new;
+        (subst (λ (d : Option DiskState). IfSome d (λ x. MayLeave x (image_of x))) (sym asks.disk) asks.answers.reads)
+        left is there new;
   }
 
 module _ (laws : Laws) where
@@ -86,9 +97,12 @@ module _ (laws : Laws) where
   headline left told file budget before turns result after (BadSetUp bad line is e bare same) = ServedNothing bare
   headline left told file budget before turns result after (NotSetUp why bare same) = ServedNothing bare
   headline left told file budget before turns result after (NotOpened why bare same) = ServedNothing bare
-  headline left told file budget before turns result after (Deaf node opened begins e rose bare same) = ServedNothing bare
+  headline left told file budget before turns result after (Deaf node opened begins e rose bare same) =
+      ServedNothing bare
   headline left told file budget before turns result after (Serving node last opened served begins serves e) =
       ServedSo node last opened budget served begins serves (each_goes turns)
-      (kept_behind laws.hold laws.kept laws.ended left told file budget before opened after node last turns served begins serves)
+      (kept_behind laws.hold laws.kept laws.ended left told file budget before opened after node last turns served
+      begins serves)
       (kept_ever_since laws.hold left told file budget before opened after node last turns served begins serves)
-      (ended_behind laws.hold laws.kept laws.ended left told file budget before opened after node last turns served begins serves)
+      (ended_behind laws.hold laws.kept laws.ended left told file budget before opened after node last turns served
+      begins serves)

@@ -1,5 +1,7 @@
--- What a run of an identity provider comes to: each Assertion is issued to a user with a password or a session, each signed element is one
--- of a record that is durable before it is sent; sessions are ended exactly where their users leave them or a peer ends them, and one that
+-- What a run of an identity provider comes to: each Assertion is issued to a user with a password or a session, each
+-- signed element is one
+-- of a record that is durable before it is sent; sessions are ended exactly where their users leave them or a peer ends
+-- them, and one that
 -- is ended never lives again.
 use Rattle.std.specs.Prelude.{◌≡◌, ◌⊎◌, ℕ, true, false, List, [], ◌∷◌, Contains, Option, IsSome, Some, Ok, Result}
 use Rattle.std.specs.List.{AllByRecursion}
@@ -41,44 +43,61 @@ use Rattle.idp_runs.specs.Runs.{Begins, Runs}
 
 -- ---- one request, which the provider was asked in one world, and which left another behind
 
--- An Assertion is issued, with whatever answer, only for a user whose password was posted for a login that was pending, or in the user's live
--- session; each signed element in the answer, a message of a logout too, is one that its record stands for; and the answer's record is in
+-- An Assertion is issued, with whatever answer, only for a user whose password was posted for a login that was pending,
+-- or in the user's live
+-- session; each signed element in the answer, a message of a logout too, is one that its record stands for; and the
+-- answer's record is in
 -- every image that a crash may leave once the provider has answered, before a byte is sent.
 pub record IssuesOnlyToUsers (asked : Asked Provider) (before after : World Provider) : Type 0 where
-  pub users : (held : Held) (answer : Answer) (r : Issued) → Answers asked.node.setup held asked.request asked.now answer (Some (kinds.Issued r))
+  pub users : (held : Held) (answer : Answer) (r : Issued)
+      → Answers asked.node.setup held asked.request asked.now answer (Some (kinds.Issued r))
       → IsOfUser asked.node.setup held asked.request asked.now r
-  pub signed : (held : Held) (bytes : List ℕ) (r : IdpRecord) → Answers asked.node.setup held asked.request asked.now (Full bytes) (Some r)
+  pub signed : (held : Held) (bytes : List ℕ) (r : IdpRecord)
+      → Answers asked.node.setup held asked.request asked.now (Full bytes) (Some r)
       → Carries asked.node.setup held r bytes
-  pub recorded : (bytes : List ℕ) → asked.answer ≡ Full bytes → (route asked.request ≡ To SignOn) ⊎ (route asked.request ≡ To Login)
+  pub recorded : (bytes : List ℕ) → asked.answer ≡ Full bytes
+      → (route asked.request ≡ To SignOn) ⊎ (route asked.request ≡ To Login)
       → IsRecorded asked.node.setup asked.request asked.now (Full bytes) after.disk
-  pub logout_recorded : (bytes : List ℕ) → asked.answer ≡ Full bytes → (route asked.request ≡ To Logout) ⊎ (route asked.request ≡ To SingleLogout)
+  pub logout_recorded : (bytes : List ℕ) → asked.answer ≡ Full bytes
+      → (route asked.request ≡ To Logout) ⊎ (route asked.request ≡ To SingleLogout)
       → IsRecorded asked.node.setup asked.request asked.now (Full bytes) after.disk
 
--- A record that ends a session is added, with whatever answer, only where the user of that live session leaves it, or a peer asks for it by a
--- LogoutRequest that is accepted; and nothing but a record and a compaction changes the ledger. And wherever one of them does, over the
--- ledger that the step found, where there is room and the disk does not fail, the session is ended behind the step; or there was no memory.
+-- A record that ends a session is added, with whatever answer, only where the user of that live session leaves it, or a
+-- peer asks for it by a
+-- LogoutRequest that is accepted; and nothing but a record and a compaction changes the ledger. And wherever one of
+-- them does, over the
+-- ledger that the step found, where there is room and the disk does not fail, the session is ended behind the step; or
+-- there was no memory.
 pub record EndsExactly (asked : Asked Provider) (before after : World Provider) : Type 0 where
-  pub only : (held : Held) (answer : Answer) (r : IdpRecord) → Answers asked.node.setup held asked.request asked.now answer (Some r)
+  pub only : (held : Held) (answer : Answer) (r : IdpRecord)
+      → Answers asked.node.setup held asked.request asked.now answer (Some r)
       → IsOfLogoutIfEnding asked.node.setup held asked.request asked.now r
-  pub nothing_else : (found : Held) → Serves found asked.request asked.now (Rose before.disk_faults after.disk_faults) asked.answer asked.node after.node
+  pub nothing_else : (found : Held) → Serves found asked.request asked.now
+      (Rose before.disk_faults after.disk_faults) asked.answer asked.node after.node
       → after.node.ledger.broken ≡ false → Ends asked.node.setup found asked.request asked.now after.node
   pub wherever_left : (found : Held) (row : SessionRow)
-      → Serves found asked.request asked.now (Rose before.disk_faults after.disk_faults) asked.answer asked.node after.node
-      → LeavesOver found asked.request asked.now row → HasPlace found (left_by asked.node.setup.id_key found asked.now row.cookie)
+      → Serves found asked.request asked.now (Rose before.disk_faults after.disk_faults) asked.answer asked.node
+      after.node
+      → LeavesOver found asked.request asked.now row
+      → HasPlace found (left_by asked.node.setup.id_key found asked.now row.cookie)
       → ¬ (Rose before.disk_faults after.disk_faults)
       → (asked.answer ≡ Fixed NO_MEMORY) ⊎ IsEnded after.node.ledger.held row.cookie
   pub wherever_ended : (found : Held) (message : LogoutRequest) (peer : LogoutPeer) (cookie : List ℕ)
-      → Serves found asked.request asked.now (Rose before.disk_faults after.disk_faults) asked.answer asked.node after.node
-      → EndsOver asked.node.setup asked.request asked.now message peer → is_among cookie (ending_by found asked.now peer.peer.entity message) ≡ true
+      → Serves found asked.request asked.now (Rose before.disk_faults after.disk_faults) asked.answer asked.node
+      after.node
+      → EndsOver asked.node.setup asked.request asked.now message peer
+      → is_among cookie (ending_by found asked.now peer.peer.entity message) ≡ true
       → HasPlace found (ended_by asked.node.setup.id_key found asked.now peer.peer.entity message)
       → ¬ (Rose before.disk_faults after.disk_faults)
       → (asked.answer ≡ Fixed NO_MEMORY) ⊎ IsEnded after.node.ledger.held cookie
 
--- Each record that stands in an image which a crash inside the answer may leave, or one behind it, be it behind page 50, and stood nowhere
+-- Each record that stands in an image which a crash inside the answer may leave, or one behind it, be it behind page
+-- 50, and stood nowhere
 -- before is one that the request adds over some ledger with some answer, so that it is of it what is said of these.
 abbrev pub AddsOnlyItsOwn : Asked Provider → Type 0
 AddsOnlyItsOwn asked =
-    (image : Image) (held : Held) (r : IdpRecord) → IsSome asked.disk → StepLeaves asked.node asked.disk asked.request asked.now image
+    (image : Image) (held : Held) (r : IdpRecord) → IsSome asked.disk → StepLeaves asked.node asked.disk asked.request
+    asked.now image
     → ledger_in image ≡ Ok (Some held) → Contains held.records r → IsNew idp_rules asked.node asked.disk r
     → IsAddedBy Answers asked.node.setup asked.request asked.now r
 
@@ -87,8 +106,10 @@ AddsOnlyItsOwn asked =
 -- a request is answered by one step, and so it is of it, whatever the worlds are in which the provider was asked
 pub record GoesExactly (asked : Asked Provider) : Type 0 where
   pub steps : (before after : World Provider) → Asks IsProviders asked before after
-      → StepsOnDisk asked.node asked.disk asked.request asked.now (Rose before.disk_faults after.disk_faults) asked.answer after.node after.disk
-  pub issues : (before after : World Provider) → Asks IsProviders asked before after → IssuesOnlyToUsers asked before after
+      → StepsOnDisk asked.node asked.disk asked.request asked.now
+      (Rose before.disk_faults after.disk_faults) asked.answer after.node after.disk
+  pub issues : (before after : World Provider) → Asks IsProviders asked before after
+      → IssuesOnlyToUsers asked before after
   pub ends : (before after : World Provider) → Asks IsProviders asked before after → EndsExactly asked before after
   pub added : (before after : World Provider) → Asks IsProviders asked before after → AddsOnlyItsOwn asked
 
@@ -97,33 +118,47 @@ abbrev pub EachGoesExactly : List (Turn Provider) → Type 0
 EachGoesExactly [] = Unit {0}
 EachGoesExactly (turn ∷ past) = AllByRecursion GoesExactly (asked_by turn) × EachGoesExactly past
 
--- A run that served nothing, or one that served: each request issued Assertions to users alone, was answered once its record was durable,
--- and ended sessions exactly; and where the disk tells, what the answers acknowledged is in the history of every ledger that a crash may
--- leave behind the run, and in none of these a session lives that one of the answers ended, or that was ended at the start; from each point
--- of the run on, also inside later requests, what was acknowledged by then is in the history of every ledger that a crash might leave; and a
--- session that is ended is live at no later request, and in no ledger that a crash may leave since. `left` says of each moment, seen from the
+-- A run that served nothing, or one that served: each request issued Assertions to users alone, was answered once its
+-- record was durable,
+-- and ended sessions exactly; and where the disk tells, what the answers acknowledged is in the history of every ledger
+-- that a crash may
+-- leave behind the run, and in none of these a session lives that one of the answers ended, or that was ended at the
+-- start; from each point
+-- of the run on, also inside later requests, what was acknowledged by then is in the history of every ledger that a
+-- crash might leave; and a
+-- session that is ended is live at no later request, and in no ledger that a crash may leave since. `left` says of each
+-- moment, seen from the
 -- end of the run, what a crash since then might have left.
-pub data Headline (left : ℕ → Image → Type 0) (told : Option (List File)) (file : List ℕ) (before : Outside) (turns : List (Turn Provider)) (after : Outside) : Type 0 where
+pub data Headline (left : ℕ → Image → Type 0) (told : Option (List File)) (file : List ℕ) (before : Outside)
+    (turns : List (Turn Provider)) (after : Outside) : Type 0 where
   ServedNothing : turns ≡ [] → Headline left told file before turns after
-  ServedSo : (provider last : Provider) (opened : Outside) (budget : ℕ) (served : Result Served ServeFault) → Begins told file before provider opened
-      → (serves : node_serving.Serves IsProviders StepLeaves left budget turns (world_of provider opened) served (world_of last after))
+  ServedSo : (provider last : Provider) (opened : Outside) (budget : ℕ) (served : Result Served ServeFault)
+      → Begins told file before provider opened
+      → (serves : node_serving.Serves IsProviders StepLeaves left budget turns (world_of provider opened) served
+      (world_of last after))
       → EachGoesExactly turns
       → (IsSome before.disk → AreKept (world_of provider opened) (world_of last after) turns)
-      → (IsSome before.disk → AreKeptSince idp_rules Answers left (world_of provider opened) turns serves.kept serves.last serves.run)
+      → (IsSome before.disk → AreKeptSince idp_rules Answers left
+      (world_of provider opened) turns serves.kept serves.last serves.run)
       → (IsSome before.disk → StayEnded (points (world_of provider opened) turns (world_of last after)))
       → Headline left told file before turns after
 
 -- The headline holds of each run.
 abbrev pub ARunCarriesTheHeadline : (left : ℕ → Image → Type 0) → Type 0
 ARunCarriesTheHeadline left =
-    (told : Option (List File)) (file : List ℕ) (budget : ℕ) (before : Outside) (turns : List (Turn Provider)) (result : Result Ended RunFault) (after : Outside)
+    (told : Option (List File)) (file : List ℕ) (budget : ℕ) (before : Outside) (turns : List (Turn Provider))
+    (result : Result Ended RunFault) (after : Outside)
     → Runs left told file budget before turns result after → Headline left told file before turns after
 
--- A run that served, on a disk that tells, is a start of the provider: its ledger was opened from what the disk held, and then its turns
--- were done. So what several runs acknowledged, each on what a crash of the one before it may have left, is kept, and what is ended stays
+-- A run that served, on a disk that tells, is a start of the provider: its ledger was opened from what the disk held,
+-- and then its turns
+-- were done. So what several runs acknowledged, each on what a crash of the one before it may have left, is kept, and
+-- what is ended stays
 -- so, by the laws of starts.
 abbrev pub ARunIsAStart : Type 0
 ARunIsAStart =
-    (told : Option (List File)) (file : List ℕ) (before opened : Outside) (provider : Provider) (turns : List (Turn Provider)) (kept : Table) (behind : World Provider)
-    → IsSome before.disk → Begins told file before provider opened → Run IsProviders (world_of provider opened) turns kept behind
+    (told : Option (List File)) (file : List ℕ) (before opened : Outside) (provider : Provider)
+    (turns : List (Turn Provider)) (kept : Table) (behind : World Provider)
+    → IsSome before.disk → Begins told file before provider opened
+    → Run IsProviders (world_of provider opened) turns kept behind
     → IsServed idp_rules Answers before.disk (world_of provider opened) turns kept behind

@@ -7,6 +7,7 @@ use Rattle.idp_server.specs.Step.{Answers}
 use Rattle.idp_setup.specs.Setup.{IsSetUp, IsBadSetUp}
 use Rattle.idp_runs.specs.Runs.{key}
 
--- From each image that a crash at a moment of a run may leave a later start goes on, as behind a start of this run that was cut there.
+-- From each image that a crash at a moment of a run may leave a later start goes on, as behind a start of this run that
+-- was cut there.
 abbrev pub EachImageOfARunGoesOn : (left : ℕ → Image → Type 0) → Type 0
 EachImageOfARunGoesOn left = any.EachImageOfARunGoesOn IsSetUp IsBadSetUp key idp_rules Answers left

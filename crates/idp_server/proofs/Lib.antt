@@ -19,3 +19,4 @@ mod Signed
 pub mod Walks
 mod Starts
 mod Starving
+mod Staying

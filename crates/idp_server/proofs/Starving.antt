@@ -16,28 +16,50 @@ use Rattle.idp_server.specs.Step as steps
 use Rattle.idp_server.specs.Step.{Answers}
 
 -- no code stands for a record
-no_code : (setup : IdpConfig) (held : Held) (request : Request) (now code : ℕ) (answer : Answer) (adds : Option IdpRecord) (r : IdpRecord) → answer ≡ Fixed code → adds ≡ Some r
+no_code : (setup : IdpConfig) (held : Held) (request : Request) (now code : ℕ) (answer : Answer)
+    (adds : Option IdpRecord) (r : IdpRecord) → answer ≡ Fixed code → adds ≡ Some r
     → Answers setup held request now answer adds → ⊥
 no_code setup held request now code answer adds r is some (steps.ByStatus status to what none) = absurd (cc)
 no_code setup held request now code answer adds r is some (steps.ByMetadata to what none) = absurd (cc)
 no_code setup held request now code answer adds r is some (steps.ByVerdict verdict to refused what none) = absurd (cc)
-no_code setup held request now code answer adds r is some (steps.ByIssuing asked peer row issued bytes to asks of live made adding page what) = absurd (cc)
-no_code setup held request now code answer adds r is some (steps.ByPassive asked peer message bytes to asks of none passive adding id page what) = absurd (cc)
-no_code setup held request now code answer adds r is some (steps.ByAsking asked peer id to asks of none passive adding first what) = absurd (cc)
+no_code setup held request now code answer adds r is some
+    (steps.ByIssuing asked peer row issued bytes to asks of live made adding page what) =
+    absurd (cc)
+no_code setup held request now code answer adds r is some
+    (steps.ByPassive asked peer message bytes to asks of none passive adding id page what) =
+    absurd (cc)
+no_code setup held request now code answer adds r is some
+    (steps.ByAsking asked peer id to asks of none passive adding first what) =
+    absurd (cc)
 no_code setup held request now code answer adds r is some (steps.ByFields to none what nothing) = absurd (cc)
 no_code setup held request now code answer adds r is some (steps.ByNoPending t to types none what nothing) = absurd (cc)
-no_code setup held request now code answer adds r is some (steps.ByPassword t row peer to types pends none what nothing) = absurd (cc)
-no_code setup held request now code answer adds r is some (steps.ByLogin t row peer user issued bytes to types pends checked made adding page what) = absurd (cc)
+no_code setup held request now code answer adds r is some
+    (steps.ByPassword t row peer to types pends none what nothing) =
+    absurd (cc)
+no_code setup held request now code answer adds r is some
+    (steps.ByLogin t row peer user issued bytes to types pends checked made adding page what) =
+    absurd (cc)
 no_code setup held request now code answer adds r is some (steps.ByNoSession to none what nothing) = absurd (cc)
-no_code setup held request now code answer adds r is some (steps.ByLeaving row left bytes to live made adding page what) = absurd (cc)
-no_code setup held request now code answer adds r is some (steps.ByLogoutVerdict verdict to refused what none) = absurd (cc)
-no_code setup held request now code answer adds r is some (steps.ByNothingToEnd asked peer relay to asks empty what none) = absurd (cc)
-no_code setup held request now code answer adds r is some (steps.ByEnding asked peer relay ended bytes to asks some_end made adding page what) = absurd (cc)
-no_code setup held request now code answer adds r is some (steps.ByUnknownLogout response to replies none what nothing) = absurd (cc)
-no_code setup held request now code answer adds r is some (steps.ByConfirming response to replies awaited adding what) = absurd (cc)
+no_code setup held request now code answer adds r is some
+    (steps.ByLeaving row left bytes to live made adding page what) =
+    absurd (cc)
+no_code setup held request now code answer adds r is some (steps.ByLogoutVerdict verdict to refused what none) =
+    absurd (cc)
+no_code setup held request now code answer adds r is some
+    (steps.ByNothingToEnd asked peer relay to asks empty what none) =
+    absurd (cc)
+no_code setup held request now code answer adds r is some
+    (steps.ByEnding asked peer relay ended bytes to asks some_end made adding page what) =
+    absurd (cc)
+no_code setup held request now code answer adds r is some (steps.ByUnknownLogout response to replies none what nothing)
+    =
+    absurd (cc)
+no_code setup held request now code answer adds r is some (steps.ByConfirming response to replies awaited adding what) =
+    absurd (cc)
 
 codes_add_nothing : CodesAddNothing Answers
-codes_add_nothing setup held request now code r answers = no_code setup held request now code (Fixed code) (Some r) r refl refl answers
+codes_add_nothing setup held request now code r answers =
+    no_code setup held request now code (Fixed code) (Some r) r refl refl answers
 
 alike_itself : (now : ℕ) (held : Held) → AnswerAlike now held held
 alike_itself now held = record {
@@ -49,9 +71,12 @@ alike_itself now held = record {
   waiting = λ request. refl;
 }
 
-alike_behind : CompactionsChangeNoAnswer → (now : ℕ) (old new : Held) → AreRecords old.records → IsSameOrCompacted idp_rules now old new → AnswerAlike now new old
-alike_behind law now old new are (inl same) = subst (λ (h : Held). AnswerAlike now h old) (sym same) (alike_itself now old)
-alike_behind law now old new are (inr (inl (last, same))) = subst (λ (h : Held). AnswerAlike now h old) (sym same) (alike_itself now old)
+alike_behind : CompactionsChangeNoAnswer → (now : ℕ) (old new : Held) → AreRecords old.records
+    → IsSameOrCompacted idp_rules now old new → AnswerAlike now new old
+alike_behind law now old new are (inl same) =
+    subst (λ (h : Held). AnswerAlike now h old) (sym same) (alike_itself now old)
+alike_behind law now old new are (inr (inl (last, same))) =
+    subst (λ (h : Held). AnswerAlike now h old) (sym same) (alike_itself now old)
 alike_behind law now old new are (inr (inr (less, made))) = law now now old new are made (omega arith)
 
 pub stays_visible : CompactionsChangeNoAnswer → WhatIsVisibleStays

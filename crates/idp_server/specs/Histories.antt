@@ -13,7 +13,7 @@ use Rattle.idp_ledger.specs.Ledger.{Held, ledger_in, taken}
 use Rattle.idp_ledger.specs.Record.{AreRecords, idp_rules, is_unended}
 use Rattle.idp_ledger.specs.RowsOf.{ends, rows_of}
 use Rattle.node_steps.specs.Histories as any
-use Rattle.node_steps.specs.Histories.{AreAcknowledged, HoldsWhatCame, IsAtStart}
+use Rattle.node_steps.specs.Histories.{AreAcknowledged, HoldsWhatCame, IsAtStart, moments_of}
 use Rattle.node_steps.specs.Points.{AClosedSessionStaysClosed, Point, StayClosed, points}
 use Rattle.node_steps.specs.Starts.{AreKeptOver, AreStarts, LeftBehind, Start}
 use Rattle.idp_server.specs.Step.{Provider, Answers}
@@ -48,7 +48,7 @@ HoldsItDead cookie image = (held : Held) × (ledger_in image ≡ Ok (Some held))
 pub record AreKept (first last : World Provider) (turns : List (Turn Provider)) : Type 0 where
   pub records : List IdpRecord
   pub are : AreAcknowledged Answers turns records
-  pub kept : (image : Image) → Leaves last.disk image → HoldsWhatCame idp_rules first.node.ledger.held records image
+  pub kept : (image : Image) → Leaves last.disk image → HoldsWhatCame idp_rules (Contains (moments_of turns)) first.node.ledger.held records image
   pub ended : (r : IdpRecord) (cookie : List ℕ) → Contains records r → ends cookie r ≡ true → (image : Image) → Leaves last.disk image
       → HoldsItDead cookie image
   pub stays : (cookie : List ℕ) → IsEnded first.node.ledger.held cookie → (image : Image) → Leaves last.disk image → HoldsItDead cookie image

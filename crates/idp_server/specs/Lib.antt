@@ -9,3 +9,4 @@ pub mod Logouts
 pub mod Views
 pub mod Examples
 pub mod Starving
+pub mod Staying

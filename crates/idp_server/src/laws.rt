@@ -3,6 +3,7 @@ ghost use Rattle.idp_server.specs.Issues.{AnswersHaveUsers, ServicesHaveUsers, W
 ghost use Rattle.idp_server.specs.Histories.{AnEndedSessionStaysEnded, SessionsStayEndedInAService, SessionsStayEndedOverStarts, WhatIsAcknowledgedIsKept, WhatIsAcknowledgedIsKeptOverStarts};
 ghost use Rattle.idp_server.specs.Logouts.{AnswersEndExactly, ServicesEndExactly, WhatIsAnsweredToALogoutIsRecorded, WhereverAPeerEnds, WhereverAUserLeaves};
 ghost use Rattle.idp_server.specs.Signed.{EachSignedElementIsOfARecord};
+ghost use Rattle.idp_server.specs.Staying.{SessionsStayInAService, SessionsStayOverStarts, WhatWasBegunIsAsLeft};
 ghost use Rattle.idp_server.specs.Starving.{WhatIsVisibleStays};
 
 /// Each Assertion that is issued has a password or a session: it answers a login that was pending and not used, for a user whose
@@ -92,4 +93,30 @@ pub fn what_is_visible_stays()
     ensures { WhatIsVisibleStays }
 {
     idp_ledger::laws::compactions_change_no_answer();
+}
+
+/// A session whose answer went out is as it was left in each ledger that came from the one at the start by events, among them its
+/// record's: where it ends behind each moment at which the ledger was compacted it has its row, ended only where a record that was added
+/// since ends it, and it is found live until then and until its end.
+pub fn what_was_begun_is_as_left()
+    ensures { WhatWasBegunIsAsLeft }
+{
+    idp_ledger::laws::sessions_stay();
+}
+
+/// Over each list of events, moments, disk faults and openings: each session whose answer went out is as it was left in every image
+/// that a crash may leave.
+pub fn sessions_stay_in_a_service()
+    ensures { SessionsStayInAService }
+{
+    idp_ledger::laws::images_hold_records();
+    idp_ledger::laws::sessions_stay();
+}
+
+/// And over each list of starts, of which each opens what a crash of the one before it may have left.
+pub fn sessions_stay_over_starts()
+    ensures { SessionsStayOverStarts }
+{
+    idp_ledger::laws::images_hold_records();
+    idp_ledger::laws::sessions_stay();
 }

@@ -18,7 +18,8 @@ use Rattle.record_ledger.specs.Laws.{ImagesHoldRecords}
 use Rattle.record_ledger.specs.Rules.{RecordRules}
 use Rattle.node_runs.proofs.Kept.{is_a_start}
 
-module _ {Setup R : Type 0} (SetsUp : SetUpBy Setup) (IsBad : BadSetUpBy) (key : Setup → List ℕ) (rules : RecordRules R) (Answers : AnswersBy Setup R)
+module _ {Setup R : Type 0} (SetsUp : SetUpBy Setup) (IsBad : BadSetUpBy) (key : Setup → List ℕ)
+    (rules : RecordRules R) (Answers : AnswersBy Setup R)
     (hold : ImagesHoldRecords rules) (left : ℕ → Image → Type 0) where
   -- a run did nothing, or it served
   abbrev Ran : Option (List File) → List ℕ → Outside → List (Turn (Provider Setup R)) → Type 0
@@ -27,8 +28,10 @@ module _ {Setup R : Type 0} (SetsUp : SetUpBy Setup) (IsBad : BadSetUpBy) (key :
       ⊎ ((first last : World (Provider Setup R)) × (kept : Table) × IsBegun SetsUp key rules told file before first
       × IsServed rules Answers before.disk first turns kept last)
 
-  ran : (told : Option (List File)) (file : List ℕ) (budget : ℕ) (before : Outside) (turns : List (Turn (Provider Setup R))) (result : Result Ended RunFault) (after : Outside)
-      → IsSome before.disk → Runs SetsUp IsBad key rules Answers left told file budget before turns result after → Ran told file before turns
+  ran : (told : Option (List File)) (file : List ℕ) (budget : ℕ) (before : Outside)
+      (turns : List (Turn (Provider Setup R))) (result : Result Ended RunFault) (after : Outside)
+      → IsSome before.disk → Runs SetsUp IsBad key rules Answers left told file budget before turns result after
+      → Ran told file before turns
   ran told file budget before turns result after tells (BadSetUp bad line is e bare same) = inl bare
   ran told file budget before turns result after tells (NotSetUp why bare same) = inl bare
   ran told file budget before turns result after tells (NotOpened why bare same) = inl bare
@@ -38,10 +41,12 @@ module _ {Setup R : Type 0} (SetsUp : SetUpBy Setup) (IsBad : BadSetUpBy) (key :
     serves.last,
     serves.kept,
     record { provider = node; opened = opened; begins = begins; is = refl },
-    is_a_start SetsUp key rules Answers hold told file before opened node tells begins turns serves.kept serves.last serves.run,
+    is_a_start SetsUp key rules Answers hold told file before opened node tells begins turns serves.kept serves.last
+        serves.run,
   )
 
   pub each_image_of_a_run_goes_on : EachImageOfARunGoesOn SetsUp IsBad key rules Answers left
   each_image_of_a_run_goes_on told file budget before turns result after start earlier image runs were next might =
-      each_image_goes_on rules Answers (IsBegun SetsUp key rules told file before) start earlier before.disk turns image were next
+      each_image_goes_on rules Answers (IsBegun SetsUp key rules told file before) start earlier before.disk turns
+      image were next
       (ran told file budget before turns result after next.tells runs) might

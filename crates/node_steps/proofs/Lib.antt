@@ -10,5 +10,6 @@ pub mod Added
 pub mod Starving
 pub mod Joining
 pub mod Lasting
+pub mod Staying
 pub mod Replying
 pub mod Drafting

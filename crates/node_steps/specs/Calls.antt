@@ -1,4 +1,5 @@
--- Which changing calls a step makes on its disk: those of an opening, of one compaction and of one commit, all of them or a beginning.
+-- Which changing calls a step makes on its disk: those of an opening, of one compaction and of one commit, all of them
+-- or a beginning.
 use Rattle.std.specs.Prelude.{◌≡◌, ◌⊎◌, ℕ, List, [], Option, IfSome, IsSomeAnd, Result, Ok, Err}
 use Rattle.crash_disk.specs.declared.change.Change.{Change}
 use Rattle.crash_disk.specs.Disk.{Image, DiskState}
@@ -27,28 +28,34 @@ abbrev pub no_call : DiskState → List Change
 no_call disk = []
 
 module _ {R : Type 0} (rules : RecordRules R) where
-  -- One compaction of a ledger at a moment: it ended; it was begun; a crash amid it. At the last generation it makes no call.
+  -- One compaction of a ledger at a moment: it ended; it was begun; a crash amid it. At the last generation it makes no
+  -- call.
   abbrev pub MakesCompaction : (now : ℕ) → Held R → (told later : Option DiskState) → Type 0
   MakesCompaction now found told later =
-      Makes no_call told later ⊎ ((made : Held R) × IsCompacted rules now found made × Makes (compacting rules made) told later)
+      Makes no_call told later ⊎ ((made : Held R) × IsCompacted rules now found made × Makes (compacting rules made)
+      told later)
 
   abbrev pub BeginsCompaction : (now : ℕ) → Held R → (told later : Option DiskState) → Type 0
   BeginsCompaction now found told later =
-      Begins no_call told later ⊎ ((made : Held R) × IsCompacted rules now found made × Begins (compacting rules made) told later)
+      Begins no_call told later ⊎ ((made : Held R) × IsCompacted rules now found made × Begins (compacting rules made)
+      told later)
 
   abbrev pub IsAmidCompaction : (now : ℕ) → Held R → (told : Option DiskState) → Image → Type 0
   IsAmidCompaction now found told image =
-      IsAmid no_call told image ⊎ ((made : Held R) × IsCompacted rules now found made × IsAmid (compacting rules made) told image)
+      IsAmid no_call told image ⊎ ((made : Held R) × IsCompacted rules now found made × IsAmid (compacting rules made)
+      told image)
 
   -- as far as its answer says
-  abbrev pub CompactionCalls : (now : ℕ) → Held R → (told later : Option DiskState) → Result (Unit {0}) OpenFault → Type 0
+  abbrev pub CompactionCalls : (now : ℕ) → Held R → (told later : Option DiskState) → Result (Unit {0}) OpenFault
+      → Type 0
   CompactionCalls now found told later (Ok done) = MakesCompaction now found told later
   CompactionCalls now found told later (Err NoMemory) = later ≡ told
   CompactionCalls now found told later (Err fault) = BeginsCompaction now found told later
 
   -- WHAT A CRASH LEAVES
 
-  -- inside an opening: what the disk stood for, or what is opened from it, and no more than amid the calls of an opening
+  -- inside an opening: what the disk stood for, or what is opened from it, and no more than amid the calls of an
+  -- opening
   pub record OpeningLeaves (told : Option DiskState) (image : Image) : Type 0 where
     pub stands : LeftByOpening rules told image
     pub amid : IsAmid (opening rules) told image

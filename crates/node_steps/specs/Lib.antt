@@ -11,3 +11,4 @@ pub mod Added
 pub mod Starving
 pub mod Joining
 pub mod Lasting
+pub mod Staying

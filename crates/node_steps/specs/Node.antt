@@ -17,27 +17,35 @@ use Rattle.node_steps.specs.Step.{Provider, IsWhole, IsBroken}
 abbrev pub MayOpen : {R : Type 0} → RecordRules R → Option DiskState → Type 0
 MayOpen rules told = IfSome told (λ disk. (image : Image) → MayLeave disk image → IsOk (ledger_in rules image))
 
--- A restart opens the ledger of the disk again, in the words of its ledger: at an error it is broken, and else whole. It makes the changing
+-- A restart opens the ledger of the disk again, in the words of its ledger: at an error it is broken, and else whole.
+-- It makes the changing
 -- calls of an opening, all of them or, at an error, a beginning.
-pub record Restarts {Setup R : Type 0} (rules : RecordRules R) (old : Provider Setup R) (disk : Option DiskState) (result : Result (Unit {0}) OpenFault)
+pub record Restarts {Setup R : Type 0} (rules : RecordRules R) (old : Provider Setup R) (disk : Option DiskState)
+    (result : Result (Unit {0}) OpenFault)
     (new : Provider Setup R) (later : Option DiskState) : Type 0 where
   pub setup : new.setup ≡ old.setup
   pub key : new.ledger.key ≡ old.ledger.key
-  pub gives : IfSome disk (λ d. Gives (λ _. new.ledger.held) open_fault_of result (taken (ledger_in rules (image_of d))))
+  pub gives : IfSome disk (λ d. Gives (λ _. new.ledger.held) open_fault_of result
+      (taken (ledger_in rules (image_of d))))
   pub whole : OnOk result (new.ledger.broken ≡ false)
   pub fails : OnErr result ((new.ledger.held ≡ old.ledger.held) × (new.ledger.broken ≡ true))
   pub calls : IfSome disk (λ d. IsSomeAnd later (IsCarriedOut result (opening rules d) d))
 
--- What a compaction does to the ledger that it finds: it is made anew; there was no memory, and it stays; the disk failed, and
+-- What a compaction does to the ledger that it finds: it is made anew; there was no memory, and it stays; the disk
+-- failed, and
 -- it is broken.
-pub data CompactsFound {Setup R : Type 0} (rules : RecordRules R) (now : ℕ) (found : Held R) (result : Result (Unit {0}) OpenFault)
+pub data CompactsFound {Setup R : Type 0} (rules : RecordRules R) (now : ℕ) (found : Held R)
+    (result : Result (Unit {0}) OpenFault)
     (old new : Provider Setup R) : Type 0 where
-  MadeAnew : (held : Held R) → result ≡ Ok tt → Compacts rules now found held → IsWhole old new held → CompactsFound rules now found result old new
+  MadeAnew : (held : Held R) → result ≡ Ok tt → Compacts rules now found held → IsWhole old new held
+      → CompactsFound rules now found result old new
   Stays : result ≡ Err NoMemory → IsWhole old new found → CompactsFound rules now found result old new
   Fails : result ≡ Err DiskFault → IsBroken old new → CompactsFound rules now found result old new
 
--- What a compaction of a provider does, and which changing calls it makes. A ledger that is broken is opened again first.
-pub data CompactionOf {Setup R : Type 0} (rules : RecordRules R) (old : Provider Setup R) (disk : Option DiskState) (now : ℕ)
+-- What a compaction of a provider does, and which changing calls it makes. A ledger that is broken is opened again
+-- first.
+pub data CompactionOf {Setup R : Type 0} (rules : RecordRules R) (old : Provider Setup R) (disk : Option DiskState)
+    (now : ℕ)
     (result : Result (Unit {0}) OpenFault) (new : Provider Setup R) (later : Option DiskState) : Type 0 where
   OfLedger : old.ledger.broken ≡ false → CompactsFound rules now old.ledger.held result old new
       → CompactionCalls rules now old.ledger.held disk later result → CompactionOf rules old disk now result new later
@@ -48,10 +56,13 @@ pub data CompactionOf {Setup R : Type 0} (rules : RecordRules R) (old : Provider
   NotBegun : old.ledger.broken ≡ true → Restarts rules old disk result new later → new.ledger.broken ≡ true
       → CompactionOf rules old disk now result new later
 
--- What a crash inside a compaction may leave: the ledger that it finds, or that made anew, amid its calls; and while a broken one is opened
+-- What a crash inside a compaction may leave: the ledger that it finds, or that made anew, amid its calls; and while a
+-- broken one is opened
 -- again what a restart may leave.
-pub data CompactionLeaves {Setup R : Type 0} (rules : RecordRules R) (old : Provider Setup R) (disk : Option DiskState) (now : ℕ) (image : Image) : Type 0 where
-  InCompaction : old.ledger.broken ≡ false → CompactingLeaves rules now old.ledger.held disk image → CompactionLeaves rules old disk now image
+pub data CompactionLeaves {Setup R : Type 0} (rules : RecordRules R) (old : Provider Setup R) (disk : Option DiskState)
+    (now : ℕ) (image : Image) : Type 0 where
+  InCompaction : old.ledger.broken ≡ false → CompactingLeaves rules now old.ledger.held disk image
+      → CompactionLeaves rules old disk now image
   InCompactionOfOpened : (found : Held R) (opened : Option DiskState) → old.ledger.broken ≡ true
       → IfSome disk (λ d. taken (ledger_in rules (image_of d)) ≡ Ok found) → Makes (opening rules) disk opened
       → CompactingLeaves rules now found opened image → CompactionLeaves rules old disk now image

@@ -1,4 +1,5 @@
--- What stays over from point to point of a service: a session that is closed in the ledger at one point is over at each later one.
+-- What stays over from point to point of a service: a session that is closed in the ledger at one point is over at each
+-- later one.
 use Rattle.std.specs.Prelude.{◌≡◌, ℕ, false, List, [], ◌∷◌, ◌++◌, map, Option, Some, Ok}
 use Rattle.std.specs.List.{AllByRecursion}
 use Rattle.crash_disk.specs.Disk.{Image, DiskState}
@@ -33,24 +34,31 @@ abbrev pub points : {N : Type 0} → World N → List (Turn N) → World N → L
 points first turns last = point_in last ∷ points_asked first turns
 
 -- at a point the provider's ledger is whole, and the session of this token is closed in it
-pub record IsClosedAt {Setup R : Type 0} (IsClosed : Held R → List ℕ → Type 0) (token : List ℕ) (point : Point (Provider Setup R)) : Type 0 where
+pub record IsClosedAt {Setup R : Type 0} (IsClosed : Held R → List ℕ → Type 0) (token : List ℕ)
+    (point : Point (Provider Setup R)) : Type 0 where
   pub whole : point.node.ledger.broken ≡ false
   pub closed : IsClosed point.node.ledger.held token
 
 -- at a point no session of this token lives in the provider's ledger, nor in one that a crash may leave there
-pub record IsOverAt {Setup R : Type 0} (rules : RecordRules R) (IsOver : Held R → List ℕ → Type 0) (token : List ℕ) (point : Point (Provider Setup R)) : Type 0 where
+pub record IsOverAt {Setup R : Type 0} (rules : RecordRules R) (IsOver : Held R → List ℕ → Type 0) (token : List ℕ)
+    (point : Point (Provider Setup R)) : Type 0 where
   pub in_ledger : point.node.ledger.broken ≡ false → IsOver point.node.ledger.held token
-  pub on_disk : (image : Image) (held : Held R) → Leaves point.disk image → ledger_in rules image ≡ Ok (Some held) → IsOver held token
+  pub on_disk : (image : Image) (held : Held R) → Leaves point.disk image → ledger_in rules image ≡ Ok (Some held)
+      → IsOver held token
 
--- `IsClosed` says that the session of a token is closed in a ledger, `IsOver` that none of it lives there at any moment.
+-- `IsClosed` says that the session of a token is closed in a ledger, `IsOver` that none of it lives there at any
+-- moment.
 module _ {Setup R : Type 0} (rules : RecordRules R) (IsClosed IsOver : Held R → List ℕ → Type 0) where
   -- a session that is closed at one point is over at each later one; the latest comes first
   abbrev pub StayClosed : List (Point (Provider Setup R)) → Type 0
   StayClosed [] = Unit {0}
   StayClosed (point ∷ earlier) =
-      AllByRecursion (λ before. (token : List ℕ) → IsClosedAt IsClosed token before → IsOverAt rules IsOver token point) earlier × StayClosed earlier
+      AllByRecursion (λ before. (token : List ℕ) → IsClosedAt IsClosed token before → IsOverAt rules IsOver token
+      point) earlier × StayClosed earlier
 
 -- A session that is closed is over since, whatever is recorded, compacted and opened.
-abbrev pub AClosedSessionStaysClosed : {R : Type 0} → RecordRules R → (IsClosed IsOver : Held R → List ℕ → Type 0) → Type 0
+abbrev pub AClosedSessionStaysClosed : {R : Type 0} → RecordRules R → (IsClosed IsOver : Held R → List ℕ → Type 0)
+    → Type 0
 AClosedSessionStaysClosed {R} rules IsClosed IsOver =
-    (start held : Held R) (events : List (Event R)) (token : List ℕ) → AreRecords rules start.records → IsClosed start token → Leads rules start events held → IsOver held token
+    (start held : Held R) (events : List (Event R)) (token : List ℕ) → AreRecords rules start.records → IsClosed start
+    token → Leads rules start events held → IsOver held token

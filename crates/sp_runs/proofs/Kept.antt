@@ -8,6 +8,7 @@ use Rattle.request_ledger.specs.Record.{request_rules}
 use Rattle.request_ledger.specs.Laws.{ImagesHoldRecords}
 use Rattle.sp_server.specs.Step.{Provider, Answers, StepLeaves}
 use Rattle.sp_server.specs.Histories.{IsProviders, WhatIsAcknowledgedIsKeptOnce}
+use Rattle.sp_server.specs.Staying.{SessionsStay, SessionsStayInAService}
 use Rattle.sp_server.proofs.Histories.{draws_above}
 use Rattle.node_serve.specs.declared.served.Served.{Served}
 use Rattle.node_serve.specs.declared.served.ServeFault.{ServeFault}
@@ -44,6 +45,22 @@ pub kept_ever_since : ImagesHoldRecords → (left : ℕ → Image → Type 0) (t
     → AreKeptSince request_rules Answers left (world_of provider opened) turns serves.kept serves.last serves.run
 kept_ever_since hold left told file budget before opened after provider last turns served tells begins serves =
     any.kept_ever_since IsServedBy key request_rules Answers hold told file before opened provider tells begins draws_above left budget after last turns served serves
+
+-- and each session whose answer went out is as it was left
+pub sessions_stay : ImagesHoldRecords → SessionsStayInAService → (told : Option (List File)) (file : List ℕ) (budget : ℕ) (before opened after : Outside) (provider last : Provider)
+    (turns : List (Turn Provider)) (served : Result Served ServeFault)
+    → IsSome before.disk → Begins told file before provider opened → (left : ℕ → Image → Type 0)
+    → Serves IsProviders StepLeaves left budget turns (world_of provider opened) served (world_of last after)
+    → SessionsStay (world_of provider opened) (world_of last after) turns
+sessions_stay hold stay told file budget before opened after provider last turns served tells begins left serves =
+    let is = stay (world_of provider opened) serves.last turns serves.kept (any.started IsServedBy key request_rules Answers hold told file before opened provider tells begins)
+    (any.still_tells IsServedBy key request_rules Answers hold told file before opened provider tells begins) serves.run in
+    let same = at_end budget turns serves.last (world_of last after) served serves.ends in
+    record {
+      records = is.records;
+      are = is.are;
+      stay = λ r image there may. is.stay r image there (subst (λ (d : Option DiskState). Leaves d image) same.1 may);
+    }
 
 pub stay_closed : ImagesHoldRecords → SessionsStayClosedInAService → SessionsStayClosedInARun
 stay_closed hold closed told file budget before opened after provider last turns kept behind served tells begins run ends =

@@ -1,5 +1,7 @@
--- What a run of a service provider comes to: sessions are opened exactly where a posted form opens one, no request opens two, and where
--- only the identity provider makes HMACs that match, each session is a login that it signed; they are closed exactly where their users
+-- What a run of a service provider comes to: sessions are opened exactly where a posted form opens one, no request
+-- opens two, and where
+-- only the identity provider makes HMACs that match, each session is a login that it signed; they are closed exactly
+-- where their users
 -- leave them or the identity provider ends them, and one that is closed is never live again.
 use Rattle.std.specs.Prelude.{◌≡◌, ◌≢◌, ◌≤◌, ◌⊎◌, ℕ, true, false, List, [], ◌∷◌, Contains, Option, IsSome, None, Some, Ok, Result}
 use Rattle.std.specs.List.{AllByRecursion}
@@ -36,14 +38,15 @@ use Rattle.sp_rules.specs.Opening.{Brought}
 use Rattle.sp_server.specs.Histories.{IsProviders, Stands, AreKeptOnce}
 use Rattle.sp_server.specs.Logouts.{EndsOver, IsClosed, IsClosedWith, IsEndedBy, IsLeftBy, LeavesOver, StayClosed}
 use Rattle.sp_server.specs.Recorded.{IsRecorded, TakesPosts}
-use Rattle.sp_server.specs.Routes.{App, To, route, Guard}
-use Rattle.sp_server.specs.Sessions.{GivesSession, HasRoom, IsOpened, OpensOver, record_of}
 use Rattle.sp_server.specs.Guarding.{AsksGuard, IsVouchedAt, TellsExactly}
+use Rattle.sp_server.specs.Routes.{App, Guard, To, route}
+use Rattle.sp_server.specs.Staying.{SessionsStay}
+use Rattle.sp_server.specs.Sessions.{GivesSession, HasRoom, IsOpened, OpensOver}
 use Rattle.node_steps.specs.declared.codes.TheConstants.{NO_MEMORY}
 use Rattle.node_steps.specs.Added.{IsAddedBy, IsNew}
 use Rattle.node_steps.specs.Lasting.{AreKeptSince}
 use Rattle.node_steps.specs.Points.{points}
-use Rattle.sp_server.specs.Step.{Provider, Answers, HasPlace, Serves, StepLeaves, StepsOnDisk, ended_by, ended_record, left_record, session_for, shown_to, REGISTRY_EXPIRED, IsWhole, Steps}
+use Rattle.sp_server.specs.Step.{Provider, Answers, HasPlace, Serves, StepLeaves, StepsOnDisk, ended_by, ended_record, left_record, session_for, shown_to, REGISTRY_EXPIRED, IsWhole}
 use Rattle.node_runs.specs.Runs.{Outside, world_of}
 use Rattle.node_runs.specs.declared.ended.Ended.{Ended}
 use Rattle.node_runs.specs.declared.ended.RunFault.{RunFault}
@@ -53,75 +56,100 @@ use Rattle.sp_runs.specs.Runs.{Begins, Runs, served_by}
 
 -- ---- one request, which the provider was asked in one world, and which left another behind
 
--- A session is recorded, with whatever answer, only where the posted form opens it, and so it is of each record that is added
+-- A session is recorded, with whatever answer, only where the posted form opens it, and so it is of each record that is
+-- added
 -- (`AddsOnlyItsOwn`). And wherever a form does, over the ledger that the step
--- found, where there is room, at once or behind one compaction, and the disk does not fail, the session is recorded and given; or there was
+-- found, where there is room, at once or behind one compaction, and the disk does not fail, the session is recorded and
+-- given; or there was
 -- no memory.
 pub record OpensExactly (asked : Asked Provider) (before after : World Provider) : Type 0 where
-  pub only : (held : Held) (answer : Answer) (r : OpenedRecord) → Answers asked.node.setup held asked.request asked.now answer (Some (kinds.Opened r))
+  pub only : (held : Held) (answer : Answer) (r : OpenedRecord)
+      → Answers asked.node.setup held asked.request asked.now answer (Some (kinds.Opened r))
       → GivesSession asked.node.setup held asked.request asked.now (kinds.Opened r) answer
   pub wherever : (found : Held) (b : Brought) (row : AskedRow)
-      → Serves found asked.request asked.now (Rose before.disk_faults after.disk_faults) asked.answer asked.node after.node
+      → Serves found asked.request asked.now (Rose before.disk_faults after.disk_faults) asked.answer asked.node
+      after.node
       → OpensOver asked.node.setup found asked.request asked.now b row
       → HasRoom asked.node.setup found asked.now b → ¬ (Rose before.disk_faults after.disk_faults)
-      → (asked.answer ≡ Fixed NO_MEMORY) ⊎ IsOpened asked.node.setup found asked.request asked.now b asked.answer after.node.ledger.held
+      → (asked.answer ≡ Fixed NO_MEMORY) ⊎ IsOpened asked.node.setup found asked.request asked.now b asked.answer
+      after.node.ledger.held
 
--- A session is closed, with whatever answer, only by a Left of its token, which a POST to /logout with its cookie adds while it lives, or by an
--- Ended that lists it, which a request with a LogoutRequest of the identity provider that is obeyed adds; nothing else closes one. And
--- wherever one of them does, over the ledger that the step found, where there is room and the disk does not fail, the session is closed
+-- A session is closed, with whatever answer, only by a Left of its token, which a POST to /logout with its cookie adds
+-- while it lives, or by an
+-- Ended that lists it, which a request with a LogoutRequest of the identity provider that is obeyed adds; nothing else
+-- closes one. And
+-- wherever one of them does, over the ledger that the step found, where there is room and the disk does not fail, the
+-- session is closed
 -- behind the step; or there was no memory.
 pub record ClosesExactly (asked : Asked Provider) (before after : World Provider) : Type 0 where
-  pub only_left : (held : Held) (answer : Answer) (r : LeftRecord) → Answers asked.node.setup held asked.request asked.now answer (Some (kinds.Left r))
+  pub only_left : (held : Held) (answer : Answer) (r : LeftRecord)
+      → Answers asked.node.setup held asked.request asked.now answer (Some (kinds.Left r))
       → IsLeftBy asked.node.setup held asked.request asked.now r
-  pub only_ended : (held : Held) (answer : Answer) (r : EndedRecord) → Answers asked.node.setup held asked.request asked.now answer (Some (kinds.Ended r))
+  pub only_ended : (held : Held) (answer : Answer) (r : EndedRecord)
+      → Answers asked.node.setup held asked.request asked.now answer (Some (kinds.Ended r))
       → IsEndedBy asked.node.setup held asked.request asked.now r
   pub nothing_else : (found : Held) (token : List ℕ) (row : OpenedRow) → AreRecords found.records
-      → Serves found asked.request asked.now (Rose before.disk_faults after.disk_faults) asked.answer asked.node after.node → after.node.ledger.broken ≡ false
+      → Serves found asked.request asked.now (Rose before.disk_faults after.disk_faults) asked.answer asked.node
+      after.node → after.node.ledger.broken ≡ false
       → session_row (rows_of found.records).opened token asked.now found.header.horizon ≡ Some row
-      → session_row (rows_of after.node.ledger.held.records).opened token asked.now after.node.ledger.held.header.horizon ≡ None
+      → session_row (rows_of after.node.ledger.held.records).opened token asked.now
+      after.node.ledger.held.header.horizon ≡ None
       → IsClosedWith asked.node.setup found asked.request asked.now asked.answer token
   pub wherever_left : (found : Held) (row : OpenedRow)
-      → Serves found asked.request asked.now (Rose before.disk_faults after.disk_faults) asked.answer asked.node after.node
-      → LeavesOver asked.node.setup found asked.request asked.now row → HasPlace found (left_record asked.node.setup.config found asked.now row.token)
+      → Serves found asked.request asked.now (Rose before.disk_faults after.disk_faults) asked.answer asked.node
+      after.node
+      → LeavesOver asked.node.setup found asked.request asked.now row
+      → HasPlace found (left_record asked.node.setup.config found asked.now row.token)
       → ¬ (Rose before.disk_faults after.disk_faults)
       → (asked.answer ≡ Fixed NO_MEMORY) ⊎ IsClosed after.node.ledger.held row.token
   pub wherever_ended : (found : Held) (message : LogoutRequest) (relay : Option (List ℕ)) (token : List ℕ)
-      → Serves found asked.request asked.now (Rose before.disk_faults after.disk_faults) asked.answer asked.node after.node
-      → EndsOver asked.node.setup asked.request asked.now message relay → is_among token (ended_by asked.node.setup.config found asked.now message) ≡ true
-      → HasPlace found (ended_record asked.node.setup.config found asked.now message) → ¬ (Rose before.disk_faults after.disk_faults)
+      → Serves found asked.request asked.now (Rose before.disk_faults after.disk_faults) asked.answer asked.node
+      after.node
+      → EndsOver asked.node.setup asked.request asked.now message relay
+      → is_among token (ended_by asked.node.setup.config found asked.now message) ≡ true
+      → HasPlace found (ended_record asked.node.setup.config found asked.now message)
+      → ¬ (Rose before.disk_faults after.disk_faults)
       → (asked.answer ≡ Fixed NO_MEMORY) ⊎ IsClosed after.node.ledger.held token
 
--- Each form and each page that is answered to what is posted, and each form that asks for a login, stands for one record, which is in every
+-- Each form and each page that is answered to what is posted, and each form that asks for a login, stands for one
+-- record, which is in every
 -- image that a crash may leave once the provider has answered, before a byte is sent.
 pub record IsRecordedFirst (asked : Asked Provider) (before after : World Provider) : Type 0 where
   pub posted : (bytes : List ℕ) → asked.answer ≡ Full bytes → TakesPosts (route asked.request)
       → IsRecorded asked.node.setup asked.request asked.now (Full bytes) after.disk
   pub requested : (found : Held) (bytes : List ℕ) → asked.answer ≡ Full bytes
-      → Serves found asked.request asked.now (Rose before.disk_faults after.disk_faults) asked.answer asked.node after.node
+      → Serves found asked.request asked.now (Rose before.disk_faults after.disk_faults) asked.answer asked.node
+      after.node
       → route asked.request ≡ To App → session_for found asked.now asked.request ≡ None
       → IsRecorded asked.node.setup asked.request asked.now (Full bytes) after.disk
 
--- Each record that stands in an image which a crash inside the answer may leave, or one behind it, be it behind page 50, and stood nowhere
+-- Each record that stands in an image which a crash inside the answer may leave, or one behind it, be it behind page
+-- 50, and stood nowhere
 -- before is one that the request adds over some ledger with some answer, so that it is of it what is said of these.
 abbrev pub AddsOnlyItsOwn : Asked Provider → Type 0
 AddsOnlyItsOwn asked =
-    (image : Image) (held : Held) (r : SpRecord) → IsSome asked.disk → StepLeaves asked.node asked.disk asked.request asked.now image
+    (image : Image) (held : Held) (r : SpRecord) → IsSome asked.disk → StepLeaves asked.node asked.disk asked.request
+    asked.now image
     → ledger_in image ≡ Ok (Some held) → Contains held.records r → IsNew request_rules asked.node asked.disk r
     → IsAddedBy Answers asked.node.setup asked.request asked.now r
 
--- Each session that is given, with whatever answer, is of a login that was signed: for every list of what an identity provider signed,
+-- Each session that is given, with whatever answer, is of a login that was signed: for every list of what an identity
+-- provider signed,
 -- where no HMAC is forged and no hash collides in the posted form.
 abbrev pub IsOfASignedLogin : Asked Provider → Type 0
 IsOfASignedLogin asked =
     (issued : List Signed) (held : Held) (answer : Answer) (r : SpRecord) → AllByRecursion IsSigned issued
     → Unforged issued asked.node.setup.config asked.now asked.request.body → NoCollision issued asked.request.body
-    → (gives : GivesSession asked.node.setup held asked.request asked.now r answer) → IsLoginOf issued gives.brought.login
+    → (gives : GivesSession asked.node.setup held asked.request asked.now r answer)
+    → IsLoginOf issued gives.brought.login
 
--- Over a ledger that is whole a live session is answered by the page of its user, or by that of the rule of the policy that denies it; or
+-- Over a ledger that is whole a live session is answered by the page of its user, or by that of the rule of the policy
+-- that denies it; or
 -- there was no memory.
 abbrev pub IsShownByItsRow : (asked : Asked Provider) → Type 0
 IsShownByItsRow asked =
-    (row : OpenedRow) → asked.node.ledger.broken ≡ false → route asked.request ≡ To App → session_for asked.node.ledger.held asked.now asked.request ≡ Some row
+    (row : OpenedRow) → asked.node.ledger.broken ≡ false → route asked.request ≡ To App → session_for
+    asked.node.ledger.held asked.now asked.request ≡ Some row
     → (asked.answer ≡ Full (shown_to asked.node.setup.policy asked.request.path row)) ⊎ (asked.answer ≡ Fixed NO_MEMORY)
 
 -- A proxy that asks at /auth is answered 200 exactly where the session of the request's cookie lives at that moment over the ledger that the
@@ -139,10 +167,12 @@ pub record GuardsExactly (asked : Asked Provider) (before after : World Provider
 -- a request is answered by one step, and so it is of it, whatever the worlds are in which the provider was asked
 pub record GoesExactly (asked : Asked Provider) : Type 0 where
   pub steps : (before after : World Provider) → Asks IsProviders asked before after
-      → StepsOnDisk asked.node asked.disk asked.request asked.now (Rose before.disk_faults after.disk_faults) asked.answer after.node after.disk
+      → StepsOnDisk asked.node asked.disk asked.request asked.now
+      (Rose before.disk_faults after.disk_faults) asked.answer after.node after.disk
   pub opens : (before after : World Provider) → Asks IsProviders asked before after → OpensExactly asked before after
   pub closes : (before after : World Provider) → Asks IsProviders asked before after → ClosesExactly asked before after
-  pub recorded : (before after : World Provider) → Asks IsProviders asked before after → IsRecordedFirst asked before after
+  pub recorded : (before after : World Provider) → Asks IsProviders asked before after
+      → IsRecordedFirst asked before after
   pub guards : (before after : World Provider) → Asks IsProviders asked before after → GuardsExactly asked before after
   pub signed : IsOfASignedLogin asked
   pub added : (before after : World Provider) → Asks IsProviders asked before after → AddsOnlyItsOwn asked
@@ -155,43 +185,64 @@ EachGoesExactly (turn ∷ past) = AllByRecursion GoesExactly (asked_by turn) × 
 
 -- ---- its files
 
--- A run keeps to what its config says: where this has a registry, the identity provider is the one that the registry lists; each request
--- is served by what the run was set up with; from the moment on at which the registry ends nothing is recorded, no login is asked for, no
+-- A run keeps to what its config says: where this has a registry, the identity provider is the one that the registry
+-- lists; each request
+-- is served by what the run was set up with; from the moment on at which the registry ends nothing is recorded, no
+-- login is asked for, no
 -- session is opened and no logout is served; and without a registry it is never answered that one has ended.
-pub record KeepsToItsConfig (told : Option (List File)) (file : List ℕ) (before : Outside) (provider : Provider) (opened : Outside)
+pub record KeepsToItsConfig (told : Option (List File)) (file : List ℕ) (before : Outside) (provider : Provider)
+    (opened : Outside)
     (begins : Begins told file before provider opened) (turns : List (Turn Provider)) : Type 0 where
   pub tells : (line : RegistryLine) → Contains begins.set_up.lines.files (Registry line)
       → IsFromRegistry told line begins.set_up.setup × (provider.setup ≡ served_by begins.set_up.setup)
-  pub same : (asked : Asked Provider) → Contains (asked_in turns) asked → asked.node.setup ≡ served_by begins.set_up.setup
-  pub ends : (asked : Asked Provider) (until : ℕ) (r : SpRecord) → begins.set_up.setup.expiry ≡ Some until → Contains (asked_in turns) asked
+  pub same : (asked : Asked Provider) → Contains (asked_in turns) asked
+      → asked.node.setup ≡ served_by begins.set_up.setup
+  pub ends : (asked : Asked Provider) (until : ℕ) (r : SpRecord) → begins.set_up.setup.expiry ≡ Some until
+      → Contains (asked_in turns) asked
       → until ≤ asked.now → ¬ (Stands asked (Some r))
-  pub asks : (asked : Asked Provider) (until : ℕ) → begins.set_up.setup.expiry ≡ Some until → Contains (asked_in turns) asked → until ≤ asked.now
+  pub asks : (asked : Asked Provider) (until : ℕ) → begins.set_up.setup.expiry ≡ Some until
+      → Contains (asked_in turns) asked → until ≤ asked.now
       → AsksAndOpensNothing (served_by begins.set_up.setup) asked.request asked.answer
-  pub without : (asked : Asked Provider) → ((line : RegistryLine) → ¬ (Contains begins.set_up.lines.files (Registry line)))
+  pub without : (asked : Asked Provider) → ((line : RegistryLine) → ¬
+      (Contains begins.set_up.lines.files (Registry line)))
       → Contains (asked_in turns) asked → asked.answer ≢ Fixed REGISTRY_EXPIRED
 
 -- ---- all of it
 
--- A run that served nothing, or one that served: it kept to its config; each request opened and closed sessions exactly, those that it opened of logins that were
--- signed, and was answered once its record was durable; and where the disk tells, what the answers acknowledged is in the history of every
--- ledger that a crash may leave behind the run, no two sessions are of one request, those at the start and those that were let go included;
--- from each point of the run on, also inside later requests, what was acknowledged by then is in the history of every ledger that a crash
--- might leave; and a session that is closed is live at no later request, and in no ledger that a crash may leave since. `left` says of each
+-- A run that served nothing, or one that served: it kept to its config; each request opened and closed sessions
+-- exactly, those that it opened of logins that were
+-- signed, and was answered once its record was durable; and where the disk tells, what the answers acknowledged is in
+-- the history of every
+-- ledger that a crash may leave behind the run, no two sessions are of one request, those at the start and those that
+-- were let go included;
+-- from each point of the run on, also inside later requests, what was acknowledged by then is in the history of every
+-- ledger that a crash
+-- might leave; a session that is closed is live at no later request, and in no ledger that a crash may leave since; and
+-- one whose answer went out is as it
+-- was left in every image that a crash may leave behind the run: where it ends behind each moment of the run it lives
+-- there, closed only
+-- where a record that was added since closes it, and its request stays spent while it could be answered. `left` says of
+-- each
 -- moment, seen from the end of the run, what a crash since then might have left.
-pub data Headline (left : ℕ → Image → Type 0) (told : Option (List File)) (file : List ℕ) (before : Outside) (turns : List (Turn Provider)) (after : Outside) : Type 0 where
+pub data Headline (left : ℕ → Image → Type 0) (told : Option (List File)) (file : List ℕ) (before : Outside)
+    (turns : List (Turn Provider)) (after : Outside) : Type 0 where
   ServedNothing : turns ≡ [] → Headline left told file before turns after
   ServedSo : (provider last : Provider) (opened : Outside) (budget : ℕ) (served : Result Served ServeFault)
       → (begins : Begins told file before provider opened)
-      → (serves : node_serving.Serves IsProviders StepLeaves left budget turns (world_of provider opened) served (world_of last after))
+      → (serves : node_serving.Serves IsProviders StepLeaves left budget turns (world_of provider opened) served
+      (world_of last after))
       → KeepsToItsConfig told file before provider opened begins turns
       → EachGoesExactly turns
       → (IsSome before.disk → AreKeptOnce (world_of provider opened) (world_of last after) turns)
-      → (IsSome before.disk → AreKeptSince request_rules Answers left (world_of provider opened) turns serves.kept serves.last serves.run)
+      → (IsSome before.disk → AreKeptSince request_rules Answers left
+      (world_of provider opened) turns serves.kept serves.last serves.run)
       → (IsSome before.disk → StayClosed (points (world_of provider opened) turns (world_of last after)))
+      → (IsSome before.disk → SessionsStay (world_of provider opened) (world_of last after) turns)
       → Headline left told file before turns after
 
 -- The headline holds of each run.
 abbrev pub ARunCarriesTheHeadline : (left : ℕ → Image → Type 0) → Type 0
 ARunCarriesTheHeadline left =
-    (told : Option (List File)) (file : List ℕ) (budget : ℕ) (before : Outside) (turns : List (Turn Provider)) (result : Result Ended RunFault) (after : Outside)
+    (told : Option (List File)) (file : List ℕ) (budget : ℕ) (before : Outside) (turns : List (Turn Provider))
+    (result : Result Ended RunFault) (after : Outside)
     → Runs left told file budget before turns result after → Headline left told file before turns after

@@ -6,6 +6,7 @@ use Rattle.node_runs.specs.Joining as any
 use Rattle.sp_server.specs.Step.{Answers}
 use Rattle.sp_runs.specs.Runs.{IsServedBy, IsBadFile, key}
 
--- From each image that a crash at a moment of a run may leave a later start goes on, as behind a start of this run that was cut there.
+-- From each image that a crash at a moment of a run may leave a later start goes on, as behind a start of this run that
+-- was cut there.
 abbrev pub EachImageOfARunGoesOn : (left : ℕ → Image → Type 0) → Type 0
 EachImageOfARunGoesOn left = any.EachImageOfARunGoesOn IsServedBy IsBadFile key request_rules Answers left

@@ -71,9 +71,10 @@ pub fn a_session_is_shown_by_its_row()
 /// A run opens sessions exactly where a posted form opens one, each of a login that was signed where only the identity provider
 /// makes HMACs that match, and no two sessions are of one request, wherever a crash stops. It closes sessions exactly where their
 /// users leave them or the identity provider ends them, and one that is closed is never live again. No message of a logout is sent
-/// before its record is durable. A guard answers 200 exactly to the sessions that live and that no policy denies. From each point of the run on, also inside later requests, what was acknowledged by then is in the
-/// history of each ledger that a crash might leave. A live session is shown what the policy says of its row, and the run keeps to its
-/// registry, up to the moment at which this ends.
+/// before its record is durable. A guard answers 200 exactly to the sessions that live and that no policy denies. From each point of
+/// the run on, also inside later requests, what was acknowledged by then is in the history of each ledger that a crash might leave, and
+/// each session whose answer went out is as it was left. A live session is shown what the policy says of its row, and the run keeps to
+/// its registry, up to the moment at which this ends.
 pub fn a_run_carries_the_headline<D: Disk>()
     ensures { (disk : D) → ARunCarriesTheHeadline (D.left_since disk) }
 {
@@ -85,6 +86,7 @@ pub fn a_run_carries_the_headline<D: Disk>()
     each_session_was_signed();
     what_a_run_acknowledged_is_kept_once();
     sessions_stay_closed_in_a_run();
+    sp_server::laws::sessions_stay_in_a_service();
     a_registry_tells_and_ends();
     a_session_is_shown_by_its_row();
 }

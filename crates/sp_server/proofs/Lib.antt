@@ -20,3 +20,4 @@ mod Unclosed
 mod Verdicts
 mod Starts
 mod Starving
+mod Staying

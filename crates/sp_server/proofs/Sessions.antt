@@ -28,20 +28,26 @@ use Rattle.sp_server.proofs.Alike.{opens_alike}
 
 -- a form that opens a session is refused for nothing
 abbrev pub IsNotRefused : Type 0
-IsNotRefused = (config : SpConfig) (rows : RowsView) (horizon now : ℕ) (body : List ℕ) (b : Brought) (asked : AskedRow) (verdict : Verdict)
+IsNotRefused =
+    (config : SpConfig) (rows : RowsView) (horizon now : ℕ) (body : List ℕ) (b : Brought) (asked : AskedRow)
+    (verdict : Verdict)
     → Opens config rows horizon now body b asked → ¬ (IsRefused config rows horizon now body verdict)
 
 -- and it opens one session alone
 abbrev pub IsOneLogin : Type 0
-IsOneLogin = (config : SpConfig) (rows : RowsView) (horizon now : ℕ) (body : List ℕ) (b other : Brought) (row for_other : AskedRow)
+IsOneLogin =
+    (config : SpConfig) (rows : RowsView) (horizon now : ℕ) (body : List ℕ) (b other : Brought)
+    (row for_other : AskedRow)
     → Opens config rows horizon now body b row → Opens config rows horizon now body other for_other → b ≡ other
 
-given : (setup : Setup) (held : Held) (request : Request) (now : ℕ) (answer : Answer) (adds : Option SpRecord) (r : OpenedRecord) → adds ≡ Some (kinds.Opened r)
+given : (setup : Setup) (held : Held) (request : Request) (now : ℕ) (answer : Answer) (adds : Option SpRecord)
+    (r : OpenedRecord) → adds ≡ Some (kinds.Opened r)
     → Answers setup held request now answer adds → GivesSession setup held request now (kinds.Opened r) answer
 given setup held request now answer adds r some (steps.ByStatus status to is none) = absurd (cc)
 given setup held request now answer adds r some (steps.ByMetadata to is none) = absurd (cc)
 given setup held request now answer adds r some (steps.BySession row to found is none) = absurd (cc)
-given setup held request now answer adds r some (steps.ByAsking bytes to none unexpired id relay page is ids shown) = absurd (cc)
+given setup held request now answer adds r some (steps.ByAsking bytes to none unexpired id relay page is ids shown) =
+    absurd (cc)
 given setup held request now answer adds r some (steps.ByGuard to is none) = absurd (cc)
 given setup held request now answer adds r some (steps.ByOpening b row to unexpired opens token is has shown) =
     let same : record_of setup held now b ≡ kinds.Opened r = cc in
@@ -56,81 +62,136 @@ given setup held request now answer adds r some (steps.ByOpening b row to unexpi
     }
 given setup held request now answer adds r some (steps.ByVerdict verdict to unexpired refused is none) = absurd (cc)
 given setup held request now answer adds r some (steps.ByExpiry at expired is none) = absurd (cc)
-given setup held request now answer adds r some (steps.ByLeaving row id bytes to unexpired live is has leaves shown) = absurd (cc)
+given setup held request now answer adds r some (steps.ByLeaving row id bytes to unexpired live is has leaves shown) =
+    absurd (cc)
 given setup held request now answer adds r some (steps.ByNoSession to unexpired none is nothing) = absurd (cc)
-given setup held request now answer adds r some (steps.ByLogoutVerdict verdict to unexpired refused is none) = absurd (cc)
-given setup held request now answer adds r some (steps.ByEnding asked relay id bytes to unexpired obeyed any is has ends shown) = absurd (cc)
-given setup held request now answer adds r some (steps.ByNothingToEnd asked relay to unexpired obeyed none is nothing) = absurd (cc)
-given setup held request now answer adds r some (steps.ByConfirming response to unexpired obeyed waits is shown) = absurd (cc)
-given setup held request now answer adds r some (steps.ByUnknownLogout response to unexpired obeyed none is nothing) = absurd (cc)
+given setup held request now answer adds r some (steps.ByLogoutVerdict verdict to unexpired refused is none) =
+    absurd (cc)
+given setup held request now answer adds r some
+    (steps.ByEnding asked relay id bytes to unexpired obeyed any is has ends shown) =
+    absurd (cc)
+given setup held request now answer adds r some (steps.ByNothingToEnd asked relay to unexpired obeyed none is nothing) =
+    absurd (cc)
+given setup held request now answer adds r some (steps.ByConfirming response to unexpired obeyed waits is shown) =
+    absurd (cc)
+given setup held request now answer adds r some (steps.ByUnknownLogout response to unexpired obeyed none is nothing) =
+    absurd (cc)
 
 pub only_where : OnlyWhereAFormOpens
-only_where setup held request now answer r answers = given setup held request now answer (Some (kinds.Opened r)) r refl answers
+only_where setup held request now answer r answers =
+    given setup held request now answer (Some (kinds.Opened r)) r refl answers
 
 -- what is answered where a form opens a session
-record IsGiven (setup : Setup) (held : Held) (request : Request) (now : ℕ) (answer : Answer) (adds : Option SpRecord) : Type 0 where
+record IsGiven (setup : Setup) (held : Held) (request : Request) (now : ℕ) (answer : Answer) (adds : Option SpRecord) :
+    Type 0 where
   r : SpRecord
   is : adds ≡ Some r
   gives : GivesSession setup held request now r answer
 
-answered : IsNotRefused → (setup : Setup) (held : Held) (request : Request) (now : ℕ) (answer : Answer) (adds : Option SpRecord) (b : Brought) (row : AskedRow)
-    → OpensOver setup held request now b row → Answers setup held request now answer adds → IsGiven setup held request now answer adds
-answered not_refused setup held request now answer adds b row over (steps.ByStatus status to is none) = absurd (let e = sym over.posted ∙ to in cc)
-answered not_refused setup held request now answer adds b row over (steps.ByMetadata to is none) = absurd (let e = sym over.posted ∙ to in cc)
-answered not_refused setup held request now answer adds b row over (steps.BySession found to live is none) = absurd (let e = sym over.posted ∙ to in cc)
-answered not_refused setup held request now answer adds b row over (steps.ByAsking bytes to none unexpired id relay page is ids shown) = absurd (let e = sym over.posted ∙ to in cc)
-answered not_refused setup held request now answer adds b row over (steps.ByGuard to is none) = absurd (let e = sym over.posted ∙ to in cc)
-answered not_refused setup held request now answer adds b row over (steps.ByOpening c asked to unexpired opens token is has shown) = record {
-  r = record_of setup held now c;
-  is = is;
-  gives = record { brought = c; row = asked; opens = record { posted = to; unexpired = unexpired; opens = opens }; is = refl; token = token; has = has; answered = shown };
-}
-answered not_refused setup held request now answer adds b row over (steps.ByVerdict verdict to unexpired refused is none) =
+answered : IsNotRefused → (setup : Setup) (held : Held) (request : Request) (now : ℕ) (answer : Answer)
+    (adds : Option SpRecord) (b : Brought) (row : AskedRow)
+    → OpensOver setup held request now b row → Answers setup held request now answer adds
+    → IsGiven setup held request now answer adds
+answered not_refused setup held request now answer adds b row over (steps.ByStatus status to is none) =
+    absurd (let e = sym over.posted ∙ to in cc)
+answered not_refused setup held request now answer adds b row over (steps.ByMetadata to is none) =
+    absurd (let e = sym over.posted ∙ to in cc)
+answered not_refused setup held request now answer adds b row over (steps.BySession found to live is none) =
+    absurd (let e = sym over.posted ∙ to in cc)
+answered not_refused setup held request now answer adds b row over
+    (steps.ByAsking bytes to none unexpired id relay page is ids shown) =
+    absurd (let e = sym over.posted ∙ to in cc)
+answered not_refused setup held request now answer adds b row over (steps.ByGuard to is none) =
+    absurd (let e = sym over.posted ∙ to in cc)
+answered not_refused setup held request now answer adds b row over
+    (steps.ByOpening c asked to unexpired opens token is has shown) =
+    record {
+      r = record_of setup held now c;
+      is = is;
+      gives =
+          record {
+            brought = c;
+            row = asked;
+            opens = record { posted = to; unexpired = unexpired; opens = opens };
+            is =
+                refl;
+            token = token;
+            has = has;
+            answered = shown;
+          };
+    }
+answered not_refused setup held request now answer adds b row over
+    (steps.ByVerdict verdict to unexpired refused is none) =
     absurd (not_refused setup.config _ held.header.horizon now request.body b row verdict over.opens refused)
-answered not_refused setup held request now answer adds b row over (steps.ByExpiry at expired is none) = absurd (let e = sym over.unexpired ∙ expired in cc)
-answered not_refused setup held request now answer adds b row over (steps.ByLeaving left id bytes to unexpired live is has leaves shown) = absurd (let e = sym over.posted ∙ to in cc)
-answered not_refused setup held request now answer adds b row over (steps.ByNoSession to unexpired none is nothing) = absurd (let e = sym over.posted ∙ to in cc)
-answered not_refused setup held request now answer adds b row over (steps.ByLogoutVerdict verdict to unexpired refused is none) = absurd (let e = sym over.posted ∙ to in cc)
-answered not_refused setup held request now answer adds b row over (steps.ByEnding asked relay id bytes to unexpired obeyed any is has ends shown) = absurd (let e = sym over.posted ∙ to in cc)
-answered not_refused setup held request now answer adds b row over (steps.ByNothingToEnd asked relay to unexpired obeyed none is nothing) = absurd (let e = sym over.posted ∙ to in cc)
-answered not_refused setup held request now answer adds b row over (steps.ByConfirming response to unexpired obeyed waits is shown) = absurd (let e = sym over.posted ∙ to in cc)
-answered not_refused setup held request now answer adds b row over (steps.ByUnknownLogout response to unexpired obeyed none is nothing) = absurd (let e = sym over.posted ∙ to in cc)
+answered not_refused setup held request now answer adds b row over (steps.ByExpiry at expired is none) =
+    absurd (let e = sym over.unexpired ∙ expired in cc)
+answered not_refused setup held request now answer adds b row over
+    (steps.ByLeaving left id bytes to unexpired live is has leaves shown) =
+    absurd (let e = sym over.posted ∙ to in cc)
+answered not_refused setup held request now answer adds b row over (steps.ByNoSession to unexpired none is nothing) =
+    absurd (let e = sym over.posted ∙ to in cc)
+answered not_refused setup held request now answer adds b row over
+    (steps.ByLogoutVerdict verdict to unexpired refused is none) =
+    absurd (let e = sym over.posted ∙ to in cc)
+answered not_refused setup held request now answer adds b row over
+    (steps.ByEnding asked relay id bytes to unexpired obeyed any is has ends shown) =
+    absurd (let e = sym over.posted ∙ to in cc)
+answered not_refused setup held request now answer adds b row over
+    (steps.ByNothingToEnd asked relay to unexpired obeyed none is nothing) =
+    absurd (let e = sym over.posted ∙ to in cc)
+answered not_refused setup held request now answer adds b row over
+    (steps.ByConfirming response to unexpired obeyed waits is shown) =
+    absurd (let e = sym over.posted ∙ to in cc)
+answered not_refused setup held request now answer adds b row over
+    (steps.ByUnknownLogout response to unexpired obeyed none is nothing) =
+    absurd (let e = sym over.posted ∙ to in cc)
 
 -- the record of a session that is given is that of the login which the form brings
-its_record : IsOneLogin → (setup : Setup) (found : Held) (request : Request) (now : ℕ) (b : Brought) (row : AskedRow) → OpensOver setup found request now b row
+its_record : IsOneLogin → (setup : Setup) (found : Held) (request : Request) (now : ℕ) (b : Brought) (row : AskedRow)
+    → OpensOver setup found request now b row
     → (r : SpRecord) (answer : Answer) → GivesSession setup found request now r answer → r ≡ record_of setup found now b
 its_record one_login setup found request now b row over r answer gives =
     let brought : gives.brought ≡ b =
-    one_login setup.config (rows_seen (rows_of found.records)) found.header.horizon now request.body gives.brought b gives.row row gives.opens.opens over.opens in
+    one_login setup.config (rows_seen (rows_of found.records)) found.header.horizon now request.body gives.brought b
+    gives.row row gives.opens.opens over.opens in
     gives.is ∙ ap (record_of setup found now) brought
 
 -- behind a compaction at the moment the form opens the session as before
-opens_behind : CompactionsChangeNoAnswer → (setup : Setup) (found held : Held) (request : Request) (now : ℕ) (b : Brought) (row : AskedRow) → AreRecords found.records
+opens_behind : CompactionsChangeNoAnswer
+    → (setup : Setup) (found held : Held) (request : Request) (now : ℕ) (b : Brought) (row : AskedRow)
+    → AreRecords found.records
     → Compacts now found held → OpensOver setup found request now b row → OpensOver setup held request now b row
-opens_behind law setup found held request now b row are (inl (last, same)) over = subst (λ (h : Held). OpensOver setup h request now b row) (sym same) over
+opens_behind law setup found held request now b row are (inl (last, same)) over =
+    subst (λ (h : Held). OpensOver setup h request now b row) (sym same) over
 opens_behind law setup found held request now b row are (inr (less, made)) over = record {
   posted = over.posted;
   unexpired = over.unexpired;
-  opens = opens_alike setup.config now held found request.body b row (law now now found held are made (omega arith)) over.opens;
+  opens =
+      opens_alike setup.config now held found request.body b row (law now now found held are made (omega arith))
+      over.opens;
 }
 
 module _ (not_refused : IsNotRefused) (one_login : IsOneLogin) where
   -- what is recorded where the form opens a session is its record
-  its_own : (setup : Setup) (held : Held) (request : Request) (now : ℕ) (answer : Answer) (r : SpRecord) (b : Brought) (row : AskedRow) → OpensOver setup held request now b row
-      → Answers setup held request now answer (Some r) → (r ≡ record_of setup held now b) × GivesSession setup held request now (record_of setup held now b) answer
+  its_own : (setup : Setup) (held : Held) (request : Request) (now : ℕ) (answer : Answer) (r : SpRecord) (b : Brought)
+      (row : AskedRow) → OpensOver setup held request now b row
+      → Answers setup held request now answer (Some r)
+      → (r ≡ record_of setup held now b) × GivesSession setup held request now (record_of setup held now b) answer
   its_own setup held request now answer r b row over answers =
       let is = answered not_refused setup held request now answer (Some r) b row over answers in
       let same : is.r ≡ r = (let e = is.is in cc) in
       let its = its_record one_login setup held request now b row over is.r answer is.gives in
       (sym same ∙ its, subst (λ (x : SpRecord). GivesSession setup held request now x answer) its is.gives)
 
-  module _ (law : CompactionsChangeNoAnswer) (found : Held) (request : Request) (now faults later : ℕ) (answer : Answer) (old new : Provider) (b : Brought) (row : AskedRow)
+  module _ (law : CompactionsChangeNoAnswer) (found : Held) (request : Request) (now faults later : ℕ)
+      (answer : Answer) (old new : Provider) (b : Brought) (row : AskedRow)
       (over : OpensOver old.setup found request now b row) (calm : ¬ (Rose faults later)) where
     abbrev Comes : Type 0
     Comes = (answer ≡ Fixed NO_MEMORY) ⊎ IsOpened old.setup found request now b answer new.ledger.held
 
     -- a compaction is made only where there was no place for the record
-    no_place : (held : Held) → MakesRoom old.setup found request now held → ¬ (HasPlace found (record_of old.setup found now b))
+    no_place : (held : Held) → MakesRoom old.setup found request now held
+        → ¬ (HasPlace found (record_of old.setup found now b))
     no_place held made place =
         let its = its_own old.setup found request now made.other made.wanted b row over made.wants in
         made.none (subst (HasPlace found) (sym its.0) place)
@@ -139,13 +200,21 @@ module _ (not_refused : IsNotRefused) (one_login : IsOneLogin) where
     place_behind : (held : Held) → MakesRoom old.setup found request now held → HasRoom old.setup found now b
         → OpensOver old.setup held request now b row × HasPlace held (record_of old.setup held now b)
     place_behind held made (inl place) = absurd (no_place held made place)
-    place_behind held made (inr (are, there)) = (opens_behind law old.setup found held request now b row are made.made over, there held made.made)
+    place_behind held made (inr (are, there)) =
+        (opens_behind law old.setup found held request now b row are made.made over, there held made.made)
 
     of_case : HasRoom old.setup found now b → Serves found request now (Rose faults later) answer old new → Comes
-    of_case room (any.Plain answers whole) = absurd (let e = (answered not_refused old.setup found request now answer None b row over answers).is in cc)
+    of_case room (any.Plain answers whole) =
+        absurd (let e = (answered not_refused old.setup found request now answer None b row over answers).is in cc)
     of_case room (any.Recorded r answers place whole) =
         let its = its_own old.setup found request now answer r b row over answers in
-        inr (record { held = found; over = inl refl; gives = its.1; added = whole.is ∙ ap (λ (x : SpRecord). held_with x found) its.0 })
+        inr (record {
+          held = found;
+          over = inl refl;
+          gives = its.1;
+          added = whole.is ∙ ap
+              (λ (x : SpRecord). held_with x found) its.0;
+        })
     of_case room (any.RecordedAfterCompaction held r made answers place whole) =
         let its = its_own old.setup held request now answer r b row (place_behind held made room).0 answers in
         inr (record {

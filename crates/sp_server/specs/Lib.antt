@@ -14,3 +14,4 @@ pub mod Logouts
 pub mod Recorded
 pub mod Starts
 pub mod Starving
+pub mod Staying

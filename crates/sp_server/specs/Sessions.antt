@@ -20,19 +20,24 @@ use Rattle.node_steps.specs.declared.codes.TheConstants.{NO_MEMORY}
 use Rattle.sp_server.specs.Routes.{Consumer, To, route}
 use Rattle.sp_server.specs.Step.{Setup, Provider, Answers, HasPlace, HasToken, Serves, is_expired, rows_seen}
 
--- Over a ledger, at a moment, the form that a request posts opens a session: the login that it brings answers this asked row.
-pub record OpensOver (setup : Setup) (held : Held) (request : Request) (now : ℕ) (b : Brought) (row : AskedRow) : Type 0 where
+-- Over a ledger, at a moment, the form that a request posts opens a session: the login that it brings answers this
+-- asked row.
+pub record OpensOver (setup : Setup) (held : Held) (request : Request) (now : ℕ) (b : Brought) (row : AskedRow) : Type
+    0 where
   pub posted : route request ≡ To Consumer
   pub unexpired : is_expired setup.expiry now ≡ false
   pub opens : Opens setup.config (rows_seen (rows_of held.records)) held.header.horizon now request.body b row
 
 -- the record of the session of a login
 abbrev pub record_of : Setup → Held → ℕ → Brought → SpRecord
-record_of setup held now b = opened setup.config.id_key (next_number held) now (session_of setup.config now b.key.number b.login)
+record_of setup held now b =
+    opened setup.config.id_key (next_number held) now (session_of setup.config now b.key.number b.login)
 
--- This record and this answer give the session that the form opens: the user is sent to where the login began, with the session's
+-- This record and this answer give the session that the form opens: the user is sent to where the login began, with the
+-- session's
 -- token.
-pub record GivesSession (setup : Setup) (held : Held) (request : Request) (now : ℕ) (r : SpRecord) (answer : Answer) : Type 0 where
+pub record GivesSession (setup : Setup) (held : Held) (request : Request) (now : ℕ) (r : SpRecord) (answer : Answer) :
+    Type 0 where
   pub brought : Brought
   pub row : AskedRow
   pub opens : OpensOver setup held request now brought row
@@ -45,27 +50,34 @@ pub record GivesSession (setup : Setup) (held : Held) (request : Request) (now :
 abbrev pub OnlyWhereAFormOpens : Type 0
 OnlyWhereAFormOpens =
     (setup : Setup) (held : Held) (request : Request) (now : ℕ) (answer : Answer) (r : OpenedRecord)
-    → Answers setup held request now answer (Some (kinds.Opened r)) → GivesSession setup held request now (kinds.Opened r) answer
+    → Answers setup held request now answer (Some (kinds.Opened r))
+    → GivesSession setup held request now (kinds.Opened r) answer
 
--- There is room for the session of a login: there is a place for its record at once, or in a ledger of records behind one compaction at
+-- There is room for the session of a login: there is a place for its record at once, or in a ledger of records behind
+-- one compaction at
 -- the moment.
 abbrev pub HasRoom : Setup → (found : Held) → (now : ℕ) → Brought → Type 0
 HasRoom setup found now b =
     HasPlace found (record_of setup found now b)
-    ⊎ (AreRecords found.records × ((held : Held) → Compacts now found held → HasPlace held (record_of setup held now b)))
+    ⊎ (AreRecords found.records × ((held : Held) → Compacts now found held → HasPlace held
+    (record_of setup held now b)))
 
--- The session of a login is recorded behind the records of the ledger that was found, or, where there was no place behind these, of what
+-- The session of a login is recorded behind the records of the ledger that was found, or, where there was no place
+-- behind these, of what
 -- one compaction made of it; and it is given.
-pub record IsOpened (setup : Setup) (found : Held) (request : Request) (now : ℕ) (b : Brought) (answer : Answer) (new : Held) : Type 0 where
+pub record IsOpened (setup : Setup) (found : Held) (request : Request) (now : ℕ) (b : Brought) (answer : Answer)
+    (new : Held) : Type 0 where
   pub held : Held
   pub over : (held ≡ found) ⊎ (¬ (HasPlace found (record_of setup found now b)) × Compacts now found held)
   pub gives : GivesSession setup held request now (record_of setup held now b) answer
   pub added : new ≡ held_with (record_of setup held now b) held
 
--- And wherever one does, there is room for it and the disk does not fail, the session is recorded and given; or there was no memory.
+-- And wherever one does, there is room for it and the disk does not fail, the session is recorded and given; or there
+-- was no memory.
 abbrev pub WhereverAFormOpens : Type 0
 WhereverAFormOpens =
-    (found : Held) (request : Request) (now faults later : ℕ) (answer : Answer) (old new : Provider) (b : Brought) (row : AskedRow)
+    (found : Held) (request : Request) (now faults later : ℕ) (answer : Answer) (old new : Provider) (b : Brought)
+    (row : AskedRow)
     → OpensOver old.setup found request now b row → HasRoom old.setup found now b
     → ¬ (Rose faults later) → Serves found request now (Rose faults later) answer old new
     → (answer ≡ Fixed NO_MEMORY) ⊎ IsOpened old.setup found request now b answer new.ledger.held

@@ -7,7 +7,7 @@ use Rattle.ledger_records.specs.declared.sp_record.SpRecord.{SpRecord}
 use Rattle.request_ledger.specs.Ledger.{Held, ledger_in, taken}
 use Rattle.request_ledger.specs.Record.{request_rules, AreRecords}
 use Rattle.request_ledger.specs.Runs.{AreDifferent, request_opened, requests_of_run, requests_opened}
-use Rattle.node_steps.specs.Histories.{CameFrom}
+use Rattle.node_steps.specs.Histories.{AnyMoment, CameFrom}
 use Rattle.node_steps.specs.Starts as any
 use Rattle.node_steps.specs.Starts.{Start}
 use Rattle.sp_server.specs.Logouts.{IsClosed, IsOver}
@@ -22,14 +22,14 @@ AreStarts = any.AreStarts request_rules Answers
 
 -- the records for which the answers of starts stand, the latest first
 abbrev pub AreAcknowledgedIn : List (Start Provider) → List SpRecord → Type 0
-AreAcknowledgedIn = any.AreAcknowledgedIn request_rules Answers
+AreAcknowledgedIn = any.AreAcknowledgedIn Answers
 
 -- From the image a ledger is opened that came from another one by events, in which these records were added; and no two of the sessions
 -- that were opened on the way or stood at the start are of one request, those that were let go, and those whose answer was lost, included.
 pub record OpensWhatCameOnce (start : Held) (records : List SpRecord) (image : Image) : Type 0 where
   pub held : Held
   pub opens : taken (ledger_in image) ≡ Ok held
-  pub came : CameFrom request_rules start records held
+  pub came : CameFrom request_rules AnyMoment start records held
   pub once : AreDifferent (requests_of_run start came.events)
 
 -- Of the records for which the answers of starts stand: each is in the history of every ledger that may be opened behind them, whatever

@@ -4,6 +4,7 @@ ghost use Rattle.sp_server.specs.Histories.{WhatIsAcknowledgedIsKeptOnce};
 ghost use Rattle.sp_server.specs.Logouts.{OnlyWhereAUserLeaves, OnlyWhereSessionsEnd, NothingElseCloses, WhereverAUserLeaves, WhereverSessionsEnd, AClosedSessionStaysClosed, SessionsStayClosedInAService};
 ghost use Rattle.sp_server.specs.Recorded.{WhatIsAnsweredIsRecorded, WhatIsAskedIsRecorded};
 ghost use Rattle.sp_server.specs.Sessions.{OnlyWhereAFormOpens, WhereverAFormOpens};
+ghost use Rattle.sp_server.specs.Staying.{SessionsStayInAService, SessionsStayOverStarts, WhatWasOpenedIsAsLeft};
 ghost use Rattle.sp_server.specs.Starving.{WhatIsVisibleStays};
 ghost use Rattle.sp_server.specs.Starts.{SessionsStayClosedOverStarts, WhatIsAcknowledgedIsKeptOnceOverStarts};
 ghost use Rattle.sp_server.specs.Verdicts.{CompactionsChangeNoVerdict};
@@ -105,4 +106,30 @@ pub fn what_is_visible_stays()
     ensures { WhatIsVisibleStays }
 {
     request_ledger::laws::compactions_change_no_answer();
+}
+
+/// A session whose answer went out is as it was left in each ledger that came from the one at the start by events, among them its
+/// record's: where it ends behind each moment at which the ledger was compacted it has its row, closed only where a record that was added
+/// since closes it, and it is found live until then and until its end. A request stays spent while it could be answered.
+pub fn what_was_opened_is_as_left()
+    ensures { WhatWasOpenedIsAsLeft }
+{
+    request_ledger::laws::sessions_stay();
+}
+
+/// Over each list of events, moments, disk faults and openings: each session whose answer went out is as it was left in every image
+/// that a crash may leave.
+pub fn sessions_stay_in_a_service()
+    ensures { SessionsStayInAService }
+{
+    request_ledger::laws::images_hold_records();
+    request_ledger::laws::sessions_stay();
+}
+
+/// And over each list of starts, of which each opens what a crash of the one before it may have left.
+pub fn sessions_stay_over_starts()
+    ensures { SessionsStayOverStarts }
+{
+    request_ledger::laws::images_hold_records();
+    request_ledger::laws::sessions_stay();
 }

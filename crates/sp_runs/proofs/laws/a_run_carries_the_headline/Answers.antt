@@ -19,6 +19,7 @@ returns g c = λ disk.
       hold = c.images_hold_records.ensures;
       kept = c.what_a_run_acknowledged_is_kept_once.ensures;
       closed = c.sessions_stay_closed_in_a_run.ensures;
+      stay = c.sessions_stay_in_a_service.ensures;
       tells = c.a_registry_tells_and_ends.ensures.tells;
       same = c.a_registry_tells_and_ends.ensures.same;
       ends = c.a_registry_tells_and_ends.ensures.ends;
