@@ -80,7 +80,7 @@ module _ {R S : Type 0} (rules : RecordRules R) (stands : S → List R → Type 
       )
 
 -- what the records are, where each payload is one
-read_ok : {X : Type 0} (r : Result X ℕ) → IsOk r → (x : X) × (r ≡ Ok x)
+pub read_ok : {X : Type 0} (r : Result X ℕ) → IsOk r → (x : X) × (r ≡ Ok x)
 read_ok (Ok x) is = (x, refl)
 read_ok (Err n) is = absurd (true≢false (sym is))
 

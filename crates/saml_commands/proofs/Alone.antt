@@ -52,13 +52,13 @@ element_alone meaning tree id alone a b agrees = which (element_of tree id)
     which None p q = absurd (not_refused_too a verdicts.BadReference agrees p)
     which (Some node) p q = alone node a b agrees p q
 
-some_is_one : {X : Type 0} (x y : X) (o : Option X) → o ≡ Some x → o ≡ Some y → x ≡ y
+pub some_is_one : {X : Type 0} (x y : X) (o : Option X) → o ≡ Some x → o ≡ Some y → x ≡ y
 some_is_one x y o e f = cc
 
-none_is_not_some : {X : Type 0} (x : X) (o : Option X) → o ≡ Some x → o ≡ None → ⊥
+pub none_is_not_some : {X : Type 0} (x : X) (o : Option X) → o ≡ Some x → o ≡ None → ⊥
 none_is_not_some x o e f = let clash : Some x ≡ None = sym e ∙ f in cc
 
-too_long : (o : Option (List ℕ)) (bytes : List ℕ) (limit : ℕ) → o ≡ Some bytes → length bytes ≤ limit → IsSomeAnd o (λ b. limit < length b) → ⊥
+pub too_long : (o : Option (List ℕ)) (bytes : List ℕ) (limit : ℕ) → o ≡ Some bytes → length bytes ≤ limit → IsSomeAnd o (λ b. limit < length b) → ⊥
 too_long None bytes limit e h k = cc
 too_long (Some b) bytes limit e h k = let same : b ≡ bytes = cc in let longer : limit < length bytes = subst (λ (z : List ℕ). limit < length z) same k in
     absurd (omega arith)

@@ -24,8 +24,9 @@ use Rattle.saml_commands.specs.Canon.{OfForm, OfCanonDocument, OfCanon}
 use Rattle.saml_commands.specs.Check.{rows_of, OfJudged, OfCheck}
 use Rattle.saml_commands.specs.Vouch.{OfVouching, OfVouchedDocument, OfVouch}
 use Rattle.saml_commands.specs.Reading.{OfFile}
-use Rattle.saml_commands.specs.Running.{Command, Canon, Vouch, Check, Sp, Idp, command_of, OfCommand, Answers, Accepts}
+use Rattle.saml_commands.specs.Running.{Command, Canon, Vouch, Check, Records, Sp, Idp, command_of, OfCommand, Answers, Accepts}
 use Rattle.saml_commands.specs.Serving.{Unserved}
+use Rattle.saml_commands.proofs.RecordAnswers.{records_alone}
 use Rattle.saml_commands.proofs.Alone.{SaysYesAlone, not_refused_too, not_bad_too, document_alone, element_alone, file_alone}
 
 form_alone : (tree : Nodes) (node : ℕ) → SaysYesAlone (OfForm tree node)
@@ -90,6 +91,7 @@ command_alone laws files (Vouch file id key_file) =
     file_alone (λ bytes. OfFile (OfVouch id key_file bytes) (Some files) key_file _) files file _
     (λ bytes. file_alone (OfVouch id key_file bytes) files key_file _ (vouch_alone id key_file bytes))
 command_alone laws files (Check config body now) = check_alone laws files config body now
+command_alone laws files (Records role) = records_alone files role
 command_alone laws files (Sp config events) = λ a b agrees p q. absurd p
 command_alone laws files (Idp config events) = λ a b agrees p q. absurd p
 

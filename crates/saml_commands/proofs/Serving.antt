@@ -8,7 +8,7 @@ use Rattle.node_runs.specs.Runs.{Outside, IsServed}
 use Rattle.saml_commands.specs.declared.status.Status.{Status}
 use Rattle.saml_commands.specs.declared.status.Status.TheVariants as statuses
 use Rattle.saml_commands.specs.Answers.{Answer, Printed, Refused, BadFile, Foreign, Usage, status_of, IsYes}
-use Rattle.saml_commands.specs.Running.{Command, Canon, Vouch, Check, Sp, Idp, command_of, Does, DoesCommand, Carries, CommandCarries, OfCommand, Answers, Prints, EndsWith, EndsAfter, DoesServe, Accepts, AcceptsServing, IsRunnableBy}
+use Rattle.saml_commands.specs.Running.{Command, Canon, Vouch, Check, Records, Sp, Idp, command_of, Does, DoesCommand, Carries, CommandCarries, OfCommand, Answers, Prints, EndsWith, EndsAfter, DoesServe, Accepts, AcceptsServing, IsRunnableBy}
 use Rattle.saml_commands.specs.Serving.{Ran, Unserved, RanSp, RanIdp, answer_of}
 use Rattle.saml_commands.proofs.Answering.{weaker, answered, settled}
 use Rattle.saml_commands.proofs.Completeness.{Laws, accepted_yes}
@@ -83,6 +83,7 @@ unserved : (left : ℕ → Image → Type 0) (told : Option (List File)) (comman
 unserved left told (Canon file id) before ran after idle h = h.0
 unserved left told (Vouch file id key_file) before ran after idle h = h.0
 unserved left told (Check config body now) before ran after idle h = h.0
+unserved left told (Records role) before ran after idle h = h.0
 unserved left told (Sp config events) before ran after idle h = absurd (idle tt)
 unserved left told (Idp config events) before ran after idle h = absurd (idle tt)
 
@@ -91,6 +92,7 @@ accepted_idle : (words : List (List ℕ)) (told : Option (List File)) (command :
 accepted_idle words told (Canon file id) e h serves = serves
 accepted_idle words told (Vouch file id key_file) e h serves = serves
 accepted_idle words told (Check config body now) e h serves = serves
+accepted_idle words told (Records role) e h serves = serves
 accepted_idle words told (Sp config events) e h serves =
     subst (λ (o : Option Command). MatchOption o (h.answer ≡ Usage) (λ c. OfCommand (Some h.files) Unserved c h.answer)) e h.answered
 accepted_idle words told (Idp config events) e h serves =

@@ -1,5 +1,5 @@
 -- What `check CONFIG BODYFILE NOW` answers: the verdict on a posted form, over the rows that the config names.
-use Rattle.std.specs.Prelude.{◌≡◌, ℕ, ◌+◌, ◌/◌, ◌%◌, Bool, ◌&&◌, not, ◌==◌, ◌⊎◌, List, [], ◌∷◌, ◌++◌, map, Option, None, nat_le, if◌then◌else◌, true, codes}
+use Rattle.std.specs.Prelude.{◌≡◌, ℕ, ◌⊎◌, List, [], ◌++◌, map, Option, None, true, codes}
 use Rattle.std.specs.List.{flat_map}
 use Rattle.owned_values.specs.declared.attributes.Attribute.{Attribute}
 use Rattle.saml_outside.specs.Files.{File}
@@ -18,31 +18,12 @@ use Rattle.sp_rules.specs.declared.config.TheConstants.{FIRST}
 use Rattle.sp_rules.specs.Shown.{IsOpening}
 use Rattle.sp_rules.specs.Verdict.{IsRefused}
 use Rattle.sp_setup.specs.Setup.{Setup, IsSetUp, IsBadSetUp}
+use Rattle.record_lines.specs.Escapes.{escaped}
 use Rattle.saml_commands.specs.Answers.{Answer, Printed, Refused, BadFile}
 use Rattle.saml_commands.specs.declared.limits.TheConstants.{GREATEST_BODY}
 use Rattle.saml_commands.specs.Reading.{OfFile}
 
 -- WHAT IS PRINTED
-
--- '\'
-abbrev pub backslash : ℕ
-backslash = 92
-
--- a visible character of ASCII but the backslash
-abbrev pub is_plain : ℕ → Bool
-is_plain b = nat_le 33 b && nat_le b 126 && not (b == backslash)
-
--- a digit of base 16, in lower case
-abbrev pub hex_digit : ℕ → ℕ
-hex_digit n = if nat_le 10 n then 87 + n else 48 + n
-
--- a byte as it is printed: a plain one as it is, another as a backslash and two digits
-abbrev pub escaped_byte : ℕ → List ℕ
-escaped_byte b = if is_plain b then b ∷ [] else backslash ∷ hex_digit (b / 16) ∷ hex_digit (b % 16) ∷ []
-
--- a text as it is printed
-abbrev pub escaped : List ℕ → List ℕ
-escaped text = flat_map escaped_byte text
 
 -- the line of a value of the attribute of this name
 abbrev pub attribute_line : List ℕ → List ℕ → List ℕ

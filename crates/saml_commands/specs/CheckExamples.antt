@@ -2,11 +2,7 @@
 use Rattle.std.specs.Prelude.{◌≡◌, ℕ, List, [], ◌∷◌, None, codes, refl}
 use Rattle.owned_values.specs.declared.attributes.Attribute.{Attribute}
 use Rattle.request_rows.specs.declared.row.NewSession.{NewSession}
-use Rattle.saml_commands.specs.Check.{escaped, attribute_lines, session_lines}
-
--- a space, a backslash and two bytes beyond ASCII, among the first and the last of the visible characters
-escapes : (escaped (codes "!a b\\~") ≡ codes "!a\\20b\\5c~") × (escaped (195 ∷ 169 ∷ 10 ∷ 127 ∷ []) ≡ codes "\\c3\\a9\\0a\\7f")
-escapes = (refl, refl)
+use Rattle.saml_commands.specs.Check.{attribute_lines, session_lines}
 
 -- a line for each value, also for an empty one, and none where there is no value
 values : attribute_lines (record { name = codes "mail"; values = codes "a@b" ∷ [] ∷ [] }) ≡ codes "attribute mail a@b\nattribute mail \n"

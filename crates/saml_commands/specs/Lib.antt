@@ -7,6 +7,7 @@ pub mod Documents
 pub mod Exit
 pub mod Passing
 pub mod Reading
+pub mod Records
 pub mod Running
 pub mod Serving
 pub mod Views

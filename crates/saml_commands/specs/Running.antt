@@ -21,17 +21,21 @@ use Rattle.saml_commands.specs.Answers.{Answer, Refused, Usage, status_of, text_
 use Rattle.saml_commands.specs.Canon.{OfCanon}
 use Rattle.saml_commands.specs.Check.{OfCheck}
 use Rattle.saml_commands.specs.Reading.{OfFile}
+use Rattle.saml_commands.specs.Records.{OfRecords}
+use Rattle.saml_commands.specs.declared.command.Role.{Role}
+use Rattle.saml_commands.specs.declared.command.Role.TheVariants as roles
 use Rattle.saml_commands.specs.Serving.{Ran, Unserved, RanSp, RanIdp, OfRun, status_of_fault}
 use Rattle.saml_commands.specs.Vouch.{OfVouch}
 
 -- what the program is asked for: the canonical form of the element of a file that has this ID, or of the root; whether the
 -- element of a file that has this ID is vouched for with the key in another file; what a provider with this config says at this
--- moment to the form in another file; that a service provider or an identity provider with this config serves, until so many events
--- were taken
+-- moment to the form in another file; the records of the journal in the folder, as those of this role; that a service provider or
+-- an identity provider with this config serves, until so many events were taken
 pub data Command : Type 0 where
   Canon : (file : List ℕ) (id : Option (List ℕ)) → Command
   Vouch : (file id key_file : List ℕ) → Command
   Check : (config body : List ℕ) (now : ℕ) → Command
+  Records : (role : Role) → Command
   Sp : (config : List ℕ) (events : ℕ) → Command
   Idp : (config : List ℕ) (events : ℕ) → Command
 
@@ -50,6 +54,20 @@ sp_of config number = option_map (λ events. Sp config events) (events_of number
 abbrev pub idp_of : List ℕ → Option ℕ → Option Command
 idp_of config number = option_map (λ events. Idp config events) (events_of number)
 
+-- `records ROLE`
+abbrev pub role_of : List ℕ → Option Role
+role_of word =
+    if bytes_eq word (codes "sp") then Some roles.Sp else if bytes_eq word (codes "idp") then Some roles.Idp else None
+
+abbrev pub records_of : Option Role → Option Command
+records_of role = option_map Records role
+
+-- one word behind the name of a command
+abbrev pub of_one : List ℕ → List ℕ → Option Command
+of_one word first =
+    if bytes_eq word (codes "canon") then Some (Canon first None)
+    else if bytes_eq word (codes "records") then records_of (role_of first) else None
+
 -- two words behind the name of a command
 abbrev pub of_two : List ℕ → List ℕ → List ℕ → Option Command
 of_two word first second =
@@ -63,10 +81,10 @@ of_three word first second third =
     if bytes_eq word (codes "vouch") then Some (Vouch first second third)
     else if bytes_eq word (codes "check") then check_at first second (number_of LAST third) else None
 
--- the command of the words `canon FILE`, `canon FILE ID`, `vouch FILE ID KEYFILE`, `check CONFIG BODYFILE NOW`, `sp CONFIG EVENTS` and
--- `idp CONFIG EVENTS`, which are the forms that the program knows yet
+-- the command of the words `canon FILE`, `canon FILE ID`, `vouch FILE ID KEYFILE`, `check CONFIG BODYFILE NOW`, `records ROLE`,
+-- `sp CONFIG EVENTS` and `idp CONFIG EVENTS`, which are the forms that the program knows yet
 abbrev pub command_of : List (List ℕ) → Option Command
-command_of (word ∷ file ∷ []) = if bytes_eq word (codes "canon") then Some (Canon file None) else None
+command_of (word ∷ first ∷ []) = of_one word first
 command_of (word ∷ first ∷ second ∷ []) = of_two word first second
 command_of (word ∷ first ∷ second ∷ third ∷ []) = of_three word first second third
 command_of words = None
@@ -105,6 +123,7 @@ OfCommand told ran (Canon file id) answer = OfFile (OfCanon id) told file MAX_DO
 OfCommand told ran (Vouch file id key_file) answer =
     OfFile (λ bytes. OfFile (OfVouch id key_file bytes) told key_file GREATEST_KEY) told file MAX_DOCUMENT_LENGTH answer
 OfCommand told ran (Check config body now) answer = OfCheck told config body now answer
+OfCommand told ran (Records role) answer = OfRecords role told answer
 OfCommand told ran (Sp config events) answer = OfRun ran answer
 OfCommand told ran (Idp config events) answer = OfRun ran answer
 

@@ -13,6 +13,7 @@ abbrev pub command_view : Command → running.Command
 command_view (commands.Canon file id) = running.Canon file.now (option_map (λ text. text.now) id)
 command_view (commands.Vouch file id key_file) = running.Vouch file.now id.now key_file.now
 command_view (commands.Check config body now) = running.Check config.now body.now now
+command_view (commands.Records role) = running.Records role
 command_view (commands.Sp config events) = running.Sp config.now events
 command_view (commands.Idp config events) = running.Idp config.now events
 

@@ -1,11 +1,12 @@
 // What `check` answers for a provider that is set up and a posted form.
 
 ghost use Rattle.std.specs.Prelude.{◌≡◌, ◌≤◌, ◌<◌, ◌++◌, length, map, IfOk, IfSome, OnOk};
-ghost use Rattle.saml_commands.specs.Check.{is_plain, hex_digit, escaped_byte, escaped, attribute_line, attribute_lines, session_lines, asked_row_of, opened_row_of, rows_of, OfJudged};
+ghost use Rattle.saml_commands.specs.Check.{attribute_line, attribute_lines, session_lines, asked_row_of, opened_row_of, rows_of, OfJudged};
 ghost use Rattle.sp_setup.specs.Views.{IsWithinBounds};
 ghost use Rattle.saml_commands.specs.Views.{answer_view};
 
 use crate::answer::Answer;
+use record_lines::put_escaped;
 use request_rows::{AskedRow, NewSession, OpenedRow, ROW_LIMIT, Rows};
 use saml_outside::{Attribute, Attributes, Blob, NoMemory, Text};
 use saml_time::LAST;
@@ -61,54 +62,14 @@ fn rows_of(alloc: Global, asked: Vec<AskedLine>, opened: Vec<OpenedLine>) -> Res
     Ok(rows)
 }
 
-/// Whether a byte is printed as it is: a visible character of ASCII but the backslash.
-fn is_plain(byte: u8) -> bool
-    ensures { result ≡ is_plain byte }
-{
-    byte.is_ascii_graphic() && byte != b'\\'
-}
-
-/// A digit of base 16, in lower case.
-fn hex_digit(value: u8) -> u8
-    requires { value < 16 }
-    ensures { result ≡ hex_digit value }
-{
-    if value >= 10 {
-        b'a' + (value - 10)
-    } else {
-        b'0' + value
-    }
-}
-
-/// Puts a byte as it is printed: where it is not plain, as two digits behind a backslash.
-fn put_escaped_byte(byte: u8, out: &mut Blob) -> Result<(), NoMemory>
-    ensures { OnOk result (out.new ≡ out.old ++ escaped_byte byte) }
-{
-    if is_plain(byte) {
-        out.push(&[byte])
-    } else {
-        out.push(&[b'\\', hex_digit(byte / 16), hex_digit(byte % 16)])
-    }
-}
-
-/// Puts a text as it is printed.
-fn put_escaped(text: &str, out: &mut Blob) -> Result<(), NoMemory>
-    ensures { OnOk result (out.new ≡ out.old ++ escaped text.now) }
-{
-    for byte in text.as_bytes() {
-        put_escaped_byte(*byte, out)?;
-    }
-    Ok(())
-}
-
 /// Puts the line of an attribute's value.
 fn put_value(name: &str, value: &str, out: &mut Blob) -> Result<(), NoMemory>
     ensures { OnOk result (out.new ≡ out.old ++ attribute_line name.now value.now) }
 {
     out.push(b"attribute ")?;
-    put_escaped(name, out)?;
+    put_escaped(name.as_bytes(), out)?;
     out.push(b" ")?;
-    put_escaped(value, out)?;
+    put_escaped(value.as_bytes(), out)?;
     out.push(b"\n")
 }
 
@@ -127,7 +88,7 @@ fn session_lines(alloc: Global, session: &NewSession) -> Result<Blob, NoMemory>
     ensures { IfOk result (λ text. text ≡ session_lines session.now) }
 {
     let mut out = Blob::of(alloc, b"accepted\nname ")?;
-    put_escaped(session.name.as_str(), &mut out)?;
+    put_escaped(session.name.as_str().as_bytes(), &mut out)?;
     out.push(b"\n")?;
     for attribute in session.attributes.as_slice() {
         put_attribute(attribute, &mut out)?;

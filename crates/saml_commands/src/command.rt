@@ -3,13 +3,22 @@
 ghost use Rattle.std.specs.Prelude.{◌≡◌, IfSome};
 ghost use Rattle.std.specs.Option.{option_map};
 ghost use Rattle.text_lines.specs.Numbers.{number_of};
-ghost use Rattle.saml_commands.specs.Running.{check_at, events_of, sp_of, idp_of, of_two, of_three, command_of};
+ghost use Rattle.saml_commands.specs.Running.{check_at, events_of, sp_of, idp_of, role_of, records_of, of_one, of_two, of_three, command_of};
 ghost use Rattle.saml_commands.specs.Views.{command_view, HasMoment};
 
 use crate::limits::MOST_EVENTS;
 use saml_outside::Text;
 use saml_time::LAST;
 use text_lines::number_of;
+
+/// Whose records are printed.
+#[derive(Clone, Copy, Debug, PartialEq, Eq)]
+pub(crate) enum Role {
+    /// A service provider's.
+    Sp,
+    /// An identity provider's.
+    Idp,
+}
 
 /// What the program is asked for.
 #[derive(Clone, Copy, Debug)]
@@ -31,6 +40,10 @@ pub(crate) enum Command<'w> {
         config: &'w str,
         body: &'w str,
         now: u64,
+    },
+    /// The records of the journal in the folder, as one of this role.
+    Records {
+        role: Role,
     },
     /// That a service provider with this config serves, until so many events were taken.
     Sp {
@@ -82,6 +95,41 @@ fn idp_of<'w>(config: &'w str, events: &str) -> Option<Command<'w>>
     Some(Command::Idp { config, events })
 }
 
+/// The role that a word says.
+fn role_of(word: &str) -> Option<Role>
+    ensures { result ≡ role_of word.now }
+{
+    match word {
+        "sp" => Some(Role::Sp),
+        "idp" => Some(Role::Idp),
+        _ => None,
+    }
+}
+
+/// What `records ROLE` asks for.
+fn records_of<'w>(word: &str) -> Option<Command<'w>>
+    ensures command { option_map command_view result ≡ records_of (role_of word.now) }
+    ensures moment { IfSome result HasMoment }
+{
+    let role = role_of(word)?;
+    Some(Command::Records { role })
+}
+
+/// The command of this name with one word behind it.
+fn of_one<'w>(word: &str, first: &'w str) -> Option<Command<'w>>
+    ensures command { option_map command_view result ≡ of_one word.now first.entry.now }
+    ensures moment { IfSome result HasMoment }
+{
+    match word {
+        "canon" => Some(Command::Canon {
+            file: first,
+            id: None,
+        }),
+        "records" => records_of(first),
+        _ => None,
+    }
+}
+
 /// The command of this name with two words behind it.
 fn of_two<'w>(word: &str, first: &'w str, second: &'w str) -> Option<Command<'w>>
     ensures command { option_map command_view result ≡ of_two word.now first.entry.now second.entry.now }
@@ -115,16 +163,13 @@ fn of_three<'w>(word: &str, first: &'w str, second: &'w str, third: &'w str) -> 
 }
 
 /// The command of the words `canon FILE`, `canon FILE ID`, `vouch FILE ID KEYFILE`, `check CONFIG BODYFILE NOW`,
-/// `sp CONFIG EVENTS` and `idp CONFIG EVENTS`.
+/// `records ROLE`, `sp CONFIG EVENTS` and `idp CONFIG EVENTS`.
 pub(crate) fn command_of(words: &[Text]) -> Option<Command<'_>>
     ensures command { option_map command_view result ≡ command_of words.now }
     ensures moment { IfSome result HasMoment }
 {
     match words {
-        [word, file] if word.as_str() == "canon" => Some(Command::Canon {
-            file: file.as_str(),
-            id: None,
-        }),
+        [word, first] => of_one(word.as_str(), first.as_str()),
         [word, first, second] => of_two(word.as_str(), first.as_str(), second.as_str()),
         [word, first, second, third] => of_three(
             word.as_str(),

@@ -5,7 +5,8 @@
 //! ```
 //!
 //! `canon` prints the canonical form of an element, `vouch` whether a signature vouches for one, `check` what a service
-//! provider answers to a posted form at a moment; `sp` and `idp` serve until their events are taken. What is printed and
+//! provider answers to a posted form at a moment, `records` the records of a journal; `sp` and `idp` serve until their events
+//! are taken. What is printed and
 //! the status are the definition's answer for the words and for what files, link, disk and clock tell (`ends`), and where
 //! one of them failed, its count of faults rose in this run (`read_fault`, `write_fault`, `disk_fault`, `link_fault`).
 #![tactic(auto)]
@@ -16,6 +17,7 @@ mod check;
 mod command;
 mod limits;
 mod printing;
+mod records;
 mod serve;
 mod status;
 mod top_call;

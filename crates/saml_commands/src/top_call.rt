@@ -22,6 +22,7 @@ use crate::canon::canon;
 use crate::check::check;
 use crate::command::{Command, command_of};
 use crate::limits::GREATEST_BODY;
+use crate::records::run_records;
 use crate::serve::{run_identity_provider, run_service_provider};
 use crate::status::Status;
 use crate::vouch::vouch;
@@ -34,7 +35,7 @@ use std::alloc::Global;
 use xml_spec::MAX_DOCUMENT_LENGTH;
 
 /// How a run ends where nothing is known of a file.
-fn status_of(stop: ReadStop) -> Status
+pub(crate) fn status_of(stop: ReadStop) -> Status
     ensures fault { result ≡ Status.ReadFault → stop ≡ ReadStop.ReadFault }
     ensures either { (result ≡ Status.ReadFault) ⊎ (result ≡ Status.NoMemory) }
 {
@@ -243,6 +244,7 @@ fn run_command<L: Link, D: Disk, C: Clock, F: Files, K: Sink>(
         Command::Canon { file, id } => run_canon(alloc, files, out, file, id),
         Command::Vouch { file, id, key_file } => run_vouch(alloc, files, out, file, id, key_file),
         Command::Check { config, body, now } => run_check(alloc, files, out, config, body, now),
+        Command::Records { role } => run_records(alloc, role, files, out),
         Command::Sp { config, events } => run_service_provider(
             alloc, config, events, link, disk, clock, files, out,
         ),

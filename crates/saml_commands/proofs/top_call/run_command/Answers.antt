@@ -18,3 +18,8 @@ pub returns-in-Check-clause-ends : goal.returns-in-Check-clause-ends
 returns-in-Check-clause-ends g c =
     let leaves = started g.D.Disk.moment g.D.Disk.left_since c.args.disk.now (Leaves (g.D.Disk.told c.args.disk.now)) (g.met.D.Disk.only_now c.args.disk.now) in
     rw c.in-Check.is (Unserved, (refl, refl), tt, c.run_check.ensures.ends, leaves)
+
+pub returns-in-Records-clause-ends : goal.returns-in-Records-clause-ends
+returns-in-Records-clause-ends g c =
+    let leaves = started g.D.Disk.moment g.D.Disk.left_since c.args.disk.now (Leaves (g.D.Disk.told c.args.disk.now)) (g.met.D.Disk.only_now c.args.disk.now) in
+    rw c.in-Records.is (Unserved, (refl, refl), tt, c.run_records.ensures.ends, leaves)
