@@ -33,3 +33,4 @@ pub use gate_journal::{Disk, Failed, FileNo, Header, OpenFault};
 pub use ledger::HubLedger;
 pub use ledger_rules::DraftFault;
 pub use row::{BelowRow, RoutedRow};
+pub use standing::Standing;

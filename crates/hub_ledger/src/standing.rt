@@ -24,7 +24,7 @@ use std::marker::Model;
 /// The rows of records, the numbers by which requests upwards are found, the mark of each whether it is spent, and the least number
 /// above all that were drawn.
 #[derive(Debug, Drop)]
-pub(crate) struct Standing {
+pub struct Standing {
     rows: KeptRows,
     below: Vec<BelowRow>,
     spent: Vec<bool>,

@@ -13,10 +13,13 @@ use Rattle.ledger_records.specs.declared.sp_record.SpRecord.{SpRecord}
 use Rattle.ledger_records.specs.declared.sp_record.SpRecord.TheVariants as sp
 use Rattle.ledger_records.specs.declared.idp_record.IdpRecord.{IdpRecord}
 use Rattle.ledger_records.specs.declared.idp_record.IdpRecord.TheVariants as idp
+use Rattle.ledger_records.specs.declared.hub_record.HubRecord.{HubRecord}
+use Rattle.ledger_records.specs.declared.hub_record.HubRecord.TheVariants as hub
 use Rattle.record_lines.specs.Escapes.{backslash, is_plain, hex_digit, coded_byte, escaped_byte, escaped, escaped_name_byte, escaped_name}
 use Rattle.record_lines.specs.Instants.{instant_at, instant}
 use Rattle.record_lines.specs.Laws.{is_visible, IsOneLine}
 use Rattle.record_lines.specs.Lines.{Field, Moment, Number, Text, MaybeText, Secret, MaybeSecret, Secrets, Attributes, named, text_piece, secret_piece, attribute_name, value_pieces, pieces, spaced, shown, line, asked, opened, left, ended, confirmed, sp_line, pending, issued, idp_ended, idp_left, idp_confirmed, spoke, idp_line}
+use Rattle.record_lines.specs.HubLines.{routed, backed, hub_spoke, hub_line}
 
 -- ---- texts of visible characters
 
@@ -225,3 +228,9 @@ idp_one_line (idp.Ended r) = one_line r.moment (codes "Ended") (idp_ended r) ref
 idp_one_line (idp.Left r) = one_line r.moment (codes "Left") (idp_left r) refl (refl, (refl, (refl, (refl, tt))))
 idp_one_line (idp.Confirmed r) = one_line r.moment (codes "Confirmed") (idp_confirmed r) refl (refl, tt)
 idp_one_line (idp.Spoke r) = one_line r.moment (codes "Spoke") (spoke r) refl (refl, (refl, (refl, tt)))
+
+pub hub_one_line : (r : HubRecord) → IsOneLine (hub_line r)
+hub_one_line (hub.Routed r) = one_line r.moment (codes "Routed") (routed r) refl (refl, (refl, (refl, (refl, (refl, tt)))))
+hub_one_line (hub.Backed r) =
+    one_line r.moment (codes "Backed") (backed r) refl (refl, (refl, (refl, (refl, (refl, (refl, (refl, (refl, (refl, (refl, (refl, (refl, (refl, (tt, tt))))))))))))))
+hub_one_line (hub.Spoke r) = one_line r.moment (codes "Spoke") (hub_spoke r) refl (refl, (refl, (refl, tt)))

@@ -1,5 +1,6 @@
 pub mod Escapes
 pub mod Examples
+pub mod HubLines
 pub mod Instants
 pub mod Judging
 pub mod Laws

@@ -2,14 +2,17 @@
 ghost use Rattle.std.specs.Prelude.{◌≡◌, ◌<◌, ℕ, List, All};
 ghost use Rattle.ledger_records.specs.declared.sp_record.SpRecord.{SpRecord};
 ghost use Rattle.ledger_records.specs.declared.idp_record.IdpRecord.{IdpRecord};
+ghost use Rattle.ledger_records.specs.declared.hub_record.HubRecord.{HubRecord};
 ghost use Rattle.record_lines.specs.Laws.{IsOneLine};
 ghost use Rattle.record_lines.specs.Lines.{text_piece, sp_line, idp_line};
+ghost use Rattle.record_lines.specs.HubLines.{hub_line};
 
 /// Whatever a record holds, its line is one line, in which each space begins a piece: no byte of a record ends a line, begins
 /// a piece or stands for a second record.
 pub fn a_record_is_one_line()
     ensures sp { (r : SpRecord) → IsOneLine (sp_line r) }
     ensures idp { (r : IdpRecord) → IsOneLine (idp_line r) }
+    ensures hub { (r : HubRecord) → IsOneLine (hub_line r) }
 {}
 
 /// A text that is printed whole is told by its piece: behind one name two texts are printed alike only where they are the same.

@@ -21,6 +21,7 @@
 
 mod escaping;
 mod field;
+mod hub_lines;
 mod idp_lines;
 mod judging;
 pub mod laws;
@@ -39,3 +40,6 @@ pub use request_ledger::Marked as SpRows;
 
 /// The rows of an identity provider's records.
 pub use idp_ledger::Standing as IdpRows;
+
+/// The rows of a hub's records.
+pub use hub_ledger::Standing as HubRows;

@@ -13,7 +13,7 @@ use request_ledger::Marked;
 use std::alloc::Global;
 
 /// The number of a key.
-fn key_number(key: KeyNumber) -> u64
+pub(crate) fn key_number(key: KeyNumber) -> u64
     ensures { result ≡ key_byte key }
 {
     match key {

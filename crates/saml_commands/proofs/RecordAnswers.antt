@@ -7,7 +7,9 @@ use Rattle.gate_journal.specs.Format.{Committed, file_of}
 use Rattle.record_ledger.specs.Rules.{RecordRules}
 use Rattle.request_ledger.specs.Record.{request_rules}
 use Rattle.idp_ledger.specs.Record.{idp_rules}
+use Rattle.hub_ledger.specs.Record.{hub_rules}
 use Rattle.record_lines.specs.Lines.{sp_line, idp_line}
+use Rattle.record_lines.specs.HubLines.{hub_line}
 use Rattle.saml_commands.specs.declared.command.Role.{Role}
 use Rattle.saml_commands.specs.declared.command.Role.TheVariants as roles
 use Rattle.saml_commands.specs.declared.limits.TheConstants.{GREATEST_JOURNAL}
@@ -70,3 +72,4 @@ module _ {R : Type 0} (rules : RecordRules R) (line : R → List ℕ) (files : L
 pub records_alone : (files : List File) (role : Role) → SaysYesAlone (OfRecords role (Some files))
 records_alone files roles.Sp = ledger_alone request_rules sp_line files
 records_alone files roles.Idp = ledger_alone idp_rules idp_line files
+records_alone files roles.Hub = ledger_alone hub_rules hub_line files

@@ -9,8 +9,10 @@ use Rattle.record_ledger.specs.Rules.{RecordRules}
 use Rattle.record_ledger.specs.Ledger.{Held, of_journal}
 use Rattle.request_ledger.specs.Record.{request_rules}
 use Rattle.idp_ledger.specs.Record.{idp_rules}
+use Rattle.hub_ledger.specs.Record.{hub_rules}
 use Rattle.record_lines.specs.Judging.{lines}
 use Rattle.record_lines.specs.Lines.{sp_line, idp_line}
+use Rattle.record_lines.specs.HubLines.{hub_line}
 use Rattle.saml_commands.specs.declared.command.Role.{Role}
 use Rattle.saml_commands.specs.declared.command.Role.TheVariants as roles
 use Rattle.saml_commands.specs.declared.limits.TheConstants.{GREATEST_JOURNAL}
@@ -58,6 +60,7 @@ module _ {R : Type 0} (rules : RecordRules R) (line : R → List ℕ) where
 abbrev pub OfRecords : Role → Option (List File) → Answer → Type 0
 OfRecords roles.Sp told answer = OfLedger request_rules sp_line told answer
 OfRecords roles.Idp told answer = OfLedger idp_rules idp_line told answer
+OfRecords roles.Hub told answer = OfLedger hub_rules hub_line told answer
 
 -- what a call read of a file of the journal: whether it is not too long, and its bytes
 abbrev pub IsTaken : Option (List File) → List ℕ → Bool → List ℕ → Type 0

@@ -57,7 +57,9 @@ idp_of config number = option_map (λ events. Idp config events) (events_of numb
 -- `records ROLE`
 abbrev pub role_of : List ℕ → Option Role
 role_of word =
-    if bytes_eq word (codes "sp") then Some roles.Sp else if bytes_eq word (codes "idp") then Some roles.Idp else None
+    if bytes_eq word (codes "sp") then Some roles.Sp
+    else if bytes_eq word (codes "idp") then Some roles.Idp
+    else if bytes_eq word (codes "hub") then Some roles.Hub else None
 
 abbrev pub records_of : Option Role → Option Command
 records_of role = option_map Records role

@@ -18,6 +18,8 @@ pub(crate) enum Role {
     Sp,
     /// An identity provider's.
     Idp,
+    /// A hub's.
+    Hub,
 }
 
 /// What the program is asked for.
@@ -102,6 +104,7 @@ fn role_of(word: &str) -> Option<Role>
     match word {
         "sp" => Some(Role::Sp),
         "idp" => Some(Role::Idp),
+        "hub" => Some(Role::Hub),
         _ => None,
     }
 }
