@@ -17,7 +17,9 @@ use Rattle.idp_server.specs.Logouts.{AnswersEndExactly, ServicesEndExactly, What
 use Rattle.idp_server.specs.Signed.{EachSignedElementIsOfARecord}
 use Rattle.idp_server.specs.Step.{Provider, Answers, Steps, StepsOnDisk}
 use Rattle.idp_runs.specs.Headline.{ARunCarriesTheHeadline, EachGoesExactly, EndsExactly, GoesExactly, IssuesOnlyToUsers, ServedNothing, ServedSo}
-use Rattle.idp_runs.proofs.Kept.{ended_behind, kept_behind, kept_ever_since}
+use Rattle.idp_server.specs.Staying.{SessionsStayInAService, WhatWasBegunIsAsLeft}
+use Rattle.idp_server.specs.Starving.{WhatIsVisibleStays}
+use Rattle.idp_runs.proofs.Kept.{ended_behind, kept_behind, kept_ever_since, sessions_stay}
 
 -- the laws on which it stands
 pub record Laws : Type 0 where
@@ -32,6 +34,9 @@ pub record Laws : Type 0 where
   pub hold : ImagesHoldRecords
   pub kept : WhatIsAcknowledgedIsKept
   pub ended : SessionsStayEndedInAService
+  pub stay : SessionsStayInAService
+  pub as_left : WhatWasBegunIsAsLeft
+  pub starved : WhatIsVisibleStays
 
 -- the step by which a request was answered
 stepped : (asked : Asked Provider) (before told : World Provider) → Asks IsProviders asked before told
@@ -82,6 +87,10 @@ module _ (laws : Laws) (asked : Asked Provider) where
     steps = stepped asked;
     issues = issues;
     ends = λ before after asks. ends_exactly before after;
+    starved = λ before after asks are whole is.
+        laws.starved asked.node after.node asked.disk asked.request asked.now before.disk_faults after.disk_faults are whole
+        (subst (λ (a : Answer). Steps asked.node asked.disk asked.request asked.now
+        (Rose before.disk_faults after.disk_faults) a after.node) is (stepped asked before after asks).step);
     added = λ before after asks image held r tells left is there new.
         new_is_of_the_request idp_rules Answers asked.node asked.disk asked.request asked.now image held r tells
         (subst (λ (d : Option DiskState). IfSome d (λ x. MayLeave x (image_of x))) (sym asks.disk) asks.answers.reads)
@@ -106,3 +115,5 @@ module _ (laws : Laws) where
       (kept_ever_since laws.hold left told file budget before opened after node last turns served begins serves)
       (ended_behind laws.hold laws.kept laws.ended left told file budget before opened after node last turns served
       begins serves)
+      (sessions_stay laws.hold laws.stay left told file budget before opened after node last turns served begins serves)
+      laws.as_left

@@ -18,6 +18,7 @@ use Rattle.node_steps.specs.Lasting.{AreKeptSince}
 use Rattle.node_steps.specs.Points.{points}
 use Rattle.idp_server.specs.Histories.{AreKept, IsProviders, SessionsStayEndedInAService, StayEnded, WhatIsAcknowledgedIsKept}
 use Rattle.idp_server.specs.Step.{Provider, Answers, StepLeaves}
+use Rattle.idp_server.specs.Staying.{SessionsStay, SessionsStayInAService}
 use Rattle.idp_server.proofs.Histories.{draws_above}
 use Rattle.idp_setup.specs.Setup.{IsSetUp}
 use Rattle.idp_runs.specs.Headline.{ARunIsAStart}
@@ -47,6 +48,24 @@ pub kept_ever_since : ImagesHoldRecords → (left : ℕ → Image → Type 0) (t
     → AreKeptSince idp_rules Answers left (world_of node opened) turns serves.kept serves.last serves.run
 kept_ever_since hold left told file budget before opened after node last turns served begins serves tells =
     any.kept_ever_since IsSetUp key idp_rules Answers hold told file before opened node tells begins draws_above left budget after last turns served serves
+
+-- each session whose answer went out is as it was left
+pub sessions_stay : ImagesHoldRecords → SessionsStayInAService → (left : ℕ → Image → Type 0)
+    (told : Option (List File)) (file : List ℕ) (budget : ℕ) (before opened after : Outside)
+    (node last : Provider) (turns : List (Turn Provider)) (served : Result Served ServeFault)
+    → Begins told file before node opened
+    → Serves IsProviders StepLeaves left budget turns (world_of node opened) served (world_of last after)
+    → IsSome before.disk → SessionsStay (world_of node opened) (world_of last after) turns
+sessions_stay hold stay left told file budget before opened after node last turns served begins serves tells =
+    let is = stay (world_of node opened) serves.last turns serves.kept
+    (any.started IsSetUp key idp_rules Answers hold told file before opened node tells begins)
+    (any.still_tells IsSetUp key idp_rules Answers hold told file before opened node tells begins) serves.run in
+    let same = at_end budget turns serves.last (world_of last after) served serves.ends in
+    record {
+      records = is.records;
+      are = is.are;
+      stay = λ r image began may. is.stay r image began (subst (λ (d : Option DiskState). Leaves d image) same.1 may);
+    }
 
 module _ (hold : ImagesHoldRecords) (kept : WhatIsAcknowledgedIsKept) (ended : SessionsStayEndedInAService) where
   pub kept_behind : (left : ℕ → Image → Type 0) (told : Option (List File)) (file : List ℕ) (budget : ℕ) (before opened after : Outside) (node last : Provider) (turns : List (Turn Provider))

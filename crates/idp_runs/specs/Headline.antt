@@ -1,8 +1,6 @@
 -- What a run of an identity provider comes to: each Assertion is issued to a user with a password or a session, each
--- signed element is one
--- of a record that is durable before it is sent; sessions are ended exactly where their users leave them or a peer ends
--- them, and one that
--- is ended never lives again.
+-- signed element is one of a record that is durable before it is sent; sessions are ended exactly where their users
+-- leave them or a peer ends them, and one that is ended never lives again.
 use Rattle.std.specs.Prelude.{◌≡◌, ◌⊎◌, ℕ, true, false, List, [], ◌∷◌, Contains, Option, IsSome, Some, Ok, Result}
 use Rattle.std.specs.List.{AllByRecursion}
 use Rattle.saml_outside.specs.Files.{File}
@@ -32,22 +30,23 @@ use Rattle.node_steps.specs.Added.{IsAddedBy, IsNew}
 use Rattle.node_steps.specs.Lasting.{AreKeptSince}
 use Rattle.node_steps.specs.Points.{points}
 use Rattle.node_steps.specs.Starts.{IsServed}
-use Rattle.idp_ledger.specs.Record.{idp_rules}
+use Rattle.idp_ledger.specs.Laws.{AnswerAlike}
+use Rattle.idp_ledger.specs.Record.{AreRecords, idp_rules}
 use Rattle.idp_server.specs.Histories.{AreKept, IsEnded, IsProviders, StayEnded}
 use Rattle.idp_server.specs.Issues.{IsOfUser, IsRecorded}
 use Rattle.idp_server.specs.Logouts.{Ends, EndsOver, IsOfLogoutIfEnding, LeavesOver}
 use Rattle.idp_server.specs.Routes.{Login, Logout, SignOn, SingleLogout, To, route}
 use Rattle.idp_server.specs.Signed.{Carries}
+use Rattle.idp_server.specs.Staying.{SessionsStay, WhatWasBegunIsAsLeft}
 use Rattle.idp_server.specs.Step.{Provider, Answers, HasPlace, Serves, StepLeaves, StepsOnDisk, ended_by, ending_by, left_by}
 use Rattle.idp_runs.specs.Runs.{Begins, Runs}
 
 -- ---- one request, which the provider was asked in one world, and which left another behind
 
 -- An Assertion is issued, with whatever answer, only for a user whose password was posted for a login that was pending,
--- or in the user's live
--- session; each signed element in the answer, a message of a logout too, is one that its record stands for; and the
--- answer's record is in
--- every image that a crash may leave once the provider has answered, before a byte is sent.
+-- or in the user's live session; each signed element in the answer, a message of a logout too, is one that its record
+-- stands for; and the answer's record is in every image that a crash may leave once the provider has answered, before a
+-- byte is sent.
 pub record IssuesOnlyToUsers (asked : Asked Provider) (before after : World Provider) : Type 0 where
   pub users : (held : Held) (answer : Answer) (r : Issued)
       → Answers asked.node.setup held asked.request asked.now answer (Some (kinds.Issued r))
@@ -63,11 +62,9 @@ pub record IssuesOnlyToUsers (asked : Asked Provider) (before after : World Prov
       → IsRecorded asked.node.setup asked.request asked.now (Full bytes) after.disk
 
 -- A record that ends a session is added, with whatever answer, only where the user of that live session leaves it, or a
--- peer asks for it by a
--- LogoutRequest that is accepted; and nothing but a record and a compaction changes the ledger. And wherever one of
--- them does, over the
--- ledger that the step found, where there is room and the disk does not fail, the session is ended behind the step; or
--- there was no memory.
+-- peer asks for it by a LogoutRequest that is accepted; and nothing but a record and a compaction changes the ledger.
+-- And wherever one of them does, over the ledger that the step found, where there is room and the disk does not fail,
+-- the session is ended behind the step; or there was no memory.
 pub record EndsExactly (asked : Asked Provider) (before after : World Provider) : Type 0 where
   pub only : (held : Held) (answer : Answer) (r : IdpRecord)
       → Answers asked.node.setup held asked.request asked.now answer (Some r)
@@ -92,14 +89,21 @@ pub record EndsExactly (asked : Asked Provider) (before after : World Provider) 
       → (asked.answer ≡ Fixed NO_MEMORY) ⊎ IsEnded after.node.ledger.held cookie
 
 -- Each record that stands in an image which a crash inside the answer may leave, or one behind it, be it behind page
--- 50, and stood nowhere
--- before is one that the request adds over some ledger with some answer, so that it is of it what is said of these.
+-- 50, and stood nowhere before is one that the request adds over some ledger with some answer, so that it is of it what
+-- is said of these.
 abbrev pub AddsOnlyItsOwn : Asked Provider → Type 0
 AddsOnlyItsOwn asked =
     (image : Image) (held : Held) (r : IdpRecord) → IsSome asked.disk → StepLeaves asked.node asked.disk asked.request
     asked.now image
     → ledger_in image ≡ Ok (Some held) → Contains held.records r → IsNew idp_rules asked.node asked.disk r
     → IsAddedBy Answers asked.node.setup asked.request asked.now r
+
+-- Where there was no memory and the ledger was not broken, all that may be asked of its rows at the moment of the
+-- request is answered behind it as before.
+abbrev pub KeepsWhatIsVisible : (asked : Asked Provider) → (after : World Provider) → Type 0
+KeepsWhatIsVisible asked after =
+    AreRecords asked.node.ledger.held.records → asked.node.ledger.broken ≡ false → asked.answer ≡ Fixed NO_MEMORY
+    → AnswerAlike asked.now after.node.ledger.held asked.node.ledger.held
 
 -- ---- the run
 
@@ -112,6 +116,7 @@ pub record GoesExactly (asked : Asked Provider) : Type 0 where
       → IssuesOnlyToUsers asked before after
   pub ends : (before after : World Provider) → Asks IsProviders asked before after → EndsExactly asked before after
   pub added : (before after : World Provider) → Asks IsProviders asked before after → AddsOnlyItsOwn asked
+  pub starved : (before after : World Provider) → Asks IsProviders asked before after → KeepsWhatIsVisible asked after
 
 -- and of each request that the provider was asked
 abbrev pub EachGoesExactly : List (Turn Provider) → Type 0
@@ -119,15 +124,13 @@ EachGoesExactly [] = Unit {0}
 EachGoesExactly (turn ∷ past) = AllByRecursion GoesExactly (asked_by turn) × EachGoesExactly past
 
 -- A run that served nothing, or one that served: each request issued Assertions to users alone, was answered once its
--- record was durable,
--- and ended sessions exactly; and where the disk tells, what the answers acknowledged is in the history of every ledger
--- that a crash may
--- leave behind the run, and in none of these a session lives that one of the answers ended, or that was ended at the
--- start; from each point
--- of the run on, also inside later requests, what was acknowledged by then is in the history of every ledger that a
--- crash might leave; and a
--- session that is ended is live at no later request, and in no ledger that a crash may leave since. `left` says of each
--- moment, seen from the
+-- record was durable, and ended sessions exactly; and where the disk tells, what the answers acknowledged is in the
+-- history of every ledger that a crash may leave behind the run, and in none of these a session lives that one of the
+-- answers ended, or that was ended at the start; from each point of the run on, also inside later requests, what was
+-- acknowledged by then is in the history of every ledger that a crash might leave; and a session that is ended is live
+-- at no later request, and in no ledger that a crash may leave since; and one whose answer went out is as it was left
+-- in every image that a crash may leave behind the run, or since a point of it: where it ends behind each moment of the
+-- run it lives there, ended only where a record that was added since ends it. `left` says of each moment, seen from the
 -- end of the run, what a crash since then might have left.
 pub data Headline (left : ℕ → Image → Type 0) (told : Option (List File)) (file : List ℕ) (before : Outside)
     (turns : List (Turn Provider)) (after : Outside) : Type 0 where
@@ -141,6 +144,8 @@ pub data Headline (left : ℕ → Image → Type 0) (told : Option (List File)) 
       → (IsSome before.disk → AreKeptSince idp_rules Answers left
       (world_of provider opened) turns serves.kept serves.last serves.run)
       → (IsSome before.disk → StayEnded (points (world_of provider opened) turns (world_of last after)))
+      → (IsSome before.disk → SessionsStay (world_of provider opened) (world_of last after) turns)
+      → WhatWasBegunIsAsLeft
       → Headline left told file before turns after
 
 -- The headline holds of each run.
@@ -151,10 +156,8 @@ ARunCarriesTheHeadline left =
     → Runs left told file budget before turns result after → Headline left told file before turns after
 
 -- A run that served, on a disk that tells, is a start of the provider: its ledger was opened from what the disk held,
--- and then its turns
--- were done. So what several runs acknowledged, each on what a crash of the one before it may have left, is kept, and
--- what is ended stays
--- so, by the laws of starts.
+-- and then its turns were done. So what several runs acknowledged, each on what a crash of the one before it may have
+-- left, is kept, and what is ended stays so, by the laws of starts.
 abbrev pub ARunIsAStart : Type 0
 ARunIsAStart =
     (told : Option (List File)) (file : List ℕ) (before opened : Outside) (provider : Provider)

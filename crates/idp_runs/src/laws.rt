@@ -8,7 +8,8 @@ use idp_ledger::Disk;
 /// one of a record; and no form is sent before its record is in every image that a crash may leave. It ends sessions exactly where
 /// their users leave them, by a POST with their cookie, or where a peer asks for it by a LogoutRequest that is accepted; and one that
 /// is ended is live at no later request, and in no ledger that a crash may leave since. From each point of the run on, also inside
-/// later requests, what was acknowledged by then is in the history of each ledger that a crash might leave.
+/// later requests, what was acknowledged by then is in the history of each ledger that a crash might leave, and each session whose
+/// answer went out is as it was left.
 pub fn a_run_carries_the_headline<D: Disk>()
     ensures { (disk : D) → ARunCarriesTheHeadline (D.left_since disk) }
 {
@@ -20,6 +21,9 @@ pub fn a_run_carries_the_headline<D: Disk>()
     idp_server::laws::a_session_is_ended_exactly();
     idp_server::laws::what_is_acknowledged_is_kept();
     idp_server::laws::sessions_stay_ended_in_a_service();
+    idp_server::laws::sessions_stay_in_a_service();
+    idp_server::laws::what_was_begun_is_as_left();
+    idp_server::laws::what_is_visible_stays();
 }
 
 /// A run that served is a start of its provider. So by the laws of starts of `idp_server` what several runs acknowledged is kept, and

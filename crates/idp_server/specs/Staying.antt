@@ -21,10 +21,8 @@ use Rattle.idp_server.specs.Histories.{IsProviders}
 use Rattle.idp_server.specs.Step.{Provider, Answers}
 
 -- A session that a login began stands in a ledger which came from another one by events, as it was left: its record was
--- added by one of
--- them. Where it ends behind each of these moments it has its row, ended only where a record that was added since ends
--- it, and while none
--- did and it has not ended it is found live by its cookie.
+-- added by one of them. Where it ends behind each of these moments it has its row, ended only where a record that was
+-- added since ends it, and while none did and it has not ended it is found live by its cookie.
 pub record IsAsLeft (moments : List ℕ) (start : Held) (r : Issued) (held : Held) : Type 0 where
   pub events : List (Event IdpRecord)
   pub leads : Leads idp_rules start events held
@@ -50,8 +48,7 @@ pub record Began (records : List IdpRecord) (r : Issued) : Type 0 where
   pub has : r.pending ≡ Some pending
 
 -- So it is in each image that has in its history what was acknowledged, where each compaction was at one of these
--- moments: in those that a
--- crash may leave behind a service, or since one of its points.
+-- moments: in those that a crash may leave behind a service, or since one of its points.
 abbrev pub WhatWasBegunIsAsLeft : Type 0
 WhatWasBegunIsAsLeft =
     (moments : List ℕ) (start : Held) (records : List IdpRecord) (r : Issued) (image : Image)
@@ -73,8 +70,7 @@ SessionsStayInAService =
     → Run IsProviders first turns kept last → SessionsStay first last turns
 
 -- And over several starts, of which each opens what a crash of the one before it may have left, each request of which
--- was asked at one of
--- these moments, also one that a crash cut.
+-- was asked at one of these moments, also one that a crash cut.
 pub record SessionsStayOver (moments : List ℕ) (start : Held) (starts : List (Start Provider)) : Type 0 where
   pub records : List IdpRecord
   pub are : AreAcknowledgedIn Answers starts records

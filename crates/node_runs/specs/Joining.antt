@@ -24,8 +24,7 @@ pub record IsBegun {Setup R : Type 0} (SetsUp : SetUpBy Setup) (key : Setup → 
   pub is : first ≡ world_of provider opened
 
 -- Where a run is next behind starts of its provider, on a disk that tells, each image that a crash at one of its
--- moments may leave is one
--- from which a later start goes on, as behind a start of this run that was cut at that moment.
+-- moments may leave is one from which a later start goes on, as behind a start of this run that was cut at that moment.
 abbrev pub EachImageOfARunGoesOn : {Setup R : Type 0} (SetsUp : SetUpBy Setup) (IsBad : BadSetUpBy) (key : Setup
     → List ℕ) (rules : RecordRules R)
     (Answers : AnswersBy Setup R) (left : ℕ → Image → Type 0) → Type 0

@@ -125,8 +125,7 @@ module _ {R : Type 0} where
   all_at moments (Opens ∷ past) at = all_at moments past at
 
 -- a record was added to a ledger; since then it was compacted at these moments alone, and what ends behind them and the
--- horizon at the start
--- ends behind its horizon
+-- horizon at the start ends behind its horizon
 pub record Stood {R : Type 0} (rules : RecordRules R) (moments : List ℕ) (start held : Held R)
     (events : List (Event R)) (r : R) : Type 0 where
   pub was : WasAdded rules start held events r

@@ -9,8 +9,7 @@ use Rattle.record_ledger.specs.Ledger.{Held, ledger_in, taken}
 use Rattle.node_steps.specs.Step.{AnswersBy, Provider, StepLeaves}
 
 -- A record stands in no ledger that a request may find: not in the provider's while this is whole, and while it is
--- broken in none that
--- may be opened from the disk.
+-- broken in none that may be opened from the disk.
 pub record IsNew {Setup R : Type 0} (rules : RecordRules R) (old : Provider Setup R) (disk : Option DiskState) (r : R)
     : Type 0 where
   pub in_ledger : old.ledger.broken ≡ false → ¬ (Contains old.ledger.held.records r)
@@ -26,8 +25,7 @@ pub record IsAddedBy {Setup R : Type 0} (Answers : AnswersBy Setup R) (setup : S
   pub adds : Answers setup held request now answer (Some r)
 
 -- Each record that stands in an image which a crash inside the answer to a request may leave, or one behind it, and
--- stood nowhere before,
--- is one that this request adds.
+-- stood nowhere before, is one that this request adds.
 abbrev pub WhatIsNewIsOfTheRequest : {Setup R : Type 0} → RecordRules R → AnswersBy Setup R → Type 0
 WhatIsNewIsOfTheRequest {Setup} {R} rules Answers =
     (old : Provider Setup R) (disk : Option DiskState) (request : Request) (now : ℕ) (image : Image) (held : Held R)

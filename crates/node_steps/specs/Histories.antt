@@ -94,8 +94,7 @@ pub record IsAtStart {Setup R : Type 0} (rules : RecordRules R) (first : World (
 -- WHAT IS KEPT
 
 -- Of the records for which the answers of a service stand: each is in the history of every ledger that a crash may
--- leave behind it; in
--- this each compaction was at the moment of one of its requests.
+-- leave behind it; in this each compaction was at the moment of one of its requests.
 pub record AreKept {Setup R : Type 0} (rules : RecordRules R) (Answers : AnswersBy Setup R)
     (first last : World (Provider Setup R)) (turns : List (Turn (Provider Setup R))) : Type 0 where
   pub records : List R

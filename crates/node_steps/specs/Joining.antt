@@ -1,6 +1,5 @@
 -- That runs, and runs that a crash cut, join into one service: from each image that a run may leave a later start goes
--- on, as behind a start
--- of this run that was cut at that moment.
+-- on, as behind a start of this run that was cut at that moment.
 use Rattle.std.specs.Prelude.{◌≡◌, ◌⊎◌, List, [], ◌∷◌, ◌++◌, Option, Some}
 use Rattle.crash_disk.specs.Disk.{Image, DiskState, settled_image}
 use Rattle.conn_table.specs.Table.{Table}
@@ -15,8 +14,7 @@ use Rattle.node_steps.specs.Starts.{AreStarts, Cut, Goes, IsNext, IsServed, Left
 
 module _ {Setup R : Type 0} (rules : RecordRules R) (Answers : AnswersBy Setup R) where
   -- A run on a disk that told this before, cut at a moment, as a start: inside the opening of its ledger; or it was
-  -- served from its first
-  -- world on, and these turns were done, all of the run's up to there, the latest first.
+  -- served from its first world on, and these turns were done, all of the run's up to there, the latest first.
   pub data IsCutOf (before : Option DiskState) (IsFirst : World (Provider Setup R) → Type 0)
       (turns : List (Turn (Provider Setup R)))
       : Start (Provider Setup R) → Type 0 where
@@ -27,8 +25,7 @@ module _ {Setup R : Type 0} (rules : RecordRules R) (Answers : AnswersBy Setup R
         → IsCutOf before IsFirst turns (Served before first past kept last)
 
   -- From this image a later start goes on, behind starts and one more, which is the run cut at a moment: each start on
-  -- a disk that reads as
-  -- this image, and may leave nothing else, is the next.
+  -- a disk that reads as this image, and may leave nothing else, is the next.
   pub record GoesOn (start : Held R) (earlier : List (Start (Provider Setup R))) (before : Option DiskState)
       (IsFirst : World (Provider Setup R) → Type 0)
       (turns : List (Turn (Provider Setup R))) (image : Image) : Type 0 where

@@ -18,9 +18,8 @@ module _ {Setup R : Type 0} (rules : RecordRules R) (Answers : AnswersBy Setup R
       (image : Image) → left moment image → HoldsWhatCame rules IsMoment first.node.ledger.held records image
 
   -- These are the records for which the answers of some turns stand, the latest first. They are in each image that a
-  -- crash since the point
-  -- behind these turns might have left, at whatever moment; and so are, since each point before, those that were
-  -- acknowledged up to there.
+  -- crash since the point behind these turns might have left, at whatever moment; and so are, since each point before,
+  -- those that were acknowledged up to there.
   abbrev pub StayIn : (turns : List (Turn (Provider Setup R))) (kept : Table) (now : World (Provider Setup R))
       → Run (IsProviders rules Answers) first turns kept now → List R → Type 0
   StayIn [] kept now run records = (records ≡ []) × AreInEachSince now.moment records

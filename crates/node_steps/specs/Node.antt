@@ -18,8 +18,7 @@ abbrev pub MayOpen : {R : Type 0} → RecordRules R → Option DiskState → Typ
 MayOpen rules told = IfSome told (λ disk. (image : Image) → MayLeave disk image → IsOk (ledger_in rules image))
 
 -- A restart opens the ledger of the disk again, in the words of its ledger: at an error it is broken, and else whole.
--- It makes the changing
--- calls of an opening, all of them or, at an error, a beginning.
+-- It makes the changing calls of an opening, all of them or, at an error, a beginning.
 pub record Restarts {Setup R : Type 0} (rules : RecordRules R) (old : Provider Setup R) (disk : Option DiskState)
     (result : Result (Unit {0}) OpenFault)
     (new : Provider Setup R) (later : Option DiskState) : Type 0 where
@@ -32,8 +31,7 @@ pub record Restarts {Setup R : Type 0} (rules : RecordRules R) (old : Provider S
   pub calls : IfSome disk (λ d. IsSomeAnd later (IsCarriedOut result (opening rules d) d))
 
 -- What a compaction does to the ledger that it finds: it is made anew; there was no memory, and it stays; the disk
--- failed, and
--- it is broken.
+-- failed, and it is broken.
 pub data CompactsFound {Setup R : Type 0} (rules : RecordRules R) (now : ℕ) (found : Held R)
     (result : Result (Unit {0}) OpenFault)
     (old new : Provider Setup R) : Type 0 where
@@ -57,8 +55,7 @@ pub data CompactionOf {Setup R : Type 0} (rules : RecordRules R) (old : Provider
       → CompactionOf rules old disk now result new later
 
 -- What a crash inside a compaction may leave: the ledger that it finds, or that made anew, amid its calls; and while a
--- broken one is opened
--- again what a restart may leave.
+-- broken one is opened again what a restart may leave.
 pub data CompactionLeaves {Setup R : Type 0} (rules : RecordRules R) (old : Provider Setup R) (disk : Option DiskState)
     (now : ℕ) (image : Image) : Type 0 where
   InCompaction : old.ledger.broken ≡ false → CompactingLeaves rules now old.ledger.held disk image

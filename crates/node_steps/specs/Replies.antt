@@ -37,8 +37,7 @@ pub record HasNoPlace {R : Type 0} (rules : RecordRules R) (held : Held R) (want
   pub none : ¬ (HasPlace rules held r)
 
 -- What became of the draft of what is to be recorded: a draft of it, which can be committed and has its place; there
--- was nothing to
--- record; there is no place for it; there was no memory.
+-- was nothing to record; there is no place for it; there was no memory.
 abbrev pub IsDrafted : {R D : Type 0} → RecordRules R → Held R
     → (CanCommit : D → Type 0) (record_of : D → R) (wanted : Option R)
     → Drafted D → Type 0
@@ -63,8 +62,7 @@ module _ {Setup R Reply : Type 0} (replies : ReplyRules Setup R Reply) where
     pub is : answer ≡ Full bytes
 
   -- One compaction was made as there was no place for the record of a reply that a request wants. Behind it the reply
-  -- is wanted as
-  -- before, and there is something to record.
+  -- is wanted as before, and there is something to record.
   pub record IsAgain (rules : RecordRules R) (Answers : AnswersBy Setup R) (setup : Setup) (now : ℕ)
       (old new : Ledger R) (request : Request)
       (reply : Reply) : Type 0 where

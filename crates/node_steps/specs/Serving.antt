@@ -14,8 +14,7 @@ use Rattle.node_steps.specs.Step.{Ledger, Owns, Provider, IsBroken, IsWhole}
 use Rattle.node_steps.specs.declared.codes.TheConstants.{DISK_FAULT, FOREIGN, NO_MEMORY}
 
 -- A record is added behind those of a ledger, with an answer: it was, by all calls of a commit; there was no memory for
--- the answer, and no
--- call is made; the disk failed once it was made, at a beginning of them.
+-- the answer, and no call is made; the disk failed once it was made, at a beginning of them.
 pub data Adds {Setup R : Type 0} (rules : RecordRules R) (IsPage : Answer → Type 0) (r : R) (Risen : Type 0)
     (answer : Answer) (old new : Provider Setup R)
     (told later : Option DiskState) : Type 0 where

@@ -13,8 +13,7 @@ use Rattle.node_steps.specs.Step.{AnswersBy, Provider, StepLeaves}
 use Rattle.node_steps.specs.Histories.{AnyMoment, AreAcknowledged, CameFrom, IsAtStart, IsProviders, moments_of}
 
 -- A start of a node, with what its disk told before: it was cut inside the opening of its ledger; or it began in a
--- world, these turns were
--- done, and it was cut or ended in another.
+-- world, these turns were done, and it was cut or ended in another.
 pub data Start (N : Type 0) : Type 0 where
   Cut : (before : Option DiskState) → Start N
   Served : (before : Option DiskState) (first : World N) (turns : List (Turn N)) (kept : Table) (last : World N)
@@ -71,8 +70,7 @@ module _ {Setup R : Type 0} (rules : RecordRules R) (Answers : AnswersBy Setup R
   LeftBehindAt start (one ∷ earlier) image = LeftByAt one image
 
   -- starts one after the other, the latest first: each on a disk that tells, reads as an image that it may leave, and
-  -- may leave nothing but
-  -- what is left behind the starts before it
+  -- may leave nothing but what is left behind the starts before it
   pub record IsNextAt (start : Held R) (earlier : List (Start (Provider Setup R))) (one : Start (Provider Setup R)) :
       Type 0 where
     pub tells : IsSome (told_before one)
@@ -85,8 +83,7 @@ module _ {Setup R : Type 0} (rules : RecordRules R) (Answers : AnswersBy Setup R
   AreStartsAt start (one ∷ earlier) = IsNextAt start earlier one × AreStartsAt start earlier
 
   -- Of the records for which the answers of starts stand: each is in the history of every ledger that may be opened
-  -- behind them, whatever
-  -- a crash left; in this each compaction was at one of their moments.
+  -- behind them, whatever a crash left; in this each compaction was at one of their moments.
   pub record AreKeptOverAt (start : Held R) (starts : List (Start (Provider Setup R))) : Type 0 where
     pub records : List R
     pub are : AreAcknowledgedIn Answers starts records

@@ -22,8 +22,7 @@ abbrev pub IsSameOrCompacted : {R : Type 0} → RecordRules R → (now : ℕ) �
 IsSameOrCompacted rules now old new = (new ≡ old) ⊎ Compacts rules now old new
 
 -- Where there was no memory and the ledger was not broken, it is the same or compacted; so each record with a row that
--- is visible at that
--- moment is still there, with those that name it, and its row is visible.
+-- is visible at that moment is still there, with those that name it, and its row is visible.
 pub record Keeps {R : Type 0} (rules : RecordRules R) (now : ℕ) (old new : Held R) : Type 0 where
   pub same : IsSameOrCompacted rules now old new
   pub stays : (front behind : List R) (r : R) → old.records ≡ front ++ r ∷ behind

@@ -5,8 +5,7 @@ use Rattle.record_ledger.specs.Ledger.{Held, held_with}
 use Rattle.record_ledger.specs.Runs.{Event, Adds, Leads}
 
 -- Events led from one ledger to another. Among them this record was added to a ledger; others came before it, and
--- others since, the latest
--- first.
+-- others since, the latest first.
 pub record WasAdded {R : Type 0} (rules : RecordRules R) (start held : Held R) (events : List (Event R)) (r : R) : Type
     0 where
   pub past : List (Event R)

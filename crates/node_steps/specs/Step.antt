@@ -1,6 +1,5 @@
 -- What a provider that keeps a ledger does at one request. What it answers, and which record it adds with an answer, is
--- a definition of
--- its own, which stands in the place of `Answers`.
+-- a definition of its own, which stands in the place of `Answers`.
 use Rattle.std.specs.Prelude.{◌≡◌, ◌⊎◌, ℕ, Bool, true, false, List, Option, None, Some, IfSome, Ok, Err}
 use Rattle.std.proofs.Common.{inl, inr}
 use Rattle.crash_disk.specs.Disk.{Image, DiskState, MayLeave, image_of}
@@ -35,8 +34,7 @@ abbrev pub provider : {Setup R : Type 0} → Setup → Ledger R → Provider Set
 provider setup ledger = record { setup = setup; ledger = ledger }
 
 -- What says what is answered to a request where nothing fails: by this setup, over this ledger, at this moment, with
--- the record that is
--- added.
+-- the record that is added.
 abbrev pub AnswersBy : (Setup R : Type 0) → Type 1
 AnswersBy Setup R = Setup → Held R → Request → ℕ → Answer → Option R → Type 0
 
@@ -70,8 +68,7 @@ pub record MakesRoom {Setup R : Type 0} (rules : RecordRules R) (Answers : Answe
   pub made : Compacts rules now found held
 
 -- What is done at a request over the ledger that it finds: the request and the moment; whether the disk's count of
--- faults rose;
--- the answer; the provider before and after.
+-- faults rose; the answer; the provider before and after.
 pub data Serves {Setup R : Type 0} (rules : RecordRules R) (Answers : AnswersBy Setup R) (found : Held R)
     (request : Request) (now : ℕ) (Risen : Type 0)
     (answer : Answer) (old new : Provider Setup R) : Type 0 where
@@ -124,8 +121,7 @@ pub data Steps {Setup R : Type 0} (rules : RecordRules R) (Answers : AnswersBy S
 -- WHICH CALLS IT MAKES ON ITS DISK
 
 -- A record that a request adds, from the moment on at which it is begun to be written: over the ledger that was found,
--- with nothing
--- written before, or over that which one compaction made, behind the calls of this.
+-- with nothing written before, or over that which one compaction made, behind the calls of this.
 pub record Adding {Setup R : Type 0} (rules : RecordRules R) (Answers : AnswersBy Setup R) (setup : Setup)
     (found : Held R) (request : Request) (now : ℕ)
     (told : Option DiskState) : Type 0 where
@@ -187,9 +183,8 @@ module _ {Setup R : Type 0} (rules : RecordRules R) (Answers : AnswersBy Setup R
 -- WHAT A CRASH LEAVES
 
 -- What a crash while a request is served over a ledger may leave, with what the disk tells as that begins: this ledger,
--- before a call; it, or
--- it after the one compaction, amid the calls of this; either with the record that the request adds or without, amid
--- those of its commit.
+-- before a call; it, or it after the one compaction, amid the calls of this; either with the record that the request
+-- adds or without, amid those of its commit.
 pub data ServingLeaves {Setup R : Type 0} (rules : RecordRules R) (Answers : AnswersBy Setup R) (setup : Setup)
     (found : Held R) (request : Request) (now : ℕ)
     (told : Option DiskState) (image : Image) : Type 0 where

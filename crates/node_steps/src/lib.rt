@@ -17,10 +17,18 @@
 //! where the record is in every image that a crash may leave: its page is made before the record is written, so from
 //! then on only the disk can refuse.
 //!
-//! `StepLeaves` says what a crash inside may leave, `specs/Node.antt` what a restart and a compaction do, and
-//! `specs/Replies.antt` what a role says. `specs/Histories.antt` says what was acknowledged over a service, and how
-//! its ledger came from the one at the start, and `specs/Lasting.antt` that it is kept since then, inside later
-//! answers too.
+//! In the same case a step says which changing calls it makes on its disk (`StepsOnDisk`; `specs/Calls.antt`): none
+//! where nothing is recorded; those of the opening of a broken ledger, of one compaction that made room and of one
+//! commit, in this order, all of them or, where the disk failed, a beginning. `StepLeaves` says what a crash inside may
+//! leave: no more than one amid these calls. `specs/Node.antt` says the same of a restart and a compaction, and
+//! `specs/Replies.antt` what a role says.
+//!
+//! `specs/Histories.antt` says what was acknowledged over a service, and how its ledger came from the one at the start,
+//! with compactions at the moments of its requests alone; `specs/Lasting.antt` that it is kept since then, inside later
+//! answers too; `specs/Staying.antt` what happened since a record was added; `specs/Added.antt` that what stands anew
+//! is of the request; `specs/Starving.antt` that nothing visible is lost where there was no memory; and
+//! `specs/Joining.antt` that a later start goes on from whatever a crash left of a run. The laws of any role are in
+//! [`laws`].
 #![tactic(auto)]
 
 mod answering;

@@ -25,7 +25,8 @@ use Rattle.request_ledger.specs.Record.{request_rules}
 use Rattle.sp_runs.specs.Headline.{ARunCarriesTheHeadline, ClosesExactly, EachGoesExactly, GoesExactly, IsRecordedFirst, KeepsToItsConfig, OpensExactly, ServedNothing, ServedSo, GuardsExactly}
 use Rattle.sp_runs.specs.Laws.{AnEndedRegistryAsksNothing, AnEndedRegistryRecordsNothing, ARunUsesWhatItsRegistryLists, ASessionIsShownByItsRow, EachRequestIsServedByTheSameSetup, EachSessionWasSigned, SessionsStayClosedInARun, WhatARunAcknowledgedIsKeptOnce, WithoutARegistryNothingIsExpired}
 use Rattle.sp_runs.specs.Runs.{Begins}
-use Rattle.sp_server.specs.Staying.{SessionsStayInAService}
+use Rattle.sp_server.specs.Staying.{SessionsStayInAService, WhatWasOpenedIsAsLeft}
+use Rattle.sp_server.specs.Starving.{WhatIsVisibleStays}
 use Rattle.sp_runs.proofs.Kept.{kept_ever_since, sessions_stay}
 
 -- the laws on which it stands
@@ -46,6 +47,8 @@ pub record Laws : Type 0 where
   pub kept : WhatARunAcknowledgedIsKeptOnce
   pub closed : SessionsStayClosedInARun
   pub stay : SessionsStayInAService
+  pub as_left : WhatWasOpenedIsAsLeft
+  pub starved : WhatIsVisibleStays
   pub tells : ARunUsesWhatItsRegistryLists
   pub same : EachRequestIsServedByTheSameSetup
   pub ends : AnEndedRegistryRecordsNothing
@@ -135,6 +138,10 @@ module _ (laws : Laws) (asked : Asked Provider) where
     signed =
         λ issued held answer r all unforged none gives. laws.signed issued asked.node.setup held asked.request
         asked.now r answer all unforged none gives;
+    starved = λ before after asks are whole is.
+        laws.starved asked.node after.node asked.disk asked.request asked.now before.disk_faults after.disk_faults are whole
+        (subst (λ (a : Answer). Steps asked.node asked.disk asked.request asked.now
+        (Rose before.disk_faults after.disk_faults) a after.node) is (stepped asked before after asks).step);
     added = λ before after asks image held r tells left is there new.
         new_is_of_the_request request_rules Answers asked.node asked.disk asked.request asked.now image held r tells
         (subst (λ (d : Option DiskState). IfSome d (λ x. MayLeave x (image_of x))) (sym asks.disk) asks.answers.reads)
@@ -185,3 +192,4 @@ module _ (laws : Laws) where
       begins serves.run serves.ends)
       (λ tells. sessions_stay laws.hold laws.stay told file budget before opened after node last turns served tells
       begins left serves)
+      laws.as_left

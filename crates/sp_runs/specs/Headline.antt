@@ -1,8 +1,7 @@
 -- What a run of a service provider comes to: sessions are opened exactly where a posted form opens one, no request
--- opens two, and where
--- only the identity provider makes HMACs that match, each session is a login that it signed; they are closed exactly
--- where their users
--- leave them or the identity provider ends them, and one that is closed is never live again.
+-- opens two, and where only the identity provider makes HMACs that match, each session is a login that it signed; they
+-- are closed exactly where their users leave them or the identity provider ends them, and one that is closed is never
+-- live again.
 use Rattle.std.specs.Prelude.{◌≡◌, ◌≢◌, ◌≤◌, ◌⊎◌, ℕ, true, false, List, [], ◌∷◌, Contains, Option, IsSome, None, Some, Ok, Result}
 use Rattle.std.specs.List.{AllByRecursion}
 use Rattle.saml_outside.specs.Files.{File}
@@ -29,6 +28,7 @@ use Rattle.protocol_messages.specs.declared.logout.LogoutRequest.{LogoutRequest}
 use Rattle.provider_config.specs.declared.config.RegistryLine.{RegistryLine}
 use Rattle.provider_config.specs.declared.config.SpFile.TheVariants.{Registry}
 use Rattle.request_ledger.specs.Ledger.{Held, ledger_in}
+use Rattle.request_ledger.specs.Laws.{AnswerAlike}
 use Rattle.request_ledger.specs.Record.{AreRecords, request_rules}
 use Rattle.request_ledger.specs.RowsOf.{is_among, rows_of}
 use Rattle.request_rows.specs.declared.row.AskedRow.{AskedRow}
@@ -40,7 +40,7 @@ use Rattle.sp_server.specs.Logouts.{EndsOver, IsClosed, IsClosedWith, IsEndedBy,
 use Rattle.sp_server.specs.Recorded.{IsRecorded, TakesPosts}
 use Rattle.sp_server.specs.Guarding.{AsksGuard, IsVouchedAt, TellsExactly}
 use Rattle.sp_server.specs.Routes.{App, Guard, To, route}
-use Rattle.sp_server.specs.Staying.{SessionsStay}
+use Rattle.sp_server.specs.Staying.{SessionsStay, WhatWasOpenedIsAsLeft}
 use Rattle.sp_server.specs.Sessions.{GivesSession, HasRoom, IsOpened, OpensOver}
 use Rattle.node_steps.specs.declared.codes.TheConstants.{NO_MEMORY}
 use Rattle.node_steps.specs.Added.{IsAddedBy, IsNew}
@@ -57,11 +57,8 @@ use Rattle.sp_runs.specs.Runs.{Begins, Runs, served_by}
 -- ---- one request, which the provider was asked in one world, and which left another behind
 
 -- A session is recorded, with whatever answer, only where the posted form opens it, and so it is of each record that is
--- added
--- (`AddsOnlyItsOwn`). And wherever a form does, over the ledger that the step
--- found, where there is room, at once or behind one compaction, and the disk does not fail, the session is recorded and
--- given; or there was
--- no memory.
+-- added (`AddsOnlyItsOwn`). And wherever a form does, over the ledger that the step found, where there is room, at once
+-- or behind one compaction, and the disk does not fail, the session is recorded and given; or there was no memory.
 pub record OpensExactly (asked : Asked Provider) (before after : World Provider) : Type 0 where
   pub only : (held : Held) (answer : Answer) (r : OpenedRecord)
       → Answers asked.node.setup held asked.request asked.now answer (Some (kinds.Opened r))
@@ -75,12 +72,9 @@ pub record OpensExactly (asked : Asked Provider) (before after : World Provider)
       after.node.ledger.held
 
 -- A session is closed, with whatever answer, only by a Left of its token, which a POST to /logout with its cookie adds
--- while it lives, or by an
--- Ended that lists it, which a request with a LogoutRequest of the identity provider that is obeyed adds; nothing else
--- closes one. And
--- wherever one of them does, over the ledger that the step found, where there is room and the disk does not fail, the
--- session is closed
--- behind the step; or there was no memory.
+-- while it lives, or by an Ended that lists it, which a request with a LogoutRequest of the identity provider that is
+-- obeyed adds; nothing else closes one. And wherever one of them does, over the ledger that the step found, where there
+-- is room and the disk does not fail, the session is closed behind the step; or there was no memory.
 pub record ClosesExactly (asked : Asked Provider) (before after : World Provider) : Type 0 where
   pub only_left : (held : Held) (answer : Answer) (r : LeftRecord)
       → Answers asked.node.setup held asked.request asked.now answer (Some (kinds.Left r))
@@ -112,8 +106,7 @@ pub record ClosesExactly (asked : Asked Provider) (before after : World Provider
       → (asked.answer ≡ Fixed NO_MEMORY) ⊎ IsClosed after.node.ledger.held token
 
 -- Each form and each page that is answered to what is posted, and each form that asks for a login, stands for one
--- record, which is in every
--- image that a crash may leave once the provider has answered, before a byte is sent.
+-- record, which is in every image that a crash may leave once the provider has answered, before a byte is sent.
 pub record IsRecordedFirst (asked : Asked Provider) (before after : World Provider) : Type 0 where
   pub posted : (bytes : List ℕ) → asked.answer ≡ Full bytes → TakesPosts (route asked.request)
       → IsRecorded asked.node.setup asked.request asked.now (Full bytes) after.disk
@@ -124,8 +117,8 @@ pub record IsRecordedFirst (asked : Asked Provider) (before after : World Provid
       → IsRecorded asked.node.setup asked.request asked.now (Full bytes) after.disk
 
 -- Each record that stands in an image which a crash inside the answer may leave, or one behind it, be it behind page
--- 50, and stood nowhere
--- before is one that the request adds over some ledger with some answer, so that it is of it what is said of these.
+-- 50, and stood nowhere before is one that the request adds over some ledger with some answer, so that it is of it what
+-- is said of these.
 abbrev pub AddsOnlyItsOwn : Asked Provider → Type 0
 AddsOnlyItsOwn asked =
     (image : Image) (held : Held) (r : SpRecord) → IsSome asked.disk → StepLeaves asked.node asked.disk asked.request
@@ -134,8 +127,7 @@ AddsOnlyItsOwn asked =
     → IsAddedBy Answers asked.node.setup asked.request asked.now r
 
 -- Each session that is given, with whatever answer, is of a login that was signed: for every list of what an identity
--- provider signed,
--- where no HMAC is forged and no hash collides in the posted form.
+-- provider signed, where no HMAC is forged and no hash collides in the posted form.
 abbrev pub IsOfASignedLogin : Asked Provider → Type 0
 IsOfASignedLogin asked =
     (issued : List Signed) (held : Held) (answer : Answer) (r : SpRecord) → AllByRecursion IsSigned issued
@@ -144,8 +136,7 @@ IsOfASignedLogin asked =
     → IsLoginOf issued gives.brought.login
 
 -- Over a ledger that is whole a live session is answered by the page of its user, or by that of the rule of the policy
--- that denies it; or
--- there was no memory.
+-- that denies it; or there was no memory.
 abbrev pub IsShownByItsRow : (asked : Asked Provider) → Type 0
 IsShownByItsRow asked =
     (row : OpenedRow) → asked.node.ledger.broken ≡ false → route asked.request ≡ To App → session_for
@@ -162,6 +153,13 @@ pub record GuardsExactly (asked : Asked Provider) (before after : World Provider
   pub only : route asked.request ≡ Guard → HasStatus 200 (answer_bytes asked.answer)
       → IsVouchedAt asked.node asked.disk asked.request asked.now (answer_bytes asked.answer)
 
+-- Where there was no memory and the ledger was not broken, all that may be asked of its rows at the moment of the
+-- request is answered behind it as before.
+abbrev pub KeepsWhatIsVisible : (asked : Asked Provider) → (after : World Provider) → Type 0
+KeepsWhatIsVisible asked after =
+    AreRecords asked.node.ledger.held.records → asked.node.ledger.broken ≡ false → asked.answer ≡ Fixed NO_MEMORY
+    → AnswerAlike asked.now after.node.ledger.held asked.node.ledger.held
+
 -- ---- the run
 
 -- a request is answered by one step, and so it is of it, whatever the worlds are in which the provider was asked
@@ -176,6 +174,7 @@ pub record GoesExactly (asked : Asked Provider) : Type 0 where
   pub guards : (before after : World Provider) → Asks IsProviders asked before after → GuardsExactly asked before after
   pub signed : IsOfASignedLogin asked
   pub added : (before after : World Provider) → Asks IsProviders asked before after → AddsOnlyItsOwn asked
+  pub starved : (before after : World Provider) → Asks IsProviders asked before after → KeepsWhatIsVisible asked after
   pub shown : (before after : World Provider) → Asks IsProviders asked before after → IsShownByItsRow asked
 
 -- and of each request that the provider was asked
@@ -186,10 +185,9 @@ EachGoesExactly (turn ∷ past) = AllByRecursion GoesExactly (asked_by turn) × 
 -- ---- its files
 
 -- A run keeps to what its config says: where this has a registry, the identity provider is the one that the registry
--- lists; each request
--- is served by what the run was set up with; from the moment on at which the registry ends nothing is recorded, no
--- login is asked for, no
--- session is opened and no logout is served; and without a registry it is never answered that one has ended.
+-- lists; each request is served by what the run was set up with; from the moment on at which the registry ends nothing
+-- is recorded, no login is asked for, no session is opened and no logout is served; and without a registry it is never
+-- answered that one has ended.
 pub record KeepsToItsConfig (told : Option (List File)) (file : List ℕ) (before : Outside) (provider : Provider)
     (opened : Outside)
     (begins : Begins told file before provider opened) (turns : List (Turn Provider)) : Type 0 where
@@ -210,20 +208,15 @@ pub record KeepsToItsConfig (told : Option (List File)) (file : List ℕ) (befor
 -- ---- all of it
 
 -- A run that served nothing, or one that served: it kept to its config; each request opened and closed sessions
--- exactly, those that it opened of logins that were
--- signed, and was answered once its record was durable; and where the disk tells, what the answers acknowledged is in
--- the history of every
--- ledger that a crash may leave behind the run, no two sessions are of one request, those at the start and those that
--- were let go included;
--- from each point of the run on, also inside later requests, what was acknowledged by then is in the history of every
--- ledger that a crash
--- might leave; a session that is closed is live at no later request, and in no ledger that a crash may leave since; and
--- one whose answer went out is as it
--- was left in every image that a crash may leave behind the run: where it ends behind each moment of the run it lives
--- there, closed only
--- where a record that was added since closes it, and its request stays spent while it could be answered. `left` says of
--- each
--- moment, seen from the end of the run, what a crash since then might have left.
+-- exactly, those that it opened of logins that were signed, and was answered once its record was durable; and where the
+-- disk tells, what the answers acknowledged is in the history of every ledger that a crash may leave behind the run, no
+-- two sessions are of one request, those at the start and those that were let go included; from each point of the run
+-- on, also inside later requests, what was acknowledged by then is in the history of every ledger that a crash might
+-- leave; a session that is closed is live at no later request, and in no ledger that a crash may leave since; and one
+-- whose answer went out is as it was left in every image that a crash may leave behind the run: where it ends behind
+-- each moment of the run it lives there, closed only where a record that was added since closes it, and its request
+-- stays spent while it could be answered. `left` says of each moment, seen from the end of the run, what a crash since
+-- then might have left.
 pub data Headline (left : ℕ → Image → Type 0) (told : Option (List File)) (file : List ℕ) (before : Outside)
     (turns : List (Turn Provider)) (after : Outside) : Type 0 where
   ServedNothing : turns ≡ [] → Headline left told file before turns after
@@ -238,6 +231,7 @@ pub data Headline (left : ℕ → Image → Type 0) (told : Option (List File)) 
       (world_of provider opened) turns serves.kept serves.last serves.run)
       → (IsSome before.disk → StayClosed (points (world_of provider opened) turns (world_of last after)))
       → (IsSome before.disk → SessionsStay (world_of provider opened) (world_of last after) turns)
+      → WhatWasOpenedIsAsLeft
       → Headline left told file before turns after
 
 -- The headline holds of each run.

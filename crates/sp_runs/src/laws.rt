@@ -87,6 +87,8 @@ pub fn a_run_carries_the_headline<D: Disk>()
     what_a_run_acknowledged_is_kept_once();
     sessions_stay_closed_in_a_run();
     sp_server::laws::sessions_stay_in_a_service();
+    sp_server::laws::what_was_opened_is_as_left();
+    sp_server::laws::what_is_visible_stays();
     a_registry_tells_and_ends();
     a_session_is_shown_by_its_row();
 }

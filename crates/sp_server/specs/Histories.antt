@@ -30,18 +30,18 @@ AreAcknowledged = any.AreAcknowledged Answers
 abbrev pub IsAtStart : World Provider → Type 0
 IsAtStart = any.IsAtStart request_rules
 
--- The image stands for a ledger that came from another one by events, in which these records were added and each compaction was at such a
--- moment; and no two of the sessions that
--- were opened on the way or stood at the start are of one request, those that were let go, and those whose answer was lost, included.
+-- The image stands for a ledger that came from another one by events, in which these records were added and each
+-- compaction was at such a moment; and no two of the sessions that were opened on the way or stood at the start are of
+-- one request, those that were let go, and those whose answer was lost, included.
 pub record HoldsWhatCameOnce (IsMoment : ℕ → Type 0) (start : Held) (records : List SpRecord) (image : Image) : Type 0 where
   pub held : Held
   pub is : ledger_in image ≡ Ok (Some held)
   pub came : CameFrom request_rules IsMoment start records held
   pub once : AreDifferent (requests_of_run start came.events)
 
--- Of the records for which the answers of a service stand: each is in the history of every ledger that a crash may leave behind it, in
--- which each compaction was at the moment of one of its requests,
--- and no two sessions of such a history are of one request; so no two of their sessions, with those of the ledger at the start, are.
+-- Of the records for which the answers of a service stand: each is in the history of every ledger that a crash may
+-- leave behind it, in which each compaction was at the moment of one of its requests, and no two sessions of such a
+-- history are of one request; so no two of their sessions, with those of the ledger at the start, are.
 pub record AreKeptOnce (first last : World Provider) (turns : List (Turn Provider)) : Type 0 where
   pub records : List SpRecord
   pub are : AreAcknowledged turns records

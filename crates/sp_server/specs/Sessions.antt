@@ -34,8 +34,7 @@ record_of setup held now b =
     opened setup.config.id_key (next_number held) now (session_of setup.config now b.key.number b.login)
 
 -- This record and this answer give the session that the form opens: the user is sent to where the login began, with the
--- session's
--- token.
+-- session's token.
 pub record GivesSession (setup : Setup) (held : Held) (request : Request) (now : ℕ) (r : SpRecord) (answer : Answer) :
     Type 0 where
   pub brought : Brought
@@ -54,8 +53,7 @@ OnlyWhereAFormOpens =
     → GivesSession setup held request now (kinds.Opened r) answer
 
 -- There is room for the session of a login: there is a place for its record at once, or in a ledger of records behind
--- one compaction at
--- the moment.
+-- one compaction at the moment.
 abbrev pub HasRoom : Setup → (found : Held) → (now : ℕ) → Brought → Type 0
 HasRoom setup found now b =
     HasPlace found (record_of setup found now b)
@@ -63,8 +61,7 @@ HasRoom setup found now b =
     (record_of setup held now b)))
 
 -- The session of a login is recorded behind the records of the ledger that was found, or, where there was no place
--- behind these, of what
--- one compaction made of it; and it is given.
+-- behind these, of what one compaction made of it; and it is given.
 pub record IsOpened (setup : Setup) (found : Held) (request : Request) (now : ℕ) (b : Brought) (answer : Answer)
     (new : Held) : Type 0 where
   pub held : Held

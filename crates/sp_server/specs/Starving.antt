@@ -10,8 +10,8 @@ use Rattle.node_steps.specs.declared.codes.TheConstants.{NO_MEMORY}
 use Rattle.sp_server.specs.Step.{Provider, Steps}
 
 -- Where there was no memory and the ledger was not broken, all that may be asked of its rows at the moment of the
--- request is answered
--- behind it as before: each request that was asked, and each session, assertion and logout that was visible, still is.
+-- request is answered behind it as before: each request that was asked, and each session, assertion and logout that was
+-- visible, still is.
 abbrev pub WhatIsVisibleStays : Type 0
 WhatIsVisibleStays =
     (old new : Provider) (disk : Option DiskState) (request : Request) (now before after : ℕ) → AreRecords

@@ -23,12 +23,10 @@ use Rattle.sp_server.specs.Histories.{AreAcknowledged, IsAtStart, IsProviders}
 use Rattle.sp_server.specs.Step.{Provider, Answers}
 
 -- A session that was opened stands in a ledger which came from another one by events, as it was left: its record was
--- added by one of them.
--- Where it ends behind each of these moments it has its row, closed only where a record that was added since closes it,
--- and while none
--- did and it has not ended it is found live by its token. And where its request stood in the ledger to which it was
--- added, this stays
--- spent while it ends behind each of these moments, so as long as it could be answered.
+-- added by one of them. Where it ends behind each of these moments it has its row, closed only where a record that was
+-- added since closes it, and while none did and it has not ended it is found live by its token. And where its request
+-- stood in the ledger to which it was added, this stays spent while it ends behind each of these moments, so as long as
+-- it could be answered.
 pub record IsAsLeft (moments : List ℕ) (start : Held) (r : OpenedRecord) (held : Held) : Type 0 where
   pub events : List Event
   pub leads : Leads start events held
@@ -51,8 +49,7 @@ abbrev pub OpensAsLeft : (moments : List ℕ) (start : Held) (r : OpenedRecord) 
 OpensAsLeft moments start r image = (held : Held) × (taken (ledger_in image) ≡ Ok held) × IsAsLeft moments start r held
 
 -- So it is in each image that has in its history what was acknowledged, where each compaction was at one of these
--- moments: in those that a
--- crash may leave behind a service, or since one of its points.
+-- moments: in those that a crash may leave behind a service, or since one of its points.
 abbrev pub WhatWasOpenedIsAsLeft : Type 0
 WhatWasOpenedIsAsLeft =
     (moments : List ℕ) (start : Held) (records : List SpRecord) (r : OpenedRecord) (image : Image)
@@ -74,8 +71,7 @@ SessionsStayInAService =
     → SessionsStay first last turns
 
 -- And over several starts, of which each opens what a crash of the one before it may have left, each request of which
--- was asked at one of
--- these moments, also one that a crash cut.
+-- was asked at one of these moments, also one that a crash cut.
 pub record SessionsStayOver (moments : List ℕ) (start : Held) (starts : List (Start Provider)) : Type 0 where
   pub records : List SpRecord
   pub are : AreAcknowledgedIn Answers starts records

@@ -15,4 +15,7 @@ returns g c = λ disk.
       hold = c.images_hold_records.ensures;
       kept = c.what_is_acknowledged_is_kept.ensures;
       ended = c.sessions_stay_ended_in_a_service.ensures;
+      stay = c.sessions_stay_in_a_service.ensures;
+      as_left = c.what_was_begun_is_as_left.ensures;
+      starved = c.what_is_visible_stays.ensures;
     }) (g.D.Disk.left_since disk)
