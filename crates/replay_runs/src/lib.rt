@@ -1,0 +1,16 @@
+//! Schedules replayed over one deployment: a service provider and an identity provider that know each other, both on this
+//! host, each with a disk in memory that is empty at first.
+//!
+//! ```
+//! let tally = replay_deployed(alloc, &schedule, false, &mut out)?;
+//! ```
+//!
+//! What the providers are set up with is a definition, `specs/Deployed.antt`; a run of theirs is one of `schedule_replay`
+//! by the definitions of their own steps (`Goes` of `specs/Runs.antt`). No call of their disks fails, and none stops, but
+//! by the schedule.
+#![tactic(auto)]
+
+mod deployed;
+mod running;
+
+pub use running::replay_deployed;

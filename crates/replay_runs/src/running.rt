@@ -1,0 +1,112 @@
+// Schedules are replayed over the deployment.
+
+ghost use Rattle.std.specs.Prelude.{◌≡◌, ◌≤◌, [], false, Some, IfOk, Err};
+ghost use Rattle.crash_disk.specs.Memory.{state_of};
+ghost use Rattle.saml_outside.specs.Counts.{Rose};
+ghost use Rattle.record_ledger.specs.Ledger.{ledger_in, taken};
+ghost use Rattle.node_steps.specs.Step.{OwnsDisk};
+ghost use Rattle.request_ledger.specs.Record.{request_rules};
+ghost use Rattle.idp_ledger.specs.Record.{idp_rules};
+ghost use Rattle.replay_runs.specs.Deployed.{service_provider, IsIdpConfig};
+ghost use Rattle.replay_runs.specs.Runs.{AreStarted, Goes, IsStarted};
+
+use crate::deployed::{identity_provider, service_provider};
+use crash_disk::MemDisk;
+use idp_server::IdpNode;
+use owned_values::NoMemory;
+use saml_outside::Sink;
+use schedule_replay::{ReplayFault, Tally, replay};
+use schedules::Schedule;
+use sp_server::SpNode;
+use std::alloc::Global;
+
+/// Lets no call of a disk fail or stop it, but by a schedule.
+fn without_faults(disk: &mut MemDisk)
+    ensures { disk.new ≡ record disk.old { failing = 0; stopping = 0; pick = 0; stopped = false } }
+{
+    disk.restart();
+    disk.fail_at(0);
+    disk.stop_at(0, 0);
+}
+
+/// Starts the service provider over an empty disk. Where that fails, there was no memory.
+fn start_sp(alloc: Global, disk: &mut MemDisk) -> Result<SpNode, NoMemory>
+    requires { disk.old ≡ record { start = record { zero = []; one = [] }; log = []; failing = 0; stopping = 0; pick = 0; stopped = false; starved = false; faults = 0 } }
+    ensures setup { IfOk result (λ node. node.setup ≡ service_provider) }
+    ensures started { IfOk result (λ node. IsStarted request_rules node disk.new) }
+    ensures own { IfOk result (λ node. OwnsDisk request_rules node (Some (state_of disk.new))) }
+{
+    let role = service_provider(alloc)?;
+    let Ok(node) = SpNode::start(alloc, role, disk) else {
+        return Err(NoMemory);
+    };
+    without_faults(disk);
+    Ok(node)
+}
+
+/// Starts the identity provider over an empty disk. Where that fails, there was no memory.
+fn start_idp(alloc: Global, disk: &mut MemDisk) -> Result<IdpNode, NoMemory>
+    requires { disk.old ≡ record { start = record { zero = []; one = [] }; log = []; failing = 0; stopping = 0; pick = 0; stopped = false; starved = false; faults = 0 } }
+    ensures setup { IfOk result (λ node. IsIdpConfig node.setup) }
+    ensures started { IfOk result (λ node. IsStarted idp_rules node disk.new) }
+    ensures own { IfOk result (λ node. OwnsDisk idp_rules node (Some (state_of disk.new))) }
+{
+    let role = identity_provider(alloc)?;
+    let Ok(node) = IdpNode::start(alloc, role, disk) else {
+        return Err(NoMemory);
+    };
+    without_faults(disk);
+    Ok(node)
+}
+
+/// Starts both providers, each over an empty disk. Where that fails, there was no memory.
+fn start_both(
+    alloc: Global,
+    sp_disk: &mut MemDisk,
+    idp_disk: &mut MemDisk,
+) -> Result<(SpNode, IdpNode), NoMemory>
+    requires sp_empty { sp_disk.old ≡ record { start = record { zero = []; one = [] }; log = []; failing = 0; stopping = 0; pick = 0; stopped = false; starved = false; faults = 0 } }
+    requires idp_empty { idp_disk.old ≡ record { start = record { zero = []; one = [] }; log = []; failing = 0; stopping = 0; pick = 0; stopped = false; starved = false; faults = 0 } }
+    ensures started { IfOk result (λ (sp, idp). AreStarted (record { sp = sp; sp_disk = sp_disk.new; idp = idp; idp_disk = idp_disk.new })) }
+    ensures sp_own { IfOk result (λ (sp, idp). OwnsDisk request_rules sp (Some (state_of sp_disk.new))) }
+    ensures idp_own { IfOk result (λ (sp, idp). OwnsDisk idp_rules idp (Some (state_of idp_disk.new))) }
+{
+    let sp = start_sp(alloc, sp_disk)?;
+    let idp = start_idp(alloc, idp_disk)?;
+    Ok((sp, idp))
+}
+
+/// Replays a schedule over the deployment, and prints the lines of its steps and what they came to; with `quiet` the
+/// last line alone.
+///
+/// # Errors
+///
+/// [`ReplayFault::WriteFault`], only where the sink's count of faults rose. [`ReplayFault::NoMemory`] may come in place
+/// of any answer.
+pub fn replay_deployed<K: Sink>(
+    alloc: Global,
+    schedule: &Schedule,
+    quiet: bool,
+    out: &mut K,
+) -> Result<Tally, ReplayFault>
+    ensures goes { Goes schedule.now quiet result (K.taken out.old) (K.taken out.new) }
+    ensures write_fault { result ≡ Err ReplayFault.WriteFault → Rose (K.faults_of out.old) (K.faults_of out.new) }
+    ensures never_falls { K.faults_of out.old ≤ K.faults_of out.new }
+{
+    let mut sp_disk = MemDisk::new(alloc);
+    let mut idp_disk = MemDisk::new(alloc);
+    let (mut sp, mut idp) = match start_both(alloc, &mut sp_disk, &mut idp_disk) {
+        Ok(both) => both,
+        Err(NoMemory) => return Err(ReplayFault::NoMemory),
+    };
+    replay(
+        alloc,
+        schedule,
+        &mut sp,
+        &mut idp,
+        &mut sp_disk,
+        &mut idp_disk,
+        quiet,
+        out,
+    )
+}
