@@ -32,9 +32,9 @@ sp_config = record {
   skew = 60000;
 }
 
--- a service provider without a policy and without a registry
+-- a service provider without a policy, without a registry and without a guard
 abbrev pub service_provider : Setup
-service_provider = record { config = sp_config; policy = None; expiry = None }
+service_provider = record { config = sp_config; policy = None; expiry = None; guard = false }
 
 abbrev pub peers : List LogoutPeer
 peers =

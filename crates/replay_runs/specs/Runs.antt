@@ -2,7 +2,8 @@
 use Rattle.std.specs.Prelude.{◌≡◌, ℕ, Bool, false, List, [], Option, Result, Ok, Err}
 use Rattle.crash_disk.specs.Memory.{DiskInMemory, state_of}
 use Rattle.record_ledger.specs.Rules.{RecordRules}
-use Rattle.record_ledger.specs.Ledger.{LeftByOpening, ledger_in, taken}
+use Rattle.record_ledger.specs.Ledger.{ledger_in, taken}
+use Rattle.node_steps.specs.Calls.{OpeningLeaves}
 use Rattle.node_steps.specs.Histories.{StepOf}
 use Rattle.node_steps.specs.Node.{Restarts, CompactionOf, CompactionLeaves}
 use Rattle.node_steps.specs.Step.{AnswersBy, Provider, OwnsDisk, StepLeaves}
@@ -22,7 +23,7 @@ use Rattle.replay_runs.specs.Deployed.{service_provider, IsIdpConfig}
 abbrev pub provider_rules : {Setup R : Type 0} → RecordRules R → AnswersBy Setup R → Rules (Provider Setup R)
 provider_rules records Answers =
     rules (OwnsDisk records) (StepOf records Answers) (StepLeaves records Answers)
-    (λ old disk before after result new later. Restarts records old disk result new) (λ old disk image. LeftByOpening records disk image)
+    (λ old disk before after result new later. Restarts records old disk result new later) (λ old disk. OpeningLeaves records disk)
     (λ old disk now before after result new later. CompactionOf records old disk now result new) (CompactionLeaves records)
 
 abbrev pub sp_rules : Rules sp.Provider

@@ -90,7 +90,7 @@ pub(crate) fn service_provider(alloc: Global) -> Result<SpRole, NoMemory>
     ensures { IfOk result (λ role. role ≡ deployed.service_provider) }
 {
     let config = sp_config(alloc)?;
-    Ok(SpRole::new(alloc, config, None, None))
+    Ok(SpRole::new(alloc, config, None, None, false))
 }
 
 /// The service provider as the identity provider knows it.
