@@ -88,7 +88,8 @@ module _ (laws : Laws) (asked : Asked Provider) where
     issues = issues;
     ends = λ before after asks. ends_exactly before after;
     starved = λ before after asks are whole is.
-        laws.starved asked.node after.node asked.disk asked.request asked.now before.disk_faults after.disk_faults are whole
+        laws.starved asked.node after.node asked.disk asked.request asked.now before.disk_faults after.disk_faults are
+        whole
         (subst (λ (a : Answer). Steps asked.node asked.disk asked.request asked.now
         (Rose before.disk_faults after.disk_faults) a after.node) is (stepped asked before after asks).step);
     added = λ before after asks image held r tells left is there new.

@@ -4,12 +4,12 @@ ghost use Rattle.idp_runs.specs.Joining.{EachImageOfARunGoesOn};
 
 use idp_ledger::Disk;
 
-/// A run issues each Assertion to a user whose password was posted, or in the user's live session; each element that it signs is
-/// one of a record; and no form is sent before its record is in every image that a crash may leave. It ends sessions exactly where
-/// their users leave them, by a POST with their cookie, or where a peer asks for it by a LogoutRequest that is accepted; and one that
-/// is ended is live at no later request, and in no ledger that a crash may leave since. From each point of the run on, also inside
-/// later requests, what was acknowledged by then is in the history of each ledger that a crash might leave, and each session whose
-/// answer went out is as it was left.
+/// A run issues each Assertion to a user whose password was posted, or in the user's live session; each element that
+/// it signs is one of a record; and no form is sent before its record is in every image that a crash may leave. It
+/// ends sessions exactly where their users leave them, by a POST with their cookie, or where a peer asks for it by a
+/// LogoutRequest that is accepted; and one that is ended is live at no later request, and in no ledger that a crash
+/// may leave since. From each point of the run on, also inside later requests, what was acknowledged by then is in
+/// the history of each ledger that a crash might leave, and each session whose answer went out is as it was left.
 pub fn a_run_carries_the_headline<D: Disk>()
     ensures { (disk : D) → ARunCarriesTheHeadline (D.left_since disk) }
 {
@@ -34,9 +34,9 @@ pub fn a_run_is_a_start()
     idp_ledger::laws::images_hold_records();
 }
 
-/// Where a run is next behind starts of its provider, on a disk that tells, each image that a crash at one of its moments may leave is
-/// one from which a later start goes on, as behind a start of this run that was cut at that moment: so runs that a crash cut join into
-/// one service, of which the laws of starts speak.
+/// Where a run is next behind starts of its provider, on a disk that tells, each image that a crash at one of its
+/// moments may leave is one from which a later start goes on, as behind a start of this run that was cut at that
+/// moment: so runs that a crash cut join into one service, of which the laws of starts speak.
 pub fn each_image_of_a_run_goes_on<D: Disk>()
     ensures { (disk : D) → EachImageOfARunGoesOn (D.left_since disk) }
 {

@@ -48,7 +48,8 @@ HoldsItDead cookie image = (held : Held) × (ledger_in image ≡ Ok (Some held))
 pub record AreKept (first last : World Provider) (turns : List (Turn Provider)) : Type 0 where
   pub records : List IdpRecord
   pub are : AreAcknowledged Answers turns records
-  pub kept : (image : Image) → Leaves last.disk image → HoldsWhatCame idp_rules (Contains (moments_of turns)) first.node.ledger.held records image
+  pub kept : (image : Image) → Leaves last.disk image
+      → HoldsWhatCame idp_rules (Contains (moments_of turns)) first.node.ledger.held records image
   pub ended : (r : IdpRecord) (cookie : List ℕ) → Contains records r → ends cookie r ≡ true → (image : Image) → Leaves last.disk image
       → HoldsItDead cookie image
   pub stays : (cookie : List ℕ) → IsEnded first.node.ledger.held cookie → (image : Image) → Leaves last.disk image → HoldsItDead cookie image

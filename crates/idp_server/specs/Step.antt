@@ -242,13 +242,15 @@ abbrev pub Steps : (old : Provider) (disk : Option DiskState) (request : Request
 Steps = any.Steps idp_rules Answers
 
 -- And in the same case which changing calls it makes on its disk, with what this tells behind it.
-abbrev pub StepsOnDisk : (old : Provider) (disk : Option DiskState) (request : Request) (now : ℕ) (Risen : Type 0) (answer : Answer) (new : Provider)
+abbrev pub StepsOnDisk : (old : Provider) (disk : Option DiskState) (request : Request) (now : ℕ) (Risen : Type 0)
+    (answer : Answer) (new : Provider)
     (later : Option DiskState) → Type 0
 StepsOnDisk = any.StepsOnDisk idp_rules Answers
 
--- What a crash while a request is served over a ledger may leave, amid the calls on its disk: this ledger, or it after the one compaction,
--- and either with the record that the request adds.
-abbrev pub ServingLeaves : (setup : IdpConfig) (found : Held) (request : Request) (now : ℕ) (told : Option DiskState) (image : Image) → Type 0
+-- What a crash while a request is served over a ledger may leave, amid the calls on its disk: this ledger, or it after
+-- the one compaction, and either with the record that the request adds.
+abbrev pub ServingLeaves : (setup : IdpConfig) (found : Held) (request : Request) (now : ℕ) (told : Option DiskState)
+    (image : Image) → Type 0
 ServingLeaves = any.ServingLeaves idp_rules Answers
 
 -- What a crash at a moment of a request may leave: that, and while a broken ledger is opened again what the disk stood for, or what is

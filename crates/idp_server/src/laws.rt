@@ -87,25 +87,25 @@ pub fn each_signed_element_is_of_a_record()
     logout_profile::laws::what_an_obeyed_form_says();
 }
 
-/// Where there was no memory for an answer and the ledger was not broken, all that may be asked of its rows at that moment is
-/// answered behind the request as before.
+/// Where there was no memory for an answer and the ledger was not broken, all that may be asked of its rows at that
+/// moment is answered behind the request as before.
 pub fn what_is_visible_stays()
     ensures { WhatIsVisibleStays }
 {
     idp_ledger::laws::compactions_change_no_answer();
 }
 
-/// A session whose answer went out is as it was left in each ledger that came from the one at the start by events, among them its
-/// record's: where it ends behind each moment at which the ledger was compacted it has its row, ended only where a record that was added
-/// since ends it, and it is found live until then and until its end.
+/// A session whose answer went out is as it was left in each ledger that came from the one at the start by events,
+/// among them its record's: where it ends behind each moment at which the ledger was compacted it has its row, ended
+/// only where a record that was added since ends it, and it is found live until then and until its end.
 pub fn what_was_begun_is_as_left()
     ensures { WhatWasBegunIsAsLeft }
 {
     idp_ledger::laws::sessions_stay();
 }
 
-/// Over each list of events, moments, disk faults and openings: each session whose answer went out is as it was left in every image
-/// that a crash may leave.
+/// Over each list of events, moments, disk faults and openings: each session whose answer went out is as it was left
+/// in every image that a crash may leave.
 pub fn sessions_stay_in_a_service()
     ensures { SessionsStayInAService }
 {

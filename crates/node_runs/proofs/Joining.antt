@@ -1,6 +1,6 @@
 -- That runs of a provider join.
 use Rattle.std.specs.Prelude.{IsSome, Option, Result}
-use Rattle.std.proofs.Common.{◌≡◌, ◌⊎◌, inl, inr, ℕ, List, [], refl}
+use Rattle.std.proofs.Common.{◌≡◌, ◌⊎◌, inl, inr, ℕ, List, [], refl, ⊎_elim}
 use Rattle.saml_outside.specs.Files.{File}
 use Rattle.crash_disk.specs.Disk.{Image}
 use Rattle.node_serve.specs.Turns.{Turn}
@@ -49,4 +49,4 @@ module _ {Setup R : Type 0} (SetsUp : SetUpBy Setup) (IsBad : BadSetUpBy) (key :
   each_image_of_a_run_goes_on told file budget before turns result after start earlier image runs were next might =
       each_image_goes_on rules Answers (IsBegun SetsUp key rules told file before) start earlier before.disk turns
       image were next
-      (ran told file budget before turns result after next.tells runs) might
+      (ran told file budget before turns result after next.tells runs) (⊎_elim (λ left. inl left.stands) inr might)

@@ -9,10 +9,13 @@ use Rattle.node_runs.specs.declared.ended.Ended.TheVariants as ends
 use Rattle.node_runs.specs.declared.ended.RunFault.{RunFault}
 use Rattle.node_runs.specs.declared.ended.RunFault.TheVariants as faults
 use Rattle.node_runs.specs.Runs.{Outside, RunsBy, RunLeavesBy}
+use Rattle.node_steps.specs.Calls as calls
+use Rattle.node_steps.specs.Calls.{Makes, OpeningLeaves}
 use Rattle.node_steps.specs.Histories.{IsProviders}
 use Rattle.node_steps.specs.Step.{AnswersBy, OwnsDisk, Provider, StepLeaves}
 use Rattle.record_ledger.specs.Rules.{RecordRules}
-use Rattle.record_ledger.specs.Ledger.{LeftByOpening, ledger_in, taken}
+use Rattle.record_ledger.specs.Calls.{opening}
+use Rattle.record_ledger.specs.Ledger.{ledger_in, taken}
 
 -- What says that the config in a file sets a provider up as this, and that this is its first bad file with its line.
 abbrev pub SetUpBy : Type 0 → Type 1
@@ -27,12 +30,14 @@ pub record IsStarted {Setup R : Type 0} (key : Setup → List ℕ) (rules : Reco
   pub whole : provider.ledger.broken ≡ false
   pub holds : IfSome disk (λ d. taken (ledger_in rules (image_of d)) ≡ Ok provider.ledger.held)
 
--- The config in this file sets such a provider up, its ledger was opened, and else all is as it was. From then on the disk is the
--- provider's own; it tells as it did, and reads as an image that it may leave.
+-- The config in this file sets such a provider up, its ledger was opened, by all calls of an opening on the disk and no
+-- other, and else all is as it was. From then on the disk is the provider's own; it tells as it did, and reads as an
+-- image that it may leave.
 pub record Begins {Setup R : Type 0} (SetsUp : SetUpBy Setup) (key : Setup → List ℕ) (rules : RecordRules R) (told : Option (List File)) (file : List ℕ) (before : Outside)
     (provider : Provider Setup R) (opened : Outside) : Type 0 where
   pub set_up : SetsUp told file provider.setup
   pub started : IsStarted key rules before.disk provider
+  pub opens : Makes (opening rules) before.disk opened.disk
   pub own : OwnsDisk rules provider opened.disk
   pub tells : is_some opened.disk ≡ is_some before.disk
   pub reads : IfSome opened.disk (λ d. MayLeave d (image_of d))
@@ -47,12 +52,14 @@ OpeningFails rules before after (Err faults.DiskFault) = Rose before.disk_faults
 OpeningFails rules before after (Err faults.NoMemory) = Unit {0}
 OpeningFails rules before after other = ⊥
 
--- The config in this file sets a provider up, and its ledger is not opened.
+-- The config in this file sets a provider up, and its ledger is not opened: no more than a beginning of the calls of an
+-- opening was made.
 pub record IsNotOpened {Setup R : Type 0} (SetsUp : SetUpBy Setup) (rules : RecordRules R) (told : Option (List File)) (file : List ℕ) (before after : Outside)
     (result : Result Ended RunFault) : Type 0 where
   pub setup : Setup
   pub set_up : SetsUp told file setup
   pub fails : OpeningFails rules before after result
+  pub calls : calls.Begins (opening rules) before.disk after.disk
 
 -- How a run by the config in this file goes, with this budget of events: the turns of its provider, and what the run comes to. `left` says of
 -- each moment, seen from the end of the run, what a crash since then might have left.
@@ -65,7 +72,7 @@ Runs SetsUp IsBad key rules Answers left told file budget before turns result af
 
 -- What a crash at a moment of a run may leave: what one inside the opening of the ledger may, or one inside the answer to a request.
 abbrev pub RunLeaves : {Setup R : Type 0} → RecordRules R → AnswersBy Setup R → Option DiskState → List (Turn (Provider Setup R)) → Image → Type 0
-RunLeaves rules Answers disk turns image = RunLeavesBy (LeftByOpening rules disk) (StepLeaves rules Answers) turns image
+RunLeaves rules Answers disk turns image = RunLeavesBy (OpeningLeaves rules disk) (StepLeaves rules Answers) turns image
 
 -- A provider can be run: the files tell, its config sets it up, and the disk tells that it holds a ledger, or no journal yet.
 pub record IsRunnable {Setup R : Type 0} (SetsUp : SetUpBy Setup) (rules : RecordRules R) (told : Option (List File)) (file : List ℕ) (disk : Option DiskState) : Type 0 where

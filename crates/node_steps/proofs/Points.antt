@@ -49,10 +49,17 @@ module _ {Setup R : Type 0} (rules : RecordRules R) (Answers : AnswersBy Setup R
   told_asked one w later asks told = record { tells = asks.answers.tells ∙ told.tells; reads = asks.answers.reads_later; own = asks.answers.owns }
 
   -- a whole ledger, on its own disk, is the beginning of its history
-  anew : (w : World (Provider Setup R)) → w.node.ledger.broken ≡ false → OwnsDisk rules w.node w.disk → Holds rules AnyMoment w.node.ledger.held w []
+  anew : (w : World (Provider Setup R)) → w.node.ledger.broken ≡ false → OwnsDisk rules w.node w.disk
+      → Holds rules AnyMoment w.node.ledger.held w []
   anew w whole own = record {
     own = own;
-    disk = λ image left. (w.node.ledger.held, settled rules w.disk w.node.ledger image whole own left, came_itself rules AnyMoment w.node.ledger.held);
+    disk =
+        λ image left. (
+          w.node.ledger.held,
+          settled rules w.disk w.node.ledger image whole own left,
+          came_itself rules
+              AnyMoment w.node.ledger.held,
+        );
   }
 
   -- what is known in a world of an earlier point, where the ledger was whole then
@@ -73,7 +80,12 @@ module _ {Setup R : Type 0} (rules : RecordRules R) (Answers : AnswersBy Setup R
   same_since : (w later : World (Provider Setup R)) → later.node ≡ w.node → later.disk ≡ w.disk → (point : Point (Provider Setup R)) → Since w point → Since later point
   same_since w later node disk point since whole =
       let before = since whole in
-      record { begun = before.begun; records = before.records; holds = holds_same rules Answers law numbers AnyMoment point.node.ledger.held w later before.records node disk before.holds }
+      record {
+        begun = before.begun;
+        records = before.records;
+        holds = holds_same rules Answers law numbers AnyMoment
+            point.node.ledger.held w later before.records node disk before.holds;
+      }
 
   same_knows : (w later : World (Provider Setup R)) (earlier : List (Point (Provider Setup R))) → later.node ≡ w.node → later.disk ≡ w.disk → Knows w earlier → Knows later earlier
   same_knows w later earlier node disk knows =
@@ -94,13 +106,16 @@ module _ {Setup R : Type 0} (rules : RecordRules R) (Answers : AnswersBy Setup R
       record {
         begun = subst (λ (p : Provider Setup R). AreRecords rules p.ledger.held.records) (sym node) are;
         records = [];
-        holds = subst (λ (p : Provider Setup R). Holds rules AnyMoment p.ledger.held w []) (sym node) (anew w here told.own);
+        holds =
+            subst (λ (p : Provider Setup R). Holds rules AnyMoment p.ledger.held w []) (sym node)
+            (anew w here told.own);
       }
 
   answered_since : (one : Asked (Provider Setup R)) (w later : World (Provider Setup R)) → IsSome one.disk → Asks (IsProviders rules Answers) one w later → (point : Point (Provider Setup R)) → Since w point → Since later point
   answered_since one w later tells asks point since whole =
       let before = since whole in
-      let goes = asked_goes rules Answers law numbers AnyMoment point.node.ledger.held one w later before.records tells tt before.holds asks in
+      let goes = asked_goes rules Answers law numbers AnyMoment point.node.ledger.held one w later before.records tells
+      tt before.holds asks in
       record { begun = before.begun; records = as_list goes.0 ++ before.records; holds = goes.2 }
 
   answered_knows : (one : Asked (Provider Setup R)) (w later : World (Provider Setup R)) (earlier : List (Point (Provider Setup R))) → Asks (IsProviders rules Answers) one w later → Knows w earlier → Knows later (point_of one ∷ earlier)
@@ -138,7 +153,8 @@ module _ {Setup R : Type 0} (rules : RecordRules R) (Answers : AnswersBy Setup R
         let start = point.node.ledger.held in
         record {
           in_ledger = λ whole.
-              let came = found_whole rules Answers law numbers AnyMoment start before.records w.disk w.node.ledger told.tells told.reads whole told.own before.holds.disk in
+              let came = found_whole rules Answers law numbers AnyMoment start before.records w.disk w.node.ledger
+              told.tells told.reads whole told.own before.holds.disk in
               stays start w.node.ledger.held came.events token before.begun closed.closed came.leads;
           on_disk = λ image held left is.
               let (found, stands, came) = before.holds.disk image left in

@@ -137,7 +137,8 @@ module _ {Setup R : Type 0} (rules : RecordRules R) (Answers : AnswersBy Setup R
   served_later old anew new request now Risen answer r IsPage told between later room compacted first pages place
       (NotMade is whole same) = record {
         serves =
-            Starved anew.ledger.held (inr room) is (whole_on old anew new anew.ledger.held anew.ledger.held first whole);
+            Starved anew.ledger.held (inr room) is
+            (whole_on old anew new anew.ledger.held anew.ledger.held first whole);
         calls = subst (λ (o : Option DiskState). MakesCompaction rules now old.ledger.held told o) (sym same) compacted;
       }
   served_later old anew new request now Risen answer r IsPage told between later room compacted first pages place

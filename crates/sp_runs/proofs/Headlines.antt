@@ -139,7 +139,8 @@ module _ (laws : Laws) (asked : Asked Provider) where
         λ issued held answer r all unforged none gives. laws.signed issued asked.node.setup held asked.request
         asked.now r answer all unforged none gives;
     starved = λ before after asks are whole is.
-        laws.starved asked.node after.node asked.disk asked.request asked.now before.disk_faults after.disk_faults are whole
+        laws.starved asked.node after.node asked.disk asked.request asked.now before.disk_faults after.disk_faults are
+        whole
         (subst (λ (a : Answer). Steps asked.node asked.disk asked.request asked.now
         (Rose before.disk_faults after.disk_faults) a after.node) is (stepped asked before after asks).step);
     added = λ before after asks image held r tells left is there new.

@@ -47,14 +47,18 @@ kept_ever_since hold left told file budget before opened after provider last tur
     any.kept_ever_since IsServedBy key request_rules Answers hold told file before opened provider tells begins draws_above left budget after last turns served serves
 
 -- and each session whose answer went out is as it was left
-pub sessions_stay : ImagesHoldRecords → SessionsStayInAService → (told : Option (List File)) (file : List ℕ) (budget : ℕ) (before opened after : Outside) (provider last : Provider)
+pub sessions_stay : ImagesHoldRecords → SessionsStayInAService
+    → (told : Option (List File)) (file : List ℕ) (budget : ℕ) (before opened after : Outside)
+    (provider last : Provider)
     (turns : List (Turn Provider)) (served : Result Served ServeFault)
     → IsSome before.disk → Begins told file before provider opened → (left : ℕ → Image → Type 0)
     → Serves IsProviders StepLeaves left budget turns (world_of provider opened) served (world_of last after)
     → SessionsStay (world_of provider opened) (world_of last after) turns
 sessions_stay hold stay told file budget before opened after provider last turns served tells begins left serves =
-    let is = stay (world_of provider opened) serves.last turns serves.kept (any.started IsServedBy key request_rules Answers hold told file before opened provider tells begins)
-    (any.still_tells IsServedBy key request_rules Answers hold told file before opened provider tells begins) serves.run in
+    let is = stay (world_of provider opened) serves.last turns serves.kept
+    (any.started IsServedBy key request_rules Answers hold told file before opened provider tells begins)
+    (any.still_tells IsServedBy key request_rules Answers hold told file before opened provider tells begins)
+    serves.run in
     let same = at_end budget turns serves.last (world_of last after) served serves.ends in
     record {
       records = is.records;

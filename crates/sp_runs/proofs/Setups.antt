@@ -63,7 +63,8 @@ turn_same (Unknown conn piece) old new w later does = same_world w later does.1
 turn_same (Waiting conn piece) old new w later does = same_world w later does.1
 turn_same (Answered piece one) old new w later (between, takes, answers) =
     sent one.conn _ answers.told later answers.sends
-    ∙ step_same w.node w.disk one.request one.now (Rose w.disk_faults answers.told.disk_faults) one.answer answers.told.node answers.asks.answers.does.step
+    ∙ step_same w.node w.disk one.request one.now (Rose w.disk_faults answers.told.disk_faults) one.answer
+    answers.told.node answers.asks.answers.does.step
 turn_same (Refused conn piece status) old new w later (between, takes, lets) = sent conn _ w later lets.sends
 turn_same (StarvedPiece conn piece) old new w later (between, takes, lets) = sent conn _ w later lets.sends
 
@@ -194,7 +195,9 @@ did_here (Answered piece one) old new w later asked (between, takes, answers) (z
       faults = w.disk_faults;
       later = answers.told.disk_faults;
       new = answers.told.node;
-      step = subst (λ (p : Provider). Steps p w.disk one.request one.now (Rose w.disk_faults answers.told.disk_faults) one.answer answers.told.node) (sym answers.asks.node) answers.asks.answers.does.step;
+      step =
+          subst (λ (p : Provider). Steps p w.disk one.request one.now (Rose w.disk_faults answers.told.disk_faults)
+          one.answer answers.told.node) (sym answers.asks.node) answers.asks.answers.does.step;
     })
 did_here (Answered piece one) old new w later asked does (suc k, within, is) = absurd (omega arith)
 did_here turn old new w later asked does (k, within, is) = absurd (omega arith)

@@ -68,13 +68,14 @@ pub fn a_session_is_shown_by_its_row()
     ensures alike { EqualRowsAreShownAlike }
 {}
 
-/// A run opens sessions exactly where a posted form opens one, each of a login that was signed where only the identity provider
-/// makes HMACs that match, and no two sessions are of one request, wherever a crash stops. It closes sessions exactly where their
-/// users leave them or the identity provider ends them, and one that is closed is never live again. No message of a logout is sent
-/// before its record is durable. A guard answers 200 exactly to the sessions that live and that no policy denies. From each point of
-/// the run on, also inside later requests, what was acknowledged by then is in the history of each ledger that a crash might leave, and
-/// each session whose answer went out is as it was left. A live session is shown what the policy says of its row, and the run keeps to
-/// its registry, up to the moment at which this ends.
+/// A run opens sessions exactly where a posted form opens one, each of a login that was signed where only the
+/// identity provider makes HMACs that match, and no two sessions are of one request, wherever a crash stops. It
+/// closes sessions exactly where their users leave them or the identity provider ends them, and one that is closed is
+/// never live again. No message of a logout is sent before its record is durable. A guard answers 200
+/// exactly to the sessions that live and that no policy denies. From each point of the run on, also inside later
+/// requests, what was acknowledged by then is in the history of each ledger that a crash might leave, and each
+/// session whose answer went out is as it was left. A live session is shown what the policy says of its row,
+/// and the run keeps to its registry, up to the moment at which this ends.
 pub fn a_run_carries_the_headline<D: Disk>()
     ensures { (disk : D) → ARunCarriesTheHeadline (D.left_since disk) }
 {
@@ -93,9 +94,9 @@ pub fn a_run_carries_the_headline<D: Disk>()
     a_session_is_shown_by_its_row();
 }
 
-/// Where a run is next behind starts of its provider, on a disk that tells, each image that a crash at one of its moments may leave is
-/// one from which a later start goes on, as behind a start of this run that was cut at that moment: so runs that a crash cut join into
-/// one service, of which the laws of starts speak.
+/// Where a run is next behind starts of its provider, on a disk that tells, each image that a crash at one of its
+/// moments may leave is one from which a later start goes on, as behind a start of this run that was cut at that
+/// moment: so runs that a crash cut join into one service, of which the laws of starts speak.
 pub fn each_image_of_a_run_goes_on<D: Disk>()
     ensures { (disk : D) → EachImageOfARunGoesOn (D.left_since disk) }
 {

@@ -33,11 +33,12 @@ IsAtStart = any.IsAtStart request_rules
 -- The image stands for a ledger that came from another one by events, in which these records were added and each
 -- compaction was at such a moment; and no two of the sessions that were opened on the way or stood at the start are of
 -- one request, those that were let go, and those whose answer was lost, included.
-pub record HoldsWhatCameOnce (IsMoment : ℕ → Type 0) (start : Held) (records : List SpRecord) (image : Image) : Type 0 where
-  pub held : Held
-  pub is : ledger_in image ≡ Ok (Some held)
-  pub came : CameFrom request_rules IsMoment start records held
-  pub once : AreDifferent (requests_of_run start came.events)
+pub record HoldsWhatCameOnce (IsMoment : ℕ → Type 0) (start : Held) (records : List SpRecord) (image : Image) : Type 0
+  where
+    pub held : Held
+    pub is : ledger_in image ≡ Ok (Some held)
+    pub came : CameFrom request_rules IsMoment start records held
+    pub once : AreDifferent (requests_of_run start came.events)
 
 -- Of the records for which the answers of a service stand: each is in the history of every ledger that a crash may
 -- leave behind it, in which each compaction was at the moment of one of its requests, and no two sessions of such a
@@ -45,7 +46,8 @@ pub record HoldsWhatCameOnce (IsMoment : ℕ → Type 0) (start : Held) (records
 pub record AreKeptOnce (first last : World Provider) (turns : List (Turn Provider)) : Type 0 where
   pub records : List SpRecord
   pub are : AreAcknowledged turns records
-  pub kept : (image : Image) → Leaves last.disk image → HoldsWhatCameOnce (Contains (moments_of turns)) first.node.ledger.held records image
+  pub kept : (image : Image) → Leaves last.disk image
+      → HoldsWhatCameOnce (Contains (moments_of turns)) first.node.ledger.held records image
   pub once : AreDifferent (flat_map request_opened records ++ requests_opened first.node.ledger.held.records)
 
 abbrev pub WhatIsAcknowledgedIsKeptOnce : Type 0

@@ -186,7 +186,8 @@ abbrev pub Steps : (old : Provider) → Option DiskState → Request → (now : 
 Steps = any.Steps request_rules Answers
 
 -- And in the same case which changing calls it makes on its disk, with what this tells behind it.
-abbrev pub StepsOnDisk : (old : Provider) → Option DiskState → Request → (now : ℕ) → (Risen : Type 0) → Answer → (new : Provider)
+abbrev pub StepsOnDisk : (old : Provider) → Option DiskState → Request → (now : ℕ) → (Risen : Type 0) → Answer
+    → (new : Provider)
     → (later : Option DiskState) → Type 0
 StepsOnDisk = any.StepsOnDisk request_rules Answers
 

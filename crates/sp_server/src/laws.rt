@@ -35,8 +35,8 @@ pub fn sessions_stay_closed_over_starts()
     a_closed_session_stays_closed();
 }
 
-/// A session is recorded only where a posted form opens it, and wherever one does, where there is room, at once or behind one
-/// compaction, the disk does not fail and memory is found.
+/// A session is recorded only where a posted form opens it, and wherever one does, where there is room, at once or
+/// behind one compaction, the disk does not fail and memory is found.
 pub fn a_session_opens_exactly()
     ensures only { OnlyWhereAFormOpens }
     ensures wherever { WhereverAFormOpens }
@@ -100,25 +100,26 @@ pub fn a_guard_tells_exactly()
     http_wire::laws::a_vouched_answer_is_read_again();
 }
 
-/// Where there was no memory for an answer and the ledger was not broken, all that may be asked of its rows at that moment is
-/// answered behind the request as before.
+/// Where there was no memory for an answer and the ledger was not broken, all that may be asked of its rows at that
+/// moment is answered behind the request as before.
 pub fn what_is_visible_stays()
     ensures { WhatIsVisibleStays }
 {
     request_ledger::laws::compactions_change_no_answer();
 }
 
-/// A session whose answer went out is as it was left in each ledger that came from the one at the start by events, among them its
-/// record's: where it ends behind each moment at which the ledger was compacted it has its row, closed only where a record that was added
-/// since closes it, and it is found live until then and until its end. A request stays spent while it could be answered.
+/// A session whose answer went out is as it was left in each ledger that came from the one at the start by events,
+/// among them its record's: where it ends behind each moment at which the ledger was compacted it has its row, closed
+/// only where a record that was added since closes it, and it is found live until then and until its end. A request
+/// stays spent while it could be answered.
 pub fn what_was_opened_is_as_left()
     ensures { WhatWasOpenedIsAsLeft }
 {
     request_ledger::laws::sessions_stay();
 }
 
-/// Over each list of events, moments, disk faults and openings: each session whose answer went out is as it was left in every image
-/// that a crash may leave.
+/// Over each list of events, moments, disk faults and openings: each session whose answer went out is as it was left
+/// in every image that a crash may leave.
 pub fn sessions_stay_in_a_service()
     ensures { SessionsStayInAService }
 {

@@ -3,7 +3,7 @@ use Rattle.node_runs.specs.declared.ended.RunFault.TheVariants as faults
 use Rattle.node_runs.specs.Runs.{BadSetUp, NotSetUp, IsNotSetUp}
 use Rattle.node_runs.proofs.Completing.{complete}
 use Rattle.node_runs.proofs.Moments.{leaves_opening, untouched}
-use Rattle.record_ledger.specs.Ledger.{LeftByOpening}
+use Rattle.node_steps.specs.Calls.{OpeningLeaves}
 use Rattle.node_steps.specs.Step.{StepLeaves}
 use Rattle.node_runs.proofs.running.run.Goals as goal
 
@@ -34,7 +34,8 @@ returns-in-Err-BadFile-clause-runs g c =
     rw c.in-Err-BadFile.field-0-is (
       [],
       BadSetUp c.in-Err-BadFile.file c.in-Err-BadFile.line is refl refl refl,
-      untouched g.D.Disk.moment g.D.Disk.left_since g.D.Disk.told (LeftByOpening g.R.Role.KeepsLedger.rules) (StepLeaves g.R.Role.KeepsLedger.rules g.R.Role.Role.answers)
+      untouched g.D.Disk.moment g.D.Disk.left_since g.D.Disk.told (OpeningLeaves g.R.Role.KeepsLedger.rules)
+          (StepLeaves g.R.Role.KeepsLedger.rules g.R.Role.Role.answers)
           (λ disk image left. leaves_opening g.R.Role.KeepsLedger.rules (g.D.Disk.told disk) image (g.met.D.Disk.only_now disk image left)) c.args.disk.now [],
     )
 
@@ -47,7 +48,8 @@ pub returns-in-Err-ReadFault-clause-runs : goal.returns-in-Err-ReadFault-clause-
 returns-in-Err-ReadFault-clause-runs g c = (
   [],
   NotSetUp (inl refl) refl refl,
-  untouched g.D.Disk.moment g.D.Disk.left_since g.D.Disk.told (LeftByOpening g.R.Role.KeepsLedger.rules) (StepLeaves g.R.Role.KeepsLedger.rules g.R.Role.Role.answers)
+  untouched g.D.Disk.moment g.D.Disk.left_since g.D.Disk.told (OpeningLeaves g.R.Role.KeepsLedger.rules)
+      (StepLeaves g.R.Role.KeepsLedger.rules g.R.Role.Role.answers)
       (λ disk image left. leaves_opening g.R.Role.KeepsLedger.rules (g.D.Disk.told disk) image (g.met.D.Disk.only_now disk image left)) c.args.disk.now [],
 )
 
@@ -55,6 +57,7 @@ pub returns-in-Err-NoMemory-clause-runs : goal.returns-in-Err-NoMemory-clause-ru
 returns-in-Err-NoMemory-clause-runs g c = (
   [],
   NotSetUp (inr refl) refl refl,
-  untouched g.D.Disk.moment g.D.Disk.left_since g.D.Disk.told (LeftByOpening g.R.Role.KeepsLedger.rules) (StepLeaves g.R.Role.KeepsLedger.rules g.R.Role.Role.answers)
+  untouched g.D.Disk.moment g.D.Disk.left_since g.D.Disk.told (OpeningLeaves g.R.Role.KeepsLedger.rules)
+      (StepLeaves g.R.Role.KeepsLedger.rules g.R.Role.Role.answers)
       (λ disk image left. leaves_opening g.R.Role.KeepsLedger.rules (g.D.Disk.told disk) image (g.met.D.Disk.only_now disk image left)) c.args.disk.now [],
 )

@@ -1,7 +1,9 @@
 use Rattle.std.proofs.Common.{[], Err, refl, ap, sym, subst, ◌∙◌}
 use Rattle.node_runs.specs.Runs.{NotOpened, outside}
-use Rattle.node_runs.proofs.Moments.{opened, served}
-use Rattle.record_ledger.specs.Ledger.{LeftByOpening}
+use Rattle.node_runs.proofs.Moments.{follows_err, follows_ok, opened, served}
+use Rattle.record_ledger.specs.Calls.{opening}
+use Rattle.node_steps.specs.Calls.{OpeningLeaves}
+use Rattle.node_steps.proofs.Calling.{opening_leaves}
 use Rattle.node_steps.specs.Step.{StepLeaves}
 use Rattle.node_runs.proofs.running.run_by.Goals as goal
 
@@ -17,12 +19,19 @@ returns-in-Ok-clause-runs g c =
       λ told file set_up. goes told file before (record {
         set_up = subst (λ (s : g.row.R-Role.Denot). g.R.RunsProvider.sets_up told file s) (sym starts.setup) set_up;
         started = record { key_is = starts.key ∙ ap g.R.Role.Role.key (sym starts.setup); whole = starts.whole; holds = starts.gives };
+        opens =
+            follows_ok g.D.Disk.told g.D.Disk.moment g.D.Disk.left_since (opening g.R.Role.KeepsLedger.rules) disk
+            c.start.new.disk _ starts.calls;
         own = starts.own;
         tells = g.met.D.Disk.tells_always c.start.new.disk ∙ sym (g.met.D.Disk.tells_always disk);
         reads = g.met.D.Disk.reads_an_image c.start.new.disk;
         same = refl;
       }),
-      served g.D.Disk.moment g.D.Disk.left_since g.D.Disk.told (LeftByOpening g.R.Role.KeepsLedger.rules) (StepLeaves g.R.Role.KeepsLedger.rules g.R.Role.Role.answers) g.met.D.Disk.counts_now disk c.start.new.disk c.listen_and_serve.new.disk turns starts.moments leaves,
+      served g.D.Disk.moment g.D.Disk.left_since g.D.Disk.told (OpeningLeaves g.R.Role.KeepsLedger.rules)
+          (StepLeaves g.R.Role.KeepsLedger.rules g.R.Role.Role.answers) g.met.D.Disk.counts_now disk c.start.new.disk
+          c.listen_and_serve.new.disk turns
+          (opening_leaves g.D.Disk.told g.D.Disk.moment g.D.Disk.left_since g.R.Role.KeepsLedger.rules disk
+          c.start.new.disk _ starts.moments starts.calls) leaves,
     )
 
 pub returns-in-Err-Foreign-clause-runs : goal.returns-in-Err-Foreign-clause-runs
@@ -30,21 +39,51 @@ returns-in-Err-Foreign-clause-runs g c =
     let why = rw c.in-Err-Foreign.field-0-is at c.in-Err-Foreign.ensures.gives in
     rw c.in-Err-Foreign.field-0-is (
       [],
-      λ told file set_up. NotOpened (record { setup = c.args.role; set_up = set_up; fails = why }) refl refl,
-      opened g.D.Disk.moment g.D.Disk.left_since g.D.Disk.told (LeftByOpening g.R.Role.KeepsLedger.rules) (StepLeaves g.R.Role.KeepsLedger.rules g.R.Role.Role.answers) c.args.disk.now c.start.new.disk [] c.in-Err-Foreign.ensures.moments,
+      λ told file set_up. NotOpened (record {
+        setup = c.args.role;
+        set_up = set_up;
+        fails = why;
+        calls = follows_err g.D.Disk.told g.D.Disk.moment
+            g.D.Disk.left_since (opening g.R.Role.KeepsLedger.rules) c.args.disk.now c.start.new.disk _
+            c.in-Err-Foreign.ensures.calls;
+      }) refl refl,
+      opened g.D.Disk.moment g.D.Disk.left_since g.D.Disk.told (OpeningLeaves g.R.Role.KeepsLedger.rules)
+          (StepLeaves g.R.Role.KeepsLedger.rules g.R.Role.Role.answers) c.args.disk.now c.start.new.disk []
+          (opening_leaves g.D.Disk.told g.D.Disk.moment g.D.Disk.left_since g.R.Role.KeepsLedger.rules c.args.disk.now
+          c.start.new.disk _ c.in-Err-Foreign.ensures.moments c.in-Err-Foreign.ensures.calls),
     )
 
 pub returns-in-Err-DiskFault-clause-runs : goal.returns-in-Err-DiskFault-clause-runs
 returns-in-Err-DiskFault-clause-runs g c =
     let failed = c.in-Err-DiskFault.ensures.faults.failed (ap Err c.in-Err-DiskFault.field-0-is) in (
       [],
-      λ told file set_up. NotOpened (record { setup = c.args.role; set_up = set_up; fails = failed }) refl refl,
-      opened g.D.Disk.moment g.D.Disk.left_since g.D.Disk.told (LeftByOpening g.R.Role.KeepsLedger.rules) (StepLeaves g.R.Role.KeepsLedger.rules g.R.Role.Role.answers) c.args.disk.now c.start.new.disk [] c.in-Err-DiskFault.ensures.moments,
+      λ told file set_up. NotOpened (record {
+        setup = c.args.role;
+        set_up = set_up;
+        fails = failed;
+        calls = follows_err g.D.Disk.told g.D.Disk.moment
+            g.D.Disk.left_since (opening g.R.Role.KeepsLedger.rules) c.args.disk.now c.start.new.disk _
+            c.in-Err-DiskFault.ensures.calls;
+      }) refl refl,
+      opened g.D.Disk.moment g.D.Disk.left_since g.D.Disk.told (OpeningLeaves g.R.Role.KeepsLedger.rules)
+          (StepLeaves g.R.Role.KeepsLedger.rules g.R.Role.Role.answers) c.args.disk.now c.start.new.disk []
+          (opening_leaves g.D.Disk.told g.D.Disk.moment g.D.Disk.left_since g.R.Role.KeepsLedger.rules c.args.disk.now
+          c.start.new.disk _ c.in-Err-DiskFault.ensures.moments c.in-Err-DiskFault.ensures.calls),
     )
 
 pub returns-in-Err-NoMemory-clause-runs : goal.returns-in-Err-NoMemory-clause-runs
 returns-in-Err-NoMemory-clause-runs g c = (
   [],
-  λ told file set_up. NotOpened (record { setup = c.args.role; set_up = set_up; fails = tt }) refl refl,
-  opened g.D.Disk.moment g.D.Disk.left_since g.D.Disk.told (LeftByOpening g.R.Role.KeepsLedger.rules) (StepLeaves g.R.Role.KeepsLedger.rules g.R.Role.Role.answers) c.args.disk.now c.start.new.disk [] c.in-Err-NoMemory.ensures.moments,
+  λ told file set_up. NotOpened (record {
+    setup = c.args.role;
+    set_up = set_up;
+    fails = tt;
+    calls = follows_err g.D.Disk.told g.D.Disk.moment
+        g.D.Disk.left_since (opening g.R.Role.KeepsLedger.rules) c.args.disk.now c.start.new.disk _
+        c.in-Err-NoMemory.ensures.calls;
+  }) refl refl,
+  opened g.D.Disk.moment g.D.Disk.left_since g.D.Disk.told (OpeningLeaves g.R.Role.KeepsLedger.rules)
+      (StepLeaves g.R.Role.KeepsLedger.rules g.R.Role.Role.answers) c.args.disk.now c.start.new.disk []
+      (opening_leaves g.D.Disk.told g.D.Disk.moment g.D.Disk.left_since g.R.Role.KeepsLedger.rules c.args.disk.now
+      c.start.new.disk _ c.in-Err-NoMemory.ensures.moments c.in-Err-NoMemory.ensures.calls),
 )

@@ -5,4 +5,6 @@ pub returns-clause-only : goal.returns-clause-only
 returns-clause-only c = only_where
 
 pub returns-clause-wherever : goal.returns-clause-wherever
-returns-clause-wherever c = wherever c.a_form_has_one_verdict.ensures.opened c.a_form_has_one_verdict.ensures.one_login c.compactions_change_no_answer.ensures
+returns-clause-wherever c =
+    wherever c.a_form_has_one_verdict.ensures.opened c.a_form_has_one_verdict.ensures.one_login
+    c.compactions_change_no_answer.ensures
