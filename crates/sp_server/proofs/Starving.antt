@@ -21,6 +21,7 @@ no_code : (setup : Setup) (held : Held) (request : Request) (now code : ℕ) (an
 no_code setup held request now code answer adds r is some (steps.ByStatus status to what none) = absurd (cc)
 no_code setup held request now code answer adds r is some (steps.ByMetadata to what none) = absurd (cc)
 no_code setup held request now code answer adds r is some (steps.BySession row to found what none) = absurd (cc)
+no_code setup held request now code answer adds r is some (steps.ByGuard to what none) = absurd (cc)
 no_code setup held request now code answer adds r is some
     (steps.ByAsking bytes to none unexpired id relay page adding ids what) =
     absurd (cc)
