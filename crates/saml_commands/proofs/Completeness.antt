@@ -1,7 +1,10 @@
 -- Where the definition says yes to the words and the files, it says nothing else to them.
-use Rattle.std.proofs.Common.{◌≡◌, ℕ, List, Option, Some, None, MatchOption, arith, inl, inr, sym, subst}
+use Rattle.std.proofs.Common.{◌≡◌, ℕ, List, Option, Some, None, MatchOption, MatchResult, Result, Ok, Err, arith, inl, inr, sym, subst}
 use Rattle.xml_spec.specs.Tree.{Nodes}
 use Rattle.saml_outside.specs.Files.{File}
+use Rattle.saml_outside.specs.declared.reading.FileRead.{FileRead}
+use Rattle.saml_outside.specs.declared.reading.FileRead.TheVariants as reads
+use Rattle.schedules.specs.declared.read.TheConstants.{MAX_SCHEDULE_LENGTH}
 use Rattle.verdict_codes.specs.declared.codes.Verdict.{Verdict}
 use Rattle.request_rows.specs.Rows.{RowsView}
 use Rattle.request_rows.specs.declared.row.AskedRow.{AskedRow}
@@ -19,12 +22,15 @@ use Rattle.sp_rules.specs.Opening.{Brought, Opens}
 use Rattle.sp_rules.specs.Verdict.{IsRefused}
 use Rattle.sp_setup.specs.Setup.{Setup, IsSetUp, IsBadSetUp}
 use Rattle.saml_commands.specs.declared.limits.TheConstants.{GREATEST_BODY}
-use Rattle.saml_commands.specs.Answers.{Answer, Usage, IsYes}
+use Rattle.saml_commands.specs.Answers.{Answer, BadFile, Usage, IsYes}
 use Rattle.saml_commands.specs.Canon.{OfForm, OfCanonDocument, OfCanon}
 use Rattle.saml_commands.specs.Check.{rows_of, OfJudged, OfCheck}
 use Rattle.saml_commands.specs.Vouch.{OfVouching, OfVouchedDocument, OfVouch}
-use Rattle.saml_commands.specs.Reading.{OfFile}
-use Rattle.saml_commands.specs.Running.{Command, Canon, Vouch, Check, Records, Sp, Idp, command_of, OfCommand, Answers, Accepts}
+use Rattle.schedules.specs.Schedules.{schedule}
+use Rattle.schedules.specs.declared.step.Step.{Step}
+use Rattle.saml_commands.specs.Reading.{OfFile, OfRead}
+use Rattle.saml_commands.specs.Replay.{OfSchedule}
+use Rattle.saml_commands.specs.Running.{Command, Canon, Vouch, Check, Sp, Idp, Replay, Make, command_of, OfCommand, Answers, Accepts, Records}
 use Rattle.saml_commands.specs.Serving.{Unserved}
 use Rattle.saml_commands.proofs.RecordAnswers.{records_alone}
 use Rattle.saml_commands.proofs.Alone.{SaysYesAlone, not_refused_too, not_bad_too, document_alone, element_alone, file_alone}
@@ -85,6 +91,30 @@ check_alone laws files file body now a b agrees (inr p) (inr q) =
     file_alone (OfJudged (rows_of q.0.asked q.0.opened) q.1.config now) files body GREATEST_BODY (judged_alone laws (rows_of q.0.asked q.0.opened) q.1.config now)
     a b agrees same q.3
 
+-- bytes that are no schedule are not answered with yes
+schedule_alone : (file bytes : List ℕ) → SaysYesAlone (OfSchedule file bytes)
+schedule_alone file bytes a b agrees = which (schedule bytes)
+  where
+    which : (r : Result (List Step) ℕ) → MatchResult r (λ steps. ⊥) (λ line. a ≡ BadFile file line) →
+        MatchResult r (λ steps. ⊥) (λ line. b ≡ BadFile file line) → IsYes b
+    which (Ok steps) p q = absurd p
+    which (Err line) p q = absurd (not_bad_too a file line agrees p)
+
+-- nor is a file
+pub never_yes : (file : List ℕ) (told : Option (List File)) (answer : Answer) → IsYes answer → OfFile (OfSchedule file) told file MAX_SCHEDULE_LENGTH answer → ⊥
+never_yes file told answer agrees p = at p.0 p.1 p.3
+  where
+    which : (r : Result (List Step) ℕ) → MatchResult r (λ steps. ⊥) (λ line. answer ≡ BadFile file line) → ⊥
+    which (Ok steps) m = m
+    which (Err line) m = not_bad_too answer file line agrees m
+
+    at : (read : FileRead) (bytes : List ℕ) → OfRead (OfSchedule file) file read bytes answer → ⊥
+    at reads.Whole bytes m = which (schedule bytes) m
+    at reads.Absent bytes m = not_bad_too answer file 0 agrees m
+    at reads.TooLong bytes m = not_bad_too answer file 0 agrees m
+    at reads.Failed bytes m = m
+    at reads.NoMemory bytes m = m
+
 command_alone : Laws → (files : List File) (command : Command) → SaysYesAlone (OfCommand (Some files) Unserved command)
 command_alone laws files (Canon file id) = file_alone (OfCanon id) files file _ (canon_alone id)
 command_alone laws files (Vouch file id key_file) =
@@ -94,6 +124,8 @@ command_alone laws files (Check config body now) = check_alone laws files config
 command_alone laws files (Records role) = records_alone files role
 command_alone laws files (Sp config events) = λ a b agrees p q. absurd p
 command_alone laws files (Idp config events) = λ a b agrees p q. absurd p
+command_alone laws files (Replay file) = file_alone (OfSchedule file) files file _ (schedule_alone file)
+command_alone laws files (Make logins start) = λ a b agrees p q. absurd p
 
 words_alone : Laws → (files : List File) (words : List (List ℕ)) → SaysYesAlone (Answers words (Some files) Unserved)
 words_alone laws files words a b agrees = which (command_of words)

@@ -8,10 +8,10 @@ use Rattle.node_runs.specs.Runs.{Outside, IsServed}
 use Rattle.saml_commands.specs.declared.status.Status.{Status}
 use Rattle.saml_commands.specs.declared.status.Status.TheVariants as statuses
 use Rattle.saml_commands.specs.Answers.{Answer, Printed, Refused, BadFile, Foreign, Usage, status_of, IsYes}
-use Rattle.saml_commands.specs.Running.{Command, Canon, Vouch, Check, Records, Sp, Idp, command_of, Does, DoesCommand, Carries, CommandCarries, OfCommand, Answers, Prints, EndsWith, EndsAfter, DoesServe, Accepts, AcceptsServing, IsRunnableBy}
-use Rattle.saml_commands.specs.Serving.{Ran, Unserved, RanSp, RanIdp, answer_of}
+use Rattle.saml_commands.specs.Running.{Command, Canon, Vouch, Check, Sp, Idp, Replay, Make, command_of, Does, DoesCommand, Carries, CommandCarries, OfCommand, Answers, Prints, EndsWith, EndsAfter, DoesServe, Accepts, AcceptsServing, IsRunnableBy, Records}
+use Rattle.saml_commands.specs.Serving.{Ran, Unserved, RanSp, RanIdp, RanReplay, answer_of}
 use Rattle.saml_commands.proofs.Answering.{weaker, answered, settled}
-use Rattle.saml_commands.proofs.Completeness.{Laws, accepted_yes}
+use Rattle.saml_commands.proofs.Completeness.{Laws, accepted_yes, never_yes}
 
 -- ---- what is answered names no fault of the disk or the link
 
@@ -48,6 +48,7 @@ weaker_after (RanSp turns (Ok ended)) P Q old new status f h = (h.0, weaker P Q 
 weaker_after (RanSp turns (Err fault)) P Q old new status f h = h
 weaker_after (RanIdp turns (Ok ended)) P Q old new status f h = (h.0, weaker P Q old new status f h.1)
 weaker_after (RanIdp turns (Err fault)) P Q old new status f h = h
+weaker_after (RanReplay steps quiet result) P Q old new status f h = h
 
 -- a command of the words is what the program does
 pub done : (left : ℕ → Image → Type 0) (words : List (List ℕ)) (told : Option (List File)) (command : Command) → command_of words ≡ Some command →
@@ -78,24 +79,38 @@ usage_answered words told ran e answer is =
 
 -- ---- completeness
 
-unserved : (left : ℕ → Image → Type 0) (told : Option (List File)) (command : Command) (before : Outside) (ran : Ran) (after : Outside) → (DoesServe (Some command) → ⊥) →
+-- a command that neither serves nor replays
+abbrev IsIdle : Command → Type 0
+IsIdle (Sp config events) = ⊥
+IsIdle (Idp config events) = ⊥
+IsIdle (Replay file) = ⊥
+IsIdle (Make logins start) = ⊥
+IsIdle command = Unit {0}
+
+unserved : (left : ℕ → Image → Type 0) (told : Option (List File)) (command : Command) (before : Outside) (ran : Ran) (after : Outside) → IsIdle command →
     DoesCommand left told command before ran after → ran ≡ Unserved
 unserved left told (Canon file id) before ran after idle h = h.0
 unserved left told (Vouch file id key_file) before ran after idle h = h.0
 unserved left told (Check config body now) before ran after idle h = h.0
 unserved left told (Records role) before ran after idle h = h.0
-unserved left told (Sp config events) before ran after idle h = absurd (idle tt)
-unserved left told (Idp config events) before ran after idle h = absurd (idle tt)
+unserved left told (Sp config events) before ran after idle h = absurd idle
+unserved left told (Idp config events) before ran after idle h = absurd idle
+unserved left told (Replay file) before ran after idle h = absurd idle
+unserved left told (Make logins start) before ran after idle h = absurd idle
 
-accepted_idle : (words : List (List ℕ)) (told : Option (List File)) (command : Command) → command_of words ≡ Some command → Accepts words told →
-    DoesServe (Some command) → ⊥
-accepted_idle words told (Canon file id) e h serves = serves
-accepted_idle words told (Vouch file id key_file) e h serves = serves
-accepted_idle words told (Check config body now) e h serves = serves
-accepted_idle words told (Records role) e h serves = serves
-accepted_idle words told (Sp config events) e h serves =
+accepted_idle : (words : List (List ℕ)) (told : Option (List File)) (command : Command) → command_of words ≡ Some command → Accepts words told → IsIdle command
+accepted_idle words told (Canon file id) e h = tt
+accepted_idle words told (Vouch file id key_file) e h = tt
+accepted_idle words told (Check config body now) e h = tt
+accepted_idle words told (Records role) e h = tt
+accepted_idle words told (Sp config events) e h =
     subst (λ (o : Option Command). MatchOption o (h.answer ≡ Usage) (λ c. OfCommand (Some h.files) Unserved c h.answer)) e h.answered
-accepted_idle words told (Idp config events) e h serves =
+accepted_idle words told (Idp config events) e h =
+    subst (λ (o : Option Command). MatchOption o (h.answer ≡ Usage) (λ c. OfCommand (Some h.files) Unserved c h.answer)) e h.answered
+accepted_idle words told (Replay file) e h =
+    never_yes file (Some h.files) h.answer h.yes
+    (subst (λ (o : Option Command). MatchOption o (h.answer ≡ Usage) (λ c. OfCommand (Some h.files) Unserved c h.answer)) e h.answered)
+accepted_idle words told (Make logins start) e h =
     subst (λ (o : Option Command). MatchOption o (h.answer ≡ Usage) (λ c. OfCommand (Some h.files) Unserved c h.answer)) e h.answered
 
 -- words that are accepted are done, or there was no memory

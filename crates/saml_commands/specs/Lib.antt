@@ -8,6 +8,7 @@ pub mod Exit
 pub mod Passing
 pub mod Reading
 pub mod Records
+pub mod Replay
 pub mod Running
 pub mod Serving
 pub mod Views

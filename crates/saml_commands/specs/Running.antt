@@ -1,5 +1,5 @@
 -- What a run of the program prints, and with which status it ends.
-use Rattle.std.specs.Prelude.{◌≡◌, ◌≢◌, ℕ, ◌⊎◌, List, [], ◌∷◌, ◌++◌, take, Option, Some, None, MatchOption, Ok, Err, if◌then◌else◌, nat_le, codes}
+use Rattle.std.specs.Prelude.{◌≡◌, ◌≢◌, ℕ, ◌⊎◌, true, false, List, [], ◌∷◌, ◌++◌, take, Option, Some, None, MatchOption, Ok, Err, if◌then◌else◌, nat_le, codes}
 use Rattle.std.specs.Str.{bytes_eq}
 use Rattle.std.specs.Option.{option_map, option_and_then}
 use Rattle.xml_spec.specs.declared.TheConstants.{MAX_DOCUMENT_LENGTH}
@@ -14,17 +14,22 @@ use Rattle.idp_runs.specs.Headline as idp_headline
 use Rattle.idp_runs.specs.Runs as idp
 use Rattle.sp_runs.specs.Headline as sp_headline
 use Rattle.sp_runs.specs.Runs as sp
-use Rattle.saml_commands.specs.declared.limits.TheConstants.{MOST_EVENTS}
+use Rattle.saml_commands.specs.declared.limits.TheConstants.{MOST_EVENTS, MOST_START}
+use Rattle.schedules.specs.Made.{made}
+use Rattle.schedules.specs.declared.make.TheConstants.{MOST_LOGINS}
+use Rattle.schedules.specs.declared.read.TheConstants.{MAX_SCHEDULE_LENGTH}
+use Rattle.replay_runs.specs.Runs.{Goes}
 use Rattle.saml_commands.specs.declared.status.Status.{Status}
 use Rattle.saml_commands.specs.declared.status.Status.TheVariants as statuses
 use Rattle.saml_commands.specs.Answers.{Answer, Refused, Usage, status_of, text_of, IsYes}
 use Rattle.saml_commands.specs.Canon.{OfCanon}
 use Rattle.saml_commands.specs.Check.{OfCheck}
 use Rattle.saml_commands.specs.Reading.{OfFile}
+use Rattle.saml_commands.specs.Serving.{Ran, Unserved, RanSp, RanIdp, RanReplay, OfRun, status_of_fault}
+use Rattle.saml_commands.specs.Replay.{IsSchedule, OfSchedule, status_of_replay}
 use Rattle.saml_commands.specs.Records.{OfRecords}
 use Rattle.saml_commands.specs.declared.command.Role.{Role}
 use Rattle.saml_commands.specs.declared.command.Role.TheVariants as roles
-use Rattle.saml_commands.specs.Serving.{Ran, Unserved, RanSp, RanIdp, OfRun, status_of_fault}
 use Rattle.saml_commands.specs.Vouch.{OfVouch}
 
 -- what the program is asked for: the canonical form of the element of a file that has this ID, or of the root; whether the
@@ -38,6 +43,8 @@ pub data Command : Type 0 where
   Records : (role : Role) → Command
   Sp : (config : List ℕ) (events : ℕ) → Command
   Idp : (config : List ℕ) (events : ℕ) → Command
+  Replay : (file : List ℕ) → Command
+  Make : (logins start : ℕ) → Command
 
 -- `check CONFIG BODYFILE NOW`, where NOW is a moment in milliseconds
 abbrev pub check_at : List ℕ → List ℕ → Option ℕ → Option Command
@@ -54,6 +61,10 @@ sp_of config number = option_map (λ events. Sp config events) (events_of number
 abbrev pub idp_of : List ℕ → Option ℕ → Option Command
 idp_of config number = option_map (λ events. Idp config events) (events_of number)
 
+-- N is a number from 1 on
+abbrev pub make_of : Option ℕ → Option ℕ → Option Command
+make_of logins start = option_and_then (λ n. option_map (λ from. Make n from) start) (events_of logins)
+
 -- `records ROLE`
 abbrev pub role_of : List ℕ → Option Role
 role_of word =
@@ -68,14 +79,16 @@ records_of role = option_map Records role
 abbrev pub of_one : List ℕ → List ℕ → Option Command
 of_one word first =
     if bytes_eq word (codes "canon") then Some (Canon first None)
-    else if bytes_eq word (codes "records") then records_of (role_of first) else None
+    else if bytes_eq word (codes "records") then records_of (role_of first)
+    else if bytes_eq word (codes "replay") then Some (Replay first) else None
 
 -- two words behind the name of a command
 abbrev pub of_two : List ℕ → List ℕ → List ℕ → Option Command
 of_two word first second =
     if bytes_eq word (codes "canon") then Some (Canon first (Some second))
     else if bytes_eq word (codes "sp") then sp_of first (number_of MOST_EVENTS second)
-    else if bytes_eq word (codes "idp") then idp_of first (number_of MOST_EVENTS second) else None
+    else if bytes_eq word (codes "idp") then idp_of first (number_of MOST_EVENTS second)
+    else if bytes_eq word (codes "make") then make_of (number_of MOST_LOGINS first) (number_of MOST_START second) else None
 
 -- three words behind the name of a command
 abbrev pub of_three : List ℕ → List ℕ → List ℕ → List ℕ → Option Command
@@ -84,7 +97,7 @@ of_three word first second third =
     else if bytes_eq word (codes "check") then check_at first second (number_of LAST third) else None
 
 -- the command of the words `canon FILE`, `canon FILE ID`, `vouch FILE ID KEYFILE`, `check CONFIG BODYFILE NOW`, `records ROLE`,
--- `sp CONFIG EVENTS` and `idp CONFIG EVENTS`, which are the forms that the program knows yet
+-- `sp CONFIG EVENTS`, `idp CONFIG EVENTS`, `replay SCHEDULE` and `make N START`
 abbrev pub command_of : List (List ℕ) → Option Command
 command_of (word ∷ first ∷ []) = of_one word first
 command_of (word ∷ first ∷ second ∷ []) = of_two word first second
@@ -92,12 +105,16 @@ command_of (word ∷ first ∷ second ∷ third ∷ []) = of_three word first se
 command_of words = None
 
 -- What a command does: `sp` runs a service provider, `idp` an identity provider, and the others leave all that is outside as it is. `left`
--- says of each moment of the disk, seen from the end, what a crash since then might have left.
+-- says of each moment of the disk, seen from the end, what a crash since then might have left. `replay` and `make` replay a schedule, and
+-- also leave all that is outside as it is.
 abbrev pub DoesCommand : (left : ℕ → Image → Type 0) → Option (List File) → Command → Outside → Ran → Outside → Type 0
 DoesCommand left told (Sp config events) before (RanSp turns result) after = sp.Runs left told config events before turns result after
 DoesCommand left told (Sp config events) before ran after = ⊥
 DoesCommand left told (Idp config events) before (RanIdp turns result) after = idp.Runs left told config events before turns result after
 DoesCommand left told (Idp config events) before ran after = ⊥
+DoesCommand left told (Replay file) before (RanReplay steps quiet result) after = IsSchedule told file steps × (quiet ≡ false) × (after ≡ before)
+DoesCommand left told (Make logins start) before (RanReplay steps quiet result) after =
+    (steps ≡ made logins start) × (quiet ≡ true) × (after ≡ before)
 DoesCommand left told other before ran after = (ran ≡ Unserved) × (after ≡ before)
 
 -- what the program does for words, by what the files tell
@@ -128,6 +145,8 @@ OfCommand told ran (Check config body now) answer = OfCheck told config body now
 OfCommand told ran (Records role) answer = OfRecords role told answer
 OfCommand told ran (Sp config events) answer = OfRun ran answer
 OfCommand told ran (Idp config events) answer = OfRun ran answer
+OfCommand told ran (Replay file) answer = OfFile (OfSchedule file) told file MAX_SCHEDULE_LENGTH answer
+OfCommand told ran (Make logins start) answer = ⊥
 
 -- what words are answered with, by what the files tell and what was done
 abbrev pub Answers : List (List ℕ) → Option (List File) → Ran → Answer → Type 0
@@ -155,13 +174,14 @@ EndsWith meaning old new status =
     (answer : Answer) × meaning answer × (status ≡ status_of answer) × Prints old new (text_of answer)
 
 -- What a run ends with behind what it did. A provider's run that ended early ends with the status of its fault, and nothing is
--- printed.
+-- printed. A replay ends with the status of what it came to, and what is printed is what the steps and their answers print.
 abbrev pub EndsAfter : Ran → (Answer → Type 0) → Option (List ℕ) → Option (List ℕ) → Status → Type 0
 EndsAfter Unserved meaning old new status = EndsWith meaning old new status
 EndsAfter (RanSp turns (Ok ended)) meaning old new status = (status ≢ statuses.ReadFault) × EndsWith meaning old new status
 EndsAfter (RanSp turns (Err fault)) meaning old new status = (status ≡ status_of_fault fault) × Prints old new []
 EndsAfter (RanIdp turns (Ok ended)) meaning old new status = (status ≢ statuses.ReadFault) × EndsWith meaning old new status
 EndsAfter (RanIdp turns (Err fault)) meaning old new status = (status ≡ status_of_fault fault) × Prints old new []
+EndsAfter (RanReplay steps quiet result) meaning old new status = (status ≡ status_of_replay result) × Goes steps quiet result old new
 
 -- the command serves
 abbrev pub DoesServe : Option Command → Type 0

@@ -13,22 +13,27 @@ use Rattle.node_runs.specs.declared.ended.Ended.{Ended}
 use Rattle.node_runs.specs.declared.ended.Ended.TheVariants as ends
 use Rattle.node_runs.specs.declared.ended.RunFault.{RunFault}
 use Rattle.node_runs.specs.declared.ended.RunFault.TheVariants as faults
+use Rattle.schedules.specs.declared.step.Step.{Step}
+use Rattle.schedule_replay.specs.declared.fault.ReplayFault.{ReplayFault}
+use Rattle.schedule_replay.specs.declared.tally.Tally.{Tally}
 use Rattle.saml_commands.specs.declared.status.Status.{Status}
 use Rattle.saml_commands.specs.declared.status.Status.TheVariants as statuses
 use Rattle.saml_commands.specs.Answers.{Answer, Printed, BadFile, Foreign}
 
 -- What the program did beside its answer: nothing was served, or a service provider or an identity provider was run, with these
--- turns, and came to this.
+-- turns, and came to this; or a schedule of these steps was replayed, and came to that.
 pub data Ran : Type 0 where
   Unserved : Ran
   RanSp : (turns : List (Turn sp_steps.Provider)) (result : Result Ended RunFault) → Ran
   RanIdp : (turns : List (Turn idp_steps.Provider)) (result : Result Ended RunFault) → Ran
+  RanReplay : (steps : List Step) (quiet : Bool) (result : Result Tally ReplayFault) → Ran
 
 -- What a crash at a moment of that may leave of the disk: what it might leave before, or what one inside the run of the provider may.
 abbrev pub RanLeaves : Option DiskState → Ran → Image → Type 0
 RanLeaves disk Unserved image = Leaves disk image
 RanLeaves disk (RanSp turns result) image = sp.RunLeaves disk turns image
 RanLeaves disk (RanIdp turns result) image = idp.RunLeaves disk turns image
+RanLeaves disk (RanReplay steps quiet result) image = Leaves disk image
 
 -- why serving ended: the link gave Stop, or the budget was used up
 abbrev pub why_ended : Bool → List ℕ
@@ -52,6 +57,7 @@ OfRun (RanSp turns (Ok ended)) answer = answer ≡ answer_of ended
 OfRun (RanSp turns (Err fault)) answer = ⊥
 OfRun (RanIdp turns (Ok ended)) answer = answer ≡ answer_of ended
 OfRun (RanIdp turns (Err fault)) answer = ⊥
+OfRun (RanReplay steps quiet result) answer = ⊥
 
 -- the status of such a run
 abbrev pub status_of_fault : RunFault → Status

@@ -1,6 +1,8 @@
 -- How the definitions see a command and an answer.
 use Rattle.std.specs.Prelude.{◌≤◌}
 use Rattle.std.specs.Option.{option_map}
+use Rattle.schedules.specs.declared.make.TheConstants.{MOST_LOGINS}
+use Rattle.saml_commands.specs.declared.limits.TheConstants.{MOST_START}
 use Rattle.saml_time.specs.declared.TheConstants.{LAST}
 use Rattle.saml_commands.specs.Answers as answers
 use Rattle.saml_commands.specs.Running as running
@@ -16,6 +18,8 @@ command_view (commands.Check config body now) = running.Check config.now body.no
 command_view (commands.Records role) = running.Records role
 command_view (commands.Sp config events) = running.Sp config.now events
 command_view (commands.Idp config events) = running.Idp config.now events
+command_view (commands.Replay file) = running.Replay file.now
+command_view (commands.Make logins start) = running.Make logins start
 
 abbrev pub answer_view : Answer → answers.Answer
 answer_view (kinds.Printed text) = answers.Printed text
@@ -24,7 +28,8 @@ answer_view (kinds.BadFile file line) = answers.BadFile file line
 answer_view (kinds.Foreign file place) = answers.Foreign file place
 answer_view kinds.Usage = answers.Usage
 
--- a moment that a command names has a written form
+-- a moment that a command names has a written form, and the numbers of a schedule that is made are within their bounds
 abbrev pub HasMoment : Command → Type 0
 HasMoment (commands.Check config body now) = now ≤ LAST
+HasMoment (commands.Make logins start) = (1 ≤ logins) × (logins ≤ MOST_LOGINS) × (start ≤ MOST_START)
 HasMoment command = Unit {0}

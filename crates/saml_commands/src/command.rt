@@ -1,14 +1,15 @@
 // The commands, and the words that ask for them.
 
-ghost use Rattle.std.specs.Prelude.{◌≡◌, IfSome};
+ghost use Rattle.std.specs.Prelude.{◌≡◌, ◌≤◌, IfSome};
 ghost use Rattle.std.specs.Option.{option_map};
 ghost use Rattle.text_lines.specs.Numbers.{number_of};
-ghost use Rattle.saml_commands.specs.Running.{check_at, events_of, sp_of, idp_of, role_of, records_of, of_one, of_two, of_three, command_of};
+ghost use Rattle.saml_commands.specs.Running.{check_at, events_of, sp_of, idp_of, make_of, of_one, of_two, of_three, command_of, role_of, records_of};
 ghost use Rattle.saml_commands.specs.Views.{command_view, HasMoment};
 
-use crate::limits::MOST_EVENTS;
+use crate::limits::{MOST_EVENTS, MOST_START};
 use saml_outside::Text;
 use saml_time::LAST;
+use schedules::MOST_LOGINS;
 use text_lines::number_of;
 
 /// Whose records are printed.
@@ -57,6 +58,15 @@ pub(crate) enum Command<'w> {
         config: &'w str,
         events: u64,
     },
+    /// That the schedule in this file is replayed.
+    Replay {
+        file: &'w str,
+    },
+    /// That the schedule of so many logins is replayed, which numbers choose that follow from this one.
+    Make {
+        logins: u32,
+        start: u32,
+    },
 }
 
 /// What `check CONFIG BODYFILE NOW` asks for, where NOW is a moment.
@@ -97,6 +107,41 @@ fn idp_of<'w>(config: &'w str, events: &str) -> Option<Command<'w>>
     Some(Command::Idp { config, events })
 }
 
+/// The number of logins that a word says, from 1 on.
+fn logins_of(word: &str) -> Option<u64>
+    ensures value { result ≡ events_of (number_of MOST_LOGINS word.now) }
+    ensures some { IfSome result (λ logins. 1 ≤ logins) }
+    ensures few { IfSome result (λ logins. logins ≤ MOST_LOGINS) }
+{
+    let logins = number_of(word, u64::from(MOST_LOGINS))?;
+    if logins == 0 {
+        return None;
+    }
+    Some(logins)
+}
+
+/// The number from which a schedule is made, as a word says it.
+fn start_of(word: &str) -> Option<u64>
+    ensures value { result ≡ number_of MOST_START word.now }
+    ensures small { IfSome result (λ start. start ≤ MOST_START) }
+{
+    let start = number_of(word, MOST_START)?;
+    Some(start)
+}
+
+/// What `make N START` asks for.
+fn make_of<'w>(logins: &str, start: &str) -> Option<Command<'w>>
+    ensures command { option_map command_view result ≡ make_of (number_of MOST_LOGINS logins.now) (number_of MOST_START start.now) }
+    ensures moment { IfSome result HasMoment }
+{
+    let logins = logins_of(logins)?;
+    let start = start_of(start)?;
+    Some(Command::Make {
+        logins: logins as u32,
+        start: start as u32,
+    })
+}
+
 /// The role that a word says.
 fn role_of(word: &str) -> Option<Role>
     ensures { result ≡ role_of word.now }
@@ -129,6 +174,7 @@ fn of_one<'w>(word: &str, first: &'w str) -> Option<Command<'w>>
             id: None,
         }),
         "records" => records_of(first),
+        "replay" => Some(Command::Replay { file: first }),
         _ => None,
     }
 }
@@ -145,6 +191,7 @@ fn of_two<'w>(word: &str, first: &'w str, second: &'w str) -> Option<Command<'w>
         }),
         "sp" => sp_of(first, second),
         "idp" => idp_of(first, second),
+        "make" => make_of(first, second),
         _ => None,
     }
 }
@@ -166,7 +213,7 @@ fn of_three<'w>(word: &str, first: &'w str, second: &'w str, third: &'w str) -> 
 }
 
 /// The command of the words `canon FILE`, `canon FILE ID`, `vouch FILE ID KEYFILE`, `check CONFIG BODYFILE NOW`,
-/// `records ROLE`, `sp CONFIG EVENTS` and `idp CONFIG EVENTS`.
+/// `records ROLE`, `sp CONFIG EVENTS`, `idp CONFIG EVENTS`, `replay SCHEDULE` and `make N START`.
 pub(crate) fn command_of(words: &[Text]) -> Option<Command<'_>>
     ensures command { option_map command_view result ≡ command_of words.now }
     ensures moment { IfSome result HasMoment }

@@ -18,6 +18,7 @@ mod command;
 mod limits;
 mod printing;
 mod records;
+mod replay;
 mod serve;
 mod status;
 mod top_call;

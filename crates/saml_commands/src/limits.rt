@@ -8,3 +8,6 @@ pub(crate) const GREATEST_JOURNAL: u64 = 134_217_728;
 
 /// The most events that a command may be told to take.
 pub(crate) const MOST_EVENTS: u64 = 1_000_000_000_000_000_000;
+
+/// The greatest number from which a schedule may be made.
+pub(crate) const MOST_START: u64 = 2_147_483_647;

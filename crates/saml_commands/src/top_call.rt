@@ -23,6 +23,7 @@ use crate::check::check;
 use crate::command::{Command, command_of};
 use crate::limits::GREATEST_BODY;
 use crate::records::run_records;
+use crate::replay::{run_make, run_replay};
 use crate::serve::{run_identity_provider, run_service_provider};
 use crate::status::Status;
 use crate::vouch::vouch;
@@ -251,6 +252,8 @@ fn run_command<L: Link, D: Disk, C: Clock, F: Files, K: Sink>(
         Command::Idp { config, events } => run_identity_provider(
             alloc, config, events, link, disk, clock, files, out,
         ),
+        Command::Replay { file } => run_replay(alloc, files, out, file),
+        Command::Make { logins, start } => run_make(alloc, out, logins, start),
     }
 }
 

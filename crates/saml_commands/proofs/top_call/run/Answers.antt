@@ -1,6 +1,6 @@
-use Rattle.std.proofs.Common.{◌≡◌, Some, sym, ap, ◌∙◌}
+use Rattle.std.proofs.Common.{◌≡◌, Some, sym, ap, subst, ◌∙◌}
 use Rattle.std.specs.Option.{option_map}
-use Rattle.saml_commands.specs.Running.{command_of, OfCommand, Answers}
+use Rattle.saml_commands.specs.Running.{command_of, DoesServe, OfCommand, Answers}
 use Rattle.saml_commands.specs.Views.{command_view}
 use Rattle.saml_commands.proofs.Answering.{answered}
 use Rattle.saml_commands.proofs.Completeness.{Laws}
@@ -41,3 +41,9 @@ returns-in-Some-clause-complete g c = λ accepted no_read no_write.
     let (ran, does, carries, ends, leaves) = c.run_command.ensures.ends in
     accepted_done laws left words told command is accepted _ ran _ old new c.run_command.result does ends
     (λ e. no_read (c.run_command.ensures.read_fault e)) (λ e. no_write (c.run_command.ensures.write_fault e))
+
+pub returns-in-Some-clause-untouched : goal.returns-in-Some-clause-untouched
+returns-in-Some-clause-untouched g c =
+    let command = command_view c.in-Some.command in
+    let is : command_of c.args.words.now ≡ Some command = sym c.command_of.ensures.command ∙ ap (option_map command_view) c.in-Some.is in
+    λ idle. c.run_command.ensures.untouched (λ serves. idle (subst DoesServe (sym is) serves))

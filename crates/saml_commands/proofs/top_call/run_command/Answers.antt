@@ -2,6 +2,7 @@ use Rattle.std.proofs.Common.{refl}
 use Rattle.crash_disk.specs.Moments.{Leaves}
 use Rattle.crash_disk.specs.Steps.{started}
 use Rattle.saml_commands.specs.Serving.{Unserved}
+use Rattle.saml_commands.proofs.Replaying.{does_make, does_replay, file_leaves, replay_leaves}
 use Rattle.saml_commands.proofs.top_call.run_command.Goals as goal
 
 pub returns-in-Canon-clause-ends : goal.returns-in-Canon-clause-ends
@@ -23,3 +24,19 @@ pub returns-in-Records-clause-ends : goal.returns-in-Records-clause-ends
 returns-in-Records-clause-ends g c =
     let leaves = started g.D.Disk.moment g.D.Disk.left_since c.args.disk.now (Leaves (g.D.Disk.told c.args.disk.now)) (g.met.D.Disk.only_now c.args.disk.now) in
     rw c.in-Records.is (Unserved, (refl, refl), tt, c.run_records.ensures.ends, leaves)
+
+pub returns-in-Replay-clause-ends : goal.returns-in-Replay-clause-ends
+returns-in-Replay-clause-ends g c =
+    let told = g.D.Disk.told c.args.disk.now in
+    let leaves = started g.D.Disk.moment g.D.Disk.left_since c.args.disk.now (Leaves told) (g.met.D.Disk.only_now c.args.disk.now) in
+    let (ran, did, ends) = c.run_replay.ensures.ends in
+    rw c.in-Replay.is
+    (ran, does_replay (g.D.Disk.left_since c.args.disk.now) (g.F.Files.holds c.args.files.now) c.in-Replay.file.now _ ran did, tt, ends, file_leaves g.D.Disk.moment g.D.Disk.left_since told c.args.disk.now _ _ ran did leaves)
+
+pub returns-in-Make-clause-ends : goal.returns-in-Make-clause-ends
+returns-in-Make-clause-ends g c =
+    let told = g.D.Disk.told c.args.disk.now in
+    let leaves = started g.D.Disk.moment g.D.Disk.left_since c.args.disk.now (Leaves told) (g.met.D.Disk.only_now c.args.disk.now) in
+    let (ran, did, ends) = c.run_make.ensures.ends in
+    rw c.in-Make.is
+    (ran, does_make (g.D.Disk.left_since c.args.disk.now) (g.F.Files.holds c.args.files.now) c.in-Make.logins c.in-Make.start _ ran did, tt, ends, replay_leaves g.D.Disk.moment g.D.Disk.left_since told c.args.disk.now _ _ ran did leaves)
