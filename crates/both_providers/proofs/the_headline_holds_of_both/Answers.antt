@@ -1,0 +1,21 @@
+use Rattle.sp_rules.specs.Keys.{usable}
+use Rattle.both_providers.proofs.Together.{counts}
+use Rattle.both_providers.proofs.the_headline_holds_of_both.Goals as goal
+
+pub returns : goal.returns
+returns c = λ start sp_starts idp_start idp_starts records sp idp. record {
+  opens = λ asked there. record {
+    only = λ held answer r answers. c.a_session_opens_exactly.ensures.only asked.node.setup held asked.request asked.now answer r answers;
+    wherever = λ found faults later new b row opens room calm serves.
+        c.a_session_opens_exactly.ensures.wherever found asked.request asked.now faults later asked.answer asked.node new b row opens room calm serves;
+  };
+  recorded = λ setup added issued asked held answer r signed there unforged apart gives.
+      let config = asked.node.setup.config in
+      let b = gives.brought in
+      let brings = gives.opens.opens.brings in
+      let login = c.a_session_that_is_opened_was_recorded.ensures.login setup added issued config asked.now asked.request.body b signed.of unforged apart brings in
+      let is = c.a_recorded_login_has_a_recorded_session.ensures setup added config asked.now b.carried.head b.key b.login login gives.opens.opens.meant
+      (counts (usable config asked.now) b.carried.tree brings.covered.first.parts b.key brings.covered.first.tagged) in
+      record { is = is; recorded = signed.recorded _ is.known };
+  once = c.what_is_acknowledged_is_kept_once_over_starts.ensures start sp_starts records sp;
+}

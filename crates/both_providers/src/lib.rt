@@ -1,0 +1,24 @@
+//! A service provider and an identity provider in one world, each over all its starts, wherever crashes stop them: no request opens
+//! two sessions, and where only the identity provider makes HMACs that match each session is one that it recorded.
+//!
+//! The world is two lists of starts (`specs/Together.antt`): each start opens what a crash of the one before it may have left, and then
+//! serves any list of connections, pieces, moments and faults. A run of either program is such a start
+//! (`sp_runs::laws::a_run_is_a_start`, `idp_runs::laws::a_run_is_a_start`), and from each image that it may leave a later one goes on
+//! (`each_image_of_a_run_goes_on` of both). What passes between the two is not asked for: whatever a form holds that comes to the
+//! service provider, and whoever brings it.
+#![tactic(auto)]
+
+ghost use Rattle.both_providers.specs.Together.{TheHeadlineHoldsOfBoth};
+
+/// Over all starts of a service provider and of an identity provider: a session is opened exactly where a posted form opens one; each
+/// that is given is that of a login which the identity provider recorded, for this provider, to its address and in its time, with an
+/// answer that stands for the record: for each list of such records, where nobody else makes HMACs that match and no hash collides; and
+/// what the service provider acknowledged is kept, once: no request opens two sessions.
+pub fn the_headline_holds_of_both()
+    ensures { TheHeadlineHoldsOfBoth }
+{
+    sp_server::laws::a_session_opens_exactly();
+    sp_server::laws::what_is_acknowledged_is_kept_once_over_starts();
+    recorded_logins::a_session_that_is_opened_was_recorded();
+    recorded_logins::a_recorded_login_has_a_recorded_session();
+}
