@@ -1,5 +1,5 @@
 -- The deployment that `replay` and `make` run: a service provider and an identity provider that know each other, on one host.
-use Rattle.std.specs.Prelude.{◌≡◌, ℕ, List, [], ◌∷◌, ◌++◌, codes, replicate, None, Some, Ok}
+use Rattle.std.specs.Prelude.{◌≡◌, ℕ, false, List, [], ◌∷◌, ◌++◌, codes, replicate, None, Some, Ok}
 use Rattle.metadata.specs.declared.peer.Peer.{Peer}
 use Rattle.peer_keys.specs.declared.peers.LogoutPeer.{LogoutPeer}
 use Rattle.provider_config.specs.declared.idp_config.SignMode.TheVariants.{Assertion}

@@ -24,7 +24,7 @@ abbrev pub provider_rules : {Setup R : Type 0} → RecordRules R → AnswersBy S
 provider_rules records Answers =
     rules (OwnsDisk records) (StepOf records Answers) (StepLeaves records Answers)
     (λ old disk before after result new later. Restarts records old disk result new later) (λ old disk. OpeningLeaves records disk)
-    (λ old disk now before after result new later. CompactionOf records old disk now result new) (CompactionLeaves records)
+    (λ old disk now before after result new later. CompactionOf records old disk now result new later) (CompactionLeaves records)
 
 abbrev pub sp_rules : Rules sp.Provider
 sp_rules = provider_rules request_rules sp.Answers
