@@ -4,5 +4,6 @@ pub mod Alone
 pub mod Answering
 pub mod Checking
 pub mod Completeness
+mod Completing
 mod RecordAnswers
 pub mod Serving

@@ -16,6 +16,7 @@ use Rattle.sp_runs.specs.Headline as sp_headline
 use Rattle.sp_runs.specs.Runs as sp
 use Rattle.saml_commands.specs.declared.limits.TheConstants.{MOST_EVENTS, MOST_START}
 use Rattle.schedules.specs.Made.{made}
+use Rattle.schedules.specs.declared.step.Step.{Step}
 use Rattle.schedules.specs.declared.make.TheConstants.{MOST_LOGINS}
 use Rattle.schedules.specs.declared.read.TheConstants.{MAX_SCHEDULE_LENGTH}
 use Rattle.replay_runs.specs.Runs.{Goes}
@@ -200,8 +201,10 @@ pub record Accepts (words : List (List ℕ)) (told : Option (List File)) : Type 
 abbrev pub IsRunnableBy : Option (List File) → Option DiskState → Command → Type 0
 IsRunnableBy told disk (Sp config events) = sp.IsRunnable told config disk
 IsRunnableBy told disk (Idp config events) = idp.IsRunnable told config disk
+IsRunnableBy told disk (Replay file) = (files : List File) × (steps : List Step) × (told ≡ Some files) × IsSchedule told file steps
+IsRunnableBy told disk (Make logins start) = Unit {0}
 IsRunnableBy told disk other = ⊥
 
--- the words ask for a provider that can be run
+-- the words ask for a provider that can be run, or for a schedule that can be replayed
 abbrev pub AcceptsServing : List (List ℕ) → Option (List File) → Option DiskState → Type 0
 AcceptsServing words told disk = MatchOption (command_of words) ⊥ (λ command. IsRunnableBy told disk command)

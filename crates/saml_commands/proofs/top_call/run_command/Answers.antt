@@ -2,6 +2,7 @@ use Rattle.std.proofs.Common.{refl}
 use Rattle.crash_disk.specs.Moments.{Leaves}
 use Rattle.crash_disk.specs.Steps.{started}
 use Rattle.saml_commands.specs.Serving.{Unserved}
+use Rattle.saml_commands.proofs.Completing.{completes, made_whole}
 use Rattle.saml_commands.proofs.Replaying.{does_make, does_replay, file_leaves, replay_leaves}
 use Rattle.saml_commands.proofs.top_call.run_command.Goals as goal
 
@@ -40,3 +41,16 @@ returns-in-Make-clause-ends g c =
     let (ran, did, ends) = c.run_make.ensures.ends in
     rw c.in-Make.is
     (ran, does_make (g.D.Disk.left_since c.args.disk.now) (g.F.Files.holds c.args.files.now) c.in-Make.logins c.in-Make.start _ ran did, tt, ends, replay_leaves g.D.Disk.moment g.D.Disk.left_since told c.args.disk.now _ _ ran did leaves)
+
+pub returns-in-Replay-clause-complete : goal.returns-in-Replay-clause-complete
+returns-in-Replay-clause-complete g c =
+    rw c.in-Replay.is
+    λ (files, steps, tells, schedule) no_read no_write no_link no_disk.
+    let (ran, did, ends) = c.run_replay.ensures.ends in
+    completes (g.F.Files.holds c.args.files.now) files c.in-Replay.file.now steps tells schedule ran did _ _ c.run_replay.result ends
+    (λ e. no_read (c.run_replay.ensures.read_fault e)) (λ e. no_write (c.run_replay.ensures.write_fault e))
+
+pub returns-in-Make-clause-complete : goal.returns-in-Make-clause-complete
+returns-in-Make-clause-complete g c =
+    λ runnable no_read no_write no_link no_disk.
+    made_whole c.run_make.result c.run_make.ensures.either (λ e. no_write (c.run_make.ensures.write_fault e))
