@@ -17,6 +17,12 @@
 //! without one, `default` denies. A contract sees a policy as the list of its rules. [`read_policy`] gives what the
 //! definition `policy` gives: the rules, or the number of the first line that is bad ([`PolicyFault`]). [`Policy::decide`]
 //! takes no memory.
+//!
+//! # What is proved
+//!
+//! `read_policy`: the rules of a file exactly where it keeps the grammar, else the number of the first line that does
+//! not. `Policy::decide`: the first rule whose path matches and whose conditions all hold decides; without one,
+//! `default` denies. `denied_page` is the text of its definition.
 #![tactic(auto)]
 
 mod conditions;

@@ -14,10 +14,10 @@ use Rattle.login_origin.specs.Premises.{Unforged, NoCollision}
 use Rattle.sp_rules.specs.declared.config.SpConfig.{SpConfig}
 use Rattle.sp_rules.specs.Opening.{Brought}
 use Rattle.sp_rules.specs.Shown.{session_of}
-use Rattle.node_serve.specs.Turns.{Asked, asked_in}
-use Rattle.node_steps.specs.declared.codes.TheConstants.{NO_MEMORY}
-use Rattle.node_steps.specs.Starts as any
-use Rattle.node_steps.specs.Starts.{Start, Cut, Served}
+use Rattle.serve_loop.specs.Turns.{Asked, asked_in}
+use Rattle.provider_node.specs.declared.codes.TheConstants.{NO_MEMORY}
+use Rattle.provider_node.specs.Starts as any
+use Rattle.provider_node.specs.Starts.{Start, Cut, Served}
 use Rattle.request_ledger.specs.Ledger.{Held}
 use Rattle.request_ledger.specs.Record.{AreRecords}
 use Rattle.sp_server.specs.Sessions.{GivesSession, HasRoom, IsOpened, OpensOver}

@@ -6,6 +6,14 @@
 //! (`sp_runs::laws::a_run_is_a_start`, `idp_runs::laws::a_run_is_a_start`), and from each image that it may leave a later one goes on
 //! (`each_image_of_a_run_goes_on` of both). What passes between the two is not asked for: whatever a form holds that comes to the
 //! service provider, and whoever brings it.
+//!
+//! # What is proved
+//!
+//! One law over all starts of a service provider and of an identity provider, wherever crashes stop them
+//! (`the_headline_holds_of_both`): a session is opened exactly where a posted form opens one; each that is given, with
+//! whatever answer, is of a login that the identity provider recorded, for this provider, to its address and in its
+//! time, where nobody else makes HMACs that match and no hash collides; what was acknowledged is kept, once, and no
+//! request opens two. [HEADLINE](HEADLINE.md) has it word by word.
 #![tactic(auto)]
 
 ghost use Rattle.both_providers.specs.Together.{TheHeadlineHoldsOfBoth};

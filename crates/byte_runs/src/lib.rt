@@ -5,6 +5,11 @@
 //! ```
 //!
 //! A long run is looked at block by block, so that a class of several bytes costs about one instruction for each byte of it.
+//!
+//! # What is proved
+//!
+//! How many of the first bytes are of a class, which the caller's type tells (`run_len`, over `ByteClass`): all of
+//! those are of it, and the next is not.
 #![tactic(auto)]
 
 ghost use Rattle.std.specs.Prelude.{◌≡◌, ℕ, ◌≤◌, Bool, true, length, take, drop, IsTrue, IsFalse};

@@ -14,6 +14,13 @@
 //! which bytes were appended from one state of a place to the next: all that a call says, or, where the place refuses a
 //! piece, a part of them from the first on. The places that keep a hash take so many bytes and no more: a piece that
 //! passes the limit is counted and refused, and not hashed; then [`HashOctets::finish`] gives nothing.
+//!
+//! # What is proved
+//!
+//! Places that take bytes piece by piece: a list of bytes, SHA-256 (`HashOctets::finish`) and HMAC
+//! (`MacOctets::finish`) of what was put, which take so many bytes and no more: a piece that passes the limit is
+//! counted and refused, not hashed, and then there is no hash (`within`, `put`). Escapes, attributes, declarations,
+//! start and end tags and instructions as Canonical XML writes them.
 #![tactic(auto)]
 
 mod escape;

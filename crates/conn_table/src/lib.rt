@@ -27,6 +27,14 @@
 //! `specs/Events.antt` says for a whole list of events which connections are kept and which requests they complete, with no
 //! table: [`laws::calls_give_completions`] says that the calls, made event by event, complete just these. By the other
 //! [`laws`] a piece may as well come as two, and a connection brings what it would bring alone, but for whether it was taken.
+//!
+//! # What is proved
+//!
+//! `Conns`: a table of at most 64 connections, each with all bytes that it brought. `started`, `piece`, `request` and
+//! `gone` are exact on it: the answer to a piece is what `http_wire` says of all the connection's bytes, and the others
+//! are as they were. Over each list of events the calls complete what the definition says without a table
+//! (`laws::calls_give_completions`); a piece may as well come as two (`cuts_change_nothing`), and a connection brings
+//! what it would bring alone, but for whether it was taken (`others_change_nothing`).
 #![tactic(auto)]
 
 mod connection;

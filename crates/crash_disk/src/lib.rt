@@ -19,6 +19,14 @@
 //! of them or a beginning (`specs/Plans.antt`).
 //!
 //! A call answers [`Failed`] only where the count of faults rose in it. What it then did is no more than begun.
+//!
+//! # What is proved
+//!
+//! The disk rule as definitions (`specs/Disk.antt`): what a read gives and which images a crash may leave now, and at
+//! some moment since a call began. The trait `Disk` says it of every disk that tells, and a disk tells at each moment
+//! or at none (`tells_always`); a call fails only where the count of faults rose. `MemDisk` keeps the rule with an
+//! exact outcome for each call (`calls`), also where it is told to fail or to stop; a stop leaves one of the images
+//! that a crash may leave (`laws::a_stop_leaves_what_a_crash_may_leave`).
 #![tactic(auto)]
 
 mod change;

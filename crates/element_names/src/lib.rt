@@ -10,6 +10,13 @@
 //!
 //! Each namespace has a number in a table, so that two names are in one namespace where their numbers are the same. The
 //! numbers of all attributes stand in one list.
+//!
+//! # What is proved
+//!
+//! The names of an element by Namespaces in XML 1.0: `Spaces::enter` and `leave` keep which prefix is bound to which
+//! namespace; `element_names` gives the number of the namespace of each name exactly where the names keep the rules
+//! (`named`, `resolved`), else BadNames (`err`). Two numbers of a `Table` have one namespace only where they are the
+//! same (`Table::is_same`).
 #![tactic(auto)]
 
 mod distinct;

@@ -20,6 +20,14 @@
 //! A call of a link answers [`Failed`] only where the count of faults of its kind rose in it: one counts `listen` and
 //! `next`, the other `send`. After a `next` that failed what is to come is as before, and of a `send` that failed a
 //! prefix of the bytes went out. A clock can't fail.
+//!
+//! # What is proved
+//!
+//! The traits `Clock` and `Link` say which moments a clock gives, which event a link gives next with the bytes of a
+//! piece (`next`: a piece that is longer than the place for it comes in several, and loses nothing,
+//! `laws::a_cut_piece_loses_nothing`), and which bytes went out on which connection (`send`); a call fails only where
+//! its count of faults rose. `ListClock` and `ListLink` keep this with an exact outcome for each call, also where one
+//! is told to fail.
 #![tactic(auto)]
 
 mod arrival;

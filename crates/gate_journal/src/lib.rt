@@ -21,6 +21,21 @@
 //! [`Failed`] and [`OpenFault::DiskFault`] come only where the disk's count of faults rose. After [`Failed`] the journal
 //! is broken, and is opened again by `reopen`. [`OpenFault::Foreign`] comes exactly where the files stand for no list
 //! of records, and [`OpenFault::NoMemory`] may come from each call that allocates: `append` does not.
+//!
+//! # What is proved
+//!
+//! What two files stand for is a function of their bytes (`journal`). `read_text` and `newer` give it of two texts that
+//! lie in memory, with payloads that are slices of them, and make no call of a disk. `open_journal` and `reopen` give
+//! that, or Foreign with the file and place of the fault exactly where they stand for no journal; `append` adds its
+//! payload and takes no memory; `compact` and `migrate` leave the kept payloads in the other file, one generation on,
+//! with the new horizon and next number, or with the old ones; `reserve`, `room` and the calls that show the journal
+//! are exact. At every moment during and after a call each image that a crash may leave stands for the list before or
+//! with the new record (`append`), for the old journal or the new one (`compact`, `migrate`), or for what an image at
+//! the start stood for (`open_journal`, `reopen`). Each of these calls makes the changing calls of the disk that its
+//! plan names, in their order and no other: all of them where it answers Ok, and else a beginning; an opening writes
+//! nothing but the first journal where there is none (`calls`: `Follows` of crash_disk, over the plans of
+//! `specs/Calls.antt`). DiskFault comes only where the disk's count rose, and breaks the journal; want of memory leaves
+//! journal and disk as they were in `compact`, `migrate` and `reserve`, the calls with a journal that take memory.
 #![tactic(auto)]
 
 mod compacting;

@@ -8,6 +8,11 @@
 //! ```
 //!
 //! No call fails or allocates. Contracts see a [`Mac`] as a key and the text that was put under it.
+//!
+//! # What is proved
+//!
+//! HMAC-SHA256 (RFC 2104) and one block of PBKDF2 (RFC 8018) over `sha2`'s own SHA-256: `hmac`, `Mac` in pieces,
+//! `pbkdf2`, `same_tag`.
 #![tactic(auto)]
 
 ghost use Rattle.std.specs.Prelude.{◌≡◌, ◌≤◌, ◌↔◌, ⊤, ℕ, List, [], ◌++◌, length, map, bit_xor, IsTrue};

@@ -31,6 +31,17 @@
 //! as the same status, fields and body ([`laws::an_answer_is_read_again`]). [`vouched_answer`] tells a proxy who a request comes
 //! from, in two lines that hold no byte outside 0x20 to 0x7E ([`laws::a_vouched_answer_is_read_again`]). These two take memory;
 //! there `NoMemory` may come in place of the answer.
+//!
+//! # What is proved
+//!
+//! `request_of` and `Awaited::look`: what the bytes of a connection are, a whole request with its parts, the beginning
+//! of one, or no request with a status, in the order of the definition over `httparse`'s grammar of a head; bytes have
+//! one reading, how they were cut changes nothing, bytes behind a whole request or a refusal change nothing, and the
+//! first of some bytes are More or the same (`laws`). `cookie_of`, `is_form_type`, `full_answer` and `put_fixed` are
+//! exact; a client reads an answer as its status, fields and body (`laws::an_answer_is_read_again`), and has one status
+//! (`laws::an_answer_has_one_status`). `vouched_answer` is the answer that names a user: whatever name and values hold,
+//! a client reads just the two lines that do, no byte of which is outside 0x20 to 0x7E, and reads name and values back
+//! from them (`laws::a_vouched_answer_is_read_again`).
 #![tactic(auto)]
 
 mod answer;

@@ -15,6 +15,17 @@
 //!
 //! No request upwards backs two logins: not in any list that a disk may hold, nor over a whole run, what was left out since
 //! included ([`laws`]).
+//!
+//! # What is proved
+//!
+//! A hub's ledger, with the words and clauses of the other two: `HubLedger::start`, `reopen`, `commit`, `compact`;
+//! drafts of a request that is passed upwards (`draft_route`), of a login that is passed on (`draft_back`), and of an
+//! answer without an assertion (`draft_speak`); `routed` finds the request below for which the one above was sent,
+//! while it counts. What an image stands for are records of a ledger, and so is what is kept of them
+//! (`laws::images_hold_records`, `laws::kept_are_records`); from the moment of a compaction on it changes no answer
+//! (`laws::compactions_change_no_answer`). No ledger has two logins that one request backs, nor has a whole run of
+//! additions, compactions and openings, what was left out since included (`laws::no_request_backs_twice`,
+//! `laws::no_request_backs_twice_in_a_run`). No provider uses it yet.
 #![tactic(auto)]
 
 mod checks;

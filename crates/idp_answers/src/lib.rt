@@ -10,6 +10,16 @@
 //!
 //! Contracts see an answer as its bytes, which `specs/Answers.antt` defines. Each call takes memory and refuses for want of
 //! it alone.
+//!
+//! # What is proved
+//!
+//! `login_answer`, `issued_answer`, `no_passive_answer` and `metadata_answer` are the bytes of their definitions; the
+//! Response for a login is signed by its mode, the Assertion first. In the modes that sign the Response it is vouched
+//! for where it is read again, with the Assertion of the login in it (`laws::a_signed_response_is_vouched_for`). In the
+//! modes that sign the Assertion it is vouched for there, too (`laws::a_signed_assertion_is_vouched_for`); in each mode
+//! the login that is read of the sent Response is the one that was issued (`laws::an_issued_login_is_read`), the
+//! Response is read as a success with that one Assertion (`laws::a_sent_response_is_read`), and what a mode does not
+//! sign has no Signature (`laws::what_is_not_signed_has_no_signature`).
 #![tactic(auto)]
 
 mod issuing;

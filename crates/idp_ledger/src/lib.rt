@@ -18,6 +18,16 @@
 //! `specs/Finding.antt`, and what two files stand for in `specs/Ledger.antt`. A record is drafted first, which takes all the
 //! memory that it needs and is refused by name ([`DraftFault`]); to commit it takes none, and only the disk can refuse it
 //! ([`Failed`]). After that the ledger is broken, and is opened again by `reopen`.
+//!
+//! # What is proved
+//!
+//! An identity provider's ledger, with the words and clauses of the service provider's: `IdpLedger::start`, `reopen`,
+//! `commit`, `compact`; drafts of a pending login, a login, an issue in a session, an answer without an assertion, a
+//! logout and its answers (`Drafts`, `DraftsSome`); `pending` and `session` find what is visible, unused and not ended.
+//! Laws: what an image stands for are records of a ledger, and so is what is kept of them; from the moment of a
+//! compaction on it changes no answer; each Issued names a login that was pending and unused, or lies in a session that
+//! was not ended (`each_issue_has_its_cause`). A session that ends behind each moment at which a run compacts the
+//! ledger has a row to the end of the run, open or ended as it was left (`laws::sessions_stay`).
 #![tactic(auto)]
 
 mod checks;

@@ -12,6 +12,16 @@
 //! sent to this address and wants its Response where the peer's metadata has it; where the message has a Signature, this
 //! vouches for it with the peer's key. Every other form is refused with the verdict of the first condition that fails
 //! (`IsRefused` of `Verdict.antt`). No form has two verdicts ([`laws::a_request_has_one_verdict`]).
+//!
+//! # What is proved
+//!
+//! `judge_request`: Ok exactly with what a form asks for that carries an AuthnRequest of a known peer, sent to this
+//! address, which wants its Response where the peer's metadata has it and for which its Signature vouches where it has
+//! one (`accepted`: `IsAsked`); else the verdict of the first condition that fails (`refused`: `IsRefused`). A form
+//! asks for one thing alone, and has one verdict (`laws::a_request_has_one_verdict`), and it can't be that it is
+//! neither accepted nor refused (`laws::each_request_is_judged`); the request's texts are texts that a document may
+//! hold (`laws::the_texts_of_a_request_are_texts`). What an identity provider is set up with, and when it can be
+//! started (`IsUsable`).
 #![tactic(auto)]
 
 mod asked;

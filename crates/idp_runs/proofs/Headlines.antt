@@ -4,11 +4,11 @@ use Rattle.std.proofs.Common.{ℕ, subst, sym}
 use Rattle.crash_disk.specs.Counts.{Rose}
 use Rattle.crash_disk.specs.Disk.{Image, DiskState, MayLeave, image_of}
 use Rattle.http_wire.specs.declared.answer.Answer.{Answer}
-use Rattle.node_serve.specs.Turns.{Asked, Asks, Turn}
-use Rattle.node_serve.specs.Worlds.{World}
-use Rattle.node_runs.proofs.Kept.{of_turn}
-use Rattle.node_runs.specs.Runs.{BadSetUp, NotSetUp, NotOpened, Deaf, Serving}
-use Rattle.node_steps.proofs.Added.{new_is_of_the_request}
+use Rattle.serve_loop.specs.Turns.{Asked, Asks, Turn}
+use Rattle.serve_loop.specs.Worlds.{World}
+use Rattle.provider_run.proofs.Kept.{of_turn}
+use Rattle.provider_run.specs.Runs.{BadSetUp, NotSetUp, NotOpened, Deaf, Serving}
+use Rattle.provider_node.proofs.Added.{new_is_of_the_request}
 use Rattle.idp_ledger.specs.Laws.{ImagesHoldRecords}
 use Rattle.idp_ledger.specs.Record.{idp_rules}
 use Rattle.idp_server.specs.Histories.{IsProviders, SessionsStayEndedInAService, WhatIsAcknowledgedIsKept}

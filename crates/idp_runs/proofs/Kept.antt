@@ -5,17 +5,17 @@ use Rattle.crash_disk.specs.Disk.{Image, DiskState}
 use Rattle.crash_disk.specs.Moments.{Leaves}
 use Rattle.idp_ledger.specs.Laws.{ImagesHoldRecords}
 use Rattle.idp_ledger.specs.Record.{idp_rules}
-use Rattle.node_serve.specs.declared.served.Served.{Served}
-use Rattle.node_serve.specs.declared.served.ServeFault.{ServeFault}
-use Rattle.node_serve.specs.Serving.{Serves}
-use Rattle.node_serve.specs.Turns.{Turn}
-use Rattle.node_serve.specs.Worlds.{World}
-use Rattle.node_runs.specs.Runs.{Outside, world_of}
-use Rattle.node_runs.proofs.Ending.{at_end}
-use Rattle.node_runs.proofs.Kept as any
+use Rattle.serve_loop.specs.declared.served.Served.{Served}
+use Rattle.serve_loop.specs.declared.served.ServeFault.{ServeFault}
+use Rattle.serve_loop.specs.Serving.{Serves}
+use Rattle.serve_loop.specs.Turns.{Turn}
+use Rattle.serve_loop.specs.Worlds.{World}
+use Rattle.provider_run.specs.Runs.{Outside, world_of}
+use Rattle.provider_run.proofs.Ending.{at_end}
+use Rattle.provider_run.proofs.Kept as any
 use Rattle.saml_outside.specs.Files.{File}
-use Rattle.node_steps.specs.Lasting.{AreKeptSince}
-use Rattle.node_steps.specs.Points.{points}
+use Rattle.provider_node.specs.Lasting.{AreKeptSince}
+use Rattle.provider_node.specs.Points.{points}
 use Rattle.idp_server.specs.Histories.{AreKept, IsProviders, SessionsStayEndedInAService, StayEnded, WhatIsAcknowledgedIsKept}
 use Rattle.idp_server.specs.Step.{Provider, Answers, StepLeaves}
 use Rattle.idp_server.specs.Staying.{SessionsStay, SessionsStayInAService}

@@ -12,24 +12,24 @@ use Rattle.http_wire.specs.declared.answer.Answer.TheVariants.{Fixed, Full}
 use Rattle.ledger_records.specs.declared.idp_record.IdpRecord.{IdpRecord}
 use Rattle.ledger_records.specs.declared.idp_record.IdpRecord.TheVariants as kinds
 use Rattle.ledger_records.specs.declared.idp_record.Issued.{Issued}
-use Rattle.node_serve.specs.Turns.{Asked, Asks, Run, Turn, asked_by}
-use Rattle.node_serve.specs.Worlds.{World}
-use Rattle.node_runs.specs.Runs.{Outside, world_of}
-use Rattle.node_runs.specs.declared.ended.Ended.{Ended}
-use Rattle.node_runs.specs.declared.ended.RunFault.{RunFault}
+use Rattle.serve_loop.specs.Turns.{Asked, Asks, Run, Turn, asked_by}
+use Rattle.serve_loop.specs.Worlds.{World}
+use Rattle.provider_run.specs.Runs.{Outside, world_of}
+use Rattle.provider_run.specs.declared.ended.Ended.{Ended}
+use Rattle.provider_run.specs.declared.ended.RunFault.{RunFault}
 use Rattle.peer_keys.specs.declared.peers.LogoutPeer.{LogoutPeer}
 use Rattle.protocol_messages.specs.declared.logout.LogoutRequest.{LogoutRequest}
 use Rattle.idp_ledger.specs.declared.row.SessionRow.{SessionRow}
 use Rattle.idp_ledger.specs.Ledger.{Held, ledger_in}
 use Rattle.idp_ledger.specs.RowsOf.{is_among}
-use Rattle.node_steps.specs.declared.codes.TheConstants.{NO_MEMORY}
-use Rattle.node_serve.specs.Serving as node_serving
-use Rattle.node_serve.specs.declared.served.Served.{Served}
-use Rattle.node_serve.specs.declared.served.ServeFault.{ServeFault}
-use Rattle.node_steps.specs.Added.{IsAddedBy, IsNew}
-use Rattle.node_steps.specs.Lasting.{AreKeptSince}
-use Rattle.node_steps.specs.Points.{points}
-use Rattle.node_steps.specs.Starts.{IsServed}
+use Rattle.provider_node.specs.declared.codes.TheConstants.{NO_MEMORY}
+use Rattle.serve_loop.specs.Serving as node_serving
+use Rattle.serve_loop.specs.declared.served.Served.{Served}
+use Rattle.serve_loop.specs.declared.served.ServeFault.{ServeFault}
+use Rattle.provider_node.specs.Added.{IsAddedBy, IsNew}
+use Rattle.provider_node.specs.Lasting.{AreKeptSince}
+use Rattle.provider_node.specs.Points.{points}
+use Rattle.provider_node.specs.Starts.{IsServed}
 use Rattle.idp_ledger.specs.Laws.{AnswerAlike}
 use Rattle.idp_ledger.specs.Record.{AreRecords, idp_rules}
 use Rattle.idp_server.specs.Histories.{AreKept, IsEnded, IsProviders, StayEnded}

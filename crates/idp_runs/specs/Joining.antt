@@ -2,7 +2,7 @@
 use Rattle.std.specs.Prelude.{ℕ}
 use Rattle.crash_disk.specs.Disk.{Image}
 use Rattle.idp_ledger.specs.Record.{idp_rules}
-use Rattle.node_runs.specs.Joining as any
+use Rattle.provider_run.specs.Joining as any
 use Rattle.idp_server.specs.Step.{Answers}
 use Rattle.idp_setup.specs.Setup.{IsSetUp, IsBadSetUp}
 use Rattle.idp_runs.specs.Runs.{key}

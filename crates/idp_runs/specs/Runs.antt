@@ -2,11 +2,11 @@
 use Rattle.std.specs.Prelude.{ℕ, List, Option, Result}
 use Rattle.saml_outside.specs.Files.{File}
 use Rattle.crash_disk.specs.Disk.{Image, DiskState}
-use Rattle.node_serve.specs.Turns.{Turn}
-use Rattle.node_runs.specs.Providers as any
-use Rattle.node_runs.specs.Runs.{Outside}
-use Rattle.node_runs.specs.declared.ended.Ended.{Ended}
-use Rattle.node_runs.specs.declared.ended.RunFault.{RunFault}
+use Rattle.serve_loop.specs.Turns.{Turn}
+use Rattle.provider_run.specs.Providers as any
+use Rattle.provider_run.specs.Runs.{Outside}
+use Rattle.provider_run.specs.declared.ended.Ended.{Ended}
+use Rattle.provider_run.specs.declared.ended.RunFault.{RunFault}
 use Rattle.idp_ledger.specs.Record.{idp_rules}
 use Rattle.idp_rules.specs.declared.config.IdpConfig.{IdpConfig}
 use Rattle.idp_server.specs.Step.{Provider, Answers}

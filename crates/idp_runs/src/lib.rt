@@ -8,15 +8,28 @@
 //! }
 //! ```
 //!
-//! A contract sees how a run goes as one of the five cases of `node_runs` (`Runs` of `specs/Runs.antt`), with the provider's own
+//! A contract sees how a run goes as one of the five cases of `provider_run` (`Runs` of `specs/Runs.antt`), with the provider's own
 //! setup, ledger and steps. It carries the headline ([`laws`]): each Assertion is issued to a user with a password or a session,
 //! each signed element is one of a record, and no form is sent before its record is durable. A session is ended exactly where its
 //! user leaves it or a peer asks for it, and never lives again. A crash at any moment of a run leaves what one inside the opening may
 //! leave, or what one inside an answer may.
+//!
+//! # What is proved
+//!
+//! `run_idp`: a run of an identity provider goes by the five cases, with its own setup, ledger and steps, and carries
+//! its headline (`runs`, by `Runs` and `Headline`): at each request an Assertion is issued to a user with a password or
+//! a session alone, each signed element is one that its record stands for, the record is durable before the answer is
+//! sent, and sessions are ended exactly where their users leave them or a peer ends them; and where the disk tells,
+//! what was acknowledged is kept, and a session that was ended is live at no later request and behind the run; and each
+//! image that a crash might leave since a point of the run, also inside later requests, has in its history the records
+//! for which the answers up to that point stand (`AreKeptSince`). A run that served is a start, over which the laws of
+//! starts go (`laws::a_run_is_a_start`), and from each image that a crash may leave a later start goes on
+//! (`laws::each_image_of_a_run_goes_on`). Each fault comes only where its count rose; where a provider can be run and
+//! nothing failed it served, or memory ran out (`complete`).
 #![tactic(auto)]
 
 pub mod laws;
 mod run;
 
-pub use node_runs::{Ended, RunFault};
+pub use provider_run::{Ended, RunFault};
 pub use run::run_idp;

@@ -3,9 +3,9 @@
 ghost use Rattle.std.specs.Prelude.{◌≡◌, ◌≢◌, ◌≤◌, ◌⊎◌, ℕ, List, Err};
 ghost use Rattle.crash_disk.specs.Counts.{Rose};
 ghost use Rattle.crash_disk.specs.Moments.{LeavesOnly};
-ghost use Rattle.node_serve.specs.Turns.{Turn};
+ghost use Rattle.serve_loop.specs.Turns.{Turn};
 ghost use Rattle.idp_server.specs.Step.{Provider};
-ghost use Rattle.node_runs.specs.Runs.{IsNotSetUp, IsServed, outside};
+ghost use Rattle.provider_run.specs.Runs.{IsNotSetUp, IsServed, outside};
 ghost use Rattle.idp_runs.specs.Headline.{Headline};
 ghost use Rattle.idp_runs.specs.Runs.{IsRunnable, RunLeaves, Runs};
 
@@ -14,7 +14,7 @@ use event_link::{Clock, Link};
 use idp_ledger::Disk;
 use idp_server::IdpRole;
 use idp_setup::{SetupFault, set_up};
-use node_runs::{Ended, RunFault, RunsProvider, run};
+use provider_run::{Ended, RunFault, RunsProvider, run};
 use saml_outside::Files;
 use std::alloc::Global;
 

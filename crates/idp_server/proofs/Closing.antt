@@ -23,7 +23,7 @@ use Rattle.record_ledger.proofs.Words.{other_way, same_text, text_itself}
 use Rattle.idp_ledger.proofs.RowLaws.{rows_of-push}
 use Rattle.idp_ledger.proofs.RowTexts.{any_there}
 use Rattle.idp_rules.specs.declared.config.IdpConfig.{IdpConfig}
-use Rattle.node_steps.specs.Step as shared
+use Rattle.provider_node.specs.Step as shared
 use Rattle.idp_server.specs.Histories.{IsEnded}
 use Rattle.idp_server.specs.Logouts.{EndsOver, LeavesOver, WhereverAPeerEnds, WhereverAUserLeaves}
 use Rattle.idp_server.specs.Step as steps

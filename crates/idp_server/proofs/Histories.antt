@@ -13,8 +13,8 @@ use Rattle.idp_ledger.specs.Laws.{CompactionsChangeNoAnswer, ImagesHoldRecords}
 use Rattle.idp_ledger.specs.Ledger.{Held, next_number}
 use Rattle.idp_ledger.specs.Record.{drawn, idp_rules}
 use Rattle.idp_rules.specs.declared.config.IdpConfig.{IdpConfig}
-use Rattle.node_steps.proofs.Histories as any
-use Rattle.node_steps.proofs.Histories.{DrawsAbove}
+use Rattle.provider_node.proofs.Histories as any
+use Rattle.provider_node.proofs.Histories.{DrawsAbove}
 use Rattle.idp_server.specs.Histories.{WhatIsAcknowledgedIsKept}
 use Rattle.idp_server.specs.Step as steps
 use Rattle.idp_server.specs.Step.{Answers, ask_of, ended_by, left_by}

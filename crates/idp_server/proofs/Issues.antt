@@ -26,9 +26,9 @@ use Rattle.idp_ledger.specs.Record.{idp_rules}
 use Rattle.idp_ledger.specs.Draft.{issued_in}
 use Rattle.idp_ledger.specs.Drafts.{issue, login}
 use Rattle.idp_rules.specs.declared.config.IdpConfig.{IdpConfig}
-use Rattle.node_steps.specs.Step as shared
-use Rattle.node_steps.specs.Step.{IsWhole}
-use Rattle.node_steps.proofs.Serving.{settled}
+use Rattle.provider_node.specs.Step as shared
+use Rattle.provider_node.specs.Step.{IsWhole}
+use Rattle.provider_node.proofs.Serving.{settled}
 use Rattle.idp_server.specs.Routes.{Login, Metadata, SignOn, To, route}
 use Rattle.idp_server.specs.Step as steps
 use Rattle.idp_server.specs.Step.{Provider, Answers, OwnsDisk, Serves, Steps, ask_of, session_for}

@@ -20,7 +20,7 @@ use Rattle.idp_ledger.specs.Compacting.{Compacts}
 use Rattle.idp_ledger.specs.Drafts.{confirmed, pending, spoke}
 use Rattle.idp_ledger.specs.Ledger.{Held, next_number}
 use Rattle.idp_rules.specs.declared.config.IdpConfig.{IdpConfig}
-use Rattle.node_steps.specs.Step as shared
+use Rattle.provider_node.specs.Step as shared
 use Rattle.idp_server.specs.Routes.{Logout, Metadata, SingleLogout, To, route}
 use Rattle.idp_server.specs.Step as steps
 use Rattle.idp_server.specs.Step.{Answers, ask_of, ended_by, left_by, session_for}

@@ -11,9 +11,9 @@ use Rattle.idp_ledger.specs.Record.{LAST, idp_rules}
 use Rattle.idp_ledger.specs.Standing.{idp_row_rules}
 use Rattle.idp_rules.specs.Config.{IsUsable}
 use Rattle.idp_rules.specs.declared.config.IdpConfig.{IdpConfig}
-use Rattle.node_steps.specs.Drafted.{drafted_of}
-use Rattle.node_steps.specs.Replies.{AreReplies, IsDrafted}
-use Rattle.node_steps.proofs.Drafting.{drafted_some}
+use Rattle.provider_node.specs.Drafted.{drafted_of}
+use Rattle.provider_node.specs.Replies.{AreReplies, IsDrafted}
+use Rattle.provider_node.proofs.Drafting.{drafted_some}
 use Rattle.idp_server.specs.declared.reply.Reply.{Reply}
 use Rattle.idp_server.specs.Replies.{found_record, idp_replies, is_nothing, record_for}
 use Rattle.idp_server.specs.Step.{Answers}

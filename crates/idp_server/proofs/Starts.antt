@@ -1,7 +1,7 @@
 -- What is kept over several starts of a provider.
 use Rattle.std.proofs.Common.{◌≡◌, List, sym, subst, ◌∙◌}
-use Rattle.node_steps.specs.Starts.{AreKeptOver, AreStarts, Start}
-use Rattle.node_steps.proofs.Starts.{kept_over}
+use Rattle.provider_node.specs.Starts.{AreKeptOver, AreStarts, Start}
+use Rattle.provider_node.proofs.Starts.{kept_over}
 use Rattle.idp_ledger.specs.Laws.{ImagesHoldRecords}
 use Rattle.idp_ledger.specs.Ledger.{Held}
 use Rattle.idp_ledger.specs.Record.{idp_rules}

@@ -9,8 +9,8 @@ use Rattle.idp_ledger.specs.Laws.{AnswerAlike, CompactionsChangeNoAnswer}
 use Rattle.idp_ledger.specs.Ledger.{Held}
 use Rattle.idp_ledger.specs.Record.{AreRecords, idp_rules}
 use Rattle.idp_rules.specs.declared.config.IdpConfig.{IdpConfig}
-use Rattle.node_steps.specs.Starving.{CodesAddNothing, IsSameOrCompacted}
-use Rattle.node_steps.proofs.Starving.{visible_stays}
+use Rattle.provider_node.specs.Starving.{CodesAddNothing, IsSameOrCompacted}
+use Rattle.provider_node.proofs.Starving.{visible_stays}
 use Rattle.idp_server.specs.Starving.{WhatIsVisibleStays}
 use Rattle.idp_server.specs.Step as steps
 use Rattle.idp_server.specs.Step.{Answers}

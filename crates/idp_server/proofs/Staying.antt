@@ -15,10 +15,10 @@ use Rattle.idp_ledger.specs.Laws.{ImagesHoldRecords, SessionsStay as RowsStay}
 use Rattle.idp_ledger.specs.Ledger.{Held, held_with}
 use Rattle.idp_ledger.specs.Record.{idp_rules}
 use Rattle.idp_ledger.specs.RowsOf.{begun, ended_if, ends, if_pending, session_row, session_rows}
-use Rattle.node_steps.specs.Histories.{CameFrom}
-use Rattle.node_steps.proofs.Histories.{what_is_kept}
-use Rattle.node_steps.proofs.Starts.{kept_over_at}
-use Rattle.node_steps.proofs.Staying.{Stood, stood}
+use Rattle.provider_node.specs.Histories.{CameFrom}
+use Rattle.provider_node.proofs.Histories.{what_is_kept}
+use Rattle.provider_node.proofs.Starts.{kept_over_at}
+use Rattle.provider_node.proofs.Staying.{Stood, stood}
 use Rattle.idp_server.specs.Staying.{Began, IsAsLeft, SessionsStayInAService, SessionsStayOverStarts, WhatWasBegunIsAsLeft}
 use Rattle.idp_server.specs.Step.{Answers}
 use Rattle.idp_server.proofs.Histories.{draws_above}

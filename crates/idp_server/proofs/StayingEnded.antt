@@ -22,8 +22,8 @@ use Rattle.record_ledger.proofs.Records.{AreRecords-push}
 use Rattle.idp_ledger.proofs.LawWords.{Each, next_cons, next_push, parts}
 use Rattle.idp_ledger.proofs.RowLaws.{rows_of-push}
 use Rattle.record_ledger.specs.Runs.{Adds, Compacts, Event, Leads, Opens}
-use Rattle.node_steps.proofs.Runs.{run_records}
-use Rattle.node_steps.specs.Histories.{Another, Includes, Nothing, This}
+use Rattle.provider_node.proofs.Runs.{run_records}
+use Rattle.provider_node.specs.Histories.{Another, Includes, Nothing, This}
 use Rattle.idp_server.specs.Histories.{AnEndedSessionStaysEnded, IsDead, IsEnded}
 
 -- ---- none is found

@@ -5,17 +5,17 @@ use Rattle.std.specs.Str.{bytes_eq}
 use Rattle.crash_disk.specs.Disk.{Image}
 use Rattle.crash_disk.specs.Moments.{Leaves}
 use Rattle.conn_table.specs.Table.{Table}
-use Rattle.node_serve.specs.Worlds.{World, NodeStep}
-use Rattle.node_serve.specs.Turns.{Turn, Run}
+use Rattle.serve_loop.specs.Worlds.{World, NodeStep}
+use Rattle.serve_loop.specs.Turns.{Turn, Run}
 use Rattle.ledger_records.specs.declared.idp_record.IdpRecord.{IdpRecord}
 use Rattle.idp_ledger.specs.Finding.{session_found}
 use Rattle.idp_ledger.specs.Ledger.{Held, ledger_in, taken}
 use Rattle.idp_ledger.specs.Record.{AreRecords, idp_rules, is_unended}
 use Rattle.idp_ledger.specs.RowsOf.{ends, rows_of}
-use Rattle.node_steps.specs.Histories as any
-use Rattle.node_steps.specs.Histories.{AreAcknowledged, HoldsWhatCame, IsAtStart, moments_of}
-use Rattle.node_steps.specs.Points.{AClosedSessionStaysClosed, Point, StayClosed, points}
-use Rattle.node_steps.specs.Starts.{AreKeptOver, AreStarts, LeftBehind, Start}
+use Rattle.provider_node.specs.Histories as any
+use Rattle.provider_node.specs.Histories.{AreAcknowledged, HoldsWhatCame, IsAtStart, moments_of}
+use Rattle.provider_node.specs.Points.{AClosedSessionStaysClosed, Point, StayClosed, points}
+use Rattle.provider_node.specs.Starts.{AreKeptOver, AreStarts, LeftBehind, Start}
 use Rattle.idp_server.specs.Step.{Provider, Answers}
 
 -- what an answer of a provider does, and what a crash may leave

@@ -21,7 +21,7 @@ use Rattle.idp_ledger.specs.RowsOf.{is_among, rows_of}
 use Rattle.idp_ledger.specs.Compacting.{Compacts}
 use Rattle.idp_ledger.specs.Ledger.{Held, held_with}
 use Rattle.idp_rules.specs.declared.config.IdpConfig.{IdpConfig}
-use Rattle.node_steps.specs.declared.codes.TheConstants.{NO_MEMORY}
+use Rattle.provider_node.specs.declared.codes.TheConstants.{NO_MEMORY}
 use Rattle.idp_server.specs.Histories.{IsEnded}
 use Rattle.idp_server.specs.Issues.{IsRecorded}
 use Rattle.idp_server.specs.Routes.{Logout, SingleLogout, To, route}

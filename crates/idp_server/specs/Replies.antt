@@ -39,8 +39,8 @@ use Rattle.protocol_messages.specs.declared.logout.LogoutRequest.{LogoutRequest}
 use Rattle.protocol_messages.specs.declared.logout.LogoutResponse.{LogoutResponse}
 use Rattle.verdict_codes.specs.Codes.{number_of}
 use Rattle.verdict_codes.specs.declared.codes.Verdict.TheVariants.{NoSuchSession, UnknownLogout}
-use Rattle.node_steps.specs.Replies.{IsReplied, ReplyRules}
-use Rattle.node_steps.specs.declared.replied.Replied.{Replied}
+use Rattle.provider_node.specs.Replies.{IsReplied, ReplyRules}
+use Rattle.provider_node.specs.declared.replied.Replied.{Replied}
 use Rattle.idp_server.specs.declared.reply.Reply.{Reply}
 use Rattle.idp_server.specs.declared.reply.Reply.TheVariants as replies
 use Rattle.idp_server.specs.Routes as routes

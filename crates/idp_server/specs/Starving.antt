@@ -6,7 +6,7 @@ use Rattle.http_wire.specs.declared.answer.Answer.TheVariants.{Fixed}
 use Rattle.http_wire.specs.Requests.{Request}
 use Rattle.idp_ledger.specs.Laws.{AnswerAlike}
 use Rattle.idp_ledger.specs.Record.{AreRecords}
-use Rattle.node_steps.specs.declared.codes.TheConstants.{NO_MEMORY}
+use Rattle.provider_node.specs.declared.codes.TheConstants.{NO_MEMORY}
 use Rattle.idp_server.specs.Step.{Provider, Steps}
 
 -- Where there was no memory and the ledger was not broken, all that may be asked of its rows at the moment of the

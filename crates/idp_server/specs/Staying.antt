@@ -7,11 +7,11 @@ use Rattle.conn_table.specs.Table.{Table}
 use Rattle.ledger_records.specs.declared.idp_record.Issued.{Issued}
 use Rattle.ledger_records.specs.declared.idp_record.IdpRecord.{IdpRecord}
 use Rattle.ledger_records.specs.declared.idp_record.IdpRecord.TheVariants as kinds
-use Rattle.node_serve.specs.Turns.{Run, Turn}
-use Rattle.node_serve.specs.Worlds.{World}
-use Rattle.node_steps.specs.Histories.{AreAcknowledged, HoldsWhatCame, IsAtStart, moments_of}
-use Rattle.node_steps.specs.Staying.{WasAdded}
-use Rattle.node_steps.specs.Starts.{AreAcknowledgedIn, AreStartsAt, LeftBehindAt, Start}
+use Rattle.serve_loop.specs.Turns.{Run, Turn}
+use Rattle.serve_loop.specs.Worlds.{World}
+use Rattle.provider_node.specs.Histories.{AreAcknowledged, HoldsWhatCame, IsAtStart, moments_of}
+use Rattle.provider_node.specs.Staying.{WasAdded}
+use Rattle.provider_node.specs.Starts.{AreAcknowledgedIn, AreStartsAt, LeftBehindAt, Start}
 use Rattle.record_ledger.specs.Runs.{EndsBehind, Event, Leads, added}
 use Rattle.idp_ledger.specs.Finding.{session_found}
 use Rattle.idp_ledger.specs.Ledger.{Held, ledger_in, taken}

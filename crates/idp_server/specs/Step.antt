@@ -42,7 +42,7 @@ use Rattle.logout_answers.specs.Answers.{Ending, Leaving, end_answer}
 use Rattle.logout_profile.specs.Verdict as logouts
 use Rattle.logout_profile.specs.declared.logout.Logout.{Logout as Message}
 use Rattle.logout_profile.specs.declared.logout.Logout.TheVariants as messages
-use Rattle.node_steps.specs.Step as any
+use Rattle.provider_node.specs.Step as any
 use Rattle.idp_server.specs.Logins.{login_of}
 use Rattle.idp_server.specs.Routes.{SignOn, Login, Metadata, Logout, SingleLogout, To, Refused, route}
 

@@ -5,11 +5,11 @@ use crash_disk::{Disk, Failed};
 use gate_journal::OpenFault;
 use idp_ledger::{Draft, IdpLedger};
 use ledger_records::IdpRecord;
-use node_steps::KeepsLedger;
+use provider_node::KeepsLedger;
 use std::alloc::Global;
 
 impl KeepsLedger for IdpRole {
-    ghost use Rattle.node_steps.specs.Step.{seen};
+    ghost use Rattle.provider_node.specs.Step.{seen};
     ghost use Rattle.idp_ledger.specs.Ledger.{CanCommit};
     ghost use Rattle.idp_ledger.specs.Record.{idp_rules};
 

@@ -14,7 +14,7 @@
 //! | POST `/slo` | the verdict on the posted form; to a LogoutRequest a form with a LogoutResponse, where there are sessions to end, else code 33; to a LogoutResponse the page at the end of the logout that it replies to, else code 34 |
 //! | GET `/metadata` | the metadata of the provider |
 //!
-//! What one request does is one definition, `Steps` of `specs/Step.antt`, by the named cases of `node_steps`: nothing
+//! What one request does is one definition, `Steps` of `specs/Step.antt`, by the named cases of `provider_node`: nothing
 //! is recorded; a record is added; it is added after one compaction that made room; there is no room (code 51); the
 //! disk failed (50); it holds no ledger (53); there was no memory (52). What is answered, and with which record, is
 //! `Answers`. An answer that stands for a record is sent only where the record is in every image that a crash may
@@ -24,6 +24,28 @@
 //! live session of the request's cookie; a session is ended exactly where its user leaves it or a peer asks for it,
 //! and never lives again; whatever page or form is answered, its record is in every image that a crash may leave; and
 //! the elements that are signed in an answer are those that its record stands for.
+//!
+//! # What is proved
+//!
+//! The identity provider as a role of the one provider (`IdpRole`; `IdpNode` is `ProviderNode<IdpRole>`): each answer
+//! is one step of one definition by named cases (`ProviderNode::answer`, `Steps`): the status where there is no such
+//! service, the metadata, the verdict on a form that asks for no login, an Assertion in a live session, a Response
+//! without one where the user may not be asked, the page where a user logs in, and behind it 1, 45, 46 or an Assertion
+//! with the cookie of a new session; of a logout as at the service provider, with PartialLogout where an ended session
+//! had issued to another peer. Records, codes 50 to 53, crashes, `start`, `restart` and `compact` as at the service
+//! provider. Laws: each Assertion is issued to a user whose password was posted for a login that was pending and
+//! unused, or in the user's live session (`each_issue_has_a_password_or_a_session`); whatever is answered to a request
+//! for a login stands for a record that is in every image that a crash may leave behind the step
+//! (`what_is_answered_is_recorded`); each signed element in an answer, those of a logout too, is one that its record
+//! stands for (`each_signed_element_is_of_a_record`); a session is ended only where its user leaves it or a peer asks
+//! to end it that it issued to, and wherever one does (`a_session_is_ended_exactly`); where the disk tells, what an
+//! answer acknowledged is in the history of every ledger that a crash may leave, and in none of these a session lives
+//! that was ended (`what_is_acknowledged_is_kept`, and over each list of starts
+//! `what_is_acknowledged_is_kept_over_starts`); a session that is ended is live at no later request
+//! (`sessions_stay_ended_in_a_service`, `sessions_stay_ended_over_starts`); what is answered to a logout is recorded
+//! (`what_is_answered_to_a_logout_is_recorded`); a session whose answer went out is found as it was left
+//! (`what_was_begun_is_as_left`, `sessions_stay_in_a_service`, `sessions_stay_over_starts`), and at 52 what was visible
+//! is (`what_is_visible_stays`).
 #![tactic(auto)]
 
 mod issuing;
@@ -42,4 +64,4 @@ mod texts;
 pub use role::IdpRole;
 
 /// An identity provider over a disk.
-pub type IdpNode = node_steps::ProviderNode<IdpRole>;
+pub type IdpNode = provider_node::ProviderNode<IdpRole>;

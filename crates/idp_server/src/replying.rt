@@ -16,8 +16,8 @@ use http_wire::{Answer, HttpRequest};
 use idp_answers::metadata_answer;
 use idp_ledger::laws::compactions_change_no_answer;
 use idp_ledger::{Draft, IdpLedger};
-use node_steps::{Drafted, Replied, Role};
 use owned_values::{Blob, NoMemory};
+use provider_node::{Drafted, Replied, Role};
 
 impl IdpRole {
     /// A reply, or the code of a refusal.

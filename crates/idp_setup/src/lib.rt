@@ -12,6 +12,12 @@
 //! told (`IsBadSetUp` of `specs/Setup.antt`). Where all of them are good, no two peers may have one name: the line of the
 //! later one is told. Where it is told what files there are, a config has one outcome ([`laws`]). What is set up can be
 //! used: its texts are such that a document may hold them, and its peers are few and differ in their names (`IsUsable`).
+//!
+//! # What is proved
+//!
+//! `set_up`: an identity provider exactly as its config and the files that it names say (`ok`), or the first file that
+//! can't be used and its line, or the line of the first peer whose name stands before it (`err`); a provider can be
+//! started with what is set up (`usable`). A config has one outcome (`laws::a_config_has_one_outcome`).
 #![tactic(auto)]
 
 mod fault;

@@ -15,6 +15,13 @@
 //! [`read_sp_record`], [`read_idp_record`] and [`read_hub_record`] answer none exactly where the payload is no record. A list grows as its items
 //! are read and is not reserved by its count, so memory and time are linear in the payload. `NoMemory` may come from each
 //! call that takes an allocator. `payload_len` takes no memory.
+//!
+//! # What is proved
+//!
+//! The payloads of both providers' records: `payload` writes exactly the bytes of the definition, `read_sp_record`,
+//! `read_idp_record` and `read_hub_record` give the record exactly where a payload is one, and none exactly where it is
+//! the bytes of none; a payload is one record at most, and that is a function of its bytes (`is`, `laws`). A session of
+//! a version 1 journal is read with the first key.
 #![tactic(auto)]
 
 pub mod hub_record;

@@ -19,6 +19,13 @@
 //!
 //! Contracts see [`Numbers`] as the list of its numbers and how many more fit in without memory, [`RowPlaces`] as how many
 //! places there are and how many more fit in, and [`TextSet`] as its texts.
+//!
+//! # What is proved
+//!
+//! `has_number`, `is_xml_text` are exact; `Numbers` are numbers that ascend, and `RowPlaces` finds by them the only row
+//! whose ID a text may be; `TextSet` says whether a text is among those of a list, in n log n; the checks that the
+//! readings of both ledgers share; `keep` sets the flags of exactly those records from which steps between records that
+//! name one another lead to one that is seen (`AreFlagsOf`).
 #![tactic(auto)]
 
 mod checks;

@@ -4,6 +4,15 @@
 //!
 //! The premises are `Unforged` and `NoCollision` of `Premises.antt`. They speak of the signed elements of one posted form, and
 //! of a list of all elements that the identity provider signed. That HMAC and SHA-256 are strong is not said.
+//!
+//! # What is proved
+//!
+//! Of each list of signed elements, under the premises that no HMAC is forged and no hash collides: a login that a form
+//! brings is that of a signed Assertion, or of the one Assertion of a signed Response, and a session is that of such a
+//! login for this provider (`a_login_was_signed`). Two forms that one config accepts at one moment over the same rows,
+//! and whose covered elements have equal canonical bytes without their Signatures, open equal sessions, but for the
+//! key, with equal targets (`equal_covered_texts_give_equal_sessions`). A form with one signature can meet the premises
+//! (`a_form_with_one_signature_meets_the_premises`).
 #![tactic(auto)]
 
 ghost use Rattle.std.specs.Prelude.{◌≡◌, ℕ, List, [], ◌∷◌};

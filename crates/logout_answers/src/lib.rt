@@ -9,6 +9,12 @@
 //! Contracts see an answer as its bytes, which `specs/Answers.antt` defines. Where the peer has no address for logout, the page at
 //! the end is shown in place of a form. Each call takes memory and refuses for want of it alone: there is an answer to each logout
 //! ([`laws::each_logout_has_an_answer`]).
+//!
+//! # What is proved
+//!
+//! `leaving_answer`, `ending_answer` and `end_answer` are the bytes of their definitions: a form that sends a
+//! LogoutRequest or a LogoutResponse on to the peer's address, or the page at the end where it has none. There is an
+//! answer to each user who leaves and to each peer that asks (`laws::each_logout_has_an_answer`).
 #![tactic(auto)]
 
 mod answers;

@@ -16,6 +16,15 @@
 //! confirmed and none was skipped is the law [`laws::a_round_succeeds_where_each_confirms`].
 //!
 //! [`make_plan`] answers `NoMemory` alone, and takes time n log n for n parts and few peers. [`Round`] takes no memory.
+//!
+//! # What is proved
+//!
+//! `make_plan`: of the providers that a session was passed to, in which order a logout asks them, with the indexes of
+//! their sessions, each once, the one that asked left out, and whether some can't be asked (`Plan` of its definition);
+//! only want of memory keeps it from that. `Round::told`: who is asked next behind an answer, or how the logout ended.
+//! A logout ends with Success exactly where each that was to be asked confirmed and none was skipped, else with
+//! PartialLogout (`laws::a_round_succeeds_where_each_confirms`), and asks each once, in order
+//! (`laws::a_round_asks_in_order`). No provider uses it yet.
 #![tactic(auto)]
 
 pub mod laws;

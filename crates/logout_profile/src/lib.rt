@@ -17,6 +17,17 @@
 //!
 //! What is made is signed with the peer's key as `Making.antt` says, and the peer's key vouches for it where it is read
 //! ([`laws::what_is_made_is_vouched_for`]). Want of memory may come in place of any other answer.
+//!
+//! # What is proved
+//!
+//! `judge_logout` and `judge_logout_with` (a second key): what a posted form asks or replies of a logout, exactly where
+//! it carries a LogoutRequest or a LogoutResponse in its field, of a peer whose key vouches for it, sent to this
+//! address and in time (`accepted`: `IsAccepted`); else the verdict of the first condition that fails (`refused`:
+//! `IsRefused`). A form has one verdict (`laws::a_logout_form_has_one_verdict`), and it can't be that it is neither
+//! accepted nor refused (`laws::each_logout_form_is_judged`); what is obeyed is vouched for
+//! (`laws::what_is_obeyed_is_vouched_for`), and a request that is obeyed has a text as its ID
+//! (`laws::what_an_obeyed_form_says`). `logout_request` and `logout_response` are the signed messages of their
+//! definitions, and are vouched for with the same key where they are read again (`laws::what_is_made_is_vouched_for`).
 #![tactic(auto)]
 
 mod judging;

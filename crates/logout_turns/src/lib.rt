@@ -7,6 +7,11 @@
 //!
 //! A contract sees a list of turns as the list of what it holds. `new` takes no memory; each call that does answers
 //! `NoMemory` where there is none, and what it was lent is then as before.
+//!
+//! # What is proved
+//!
+//! Parts of sessions, askers and turns as contracts see them: each call on a list of turns is exact on the list of what it
+//! holds, and leaves it as it was where memory runs out.
 #![tactic(auto)]
 
 mod part;

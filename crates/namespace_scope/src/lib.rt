@@ -5,6 +5,11 @@
 //!
 //! Contracts see a [`Scope`] as its list of levels, the innermost first. A level is its list of
 //! pairs of a prefix, as bytes, and a number, the latest first.
+//!
+//! # What is proved
+//!
+//! A stack of prefix bindings: `lookup` gives the latest pair of the innermost level that has one;
+//! `laws::pop_undoes_its_level`.
 #![tactic(auto)]
 
 ghost use Rattle.std.specs.Prelude.{◌≡◌, ◌<◌, [], ◌∷◌, Some, length, drop, codes, OnOk, OnErr};

@@ -9,6 +9,12 @@
 //! A contract sees a text and a `Blob` as their bytes, a list as the list of what it holds, and an attribute as its name
 //! and its values. `new` takes no memory; each call that does answers `NoMemory` where there is none, and what it was
 //! lent is then as before.
+//!
+//! # What is proved
+//!
+//! Texts, bytes, lists of texts and attributes as contracts see them: each call exact, and what it was lent unchanged
+//! where memory runs out. What a call may return is fixed by what the definition gives
+//! (`laws::what_is_given_is_one_answer`).
 #![tactic(auto)]
 
 mod attributes;

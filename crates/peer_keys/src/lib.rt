@@ -8,6 +8,11 @@
 //! ```
 //!
 //! A contract sees the peers as a list. A provider with a name is looked up by `place_of` of `specs/Peers.antt`.
+//!
+//! # What is proved
+//!
+//! The peers of a provider, each with the keys that both share: a list, and the place of the first peer of a name
+//! (`Peers::place_of`, `place_of`).
 #![tactic(auto)]
 
 mod peers;

@@ -19,6 +19,13 @@
 //! ([`laws::each_request_is_read`]).
 //!
 //! Each call that takes memory may answer `NoMemory`, and the agent is then as it was.
+//!
+//! # What is proved
+//!
+//! A scripted user agent: what it sends is a definition of a cookie for each node, the last form, login page and
+//! Location (`visit`, `submit`, `login`, `follow`, `leave`), with None exactly where there is nothing to send; what an
+//! answer shows, and what is kept of it (`receive`, `Receives`). Bytes are one answer at most, and a body one page
+//! (`laws::each_answer_has_one_reading`).
 #![tactic(auto)]
 
 mod agent;

@@ -16,6 +16,16 @@
 //!
 //! Contracts see a body and a page as their bytes. `NoMemory` may come in place of any other answer, and then what a call
 //! was lent is as before.
+//!
+//! # What is proved
+//!
+//! `read_form` is exactly the definition over the pairs of `form_urlencoded`: field, message and relay, or the first of
+//! BadForm, BadBase64, TooLarge; `read_fields`; `post_body`, `auto_form`, `login_page`, `end_page`, `user_page` and
+//! `escape_html` give exactly the texts of the definitions. What is posted is read, where the message has at most
+//! 262,144 bytes and the relay at most 80 and no U+FFFD (`laws::what_is_posted_is_read`); an escaped text holds no
+//! markup, its references are read again as the text (a browser besides changes CR, LF and NUL, of which no clause
+//! speaks), and the tags and quotation marks of a page are its own (`laws::an_escaped_text_holds_no_markup`,
+//! `an_escaped_text_is_read_again`, `pages_have_their_own_markup`).
 #![tactic(auto)]
 
 mod escape;

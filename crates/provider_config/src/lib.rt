@@ -19,6 +19,13 @@
 //!
 //! What is read keeps the bounds that callers need: the skew is at most [`MOST_SKEW`] seconds, moments are in order, the
 //! name and the addresses are texts that XML allows, and each file that a config needs is named.
+//!
+//! # What is proved
+//!
+//! `read_sp_config`: the config that a file's lines say, exactly, or the number of the first line that is bad, or 0
+//! where a key is missing (`value`); what it gives is within the bounds that callers need (`skew`, `times`, `files`). A
+//! service provider's config has metadata or a registry, and no two of its files have one role
+//! (`laws::no_role_is_named_twice`). `read_idp_config` the same for an identity provider.
 #![tactic(auto)]
 
 mod config;

@@ -1,6 +1,11 @@
 //! Where the elements of a document stand in its bytes: elements that lie in others are written within these, and elements
 //! of which neither lies in the other are written apart (XML 1.0, 2.1: the elements, delimited by start- and end-tags, nest
 //! properly within each other).
+//!
+//! # What is proved
+//!
+//! Elements that lie in others are written within these, and elements of which neither lies in the other are written
+//! apart (`ranges_nest`, `other_ranges_are_apart`).
 #![tactic(auto)]
 
 ghost use Rattle.std.specs.Prelude.{◌≡◌, ℕ, List};

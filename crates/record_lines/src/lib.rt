@@ -17,6 +17,14 @@
 //! their rows are kept; while they are printed there is one record and one line at a time.
 //!
 //! [`judge`] answers for every pair of files. `NoMemory` may come from each call that takes an allocator or a place.
+//!
+//! # What is proved
+//!
+//! `judge`: what two files stand for as the journal of a ledger, nothing, a file each of whose payloads is a record, or
+//! the first place that is wrong, exactly (`IsJudged`). `put_lines` puts the line of each record, in their order, each
+//! once. Whatever a record holds, its line is one line, and a space stands nowhere but in front of a piece
+//! (`laws::a_record_is_one_line`); a text that is printed whole is told by its piece
+//! (`laws::a_text_is_told_by_its_piece`). Of a secret no more than its number is printed, by the definition of a line.
 #![tactic(auto)]
 
 mod escaping;

@@ -6,6 +6,16 @@
 //! Each function does nothing: what it ensures is a law of the definitions in `specs/`. The laws hold of each list of
 //! what was signed for the records. Where it is not all that was sent, `Unforged` may fail of an honest form. Which key
 //! made a SignatureValue is not said.
+//!
+//! # What is proved
+//!
+//! Laws on what an identity provider signed for its records, each element as a document of its own: it is a signed
+//! element as login_origin asks (`what_is_signed_for_a_record_is_a_signed_document`); each login of such a list is read
+//! of an Assertion of an issued record (`a_login_that_was_signed_was_recorded`) and is what the record says, but for
+//! white space at the ends of issuer and audience (`what_is_read_is_what_the_record_says`); and, if no HMAC is forged
+//! and no hash collides, a session that is opened has the request, assertion, user, index and attributes of an issued
+//! record for this provider, to its address and in its time (`a_session_that_is_opened_was_recorded`). That a recorded
+//! Assertion was ever sent is not said.
 #![tactic(auto)]
 
 ghost use Rattle.std.specs.Prelude.{◌≡◌, ◌≢◌, ℕ, List, [], ◌∷◌, None, Some, Contains, IsTrue};

@@ -3,10 +3,10 @@ use Rattle.std.specs.Prelude.{◌≡◌, ℕ, Bool, false, List, [], Option, Res
 use Rattle.crash_disk.specs.Memory.{DiskInMemory, state_of}
 use Rattle.record_ledger.specs.Rules.{RecordRules}
 use Rattle.record_ledger.specs.Ledger.{ledger_in, taken}
-use Rattle.node_steps.specs.Calls.{OpeningLeaves}
-use Rattle.node_steps.specs.Histories.{StepOf}
-use Rattle.node_steps.specs.Node.{Restarts, CompactionOf, CompactionLeaves}
-use Rattle.node_steps.specs.Step.{AnswersBy, Provider, OwnsDisk, StepLeaves}
+use Rattle.provider_node.specs.Calls.{OpeningLeaves}
+use Rattle.provider_node.specs.Histories.{StepOf}
+use Rattle.provider_node.specs.Node.{Restarts, CompactionOf, CompactionLeaves}
+use Rattle.provider_node.specs.Step.{AnswersBy, Provider, OwnsDisk, StepLeaves}
 use Rattle.request_ledger.specs.Record.{request_rules}
 use Rattle.sp_server.specs.Step as sp
 use Rattle.idp_ledger.specs.Record.{idp_rules}
@@ -19,7 +19,7 @@ use Rattle.schedule_replay.specs.Hosts.{Rules, rules}
 use Rattle.schedule_replay.specs.Runs.{Ends, alone, beginning}
 use Rattle.replay_runs.specs.Deployed.{service_provider, IsIdpConfig}
 
--- What a provider's calls do, in the words of node_steps.
+-- What a provider's calls do, in the words of provider_node.
 abbrev pub provider_rules : {Setup R : Type 0} → RecordRules R → AnswersBy Setup R → Rules (Provider Setup R)
 provider_rules records Answers =
     rules (OwnsDisk records) (StepOf records Answers) (StepLeaves records Answers)

@@ -8,6 +8,12 @@
 //! What the providers are set up with is a definition, `specs/Deployed.antt`; a run of theirs is one of `schedule_replay`
 //! by the definitions of their own steps (`Goes` of `specs/Runs.antt`). No call of their disks fails, and none stops, but
 //! by the schedule.
+//!
+//! # What is proved
+//!
+//! `replay_deployed`: both providers are set up by definition (`specs/Deployed.antt`) and started over empty disks in
+//! memory, and the schedule is replayed over them by the definitions of their own steps (`Goes`), or there was no
+//! memory to start them.
 #![tactic(auto)]
 
 mod deployed;

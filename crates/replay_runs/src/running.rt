@@ -4,7 +4,7 @@ ghost use Rattle.std.specs.Prelude.{◌≡◌, ◌≤◌, [], false, Some, IfOk,
 ghost use Rattle.crash_disk.specs.Memory.{state_of};
 ghost use Rattle.saml_outside.specs.Counts.{Rose};
 ghost use Rattle.record_ledger.specs.Ledger.{ledger_in, taken};
-ghost use Rattle.node_steps.specs.Step.{OwnsDisk};
+ghost use Rattle.provider_node.specs.Step.{OwnsDisk};
 ghost use Rattle.request_ledger.specs.Record.{request_rules};
 ghost use Rattle.idp_ledger.specs.Record.{idp_rules};
 ghost use Rattle.replay_runs.specs.Deployed.{service_provider, IsIdpConfig};

@@ -18,6 +18,25 @@
 //!
 //! No request opens two sessions: not in any list that a disk may hold, nor over a whole run, what was left out since
 //! included ([`laws`]).
+//!
+//! # What is proved
+//!
+//! A service provider's ledger. `Ledger::start` and `reopen` give what the two files stand for (`gives`: `taken
+//! (ledger_in image)`), made anew in version 2 where they have version 1, or Foreign with the file and place of the
+//! first payload that is no record of a ledger, exactly there. The five drafts answer the record of their definition
+//! with all the memory that it needs (`Drafts`, `DraftsSome`), LedgerFull and JournalFull exactly by their causes, and
+//! change nothing but spare memory (`same`, `spare`). `commit` adds the record of its draft and takes no memory. `rows`
+//! are those of the records, `session` is the live session of a token. `compact` leaves exactly the records with a
+//! visible row and, with each, those that it names and that name it, with the same next number and the larger horizon
+//! (`Compacts`). At every moment of a call each image that a crash may leave stands for the records before or with the
+//! new one, for the ledger before or as made anew, or for what is opened of what an image at the start stood for
+//! (`moments`); where a call failed each image still holds a ledger (`own`). The records of a ledger are records, each
+//! behind those before it (`holds_records`). Laws: what an image stands for are records of a ledger
+//! (`images_hold_records`), and so is what is kept of them (`kept_are_records`); from the moment of a compaction on it
+//! changes no answer to what is asked of rows (`compactions_change_no_answer`); no ledger has two sessions of one
+//! request (`no_request_opens_twice`), nor has a whole run of additions, compactions and openings, what was left out
+//! since included (`no_request_opens_twice_in_a_run`). A session that ends behind each moment at which a run compacts
+//! the ledger has a row to the end of the run, open or closed as it was left (`laws::sessions_stay`).
 #![tactic(auto)]
 
 mod checks;

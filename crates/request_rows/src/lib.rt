@@ -20,6 +20,14 @@
 //!
 //! [`Rows::add_asked`] and [`Rows::add_opened`] refuse only for want of memory, and all is then as before. What must
 //! not fail later is done in two steps: `reserve_asked`, which may, and `put_asked`, which can't.
+//!
+//! # What is proved
+//!
+//! The rows of a service provider: `add_asked`, `add_opened` put a row at the end and change nothing else; `asked_row`,
+//! `is_spent`, `is_seen`, `session_row` give what their definitions give over the lists, without a word of an index;
+//! `order` is each place once, by key and place, and the rows have one such order (`laws::keys_have_one_order`). In two
+//! steps: `reserve_*` may want memory, `put_*` can't. `KeptRows` are rows that are gathered first and indexed at once
+//! (`indexed`), with the same clauses.
 #![tactic(auto)]
 
 mod index;

@@ -4,7 +4,7 @@ use Rattle.saml_outside.specs.Files.{File, Reads}
 use Rattle.saml_outside.specs.declared.reading.FileRead.TheVariants as reads
 use Rattle.crash_disk.specs.Disk.{Image, DiskState}
 use Rattle.crash_disk.specs.Moments.{Leaves, LeavesOnly}
-use Rattle.node_runs.specs.Runs.{Outside}
+use Rattle.provider_run.specs.Runs.{Outside}
 use Rattle.schedules.specs.Made.{made}
 use Rattle.schedules.specs.Schedules.{schedule}
 use Rattle.schedules.specs.declared.read.TheConstants.{MAX_SCHEDULE_LENGTH}

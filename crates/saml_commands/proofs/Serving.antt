@@ -2,9 +2,9 @@
 use Rattle.std.proofs.Common.{◌≡◌, ◌≢◌, ℕ, ◌⊎◌, List, [], Option, Some, None, MatchOption, Ok, Err, append-nil, refl, sym, ap, subst}
 use Rattle.saml_outside.specs.Files.{File}
 use Rattle.crash_disk.specs.Disk.{Image, DiskState}
-use Rattle.node_runs.specs.declared.ended.Ended.{Ended}
-use Rattle.node_runs.specs.declared.ended.Ended.TheVariants as ends
-use Rattle.node_runs.specs.Runs.{Outside, IsServed}
+use Rattle.provider_run.specs.declared.ended.Ended.{Ended}
+use Rattle.provider_run.specs.declared.ended.Ended.TheVariants as ends
+use Rattle.provider_run.specs.Runs.{Outside, IsServed}
 use Rattle.saml_commands.specs.declared.status.Status.{Status}
 use Rattle.saml_commands.specs.declared.status.Status.TheVariants as statuses
 use Rattle.saml_commands.specs.Answers.{Answer, Printed, Refused, BadFile, Foreign, Usage, status_of, IsYes}

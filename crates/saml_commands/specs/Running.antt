@@ -9,7 +9,7 @@ use Rattle.crash_disk.specs.Disk.{Image, DiskState}
 use Rattle.saml_time.specs.declared.TheConstants.{LAST}
 use Rattle.text_lines.specs.Numbers.{number_of}
 use Rattle.sp_setup.specs.declared.limits.TheConstants.{GREATEST_KEY}
-use Rattle.node_runs.specs.Runs.{Outside}
+use Rattle.provider_run.specs.Runs.{Outside}
 use Rattle.idp_runs.specs.Headline as idp_headline
 use Rattle.idp_runs.specs.Runs as idp
 use Rattle.sp_runs.specs.Headline as sp_headline

@@ -1,18 +1,18 @@
 -- What `sp CONFIG EVENTS` and `idp CONFIG EVENTS` do, and what they are answered with.
 use Rattle.std.specs.Prelude.{◌≡◌, ℕ, Bool, true, false, List, ◌++◌, Option, Result, Ok, Err, codes}
 use Rattle.std.specs.Fmt.{decimal}
-use Rattle.node_serve.specs.declared.served.Served.{Served}
-use Rattle.node_serve.specs.Turns.{Turn}
+use Rattle.serve_loop.specs.declared.served.Served.{Served}
+use Rattle.serve_loop.specs.Turns.{Turn}
 use Rattle.crash_disk.specs.Disk.{Image, DiskState}
 use Rattle.crash_disk.specs.Moments.{Leaves}
 use Rattle.idp_runs.specs.Runs as idp
 use Rattle.idp_server.specs.Step as idp_steps
 use Rattle.sp_runs.specs.Runs as sp
 use Rattle.sp_server.specs.Step as sp_steps
-use Rattle.node_runs.specs.declared.ended.Ended.{Ended}
-use Rattle.node_runs.specs.declared.ended.Ended.TheVariants as ends
-use Rattle.node_runs.specs.declared.ended.RunFault.{RunFault}
-use Rattle.node_runs.specs.declared.ended.RunFault.TheVariants as faults
+use Rattle.provider_run.specs.declared.ended.Ended.{Ended}
+use Rattle.provider_run.specs.declared.ended.Ended.TheVariants as ends
+use Rattle.provider_run.specs.declared.ended.RunFault.{RunFault}
+use Rattle.provider_run.specs.declared.ended.RunFault.TheVariants as faults
 use Rattle.schedules.specs.declared.step.Step.{Step}
 use Rattle.schedule_replay.specs.declared.fault.ReplayFault.{ReplayFault}
 use Rattle.schedule_replay.specs.declared.tally.Tally.{Tally}

@@ -3,7 +3,7 @@
 ghost use Rattle.std.specs.Prelude.{◌≡◌, ◌≢◌, ◌≤◌, ◌⊎◌, ℕ, List, Option, Result, IfOk};
 ghost use Rattle.crash_disk.specs.Moments.{LeavesOnly};
 ghost use Rattle.saml_outside.specs.Counts.{Rose};
-ghost use Rattle.node_runs.specs.Runs.{outside};
+ghost use Rattle.provider_run.specs.Runs.{outside};
 ghost use Rattle.idp_runs.specs.Runs as idp;
 ghost use Rattle.sp_runs.specs.Runs as sp;
 ghost use Rattle.saml_commands.specs.Running.{Sp, Idp, DoesCommand, CommandCarries, OfCommand, EndsWith, EndsAfter};
@@ -15,9 +15,9 @@ use crate::status::Status;
 use crash_disk::Disk;
 use event_link::{Clock, Link};
 use idp_runs::run_idp;
-use node_runs::{Ended, RunFault};
-use node_serve::Served;
+use provider_run::{Ended, RunFault};
 use saml_outside::{Blob, Files, NoMemory, Sink};
+use serve_loop::Served;
 use sp_runs::run_sp;
 use std::alloc::Global;
 

@@ -5,7 +5,7 @@ ghost use Rattle.std.specs.Option.{option_map};
 ghost use Rattle.xml_spec.specs.declared.TheConstants.{MAX_DOCUMENT_LENGTH};
 ghost use Rattle.crash_disk.specs.Moments.{LeavesOnly};
 ghost use Rattle.saml_outside.specs.Counts.{Rose};
-ghost use Rattle.node_runs.specs.Runs.{outside};
+ghost use Rattle.provider_run.specs.Runs.{outside};
 ghost use Rattle.saml_commands.specs.Canon.{OfCanon};
 ghost use Rattle.saml_commands.specs.Check.{rows_of, OfJudged};
 ghost use Rattle.saml_commands.specs.Vouch.{OfVouch};

@@ -5,6 +5,11 @@
 //! foreseen without the key. It can stand as the value of an ID attribute (XML 1.0, 3.3.1).
 //!
 //! Contracts see an [`Id`] as its bytes.
+//!
+//! # What is proved
+//!
+//! An ID is a function of key, kind and number (`id_of`); it is a Name of XML without a colon and a text of XML, and
+//! two numbers give two IDs (`laws`).
 #![tactic(auto)]
 
 ghost use Rattle.std.specs.Prelude.{◌≡◌};

@@ -4,6 +4,12 @@
 //! Files and sinks are traits. A trait's ghost members say what an object holds or has taken, where the object tells it
 //! (the objects in memory do, those over a real file or stream do not), and how many faults it has counted. A call
 //! answers a fault only where that count rose in the call.
+//!
+//! # What is proved
+//!
+//! Files and sinks with what an object tells and its count of faults (`Files::read_all`, `Sink::put`); objects in
+//! memory whose content and failing call are exact (`MemFiles`, `SteadyFiles`, `MemSink`). `read_file` gives the bytes
+//! of a file, none exactly where it is absent or too long.
 #![tactic(auto)]
 
 mod held_files;

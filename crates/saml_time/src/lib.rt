@@ -1,5 +1,10 @@
 //! Instants as SAML writes them (SAML Core 2.0, 1.3.3): `YYYY-MM-DDThh:mm:ss`, a fraction where there
 //! is one, and `Z`. A moment is a count of milliseconds since 1970-01-01T00:00:00Z.
+//!
+//! # What is proved
+//!
+//! Instants: `read_instant` gives the moment exactly where the text has the form, `put_instant` writes the form of the
+//! moment, and what was written is read again (`reading_gives_what_was_written`).
 #![tactic(auto)]
 
 ghost use Rattle.saml_time.specs.Instant.{OneInstant, ReadsBack};

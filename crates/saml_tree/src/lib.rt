@@ -14,6 +14,15 @@
 //! A text is read to its end before it is refused: `BadXml` says that it spells no tree, `XmlLimit` that its tree goes beyond
 //! the limits, `BadNames` that a name breaks a rule of namespaces, `DuplicateId` that two elements have one ID. The first of
 //! these that holds is given. `NoMemory` may come in place of any other answer, and says nothing of the text.
+//!
+//! # What is proved
+//!
+//! `read_document`: the tree that the bytes spell, under the limits, named and single; BadXml exactly where they spell
+//! none, then XmlLimit, BadNames and DuplicateId, each exactly and the first that holds of the whole text. Every call
+//! on `Doc` is exact on the tree and the node's number (`root` to `by_id`, `put_text`, `put_attr`); `span` is the
+//! element's range in the very bytes that were read, and `bytes_of` gives those bytes for as long as they live;
+//! `namespace_at` and `same_namespace` are exact, and `written_name` and `written_attr_name` show names as they are
+//! written.
 #![tactic(auto)]
 
 mod beyond;

@@ -4,10 +4,10 @@ use Rattle.std.proofs.Common.{refl, ap, ◌∙◌, arith}
 use Rattle.crash_disk.specs.Memory.{DiskInMemory, LeftSince, state_of}
 use Rattle.crash_disk.specs.Soundness.{left_now}
 use Rattle.http_wire.specs.Answers.{fixed}
-use Rattle.node_serve.specs.Serving.{MightLeave}
-use Rattle.node_serve.specs.Turns.{Turn}
-use Rattle.node_serve.specs.Worlds.{NodeLeaves, OnlySends, Whole}
-use Rattle.node_serve.proofs.Leaving.{untouched}
+use Rattle.serve_loop.specs.Serving.{MightLeave}
+use Rattle.serve_loop.specs.Turns.{Turn}
+use Rattle.serve_loop.specs.Worlds.{NodeLeaves, OnlySends, Whole}
+use Rattle.serve_loop.proofs.Leaving.{untouched}
 use Rattle.schedule_replay.specs.declared.host.Reply.{Reply}
 use Rattle.schedule_replay.specs.Hosts.{Host, Rules, Comes, Leaving, outcome_of, told, world_of}
 use Rattle.schedule_replay.specs.Views.{outcome_view}

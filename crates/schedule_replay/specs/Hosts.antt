@@ -11,11 +11,11 @@ use Rattle.http_wire.specs.Answers.{fixed}
 use Rattle.http_wire.specs.Views.{answer_bytes}
 use Rattle.conn_table.specs.Events.{Piece}
 use Rattle.conn_table.specs.Table.{Table}
-use Rattle.node_serve.specs.Serving.{MightLeave}
-use Rattle.node_serve.specs.Turns.{Turn, Taken, Full, StarvedStart, Over, Unknown, Waiting, Answered, Refused, StarvedPiece, Does, event_at}
-use Rattle.node_serve.specs.Worlds.{NodeStep, NodeLeaves, NodeOwns, World, IsAnswered, world}
+use Rattle.serve_loop.specs.Serving.{MightLeave}
+use Rattle.serve_loop.specs.Turns.{Turn, Taken, Full, StarvedStart, Over, Unknown, Waiting, Answered, Refused, StarvedPiece, Does, event_at}
+use Rattle.serve_loop.specs.Worlds.{NodeStep, NodeLeaves, NodeOwns, World, IsAnswered, world}
 
--- What a node's own contract says of its calls, in the words of node_serve's trait `Node`.
+-- What a node's own contract says of its calls, in the words of serve_loop's trait `Node`.
 pub record Rules (N : Type 0) : Type 1 where
   -- the disk is its own
   pub own : NodeOwns N
@@ -97,7 +97,7 @@ outcome_of (Refused conn piece status) = Sent None (fixed status)
 outcome_of (StarvedPiece conn piece) = Sent None (fixed 52)
 
 module _ {N : Type 0} (rules : Rules N) where
-  -- A link event: at this moment of the clock this turn of serving is done, as node_serve defines it.
+  -- A link event: at this moment of the clock this turn of serving is done, as serve_loop defines it.
   pub record Serves (now : ℕ) (turn : Turn N) (before after : Host N) : Type 0 where
     pub does : Does (IsAnswered rules.own rules.step rules.leaves) before.kept (world_of now before) turn after.kept (world_of now after)
     pub leaves : Leaving before after (MightLeave rules.leaves (told before) (turn ∷ []))

@@ -12,8 +12,8 @@ ghost use Rattle.http_wire.specs.Answers.{fixed, is_fixed};
 ghost use Rattle.http_wire.specs.Views.{answer_bytes};
 ghost use Rattle.conn_table.specs.Answers.{IsWholeRequest};
 ghost use Rattle.conn_table.specs.Events.{Piece};
-ghost use Rattle.node_serve.specs.Turns.{Turn, Taken, Asked, Asks, Answers, event_at};
-ghost use Rattle.node_serve.specs.Worlds.{HasBytes, IsAnswered};
+ghost use Rattle.serve_loop.specs.Turns.{Turn, Taken, Asked, Asks, Answers, event_at};
+ghost use Rattle.serve_loop.specs.Worlds.{HasBytes, IsAnswered};
 ghost use Rattle.schedule_replay.specs.Hosts.{Rules, Serves, Restarts, Compacts, Recovers, Brings, RestartEnds, CompactionEnds, outcome_of, rules, Sent, Leaving, world_of, without_connections};
 ghost use Rattle.schedule_replay.specs.Lines.{result_words};
 ghost use Rattle.schedule_replay.specs.Views.{host_in, outcome_view, brought_view, SameHost};
@@ -22,9 +22,9 @@ use conn_table::{Conns, Progress, Start};
 use crash_disk::MemDisk;
 use gate_journal::OpenFault;
 use http_wire::{Answer, FIXED_ROOM, put_fixed};
-use node_serve::Node;
 use owned_values::{Blob, NoMemory, Text};
 use saml_time::LAST;
+use serve_loop::Node;
 use std::alloc::Global;
 
 /// What a node sends on a connection.

@@ -10,19 +10,29 @@
 //! // opened 0 responses 0 refused 0 restarts 0
 //! ```
 //!
-//! Any two nodes are run ([`node_serve::Node`]), each over a disk in memory. An agent's request comes to its node on a
+//! Any two nodes are run ([`serve_loop::Node`]), each over a disk in memory. An agent's request comes to its node on a
 //! connection of its own, whole or, in a `pair`, in pieces that alternate with those of another agent; the node answers
 //! it at the moment of the clock, and the agent receives what it sends. Where a disk stops in a request, a restart or a
 //! compaction, nothing of it is known but that the node stopped, and the node starts from what the disk holds.
 //!
 //! A contract sees a deployment (`specs/Deployments.antt`): the clock, each node with its disk and its connections
 //! (`specs/Hosts.antt`), what each agent keeps, and what was counted. `Does` of `specs/Steps.antt` says what each step of
-//! the grammar does and prints, in the words of the nodes' own contracts and of node_serve's turns; `Replays` is the run
+//! the grammar does and prints, in the words of the nodes' own contracts and of serve_loop's turns; `Replays` is the run
 //! of the first so many steps, and `Ends` of `specs/Runs.antt` says how [`replay`] ended and what it printed. Nothing is
 //! assumed of the nodes but their contract, and that a disk of theirs can be opened again whatever a crash left.
 //!
 //! [`replay`] answers [`ReplayFault::WriteFault`] only where the sink's count of faults rose. [`ReplayFault::NoMemory`]
 //! may come in place of any answer; it comes where a disk found no memory, before the lines of that step are printed.
+//!
+//! # What is proved
+//!
+//! `replay`: a schedule over any two nodes (`serve_loop::Node`), each over a disk in memory. `Does` of
+//! `specs/Steps.antt` says what each step of the grammar does and prints, in the words of the nodes' own contracts: an
+//! agent's request comes to its node whole or in pieces that alternate with another's, at the moment of the clock; the
+//! node serves it as serve_loop says; the agent receives what comes back, or it is lost. Where a disk stops, in a
+//! request, a restart or a compaction, nothing of it is known but that the node stopped, and it is started again from
+//! what the disk holds. `Ends` says how the run ended and what was printed: all steps, or some of them, in order.
+//! WriteFault comes only where the sink's count rose.
 #![tactic(auto)]
 
 mod agents;

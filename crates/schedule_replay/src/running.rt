@@ -20,11 +20,11 @@ use crate::tally::Tally;
 use crate::words::summary;
 use conn_table::Conns;
 use crash_disk::MemDisk;
-use node_serve::Node;
 use owned_values::NoMemory;
 use saml_outside::Sink;
 use saml_outside::laws::pieces_add_up;
 use schedules::{Schedule, Step};
+use serve_loop::Node;
 use std::alloc::Global;
 
 /// A table without connections for each of the two nodes.

@@ -4,7 +4,7 @@ ghost use Rattle.std.specs.Prelude.{◌≡◌, ◌≤◌, ◌*◌, ◌++◌, ℕ
 ghost use Rattle.std.specs.Option.{option_map};
 ghost use Rattle.crash_disk.specs.Disk.{DiskState};
 ghost use Rattle.gate_journal.specs.declared.fault.OpenFault.{OpenFault};
-ghost use Rattle.node_serve.specs.Turns.{Taken};
+ghost use Rattle.serve_loop.specs.Turns.{Taken};
 ghost use Rattle.post_agent.specs.Views.{text_view};
 ghost use Rattle.schedule_replay.specs.Counting as counting;
 ghost use Rattle.schedule_replay.specs.Deployments.{OnSite, Arrives, ArrivesIfAny, ArrivesAt, Rounds, Starts, Exchanges, Hears, RestartsAt, CompactsAt, saying, shows, unconnected, length_of, piece_at};
@@ -19,10 +19,10 @@ use crate::host::{HeldHost, Reply};
 use crate::sending::Sending;
 use crate::tally::Tally;
 use crate::words::{answer_words, line, stopped_words};
-use node_serve::Node;
 use owned_values::{NoMemory, Text};
 use post_agent::Site;
 use saml_time::LAST;
+use serve_loop::Node;
 use std::alloc::Global;
 
 /// The clock, the nodes, the agents, what was counted, and the lines of the step that is done.

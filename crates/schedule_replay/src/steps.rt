@@ -10,10 +10,10 @@ ghost use Rattle.schedule_replay.specs.Views.{stage_in, sending_view, OwnsBoth, 
 
 use crate::sending::Sending;
 use crate::stage::{Stage, length_of};
-use node_serve::Node;
 use owned_values::NoMemory;
 use post_agent::{Outgoing, Site};
 use schedules::{Pick, Step};
+use serve_loop::Node;
 
 /// The number of what a stop is to leave.
 fn pick_number(pick: Pick) -> u8

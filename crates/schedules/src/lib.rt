@@ -20,6 +20,11 @@
 //! A contract sees a [`Schedule`] as the list of its steps. [`read_schedule`] gives what the definition `schedule`
 //! gives: the steps of a text, or the number of the first line that is bad ([`ScheduleFault`]). [`make_schedule`] gives
 //! the steps of many logins, which numbers choose that follow from the first one.
+//!
+//! # What is proved
+//!
+//! The steps that a text spells, or the first line outside the grammar (`read_schedule`); the schedule of so many
+//! logins, by its recurrence (`make_schedule`).
 #![tactic(auto)]
 
 mod draft;

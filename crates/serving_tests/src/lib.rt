@@ -6,4 +6,4 @@ mod conn_table_tests;
 #[cfg(test)]
 mod http_wire_tests;
 #[cfg(test)]
-mod node_serve_tests;
+mod serve_loop_tests;

@@ -28,6 +28,14 @@
 //!
 //! All bytes that were sent on a connection have gone out on its own stream or are left to, in their order, and nothing
 //! else is.
+//!
+//! # What is proved
+//!
+//! The connections that are open at once, over any reader and writer that say where they would wait: numbers, stages
+//! and moments (`Connection`); the next that can be read in turn, the first that is overdue, the one that has been
+//! silent longest (`next_ready`, `overdue`, `in_the_way`); a piece has its own connection's number and the next bytes
+//! of its own stream (`hear`); what was sent on a connection has gone out on its own stream or is left to, in order,
+//! and nothing else is (`send`, `flush`).
 #![tactic(auto)]
 
 mod connection;

@@ -8,6 +8,11 @@
 //!
 //! Contracts see an answer as its bytes, which `specs/Answers.antt` defines. Each call takes memory and refuses for want of
 //! it alone.
+//!
+//! # What is proved
+//!
+//! `ask_answer` (a form with a signed AuthnRequest), `user_answer`, `denied_answer`, `opened_answer` and
+//! `metadata_answer` are the bytes of their definitions.
 #![tactic(auto)]
 
 mod asking;

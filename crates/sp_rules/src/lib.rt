@@ -16,6 +16,17 @@
 //!
 //! What is shown of a login lies inside the Assertion, and [`Accepted`] says where. Want of memory may come in place of
 //! any other answer.
+//!
+//! # What is proved
+//!
+//! `judge`: Ok exactly with a form that opens a session (`accepted`: `Opens`, by one number for the element that
+//! signatures cover and the element that is read), with the session of its login, the target of its request, and the
+//! ranges of the covered element, its Signature, the Assertion, the name and each value, which lie within the Assertion
+//! and apart from the Signatures; else the verdict of the first condition that fails (`refused`: `IsRefused`). A form
+//! that opens a session is refused for nothing, no form has two verdicts, and an accepted form opens one session, of
+//! one login, for one row (`laws::a_form_has_one_verdict`), and it can't be that a form neither opens a session nor is
+//! refused (`laws::each_form_is_judged`). A signature on the Response, on the Assertion or both, and a second key for a
+//! time, are part of it.
 #![tactic(auto)]
 
 mod accepted;

@@ -33,8 +33,8 @@ use Rattle.sp_rules.specs.Outstanding.{asked_for, is_outstanding, is_unspent, is
 use Rattle.sp_rules.specs.Verdict.{form_refusal, number_refusal, first_failing, IsRefused, by_form, by_document, by_root, by_head, by_signature, by_assertion, by_login}
 use Rattle.sp_server.specs.Routes.{Route, Service, App, Consumer, Metadata, Logout, SingleLogout, Guard, To, Refused, is_guarded, is_target, is_method, is_typed, at_target, checked, service_at}
 use Rattle.sp_server.specs.Peer.{idp_at, logout_address, second_key}
-use Rattle.node_steps.specs.Step as any
-use Rattle.node_steps.specs.declared.codes.TheConstants as codes
+use Rattle.provider_node.specs.Step as any
+use Rattle.provider_node.specs.declared.codes.TheConstants as codes
 use Rattle.sp_server.specs.Step as steps
 use Rattle.sp_server.specs.Step.{Setup, Provider, Answers, Steps, REGISTRY_EXPIRED, is_expired, session_for}
 use Rattle.sp_runs.proofs.Guarded.{guard_other}

@@ -8,11 +8,11 @@ use Rattle.crash_disk.specs.Disk.{Image, DiskState, MayLeave, image_of}
 use Rattle.http_wire.specs.declared.answer.Answer.{Answer}
 use Rattle.http_wire.specs.declared.answer.Answer.TheVariants as answers
 use Rattle.http_wire.specs.Requests.{Request}
-use Rattle.node_serve.specs.Turns.{Asked, Asks, Run, Turn}
-use Rattle.node_serve.specs.Worlds.{World}
-use Rattle.node_runs.proofs.Kept.{of_turn}
-use Rattle.node_runs.specs.Runs.{Outside, BadSetUp, NotSetUp, NotOpened, Deaf, Serving, world_of}
-use Rattle.node_steps.proofs.Added.{new_is_of_the_request}
+use Rattle.serve_loop.specs.Turns.{Asked, Asks, Run, Turn}
+use Rattle.serve_loop.specs.Worlds.{World}
+use Rattle.provider_run.proofs.Kept.{of_turn}
+use Rattle.provider_run.specs.Runs.{Outside, BadSetUp, NotSetUp, NotOpened, Deaf, Serving, world_of}
+use Rattle.provider_node.proofs.Added.{new_is_of_the_request}
 use Rattle.sp_server.specs.Guarding.{AGuardTellsExactly, OnlyASessionIsVouchedFor}
 use Rattle.sp_server.specs.Histories.{IsProviders}
 use Rattle.sp_server.specs.Logouts.{NothingElseCloses, OnlyWhereAUserLeaves, OnlyWhereSessionsEnd, WhereverAUserLeaves, WhereverSessionsEnd}

@@ -10,15 +10,15 @@ use Rattle.sp_server.specs.Step.{Provider, Answers, StepLeaves}
 use Rattle.sp_server.specs.Histories.{IsProviders, WhatIsAcknowledgedIsKeptOnce}
 use Rattle.sp_server.specs.Staying.{SessionsStay, SessionsStayInAService}
 use Rattle.sp_server.proofs.Histories.{draws_above}
-use Rattle.node_serve.specs.declared.served.Served.{Served}
-use Rattle.node_serve.specs.declared.served.ServeFault.{ServeFault}
-use Rattle.node_serve.specs.Serving.{Serves}
-use Rattle.node_serve.specs.Turns.{Turn}
-use Rattle.node_steps.specs.Lasting.{AreKeptSince}
+use Rattle.serve_loop.specs.declared.served.Served.{Served}
+use Rattle.serve_loop.specs.declared.served.ServeFault.{ServeFault}
+use Rattle.serve_loop.specs.Serving.{Serves}
+use Rattle.serve_loop.specs.Turns.{Turn}
+use Rattle.provider_node.specs.Lasting.{AreKeptSince}
 use Rattle.sp_server.specs.Logouts.{SessionsStayClosedInAService, StayClosed}
-use Rattle.node_runs.specs.Runs.{Outside, world_of}
-use Rattle.node_runs.proofs.Ending.{at_end}
-use Rattle.node_runs.proofs.Kept as any
+use Rattle.provider_run.specs.Runs.{Outside, world_of}
+use Rattle.provider_run.proofs.Ending.{at_end}
+use Rattle.provider_run.proofs.Kept as any
 use Rattle.sp_runs.specs.Laws.{ARunIsAStart, SessionsStayClosedInARun, WhatARunAcknowledgedIsKeptOnce}
 use Rattle.sp_runs.specs.Runs.{Begins, IsServedBy, key}
 

@@ -8,19 +8,19 @@ use Rattle.conn_table.specs.Table.{Table}
 use Rattle.http_wire.specs.declared.answer.Answer.{Answer}
 use Rattle.http_wire.specs.Requests.{Request}
 use Rattle.ledger_records.specs.declared.sp_record.SpRecord.{SpRecord}
-use Rattle.node_serve.specs.Turns.{Asked, Turn, Taken, Full, StarvedStart, Over, Unknown, Waiting, Answered, Refused, StarvedPiece, asked_in, asked_by, Does, Run}
-use Rattle.node_serve.specs.Worlds.{World, OnlySends}
+use Rattle.serve_loop.specs.Turns.{Asked, Turn, Taken, Full, StarvedStart, Over, Unknown, Waiting, Answered, Refused, StarvedPiece, asked_in, asked_by, Does, Run}
+use Rattle.serve_loop.specs.Worlds.{World, OnlySends}
 use Rattle.request_ledger.specs.Ledger.{Held}
-use Rattle.node_steps.specs.Step as any
-use Rattle.node_steps.specs.declared.codes.TheConstants as codes
+use Rattle.provider_node.specs.Step as any
+use Rattle.provider_node.specs.declared.codes.TheConstants as codes
 use Rattle.sp_server.specs.Step as steps
 use Rattle.sp_server.specs.Step.{Setup, Provider, Answers, Steps, is_expired, session_for}
-use Rattle.node_steps.specs.Histories.{ForRecord, ForNone, ForCode}
+use Rattle.provider_node.specs.Histories.{ForRecord, ForNone, ForCode}
 use Rattle.sp_server.specs.Histories.{IsProviders, Stands}
 use Rattle.sp_setup.specs.Laws.{ARegistryTellsTheProvider, WithoutARegistryNothingEnds}
 use Rattle.sp_runs.specs.Laws.{ARunUsesWhatItsRegistryLists, EachRequestIsServedByTheSameSetup, AnEndedRegistryRecordsNothing, AnEndedRegistryAsksNothing, AsksAndOpensNothing, WithoutARegistryNothingIsExpired}
 use Rattle.sp_setup.specs.Setup as setups
-use Rattle.node_runs.specs.Runs.{world_of}
+use Rattle.provider_run.specs.Runs.{world_of}
 use Rattle.sp_runs.specs.Runs.{served_by}
 use Rattle.sp_runs.proofs.Expired.{step_unexpired}
 use Rattle.sp_runs.proofs.Guarded.{guarded}

@@ -10,8 +10,8 @@ use Rattle.ledger_records.specs.declared.sp_record.SpRecord.{SpRecord}
 use Rattle.request_ledger.specs.Ledger.{Held}
 use Rattle.request_rows.specs.declared.row.OpenedRow.{OpenedRow}
 use Rattle.sp_server.specs.Routes.{App, To, route}
-use Rattle.node_steps.specs.Step as any
-use Rattle.node_steps.specs.declared.codes.TheConstants.{NO_MEMORY}
+use Rattle.provider_node.specs.Step as any
+use Rattle.provider_node.specs.declared.codes.TheConstants.{NO_MEMORY}
 use Rattle.sp_server.specs.Step as steps
 use Rattle.sp_server.specs.Step.{Setup, Provider, Answers, Steps, session_for, shown_to}
 use Rattle.sp_runs.specs.Laws.{ASessionIsShownByItsRow, EqualRowsAreShownAlike}

@@ -19,11 +19,11 @@ use Rattle.ledger_records.specs.declared.sp_record.SpRecord.TheVariants as kinds
 use Rattle.login_origin.specs.Signed.{Signed, IsSigned}
 use Rattle.login_origin.specs.Premises.{Unforged, NoCollision}
 use Rattle.login_origin.specs.Origin.{IsLoginOf}
-use Rattle.node_serve.specs.declared.served.Served.{Served}
-use Rattle.node_serve.specs.declared.served.ServeFault.{ServeFault}
-use Rattle.node_serve.specs.Serving as node_serving
-use Rattle.node_serve.specs.Turns.{Asked, Asks, Turn, asked_by, asked_in}
-use Rattle.node_serve.specs.Worlds.{World}
+use Rattle.serve_loop.specs.declared.served.Served.{Served}
+use Rattle.serve_loop.specs.declared.served.ServeFault.{ServeFault}
+use Rattle.serve_loop.specs.Serving as node_serving
+use Rattle.serve_loop.specs.Turns.{Asked, Asks, Turn, asked_by, asked_in}
+use Rattle.serve_loop.specs.Worlds.{World}
 use Rattle.protocol_messages.specs.declared.logout.LogoutRequest.{LogoutRequest}
 use Rattle.provider_config.specs.declared.config.RegistryLine.{RegistryLine}
 use Rattle.provider_config.specs.declared.config.SpFile.TheVariants.{Registry}
@@ -42,14 +42,14 @@ use Rattle.sp_server.specs.Guarding.{AsksGuard, IsVouchedAt, TellsExactly}
 use Rattle.sp_server.specs.Routes.{App, Guard, To, route}
 use Rattle.sp_server.specs.Staying.{SessionsStay, WhatWasOpenedIsAsLeft}
 use Rattle.sp_server.specs.Sessions.{GivesSession, HasRoom, IsOpened, OpensOver}
-use Rattle.node_steps.specs.declared.codes.TheConstants.{NO_MEMORY}
-use Rattle.node_steps.specs.Added.{IsAddedBy, IsNew}
-use Rattle.node_steps.specs.Lasting.{AreKeptSince}
-use Rattle.node_steps.specs.Points.{points}
+use Rattle.provider_node.specs.declared.codes.TheConstants.{NO_MEMORY}
+use Rattle.provider_node.specs.Added.{IsAddedBy, IsNew}
+use Rattle.provider_node.specs.Lasting.{AreKeptSince}
+use Rattle.provider_node.specs.Points.{points}
 use Rattle.sp_server.specs.Step.{Provider, Answers, HasPlace, Serves, StepLeaves, StepsOnDisk, ended_by, ended_record, left_record, session_for, shown_to, REGISTRY_EXPIRED, IsWhole}
-use Rattle.node_runs.specs.Runs.{Outside, world_of}
-use Rattle.node_runs.specs.declared.ended.Ended.{Ended}
-use Rattle.node_runs.specs.declared.ended.RunFault.{RunFault}
+use Rattle.provider_run.specs.Runs.{Outside, world_of}
+use Rattle.provider_run.specs.declared.ended.Ended.{Ended}
+use Rattle.provider_run.specs.declared.ended.RunFault.{RunFault}
 use Rattle.sp_setup.specs.Laws.{IsFromRegistry}
 use Rattle.sp_runs.specs.Laws.{AsksAndOpensNothing}
 use Rattle.sp_runs.specs.Runs.{Begins, Runs, served_by}

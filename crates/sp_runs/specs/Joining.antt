@@ -2,7 +2,7 @@
 use Rattle.std.specs.Prelude.{ℕ}
 use Rattle.crash_disk.specs.Disk.{Image}
 use Rattle.request_ledger.specs.Record.{request_rules}
-use Rattle.node_runs.specs.Joining as any
+use Rattle.provider_run.specs.Joining as any
 use Rattle.sp_server.specs.Step.{Answers}
 use Rattle.sp_runs.specs.Runs.{IsServedBy, IsBadFile, key}
 

@@ -12,11 +12,11 @@ use Rattle.ledger_records.specs.declared.sp_record.SpRecord.{SpRecord}
 use Rattle.login_origin.specs.Signed.{Signed, IsSigned}
 use Rattle.login_origin.specs.Premises.{Unforged, NoCollision}
 use Rattle.login_origin.specs.Origin.{IsLoginOf}
-use Rattle.node_serve.specs.declared.served.Served.{Served}
-use Rattle.node_serve.specs.declared.served.ServeFault.{ServeFault}
-use Rattle.node_serve.specs.Serving.{Ends}
-use Rattle.node_serve.specs.Turns.{Asked, Run, Turn, asked_in}
-use Rattle.node_serve.specs.Worlds.{World}
+use Rattle.serve_loop.specs.declared.served.Served.{Served}
+use Rattle.serve_loop.specs.declared.served.ServeFault.{ServeFault}
+use Rattle.serve_loop.specs.Serving.{Ends}
+use Rattle.serve_loop.specs.Turns.{Asked, Run, Turn, asked_in}
+use Rattle.serve_loop.specs.Worlds.{World}
 use Rattle.provider_config.specs.declared.config.RegistryLine.{RegistryLine}
 use Rattle.provider_config.specs.declared.config.SpFile.TheVariants.{Registry}
 use Rattle.request_ledger.specs.Ledger.{Held, ledger_in}
@@ -26,15 +26,15 @@ use Rattle.request_rows.specs.declared.row.OpenedRow.{OpenedRow}
 use Rattle.sp_answers.specs.Answers.{metadata_answer}
 use Rattle.sp_server.specs.Guard.{path_asked, vouched_to}
 use Rattle.sp_server.specs.Routes.{App, To, route}
-use Rattle.node_steps.specs.declared.codes.TheConstants.{NO_MEMORY}
-use Rattle.node_steps.specs.Points.{points}
-use Rattle.node_steps.specs.Starts.{IsServed}
+use Rattle.provider_node.specs.declared.codes.TheConstants.{NO_MEMORY}
+use Rattle.provider_node.specs.Points.{points}
+use Rattle.provider_node.specs.Starts.{IsServed}
 use Rattle.sp_server.specs.Step.{Provider, Answers, Setup, Steps, session_for, shown_to, REGISTRY_EXPIRED}
 use Rattle.sp_server.specs.Sessions.{GivesSession}
 use Rattle.sp_server.specs.Histories.{IsProviders, Stands, AreKeptOnce}
 use Rattle.sp_server.specs.Logouts.{StayClosed}
 use Rattle.sp_setup.specs.Laws.{IsFromRegistry}
-use Rattle.node_runs.specs.Runs.{Outside, world_of}
+use Rattle.provider_run.specs.Runs.{Outside, world_of}
 use Rattle.sp_runs.specs.Runs.{Begins, served_by}
 
 -- Whatever image a crash leaves, where it stands for a ledger no two of its sessions answer one request.

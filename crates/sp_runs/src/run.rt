@@ -3,15 +3,15 @@
 ghost use Rattle.std.specs.Prelude.{◌≡◌, ◌≢◌, ◌≤◌, ◌⊎◌, ℕ, List, Err};
 ghost use Rattle.crash_disk.specs.Counts.{Rose};
 ghost use Rattle.crash_disk.specs.Moments.{LeavesOnly};
-ghost use Rattle.node_serve.specs.Turns.{Turn};
+ghost use Rattle.serve_loop.specs.Turns.{Turn};
 ghost use Rattle.sp_server.specs.Step.{Provider};
-ghost use Rattle.node_runs.specs.Runs.{IsNotSetUp, IsServed, outside};
+ghost use Rattle.provider_run.specs.Runs.{IsNotSetUp, IsServed, outside};
 ghost use Rattle.sp_runs.specs.Headline.{Headline};
 ghost use Rattle.sp_runs.specs.Runs.{IsRunnable, RunLeaves, Runs};
 
 use crate::laws::a_run_carries_the_headline;
 use event_link::{Clock, Link};
-use node_runs::{Ended, RunFault, RunsProvider, run};
+use provider_run::{Ended, RunFault, RunsProvider, run};
 use request_ledger::Disk;
 use saml_outside::Files;
 use sp_server::SpRole;

@@ -26,7 +26,7 @@ use Rattle.ledger_rules.proofs.Passing.{found, any_more}
 use Rattle.logout_profile.specs.declared.logout.Logout.{Logout}
 use Rattle.logout_profile.specs.Verdict.{IsAccepted, IsRefused}
 use Rattle.sp_rules.specs.declared.config.SpConfig.{SpConfig}
-use Rattle.node_steps.specs.Step as any
+use Rattle.provider_node.specs.Step as any
 use Rattle.sp_server.specs.Step as steps
 use Rattle.sp_server.specs.Step.{Setup, Answers, HasPlace, ended_by, ended_record, left_record}
 use Rattle.sp_server.specs.Logouts.{LeavesOver, EndsOver, IsClosed, OnlyWhereAUserLeaves, OnlyWhereSessionsEnd, WhereverAUserLeaves, WhereverSessionsEnd}

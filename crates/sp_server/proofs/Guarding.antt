@@ -17,8 +17,8 @@ use Rattle.http_wire.specs.Views.{answer_bytes}
 use Rattle.http_wire.specs.Vouched.{vouched_answer}
 use Rattle.http_wire.specs.Vouching.{AVouchedAnswerIsReadAgain, IsReadAsVouched}
 use Rattle.ledger_records.specs.declared.sp_record.SpRecord.{SpRecord}
-use Rattle.node_steps.specs.Step as any
-use Rattle.node_steps.specs.declared.codes.TheConstants.{NO_MEMORY}
+use Rattle.provider_node.specs.Step as any
+use Rattle.provider_node.specs.declared.codes.TheConstants.{NO_MEMORY}
 use Rattle.request_ledger.specs.Ledger.{Held}
 use Rattle.request_rows.specs.declared.row.OpenedRow.{OpenedRow}
 use Rattle.sp_answers.specs.Answers.{denied_answer}

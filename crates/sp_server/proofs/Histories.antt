@@ -7,7 +7,7 @@ use Rattle.http_wire.specs.declared.answer.Answer.{Answer}
 use Rattle.http_wire.specs.Requests.{Request}
 use Rattle.ledger_records.specs.declared.sp_record.SpRecord.{SpRecord}
 use Rattle.ledger_rules.specs.Numbers.{Drawn}
-use Rattle.node_steps.proofs.Histories.{DrawsAbove}
+use Rattle.provider_node.proofs.Histories.{DrawsAbove}
 use Rattle.request_ledger.specs.Drafts.{asked, opened, confirmed}
 use Rattle.request_ledger.specs.Ledger.{Held, next_number}
 use Rattle.request_ledger.specs.Record.{drawn, request_rules}

@@ -11,11 +11,11 @@ use Rattle.ledger_records.specs.declared.sp_record.SpRecord.{SpRecord}
 use Rattle.request_ledger.specs.Record.{request_rules}
 use Rattle.request_ledger.specs.Ledger.{Held, held_with, ledger_in}
 use Rattle.sp_server.specs.Routes.{App, Guard, Metadata, Route, To, route}
-use Rattle.node_steps.specs.Step as any
+use Rattle.provider_node.specs.Step as any
 use Rattle.sp_server.specs.Step as steps
 use Rattle.sp_server.specs.Step.{Setup, Provider, Answers, IsWhole, OwnsDisk, Serves, Steps, session_for}
 use Rattle.sp_server.specs.Recorded.{IsRecorded, TakesPosts, WhatIsAnsweredIsRecorded, WhatIsAskedIsRecorded}
-use Rattle.node_steps.proofs.Serving.{settled}
+use Rattle.provider_node.proofs.Serving.{settled}
 
 -- nothing is posted there
 not_posted_app : (to : Route) → to ≡ To App → TakesPosts to → ⊥

@@ -34,9 +34,9 @@ use Rattle.sp_server.specs.Step.{Setup, Answers, ByAsking, ByLeaving, ByEnding, 
 use Rattle.sp_answers.specs.Answers.{ask_page, opened_answer}
 use Rattle.ledger_rules.specs.Numbers.{is_xml_text}
 use Rattle.saml_time.specs.Instant.{TellsInFull}
-use Rattle.node_steps.specs.Drafted.{drafted_of}
-use Rattle.node_steps.specs.Replies.{AreReplies, IsDrafted, IsWanted}
-use Rattle.node_steps.proofs.Drafting.{drafted_some}
+use Rattle.provider_node.specs.Drafted.{drafted_of}
+use Rattle.provider_node.specs.Replies.{AreReplies, IsDrafted, IsWanted}
+use Rattle.provider_node.proofs.Drafting.{drafted_some}
 use Rattle.sp_server.specs.Replies.{CanDraft, IsAnswerTo, IsAnswerable, Wants, is_nothing, record_for, refusal_of, sp_replies, stands_for}
 use Rattle.sp_server.proofs.Alike.{alike, session_alike}
 use Rattle.sp_server.proofs.Opening.{its_key, its_request, its_unspent, opens_own, opens_still}

@@ -3,8 +3,8 @@ use Rattle.std.proofs.Common.{◌≢◌, ℕ, suc, ◌<◌, List, [], ◌∷◌,
 use Rattle.std.specs.List.{flat_map}
 use Rattle.ledger_records.specs.declared.sp_record.SpRecord.{SpRecord}
 use Rattle.ledger_records.specs.declared.sp_record.SpRecord.TheVariants as kinds
-use Rattle.node_steps.specs.Histories.{Includes, Nothing, This, Another}
-use Rattle.node_steps.proofs.Histories.{some_left, what_is_kept}
+use Rattle.provider_node.specs.Histories.{Includes, Nothing, This, Another}
+use Rattle.provider_node.proofs.Histories.{some_left, what_is_kept}
 use Rattle.record_ledger.specs.Runs.{Adds, Compacts, Opens}
 use Rattle.request_ledger.specs.Record.{request_rules}
 use Rattle.request_ledger.specs.Runs.{Event, AreDifferent, request_opened, requests_added, requests_opened}

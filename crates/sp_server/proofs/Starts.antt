@@ -1,7 +1,7 @@
 -- What is kept over several starts of a provider.
 use Rattle.std.proofs.Common.{◌≡◌, List, sym, subst, ◌∙◌}
-use Rattle.node_steps.specs.Starts.{AreKeptOver, Start}
-use Rattle.node_steps.proofs.Starts.{kept_over}
+use Rattle.provider_node.specs.Starts.{AreKeptOver, Start}
+use Rattle.provider_node.proofs.Starts.{kept_over}
 use Rattle.request_ledger.specs.Laws.{ImagesHoldRecords, NoRequestOpensTwiceInARun}
 use Rattle.request_ledger.specs.Ledger.{Held}
 use Rattle.request_ledger.specs.Record.{request_rules}

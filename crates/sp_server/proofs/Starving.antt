@@ -8,8 +8,8 @@ use Rattle.ledger_records.specs.declared.sp_record.SpRecord.{SpRecord}
 use Rattle.request_ledger.specs.Laws.{AnswerAlike, CompactionsChangeNoAnswer}
 use Rattle.request_ledger.specs.Ledger.{Held}
 use Rattle.request_ledger.specs.Record.{AreRecords, request_rules}
-use Rattle.node_steps.specs.Starving.{CodesAddNothing, IsSameOrCompacted}
-use Rattle.node_steps.proofs.Starving.{visible_stays}
+use Rattle.provider_node.specs.Starving.{CodesAddNothing, IsSameOrCompacted}
+use Rattle.provider_node.proofs.Starving.{visible_stays}
 use Rattle.sp_server.specs.Starving.{WhatIsVisibleStays}
 use Rattle.sp_server.specs.Step as steps
 use Rattle.sp_server.specs.Step.{Setup, Answers}

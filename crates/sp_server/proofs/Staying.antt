@@ -20,10 +20,10 @@ use Rattle.request_ledger.specs.Ledger.{Held, held_with}
 use Rattle.request_ledger.specs.Naming.{names}
 use Rattle.request_ledger.specs.Record.{request_rules}
 use Rattle.request_ledger.specs.RowsOf.{closed_if, closes, opened_row, opened_rows}
-use Rattle.node_steps.specs.Histories.{CameFrom}
-use Rattle.node_steps.proofs.Histories.{what_is_kept}
-use Rattle.node_steps.proofs.Starts.{kept_over_at}
-use Rattle.node_steps.proofs.Staying.{Stood, stood}
+use Rattle.provider_node.specs.Histories.{CameFrom}
+use Rattle.provider_node.proofs.Histories.{what_is_kept}
+use Rattle.provider_node.proofs.Starts.{kept_over_at}
+use Rattle.provider_node.proofs.Staying.{Stood, stood}
 use Rattle.sp_server.specs.Staying.{IsAsLeft, SessionsStayInAService, SessionsStayOverStarts, WhatWasOpenedIsAsLeft}
 use Rattle.sp_server.specs.Step.{Answers}
 use Rattle.sp_server.proofs.Histories.{draws_above}

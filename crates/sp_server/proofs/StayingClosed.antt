@@ -23,7 +23,7 @@ use Rattle.request_ledger.proofs.LawNumbers.{HasNumber, next_cons, next_push, nu
 use Rattle.request_ledger.proofs.LawWords.{parts}
 use Rattle.request_ledger.proofs.RowLaws.{rows_of-push}
 use Rattle.sp_server.specs.Logouts.{IsClosed, AClosedSessionStaysClosed}
-use Rattle.node_steps.proofs.Runs.{run_records}
+use Rattle.provider_node.proofs.Runs.{run_records}
 use Rattle.request_ledger.proofs.KeptRecords.{kept_are_records}
 
 -- ---- none is found

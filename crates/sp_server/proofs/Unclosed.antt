@@ -16,7 +16,7 @@ use Rattle.request_ledger.specs.Record.{AreRecords}
 use Rattle.request_ledger.specs.RowsOf.{SpRows, closed_if, closed_where, closes, is_among, opened_row, rows_of, rows_after}
 use Rattle.record_ledger.proofs.Words.{same_text}
 use Rattle.request_ledger.proofs.RowLaws.{rows_of-push}
-use Rattle.node_steps.specs.Step as any
+use Rattle.provider_node.specs.Step as any
 use Rattle.sp_server.specs.Step.{Provider, Answers, IsWhole}
 use Rattle.sp_server.specs.Logouts.{IsClosedWith, NothingElseCloses}
 use Rattle.sp_server.proofs.Alike.{alike}

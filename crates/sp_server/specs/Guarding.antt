@@ -15,7 +15,7 @@ use Rattle.http_wire.specs.Vouched.{vouched_answer}
 use Rattle.http_wire.specs.Vouching.{IsReadAsVouched}
 use Rattle.ledger_records.specs.declared.sp_record.Opened.{Opened as OpenedRecord}
 use Rattle.ledger_records.specs.declared.sp_record.SpRecord.TheVariants as kinds
-use Rattle.node_steps.specs.declared.codes.TheConstants.{NO_MEMORY}
+use Rattle.provider_node.specs.declared.codes.TheConstants.{NO_MEMORY}
 use Rattle.request_ledger.specs.Ledger.{Held, ledger_in, taken}
 use Rattle.request_ledger.specs.RowsOf.{opened_row}
 use Rattle.request_rows.specs.declared.row.OpenedRow.{OpenedRow}

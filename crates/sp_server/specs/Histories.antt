@@ -4,14 +4,14 @@ use Rattle.std.specs.List.{flat_map}
 use Rattle.crash_disk.specs.Disk.{Image}
 use Rattle.crash_disk.specs.Moments.{Leaves}
 use Rattle.conn_table.specs.Table.{Table}
-use Rattle.node_serve.specs.Worlds.{World, NodeStep}
-use Rattle.node_serve.specs.Turns.{Asked, Turn, Run}
+use Rattle.serve_loop.specs.Worlds.{World, NodeStep}
+use Rattle.serve_loop.specs.Turns.{Asked, Turn, Run}
 use Rattle.ledger_records.specs.declared.sp_record.SpRecord.{SpRecord}
 use Rattle.request_ledger.specs.Ledger.{Held, ledger_in}
 use Rattle.request_ledger.specs.Record.{request_rules}
 use Rattle.request_ledger.specs.Runs.{AreDifferent, request_opened, requests_of_run, requests_opened}
-use Rattle.node_steps.specs.Histories as any
-use Rattle.node_steps.specs.Histories.{CameFrom, moments_of}
+use Rattle.provider_node.specs.Histories as any
+use Rattle.provider_node.specs.Histories.{CameFrom, moments_of}
 use Rattle.sp_server.specs.Step.{Provider, Answers}
 
 -- what an answer of a provider does, and what a crash may leave

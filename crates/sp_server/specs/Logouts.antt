@@ -11,8 +11,8 @@ use Rattle.ledger_records.specs.declared.sp_record.Left.{Left}
 use Rattle.ledger_records.specs.declared.sp_record.Ended.{Ended}
 use Rattle.ledger_records.specs.declared.sp_record.SpRecord.{SpRecord}
 use Rattle.ledger_records.specs.declared.sp_record.SpRecord.TheVariants as kinds
-use Rattle.node_serve.specs.Turns.{Turn, Run}
-use Rattle.node_serve.specs.Worlds.{World}
+use Rattle.serve_loop.specs.Turns.{Turn, Run}
+use Rattle.serve_loop.specs.Worlds.{World}
 use Rattle.protocol_messages.specs.declared.logout.LogoutRequest.{LogoutRequest}
 use Rattle.request_rows.specs.declared.row.OpenedRow.{OpenedRow}
 use Rattle.request_rows.specs.Rows.{session_row}
@@ -21,10 +21,10 @@ use Rattle.request_ledger.specs.RowsOf.{closes, is_among, rows_of}
 use Rattle.request_ledger.specs.Record.{is_open, request_rules, AreRecords}
 use Rattle.request_ledger.specs.Ledger.{Held}
 use Rattle.logout_profile.specs.declared.logout.Logout.TheVariants as logouts
-use Rattle.node_steps.specs.Points as any
-use Rattle.node_steps.specs.Points.{Point, points}
+use Rattle.provider_node.specs.Points as any
+use Rattle.provider_node.specs.Points.{Point, points}
 use Rattle.sp_server.specs.Histories.{IsProviders, IsAtStart}
-use Rattle.node_steps.specs.declared.codes.TheConstants.{NO_MEMORY}
+use Rattle.provider_node.specs.declared.codes.TheConstants.{NO_MEMORY}
 use Rattle.sp_server.specs.Routes.{Logout, SingleLogout, To, route}
 use Rattle.sp_server.specs.Peer.{IsObeyed}
 use Rattle.sp_server.specs.Step.{Setup, Provider, Answers, HasPlace, Serves, ended_by, ended_record, is_expired, left_record, session_for}

@@ -22,8 +22,8 @@ use Rattle.sp_rules.specs.declared.config.SpConfig.{SpConfig}
 use Rattle.sp_rules.specs.declared.accepted.Accepted.{Accepted}
 use Rattle.sp_rules.specs.Shown.{IsOpening}
 use Rattle.sp_answers.specs.Answers.{HoldsTexts, IsAskAnswer, opened_answer}
-use Rattle.node_steps.specs.Replies.{IsReplied, ReplyRules}
-use Rattle.node_steps.specs.declared.replied.Replied.{Replied}
+use Rattle.provider_node.specs.Replies.{IsReplied, ReplyRules}
+use Rattle.provider_node.specs.declared.replied.Replied.{Replied}
 use Rattle.sp_server.specs.declared.reply.Reply.{Reply}
 use Rattle.sp_server.specs.declared.reply.Reply.TheVariants as replies
 use Rattle.sp_server.specs.Routes.{App, Consumer, Logout as ToLogout, SingleLogout, To, route}

@@ -16,7 +16,7 @@ use Rattle.request_ledger.specs.Drafts.{opened}
 use Rattle.sp_rules.specs.Opening.{Brought, Opens}
 use Rattle.sp_rules.specs.Shown.{session_of}
 use Rattle.sp_answers.specs.Answers.{opened_answer}
-use Rattle.node_steps.specs.declared.codes.TheConstants.{NO_MEMORY}
+use Rattle.provider_node.specs.declared.codes.TheConstants.{NO_MEMORY}
 use Rattle.sp_server.specs.Routes.{Consumer, To, route}
 use Rattle.sp_server.specs.Step.{Setup, Provider, Answers, HasPlace, HasToken, Serves, is_expired, rows_seen}
 

@@ -7,9 +7,9 @@ use Rattle.ledger_records.specs.declared.sp_record.SpRecord.{SpRecord}
 use Rattle.request_ledger.specs.Ledger.{Held, ledger_in, taken}
 use Rattle.request_ledger.specs.Record.{request_rules, AreRecords}
 use Rattle.request_ledger.specs.Runs.{AreDifferent, request_opened, requests_of_run, requests_opened}
-use Rattle.node_steps.specs.Histories.{AnyMoment, CameFrom}
-use Rattle.node_steps.specs.Starts as any
-use Rattle.node_steps.specs.Starts.{Start}
+use Rattle.provider_node.specs.Histories.{AnyMoment, CameFrom}
+use Rattle.provider_node.specs.Starts as any
+use Rattle.provider_node.specs.Starts.{Start}
 use Rattle.sp_server.specs.Logouts.{IsClosed, IsOver}
 use Rattle.sp_server.specs.Step.{Provider, Answers}
 

@@ -8,11 +8,11 @@ use Rattle.ledger_records.specs.declared.sp_record.Asked.{Asked as AskedRecord}
 use Rattle.ledger_records.specs.declared.sp_record.Opened.{Opened as OpenedRecord}
 use Rattle.ledger_records.specs.declared.sp_record.SpRecord.{SpRecord}
 use Rattle.ledger_records.specs.declared.sp_record.SpRecord.TheVariants as kinds
-use Rattle.node_serve.specs.Turns.{Run, Turn}
-use Rattle.node_serve.specs.Worlds.{World}
-use Rattle.node_steps.specs.Histories.{HoldsWhatCame, moments_of}
-use Rattle.node_steps.specs.Staying.{WasAdded}
-use Rattle.node_steps.specs.Starts.{AreAcknowledgedIn, AreStartsAt, LeftBehindAt, Start}
+use Rattle.serve_loop.specs.Turns.{Run, Turn}
+use Rattle.serve_loop.specs.Worlds.{World}
+use Rattle.provider_node.specs.Histories.{HoldsWhatCame, moments_of}
+use Rattle.provider_node.specs.Staying.{WasAdded}
+use Rattle.provider_node.specs.Starts.{AreAcknowledgedIn, AreStartsAt, LeftBehindAt, Start}
 use Rattle.record_ledger.specs.Runs.{EndsBehind, added}
 use Rattle.request_ledger.specs.Ledger.{Held, ledger_in, taken}
 use Rattle.request_ledger.specs.Record.{request_rules}

@@ -29,7 +29,7 @@ use Rattle.sp_rules.specs.Opening.{Brought, Opens}
 use Rattle.sp_rules.specs.Shown.{session_of}
 use Rattle.sp_rules.specs.Verdict.{IsRefused}
 use Rattle.sp_answers.specs.Answers.{IsAskAnswer, user_answer, denied_answer, opened_answer, metadata_answer}
-use Rattle.node_steps.specs.Step as any
+use Rattle.provider_node.specs.Step as any
 use Rattle.sp_server.specs.Routes.{App, Consumer, Metadata, Logout, SingleLogout, Guard, To, Refused, route}
 use Rattle.sp_server.specs.Guard.{guard_answer}
 use Rattle.sp_server.specs.Peer.{idp_at, is_partial, IsObeyed, IsNotObeyed}

@@ -4,12 +4,12 @@ use crate::role::SpRole;
 use crash_disk::{Disk, Failed};
 use gate_journal::OpenFault;
 use ledger_records::SpRecord;
-use node_steps::KeepsLedger;
+use provider_node::KeepsLedger;
 use request_ledger::{Draft, Ledger};
 use std::alloc::Global;
 
 impl KeepsLedger for SpRole {
-    ghost use Rattle.node_steps.specs.Step.{seen};
+    ghost use Rattle.provider_node.specs.Step.{seen};
     ghost use Rattle.request_ledger.specs.Ledger.{CanCommit};
     ghost use Rattle.request_ledger.specs.Record.{request_rules};
 

@@ -13,8 +13,8 @@ use crate::role::SpRole;
 use http_wire::{Answer, HttpRequest};
 use logout_profile::laws::what_an_obeyed_form_says;
 use logout_profile::{Judged, Logout, judge_logout_with};
-use node_steps::Replied;
 use owned_values::NoMemory;
+use provider_node::Replied;
 use request_ledger::Ledger;
 use saml_time::LAST;
 

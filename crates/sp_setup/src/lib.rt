@@ -12,6 +12,14 @@
 //! The config is read first, and then the files that it names, in the order of its lines; the first that can't be used is
 //! told (`IsBadSetUp` of `specs/Setup.antt`). Nothing that a file holds is used before the whole config is good. Where it is
 //! told what files there are, a config has one outcome ([`laws`]).
+//!
+//! # What is proved
+//!
+//! `set_up`: a service provider exactly as its config and the files that it names say, with its policy and the end of
+//! its registry (`ok`), or the first file that can't be used and its line (`err`); within the bounds that judging asks
+//! for (`bounds`), and with names and addresses that a document may hold (`texts`). A config has one outcome
+//! (`laws::a_config_has_one_outcome`); with a registry the identity provider is what the covered aggregate lists
+//! (`laws::a_registry_tells_the_provider`).
 #![tactic(auto)]
 
 mod fault;

@@ -21,6 +21,14 @@
 //!
 //! None of them tells what it holds or what is to come, so a contract sees no more than their counts of faults: a call
 //! answers [`Failed`] only where the count rose in it. What real files and sockets do is trusted.
+//!
+//! # What is proved
+//!
+//! `SystemClock`, `FsDisk` and `TcpLink` meet their traits: each fault is counted once, and a call answers Failed only
+//! where the count rose. `FsFiles::read_all` meets its trait and counts each failed reading once; what a reader gives
+//! is what is kept, up to the limit (`read_to_end`). `StdoutSink::put` meets its trait; after a failure the writer took
+//! the first `sent` bytes (`send`). They tell nothing, so nothing is claimed of what real files, sockets and clocks
+//! hold ("What is trusted" says what this leaves).
 #![tactic(auto)]
 
 mod faults;

@@ -14,6 +14,12 @@
 //! `#` are passed over; all are counted. One space separates two words. A contract sees `Lines` as the list of what is
 //! still to be said. Each call is linear in what it looks at, and [`words_of`]
 //! alone takes memory.
+//!
+//! # What is proved
+//!
+//! What a file's lines say: `Lines::next_said` gives each line that is neither empty nor a comment with its number, and
+//! the first line that is no text; `parts_of`, `Words::next_word` and `number_of` are exact. The test of a text is
+//! XML's word (`laws::a_text_is_one_of_xml`).
 #![tactic(auto)]
 
 pub mod laws;

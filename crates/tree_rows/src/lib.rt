@@ -12,6 +12,13 @@
 //!
 //! Contracts see [`Rows`] as a list of rows, a list of their links, and the attributes of the tag that was read last and is no
 //! row so far (`specs/Views.antt`).
+//!
+//! # What is proved
+//!
+//! The nodes of a document as rows in document order, with the attributes of all elements in one list: `next_token`
+//! keeps the attributes of the tag that it read, `push_element` and `push_leaf` add a row, `end_row` ends one, and
+//! `depth`, `link`, `span` and `shape` show one; each is exact on the list of rows, of links, and of the attributes
+//! that are no row's yet.
 #![tactic(auto)]
 
 mod node;

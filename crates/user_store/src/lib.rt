@@ -17,6 +17,12 @@
 //! contract sees the users as a list. [`read_users`] gives what the definition `users` gives: the users of a text, or the
 //! number of the first line that is bad ([`UserFault`]). [`Users::check`] takes no memory, and finds a name in the
 //! logarithm of how many users there are. Values are compared in all their bytes.
+//!
+//! # What is proved
+//!
+//! `read_users`: the users of a file exactly where it keeps the grammar, else the number of the first line that does
+//! not (`Gives`). `Users::check`: the user of that name whose PBKDF2 value is that of the password, none exactly where
+//! there is none; no memory.
 #![tactic(auto)]
 
 mod fault;

@@ -6,6 +6,10 @@
 //! ```
 //!
 //! A contract sees a verdict as its variant, and `number_of` and `name_of` are the whole table. Neither call can fail.
+//!
+//! # What is proved
+//!
+//! The verdicts' numbers and names, the whole table (`Verdict::number`, `Verdict::name`); no two are alike (`laws`).
 #![tactic(auto)]
 
 mod codes;

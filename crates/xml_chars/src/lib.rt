@@ -1,5 +1,11 @@
 //! Characters of XML, the names and references that they make, and the places that they stand at; the two parts of a name,
 //! and the namespaces that are bound from the start.
+//!
+//! # What is proved
+//!
+//! Exactly the characters, names and texts of XML 1.0 (`is_char`, `is_name_start`, `is_name_char`, `is_name`,
+//! `text_of`), the parts of a qualified name, and references: the character and where the reference ends, none exactly
+//! where none begins (`read_reference`).
 #![tactic(auto)]
 
 ghost use Rattle.std.specs.Prelude.{◌↔◌, IsTrue};

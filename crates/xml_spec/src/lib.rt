@@ -1,5 +1,15 @@
 //! What the bytes of an XML document spell, and what the canonical form of its elements is: the definitions
 //! stand in `specs/`, and the functions here carry the laws about them in their contracts.
+//!
+//! # What is proved
+//!
+//! The definitions of XML documents (characters, names, trees, spelling, namespaces, IDs, canonical form, content), and
+//! their laws, each the contract of a function with an empty body: no bytes spell two trees
+//! (`no_bytes_spell_two_trees`); an element has one range (`a_range_is_one`); bytes begin with one token
+//! (`bytes_begin_with_one_token`); texts of a spelled tree are joined (`a_spelled_tree_is_joined`); paths lead to
+//! numbers and back (`a_path_leads_to_its_node`, `a_number_leads_to_its_path`); the classes are their ranges
+//! (`classes_are_their_ranges`); declarations and attributes are written in order, none lost, none doubled
+//! (`declarations_are_in_order`, `attributes_are_in_order`). Worked examples from the standards compute as theorems.
 #![tactic(auto)]
 
 /// How deep an element of a document may stand; the root has depth 1 (profile).

@@ -1,4 +1,4 @@
-use Rattle.node_runs.proofs.Joining.{each_image_of_a_run_goes_on}
+use Rattle.provider_run.proofs.Joining.{each_image_of_a_run_goes_on}
 use Rattle.idp_ledger.specs.Record.{idp_rules}
 use Rattle.idp_server.specs.Step.{Answers}
 use Rattle.idp_setup.specs.Setup.{IsSetUp, IsBadSetUp}

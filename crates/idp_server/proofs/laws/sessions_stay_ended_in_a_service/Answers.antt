@@ -1,4 +1,4 @@
-use Rattle.node_steps.proofs.Points.{stay_closed}
+use Rattle.provider_node.proofs.Points.{stay_closed}
 use Rattle.idp_ledger.specs.Record.{idp_rules}
 use Rattle.idp_server.specs.Histories.{IsDead, IsEnded}
 use Rattle.idp_server.specs.Step.{Answers}

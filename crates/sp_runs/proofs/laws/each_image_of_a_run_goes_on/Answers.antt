@@ -1,4 +1,4 @@
-use Rattle.node_runs.proofs.Joining.{each_image_of_a_run_goes_on}
+use Rattle.provider_run.proofs.Joining.{each_image_of_a_run_goes_on}
 use Rattle.request_ledger.specs.Record.{request_rules}
 use Rattle.sp_server.specs.Step.{Answers}
 use Rattle.sp_runs.specs.Runs.{IsServedBy, IsBadFile, key}

@@ -1,4 +1,4 @@
-use Rattle.node_steps.proofs.Points.{stay_closed}
+use Rattle.provider_node.proofs.Points.{stay_closed}
 use Rattle.request_ledger.specs.Record.{request_rules}
 use Rattle.sp_server.specs.Logouts.{IsClosed, IsOver}
 use Rattle.sp_server.specs.Step.{Answers}

@@ -1,8 +1,8 @@
 use Rattle.std.proofs.Common.{subst, sym}
 use Rattle.idp_ledger.specs.Ledger.{CanCommit}
 use Rattle.idp_ledger.specs.Record.{idp_rules}
-use Rattle.node_steps.specs.Replies.{IsDrafted}
-use Rattle.node_steps.proofs.Drafting.{seen_same}
+use Rattle.provider_node.specs.Replies.{IsDrafted}
+use Rattle.provider_node.proofs.Drafting.{seen_same}
 use Rattle.idp_server.specs.Replies.{record_for}
 use Rattle.idp_server.proofs.Replies.{found_record_of, record_found, reply_allowed}
 use Rattle.idp_server.proofs.Roles.{idp_drafted}

@@ -1,7 +1,7 @@
 use Rattle.std.proofs.Common.{subst}
 use Rattle.idp_ledger.specs.Record.{idp_rules}
 use Rattle.idp_rules.specs.declared.config.IdpConfig.{IdpConfig}
-use Rattle.node_steps.specs.Replies.{AreReplies}
+use Rattle.provider_node.specs.Replies.{AreReplies}
 use Rattle.idp_server.specs.Replies.{idp_replies}
 use Rattle.idp_server.specs.Step.{Answers}
 use Rattle.idp_server.proofs.Roles.{idp_laws}

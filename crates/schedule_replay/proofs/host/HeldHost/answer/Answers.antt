@@ -4,7 +4,7 @@ use Rattle.std.specs.FinMap as map
 use Rattle.http_wire.specs.Requests.{Whole, Reads}
 use Rattle.http_wire.specs.Views.{answer_bytes}
 use Rattle.conn_table.specs.Table.{Table}
-use Rattle.node_serve.specs.Worlds.{Whole as WentOut}
+use Rattle.serve_loop.specs.Worlds.{Whole as WentOut}
 use Rattle.schedule_replay.specs.Hosts.{Sent, world_of}
 use Rattle.schedule_replay.specs.Views.{host_in}
 use Rattle.schedule_replay.proofs.host.HeldHost.answer.Goals as goal

@@ -2,7 +2,7 @@ use Rattle.std.proofs.Common.{refl, sym, arith, ◌∷◌, [], Some}
 use Rattle.crash_disk.specs.Memory.{state_of}
 use Rattle.crash_disk.specs.Soundness.{left_since_now, reads_an_image}
 use Rattle.http_wire.specs.Views.{request_view}
-use Rattle.node_serve.proofs.Taking.{clocked}
+use Rattle.serve_loop.proofs.Taking.{clocked}
 use Rattle.schedule_replay.proofs.host.HeldHost.ask.Goals as goal
 
 pub returns-clause-asked : goal.returns-clause-asked

@@ -4,9 +4,9 @@ use Rattle.conn_table.specs.declared.progress.Progress.{Progress}
 use Rattle.conn_table.specs.declared.progress.Progress.TheVariants as progress
 use Rattle.conn_table.specs.Calls.{TakesPiece}
 use Rattle.conn_table.specs.Events.{Piece}
-use Rattle.node_serve.specs.Turns.{Unknown, Waiting, Answered, Refused}
-use Rattle.node_serve.proofs.Leaving.{asked_once}
-use Rattle.node_serve.proofs.Refusing.{refused_page}
+use Rattle.serve_loop.specs.Turns.{Unknown, Waiting, Answered, Refused}
+use Rattle.serve_loop.proofs.Leaving.{asked_once}
+use Rattle.serve_loop.proofs.Refusing.{refused_page}
 use Rattle.schedule_replay.specs.Hosts.{told}
 use Rattle.schedule_replay.specs.Views.{host_in}
 use Rattle.schedule_replay.proofs.Hosting.{leaves_same, sends_page}

@@ -1,9 +1,9 @@
 use Rattle.std.proofs.Common.{subst, sym, ap, ◌∙◌}
 use Rattle.request_ledger.specs.Ledger.{CanCommit}
 use Rattle.request_ledger.specs.Record.{request_rules}
-use Rattle.node_steps.specs.Drafted.{drafted_of}
-use Rattle.node_steps.specs.Replies.{IsDrafted}
-use Rattle.node_steps.proofs.Drafting.{seen_same}
+use Rattle.provider_node.specs.Drafted.{drafted_of}
+use Rattle.provider_node.specs.Replies.{IsDrafted}
+use Rattle.provider_node.proofs.Drafting.{seen_same}
 use Rattle.sp_server.specs.Replies.{stands_for}
 use Rattle.sp_server.specs.Step.{Setup}
 use Rattle.sp_server.proofs.Replies.{can_draft, sp_drafted}

@@ -1,6 +1,6 @@
 use Rattle.std.proofs.Common.{subst}
 use Rattle.request_ledger.specs.Record.{request_rules}
-use Rattle.node_steps.specs.Replies.{AreReplies}
+use Rattle.provider_node.specs.Replies.{AreReplies}
 use Rattle.sp_server.specs.Replies.{sp_replies}
 use Rattle.sp_server.specs.Step.{Answers, Setup}
 use Rattle.sp_server.proofs.Replies.{sp_laws}

@@ -1,5 +1,0 @@
-use Rattle.node_serve.proofs.Telling.{goes_on_reading}
-use Rattle.node_serve.proofs.laws.a_disk_goes_on_reading_an_image.Goals as goal
-
-pub returns : goal.returns
-returns g c = goes_on_reading g.N.Node.own g.N.Node.step g.N.Node.leaves

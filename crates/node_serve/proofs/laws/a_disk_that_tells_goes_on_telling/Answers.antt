@@ -1,5 +1,0 @@
-use Rattle.node_serve.proofs.Telling.{goes_on_telling}
-use Rattle.node_serve.proofs.laws.a_disk_that_tells_goes_on_telling.Goals as goal
-
-pub returns : goal.returns
-returns g c = goes_on_telling g.N.Node.own g.N.Node.step g.N.Node.leaves

@@ -1,5 +1,0 @@
-use Rattle.node_steps.proofs.Added.{new_is_of_the_request}
-use Rattle.node_steps.proofs.laws.what_is_new_is_of_the_request.Goals as goal
-
-pub returns : goal.returns
-returns g c = new_is_of_the_request g.R.KeepsLedger.rules g.R.Role.answers

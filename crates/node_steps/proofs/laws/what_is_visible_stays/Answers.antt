@@ -1,5 +1,0 @@
-use Rattle.node_steps.proofs.Starving.{visible_stays}
-use Rattle.node_steps.proofs.laws.what_is_visible_stays.Goals as goal
-
-pub returns : goal.returns
-returns g c = visible_stays g.R.KeepsLedger.rules g.R.Role.answers

@@ -1,0 +1,170 @@
+-- That what was acknowledged is kept over several starts.
+use Rattle.std.specs.Prelude.{IfSome, IsSome, Option, None, Some, Ok}
+use Rattle.std.proofs.Common.{◌≡◌, inl, inr, ℕ, List, [], ◌∷◌, ◌++◌, sym, subst, refl, ap, ◌∙◌}
+use Rattle.crash_disk.specs.Disk.{DiskState, Image, MayLeave, image_of}
+use Rattle.crash_disk.specs.Moments.{Leaves}
+use Rattle.conn_table.specs.Table.{Table}
+use Rattle.serve_loop.specs.Turns.{Turn}
+use Rattle.serve_loop.specs.Worlds.{World}
+use Rattle.record_ledger.specs.Rules.{RecordRules}
+use Rattle.record_ledger.specs.Ledger.{Held, LeftByOpening, ledger_in, migrated, taken}
+use Rattle.record_ledger.specs.Laws.{ImagesHoldRecords}
+use Rattle.record_ledger.specs.Runs as events
+use Rattle.record_ledger.specs.Runs.{Event, Adds, Opens, Leads}
+use Rattle.serve_loop.proofs.Telling.{goes_on_reading}
+use Rattle.provider_node.specs.Step.{AnswersBy, Provider, OwnsDisk, StepLeaves}
+use Rattle.provider_node.specs.Histories.{AnyMoment, Another, CameFrom, CompactsWhere, HoldsWhatCame, Includes, Nothing, StepOf, This}
+use Rattle.provider_node.specs.Starts.{AreAcknowledgedIn, AreKeptOver, AreKeptOverAt, AreStarts, AreStartsAt, Cut, IsNextAt, IsServed, LeftBehindAt, LeftByAt, OpensWhatCame, Served, Start}
+use Rattle.provider_node.proofs.Histories.{DrawsAbove, all_told, an_image, begins, came_itself, known, moments_are, step_left}
+
+-- ---- one history behind another
+
+module _ {R : Type 0} (rules : RecordRules R) where
+  leads_on : (start mid held : Held R) (past later : List (Event R)) → Leads rules start past mid
+      → Leads rules mid later held → Leads rules start (later ++ past) held
+  leads_on start mid held past [] first second = subst (Leads rules start past) (sym second) first
+  leads_on start mid held past (Adds r ∷ later) first (before, leads, is, above, same) =
+      (before, leads_on start mid before past later first leads, is, above, same)
+  leads_on start mid held past (events.Compacts now ∷ later) first (before, leads, made) =
+      (before, leads_on start mid before past later first leads, made)
+  leads_on start mid held past (Opens ∷ later) first (before, leads, same) =
+      (before, leads_on start mid before past later first leads, same)
+
+includes_on : {R : Type 0} (past later : List (Event R)) (former latest : List R) → Includes past former
+    → Includes later latest → Includes (later ++ past) (latest ++ former)
+includes_on past [] former [] first Nothing = first
+includes_on past [] former (r ∷ latest) first second = elim second [ ]
+includes_on past (Adds r ∷ later) former (same ∷ latest) first (This second) =
+    This (includes_on past later former latest first second)
+includes_on past (event ∷ later) former latest first (Another second) =
+    Another (includes_on past later former latest first second)
+
+compacts_on : {R : Type 0} (IsMoment : ℕ → Type 0) (past later : List (Event R)) → CompactsWhere IsMoment past
+    → CompactsWhere IsMoment later → CompactsWhere IsMoment (later ++ past)
+compacts_on IsMoment past [] first second = first
+compacts_on IsMoment past (Adds r ∷ later) first second = compacts_on IsMoment past later first second
+compacts_on IsMoment past (events.Compacts now ∷ later) first second =
+    (second.0, compacts_on IsMoment past later first second.1)
+compacts_on IsMoment past (Opens ∷ later) first second = compacts_on IsMoment past later first second
+
+module _ {R : Type 0} (rules : RecordRules R) (IsMoment : ℕ → Type 0) where
+  pub came_on : (start mid held : Held R) (former latest : List R) → CameFrom rules IsMoment start former mid
+      → CameFrom rules IsMoment mid latest held → CameFrom rules IsMoment start (latest ++ former) held
+  came_on start mid held former latest first second = record {
+    events = second.events ++ first.events;
+    leads = leads_on rules start mid held first.events second.events first.leads second.leads;
+    includes = includes_on first.events second.events former latest first.includes second.includes;
+    at = compacts_on IsMoment first.events second.events first.at second.at;
+  }
+
+  -- a ledger that an image holds is opened
+  opens_held : (start : Held R) (records : List R) (image : Image) → HoldsWhatCame rules IsMoment start records image
+      → OpensWhatCame rules IsMoment start records image
+  opens_held start records image (held, is, came) = record {
+    held = migrated held;
+    opens = ap taken is;
+    came =
+        record {
+          events = Opens ∷ came.events;
+          leads = (held, came.leads, refl);
+          includes = Another came.includes;
+          at =
+              came.at;
+        };
+  }
+
+  -- what is opened of an image inside an opening
+  opened_in : (start : Held R) (records : List R) (told : Option DiskState) (image : Image) → IsSome told
+      → ((i : Image) → Leaves told i → OpensWhatCame rules IsMoment start records i)
+      → LeftByOpening rules told image → OpensWhatCame rules IsMoment start records image
+  opened_in start records None image tells each left = cc
+  opened_in start records (Some d) image tells each (first, may, inl same) =
+      let before = each first may in record
+      { held = before.held; opens = ap taken same ∙ before.opens; came = before.came }
+  opened_in start records (Some d) image tells each (first, may, inr (found, opens, is)) =
+      let before = each first may in
+      let same : before.held ≡ found = (let e = sym before.opens ∙ opens in cc) in
+      opens_held start records image (found, is, subst (CameFrom rules IsMoment start records) same before.came)
+
+  -- what is opened of a disk that tells
+  opened_told : (start : Held R) (records : List R) (told : Option DiskState) (found : Held R) → IsSome told
+      → IfSome told (λ d. MayLeave d (image_of d))
+      → ((i : Image) → Leaves told i → OpensWhatCame rules IsMoment start records i)
+      → IfSome told (λ d. taken (ledger_in rules (image_of d)) ≡ Ok found) → CameFrom rules IsMoment start records found
+  opened_told start records None found tells reads each is = cc
+  opened_told start records (Some d) found tells reads each is =
+      let before = each (image_of d) reads in
+      let same : before.held ≡ found = (let e = sym before.opens ∙ is in cc) in
+      subst (CameFrom rules IsMoment start records) same before.came
+
+held_on : {R : Type 0} (rules : RecordRules R) (IsMoment : ℕ
+    → Type 0) (start mid : Held R) (former latest : List R) (image : Image) → CameFrom rules IsMoment start former mid
+    → HoldsWhatCame rules IsMoment mid latest image → HoldsWhatCame rules IsMoment start (latest ++ former) image
+held_on rules IsMoment start mid former latest image first (held, is, came) =
+    (held, is, came_on rules IsMoment start mid held former latest first came)
+
+-- ---- one start more
+
+module _ {Setup R : Type 0} (rules : RecordRules R) (Answers : AnswersBy Setup R) (law : ImagesHoldRecords rules)
+    (numbers : DrawsAbove rules Answers) (IsMoment : ℕ → Type 0)
+    (start : Held R) where
+  one_more : (one : Start (Provider Setup R)) (earlier : List (Start (Provider Setup R)))
+      → IsNextAt rules Answers IsMoment start earlier one
+      → AreKeptOverAt rules Answers IsMoment start earlier → AreKeptOverAt rules Answers IsMoment start (one ∷ earlier)
+  one_more (Cut before) earlier next was = record {
+    records = was.records;
+    are = was.are;
+    kept =
+        λ image left. opened_in rules IsMoment start was.records before image next.tells
+        (λ i there. was.kept i (next.left i there)) left;
+    history = was.history;
+  }
+  one_more (Served before first turns kept last) earlier next was =
+      let served = next.goes.0 in
+      let mid = first.node.ledger.held in
+      let came = opened_told rules IsMoment start was.records before mid next.tells next.reads
+      (λ i left. was.kept i (next.left i left)) served.opened in
+      let told = all_told rules Answers first last turns kept served.tells served.run in
+      let reads = goes_on_reading (OwnsDisk rules) (StepOf rules Answers) (StepLeaves rules Answers) first turns kept
+      last served.run served.at.reads in
+      let knows = known rules Answers law numbers IsMoment mid first last turns kept
+      (begins rules IsMoment first served.at) told.0
+      (moments_are IsMoment turns next.goes.1) served.run in
+      let (image, left) = an_image last.disk told.1 reads in
+      let (held, is, later) = knows.holds.disk image left in
+      record {
+        records = knows.records ++ was.records;
+        are = (knows.records, was.records, knows.are, was.are, refl);
+        kept =
+            λ i here. opens_held rules IsMoment start (knows.records ++ was.records) i
+            (held_on rules IsMoment start mid was.records knows.records i came
+            (left_in first last turns kept knows.records i told.1 reads knows.holds here));
+        history = (held, came_on rules IsMoment start mid held was.records knows.records came later);
+      }
+    where
+      left_in : (first last : World (Provider Setup R)) (turns : List (Turn (Provider Setup R))) (kept : Table)
+          (records : List R) (i : Image) → IsSome last.disk
+          → IfSome last.disk (λ d. MayLeave d (image_of d))
+          → Rattle.provider_node.proofs.Histories.Holds rules IsMoment first.node.ledger.held last records
+          → Rattle.provider_node.specs.Starts.LeftByAt rules Answers IsMoment (Served before first turns kept last) i
+          → HoldsWhatCame rules IsMoment first.node.ledger.held records i
+      left_in first last turns kept records i tells reads holds (inl left) = holds.disk i left
+      left_in first last turns kept records i tells reads holds (inr (request, now, moment, left)) =
+          step_left rules Answers law numbers IsMoment first.node.ledger.held records last request now moment i tells
+          reads holds left
+
+  pub kept_over_at : (starts : List (Start (Provider Setup R))) → AreStartsAt rules Answers IsMoment start starts
+      → AreKeptOverAt rules Answers IsMoment start starts
+  kept_over_at [] are = record {
+    records = [];
+    are = refl;
+    kept = λ image is. record { held = start; opens = is; came = came_itself rules IsMoment start };
+    history = (start, came_itself rules IsMoment start);
+  }
+  kept_over_at (one ∷ earlier) (next, before) = one_more one earlier next (kept_over_at earlier before)
+
+pub kept_over : {Setup R : Type 0} (rules : RecordRules R) (Answers : AnswersBy Setup R)
+    (law : ImagesHoldRecords rules) (numbers : DrawsAbove rules Answers) (start : Held R)
+    (starts : List (Start (Provider Setup R))) → AreStarts rules Answers start starts → AreKeptOver rules Answers start
+    starts
+kept_over rules Answers law numbers start starts are = kept_over_at rules Answers law numbers AnyMoment start starts are

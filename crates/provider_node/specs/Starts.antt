@@ -1,0 +1,112 @@
+-- What became of a ledger over several starts of its provider, with crashes between: each start opens what the one
+-- before it may have left.
+use Rattle.std.specs.Prelude.{◌≡◌, ◌⊎◌, ℕ, List, [], ◌∷◌, ◌++◌, Contains, Option, IfSome, IsSome, Ok}
+use Rattle.crash_disk.specs.Disk.{Image, DiskState, MayLeave, image_of}
+use Rattle.crash_disk.specs.Moments.{Leaves}
+use Rattle.conn_table.specs.Table.{Table}
+use Rattle.http_wire.specs.Requests.{Request}
+use Rattle.serve_loop.specs.Turns.{Turn, Run}
+use Rattle.serve_loop.specs.Worlds.{World}
+use Rattle.record_ledger.specs.Rules.{RecordRules}
+use Rattle.record_ledger.specs.Ledger.{Held, LeftByOpening, ledger_in, taken}
+use Rattle.provider_node.specs.Step.{AnswersBy, Provider, StepLeaves}
+use Rattle.provider_node.specs.Histories.{AnyMoment, AreAcknowledged, CameFrom, IsAtStart, IsProviders, moments_of}
+
+-- A start of a node, with what its disk told before: it was cut inside the opening of its ledger; or it began in a
+-- world, these turns were done, and it was cut or ended in another.
+pub data Start (N : Type 0) : Type 0 where
+  Cut : (before : Option DiskState) → Start N
+  Served : (before : Option DiskState) (first : World N) (turns : List (Turn N)) (kept : Table) (last : World N)
+      → Start N
+
+-- what the disk told before
+abbrev pub told_before : {N : Type 0} → Start N → Option DiskState
+told_before (Cut before) = before
+told_before (Served before first turns kept last) = before
+
+-- the ledger was opened from what the disk told, and then the turns were done
+pub record IsServed {Setup R : Type 0} (rules : RecordRules R) (Answers : AnswersBy Setup R)
+    (before : Option DiskState) (first : World (Provider Setup R))
+    (turns : List (Turn (Provider Setup R))) (kept : Table) (last : World (Provider Setup R)) : Type 0 where
+  pub opened : IfSome before (λ d. taken (ledger_in rules (image_of d)) ≡ Ok first.node.ledger.held)
+  pub at : IsAtStart rules first
+  pub tells : IsSome first.disk
+  pub run : Run (IsProviders rules Answers) first turns kept last
+
+-- from the image a ledger is opened that came from another one by events, in which these records were added
+pub record OpensWhatCame {R : Type 0} (rules : RecordRules R) (IsMoment : ℕ → Type 0) (start : Held R)
+    (records : List R) (image : Image) : Type 0 where
+  pub held : Held R
+  pub opens : taken (ledger_in rules image) ≡ Ok held
+  pub came : CameFrom rules IsMoment start records held
+
+module _ {Setup R : Type 0} (Answers : AnswersBy Setup R) where
+  -- the records for which the answers of starts stand, the latest first
+  abbrev pub AreAcknowledgedIn : List (Start (Provider Setup R)) → List R → Type 0
+  AreAcknowledgedIn [] records = records ≡ []
+  AreAcknowledgedIn (Cut before ∷ earlier) records = AreAcknowledgedIn earlier records
+  AreAcknowledgedIn (Served before first turns kept last ∷ earlier) records =
+      (latest : List R) × (former : List R) × AreAcknowledged Answers turns latest × AreAcknowledgedIn earlier former ×
+      (records ≡ latest ++ former)
+
+-- `IsMoment` says of the moments of these starts, at each of which a request was asked.
+module _ {Setup R : Type 0} (rules : RecordRules R) (Answers : AnswersBy Setup R) (IsMoment : ℕ → Type 0) where
+  -- how a start goes
+  abbrev pub GoesAt : Start (Provider Setup R) → Type 0
+  GoesAt (Cut before) = Unit {0}
+  GoesAt (Served before first turns kept last) =
+      IsServed rules Answers before first turns kept last × ((now : ℕ) → Contains (moments_of turns) now → IsMoment now)
+
+  -- What a crash may leave of a start: inside the opening; behind the turns, or inside the answer to one request more.
+  abbrev pub LeftByAt : Start (Provider Setup R) → Image → Type 0
+  LeftByAt (Cut before) image = LeftByOpening rules before image
+  LeftByAt (Served before first turns kept last) image =
+      Leaves last.disk image ⊎ ((request : Request) × (now : ℕ) × IsMoment now × StepLeaves rules Answers last.node
+      last.disk request now image)
+
+  -- what may be left behind starts, the latest first: at first an image from which this ledger is opened
+  abbrev pub LeftBehindAt : (start : Held R) → List (Start (Provider Setup R)) → Image → Type 0
+  LeftBehindAt start [] image = taken (ledger_in rules image) ≡ Ok start
+  LeftBehindAt start (one ∷ earlier) image = LeftByAt one image
+
+  -- starts one after the other, the latest first: each on a disk that tells, reads as an image that it may leave, and
+  -- may leave nothing but what is left behind the starts before it
+  pub record IsNextAt (start : Held R) (earlier : List (Start (Provider Setup R))) (one : Start (Provider Setup R)) :
+      Type 0 where
+    pub tells : IsSome (told_before one)
+    pub reads : IfSome (told_before one) (λ d. MayLeave d (image_of d))
+    pub left : (image : Image) → Leaves (told_before one) image → LeftBehindAt start earlier image
+    pub goes : GoesAt one
+
+  abbrev pub AreStartsAt : (start : Held R) → List (Start (Provider Setup R)) → Type 0
+  AreStartsAt start [] = Unit {0}
+  AreStartsAt start (one ∷ earlier) = IsNextAt start earlier one × AreStartsAt start earlier
+
+  -- Of the records for which the answers of starts stand: each is in the history of every ledger that may be opened
+  -- behind them, whatever a crash left; in this each compaction was at one of their moments.
+  pub record AreKeptOverAt (start : Held R) (starts : List (Start (Provider Setup R))) : Type 0 where
+    pub records : List R
+    pub are : AreAcknowledgedIn Answers starts records
+    pub kept : (image : Image) → LeftBehindAt start starts image → OpensWhatCame rules IsMoment start records image
+    -- there is such a history
+    pub history : (held : Held R) × CameFrom rules IsMoment start records held
+
+-- and so it is at whatever moments
+module _ {Setup R : Type 0} (rules : RecordRules R) (Answers : AnswersBy Setup R) where
+  abbrev pub Goes : Start (Provider Setup R) → Type 0
+  Goes = GoesAt rules Answers AnyMoment
+
+  abbrev pub LeftBy : Start (Provider Setup R) → Image → Type 0
+  LeftBy = LeftByAt rules Answers AnyMoment
+
+  abbrev pub LeftBehind : (start : Held R) → List (Start (Provider Setup R)) → Image → Type 0
+  LeftBehind = LeftBehindAt rules Answers AnyMoment
+
+  abbrev pub IsNext : (start : Held R) → (earlier : List (Start (Provider Setup R))) → Start (Provider Setup R) → Type 0
+  IsNext = IsNextAt rules Answers AnyMoment
+
+  abbrev pub AreStarts : (start : Held R) → List (Start (Provider Setup R)) → Type 0
+  AreStarts = AreStartsAt rules Answers AnyMoment
+
+  abbrev pub AreKeptOver : (start : Held R) → (starts : List (Start (Provider Setup R))) → Type 0
+  AreKeptOver = AreKeptOverAt rules Answers AnyMoment

@@ -1,0 +1,58 @@
+//! A provider as a node that answers requests.
+ghost use Rattle.std.specs.Prelude.{◌≡◌, ◌≤◌};
+
+use crate::codes::code_of;
+use crate::provider::ProviderNode;
+use crate::role::Role;
+use crate::steps::answer_whole;
+use crash_disk::Disk;
+use gate_journal::OpenFault;
+use http_wire::{Answer, HttpRequest};
+use serve_loop::Node;
+
+impl<R: Role> Node for ProviderNode<R> {
+    ghost use Rattle.crash_disk.specs.Counts.{Rose};
+    ghost use Rattle.provider_node.specs.Calls.{OpeningLeaves};
+    ghost use Rattle.provider_node.specs.Node.{MayOpen, Restarts, CompactionOf, CompactionLeaves};
+    ghost use Rattle.provider_node.specs.Step.{OwnsDisk, StepsOnDisk, StepLeaves};
+
+    ghost own = { OwnsDisk R.rules };
+
+    ghost step = { λ old disk request now before after answer new later.
+        StepsOnDisk R.rules R.answers old disk request now (Rose before after) answer new later };
+
+    ghost leaves = { StepLeaves R.rules R.answers };
+
+    ghost may_open = { MayOpen R.rules };
+
+    ghost reopens = { λ old disk _ _ result new later. Restarts R.rules old disk result new later };
+
+    ghost reopening_leaves = { λ _ disk. OpeningLeaves R.rules disk };
+
+    ghost compacts = { λ old disk now _ _ result new later.
+        CompactionOf R.rules old disk now result new later };
+
+    ghost compaction_leaves = { CompactionLeaves R.rules };
+
+    fn answer<D: Disk>(&mut self, request: &HttpRequest<'_>, now: u64, disk: &mut D) -> Answer {
+        if !R::is_broken(&self.ledger) {
+            return answer_whole(&self.role, &mut self.ledger, request, now, disk);
+        }
+        if let Err(fault) = R::reopen(&mut self.ledger, disk) {
+            return Answer::Fixed(code_of(fault));
+        }
+        answer_whole(&self.role, &mut self.ledger, request, now, disk)
+    }
+
+    fn restart<D: Disk>(&mut self, disk: &mut D) -> Result<(), OpenFault> {
+        R::reopen(&mut self.ledger, disk)
+    }
+
+    fn compact<D: Disk>(&mut self, disk: &mut D, now: u64) -> Result<(), OpenFault> {
+        if !R::is_broken(&self.ledger) {
+            return R::compact(&mut self.ledger, disk, now);
+        }
+        R::reopen(&mut self.ledger, disk)?;
+        R::compact(&mut self.ledger, disk, now)
+    }
+}

@@ -1,0 +1,71 @@
+//! A provider over a disk.
+ghost use Rattle.std.specs.Prelude.{◌≡◌, false, IfOk, IfSome};
+ghost use Rattle.owned_values.specs.Gives.{Gives};
+ghost use Rattle.crash_disk.specs.Disk.{image_of};
+ghost use Rattle.crash_disk.specs.Moments.{LeavesOnly};
+ghost use Rattle.crash_disk.specs.Plans.{Follows};
+ghost use Rattle.gate_journal.specs.Opening.{open_fault_of, CausesFaults};
+ghost use Rattle.record_ledger.specs.Calls.{opening};
+ghost use Rattle.record_ledger.specs.Ledger.{LeftByOpening, ledger_in, taken};
+ghost use Rattle.provider_node.specs.Step.{OwnsDisk};
+
+use crate::role::Role;
+use crash_disk::Disk;
+use gate_journal::OpenFault;
+use std::alloc::Global;
+use std::marker::Model;
+
+/// A provider: its role, with what it is set up with, and its ledger.
+#[derive(Drop)]
+pub struct ProviderNode<R: Role> {
+    pub(crate) role: R,
+    pub(crate) ledger: R::Ledger,
+}
+
+impl<R: Role> Model for ProviderNode<R> {
+    ghost use Rattle.std.specs.Prelude.{◌≡◌};
+    ghost use Rattle.provider_node.specs.Step.{Provider, provider};
+
+    ghost Value = { Provider R R.Record };
+
+    ghost view = { λ n. provider n.role (R.seen n.ledger) };
+
+    ghost invariant = { λ n. (R.seen n.ledger).key ≡ R.key n.role };
+}
+
+impl<R: Role> ProviderNode<R> {
+    /// Starts a provider: its ledger is opened from the disk. The answers are those of
+    /// [`KeepsLedger::open`](crate::KeepsLedger::open).
+    pub fn start<D: Disk>(
+        alloc: Global,
+        role: R,
+        disk: &mut D,
+    ) -> Result<ProviderNode<R>, OpenFault>
+        ensures gives { IfSome (D.told disk.old) (λ d.
+            Gives (λ n. n.ledger.held) open_fault_of result (taken (ledger_in R.rules (image_of d)))) }
+        ensures setup { IfOk result (λ n. n.setup ≡ role) }
+        ensures whole { IfOk result (λ n. n.ledger.broken ≡ false) }
+        ensures key { IfOk result (λ n. n.ledger.key ≡ R.key role) }
+        ensures own { IfOk result (λ n. OwnsDisk R.rules n (D.told disk.new)) }
+        ensures moments { LeavesOnly D.moment D.left_since disk.old disk.new (LeftByOpening R.rules (D.told disk.old)) }
+        ensures faults { CausesFaults result (D.faults_of disk.old) (D.faults_of disk.new) }
+        ensures calls { Follows D.told D.moment D.left_since (opening R.rules) disk.old disk.new result }
+    {
+        let ledger = R::open(alloc, disk, role.id_key())?;
+        Ok(ProviderNode { role, ledger })
+    }
+
+    /// The ledger.
+    pub fn ledger(&self) -> &R::Ledger
+        ensures { R.seen result.now ≡ self.now.ledger }
+    {
+        &self.ledger
+    }
+
+    /// The role, with what the provider is set up with.
+    pub fn role(&self) -> &R
+        ensures { result.now ≡ self.now.setup }
+    {
+        &self.role
+    }
+}

@@ -1,0 +1,78 @@
+//! The role of a provider: what it is set up with, and how it replies.
+ghost use Rattle.std.specs.Prelude.{◌≡◌, ◌≤◌, ℕ, List, IfOk, IsTrue, None};
+ghost use Rattle.http_wire.specs.Answers.{is_fixed};
+ghost use Rattle.http_wire.specs.Requests.{Request};
+ghost use Rattle.http_wire.specs.Views.{request_view};
+ghost use Rattle.provider_node.specs.Step.{AnswersBy};
+ghost use Rattle.provider_node.specs.Replies.{AreReplies, IsDrafted, IsReplied, IsWanted, ReplyRules};
+
+use crate::drafted::Drafted;
+use crate::ledger::KeepsLedger;
+use crate::replied::Replied;
+use http_wire::HttpRequest;
+use owned_values::{Blob, NoMemory};
+use saml_time::LAST;
+
+/// The role of a provider, with what it is set up with. It says where a request goes and what is replied to it, how a
+/// reply is drafted, and how it is shown.
+pub trait Role: KeepsLedger {
+    /// A reply that stands for a record.
+    type Reply: Drop;
+
+    /// The key of the IDs that are drawn.
+    ghost key: { Self → List ℕ };
+
+    /// What is answered to a request, and which record is added with it.
+    ghost answers: { AnswersBy Self Self.Record };
+
+    /// What is said of the replies.
+    ghost replies: { ReplyRules Self Self.Record Self.Reply };
+
+    /// The key of the IDs that are drawn.
+    fn id_key(&self) -> [u8; 32]
+        ensures { result ≡ key self.now };
+
+    /// What is replied to a request over a ledger at a moment: an answer that stands for no record, or a reply that
+    /// does.
+    fn reply(
+        &self,
+        ledger: &Self::Ledger,
+        request: &HttpRequest<'_>,
+        now: u64,
+    ) -> Result<Replied<Self::Reply>, NoMemory>
+        requires { now ≤ LAST }
+        ensures { IfOk result (IsReplied
+            (λ answer. answers self.now (Self.seen ledger.now).held (request_view request.now) now answer None)
+            (replies.wants self.now (Self.seen ledger.now).held (request_view request.now) now)) };
+
+    /// Drafts the record of a reply.
+    fn draft(
+        &self,
+        reply: &Self::Reply,
+        ledger: &mut Self::Ledger,
+        now: u64,
+    ) -> Drafted<Self::Draft>
+        requires moment { now ≤ LAST }
+        requires key { (Self.seen ledger.old).key ≡ key self.now }
+        requires wanted { (request : Request)
+            × replies.wants self.now (Self.seen ledger.old).held request now reply.now }
+        ensures drafts { IsDrafted Self.rules (Self.seen ledger.old).held (Self.can_commit ledger.new) Self.record_of
+            (replies.record_for self.now (Self.seen ledger.old).held now reply.now) result }
+        ensures same { Self.seen ledger.new ≡ Self.seen ledger.old };
+
+    /// The bytes of the page of a reply whose record was drafted.
+    fn page(&self, reply: &Self::Reply, draft: &Self::Draft, now: u64) -> Result<Blob, NoMemory>
+        requires moment { now ≤ LAST }
+        requires wanted { IsWanted replies self.now now reply.now (Self.record_of draft.now) }
+        ensures { IfOk result (replies.shows self.now reply.now (Self.record_of draft.now) now) };
+
+    /// The code that says that there is nothing to record.
+    fn refusal(&self, reply: &Self::Reply) -> u16
+        ensures is { result ≡ replies.refusal reply.now }
+        ensures page { IsTrue (is_fixed result) };
+
+    /// That what is said of the replies agrees with the answers. It does nothing.
+    fn laws_hold(&self, now: u64)
+        requires { now ≤ LAST }
+        ensures { AreReplies replies Self.rules answers self.now now };
+}

@@ -1,0 +1,177 @@
+//! One step over a ledger that is whole: a reply, its record, and the answer.
+ghost use Rattle.std.specs.Prelude.{◌≡◌, ◌≤◌, false, IfErr, OnOk};
+ghost use Rattle.crash_disk.specs.Counts.{Rose};
+ghost use Rattle.crash_disk.specs.Moments.{LeavesOnly};
+ghost use Rattle.http_wire.specs.Views.{request_view};
+ghost use Rattle.http_wire.specs.declared.answer.Answer.TheVariants.{Fixed};
+ghost use Rattle.serve_loop.specs.Worlds.{HasBytes};
+ghost use Rattle.provider_node.specs.Calls.{CommittingLeaves, MakesCompaction};
+ghost use Rattle.provider_node.specs.Replies.{HasNoPlace, IsAgain, IsPage, IsWanted};
+ghost use Rattle.provider_node.specs.Serving.{Adds, CanServe, code_of};
+ghost use Rattle.provider_node.specs.Step.{Owns, ServesOnDisk, ServingLeaves, provider};
+
+use crate::codes::{DISK_FAULT, FULL, NO_MEMORY, code_of};
+use crate::drafted::Drafted;
+use crate::replied::Replied;
+use crate::role::Role;
+use crash_disk::Disk;
+use gate_journal::OpenFault;
+use http_wire::{Answer, HttpRequest};
+
+/// Makes the page of a reply whose record was drafted, and then records it.
+fn added<R: Role, D: Disk>(
+    role: &R,
+    ledger: &mut R::Ledger,
+    reply: &R::Reply,
+    draft: R::Draft,
+    now: u64,
+    disk: &mut D,
+) -> Answer
+    requires can { CanServe R.rules (R.key role.now) (R.seen ledger.old) (D.told disk.old) now }
+    requires wanted { IsWanted R.replies role.now now reply.now (R.record_of draft) }
+    requires fits { R.can_commit ledger.old draft }
+    ensures adds { Adds R.rules (IsPage R.replies role.now reply.now (R.record_of draft) now) (R.record_of draft)
+        (Rose (D.faults_of disk.old) (D.faults_of disk.new)) result
+        (provider role.now (R.seen ledger.old)) (provider role.now (R.seen ledger.new))
+        (D.told disk.old) (D.told disk.new) }
+    ensures has_bytes { HasBytes result }
+    ensures own { Owns R.rules (D.told disk.new) (R.seen ledger.new) }
+    ensures moments { LeavesOnly D.moment D.left_since disk.old disk.new
+        (CommittingLeaves R.rules (R.record_of draft) (R.seen ledger.old).held (D.told disk.old)) }
+    ensures faults { D.faults_of disk.old ≤ D.faults_of disk.new }
+{
+    let Ok(bytes) = role.page(reply, &draft, now) else {
+        return Answer::Fixed(NO_MEMORY);
+    };
+    if R::commit(ledger, disk, draft).is_err() {
+        return Answer::Fixed(DISK_FAULT);
+    }
+    Answer::Full(bytes)
+}
+
+/// Makes room by a compaction, as there was no place for the record of a reply.
+fn make_room<R: Role, D: Disk>(
+    role: &R,
+    ledger: &mut R::Ledger,
+    request: &HttpRequest<'_>,
+    reply: &R::Reply,
+    now: u64,
+    disk: &mut D,
+) -> Result<(), OpenFault>
+    requires can { CanServe R.rules (R.key role.now) (R.seen ledger.old) (D.told disk.old) now }
+    requires wants { R.replies.wants role.now (R.seen ledger.old).held (request_view request.now) now reply.now }
+    requires full { HasNoPlace R.rules (R.seen ledger.old).held
+        (R.replies.record_for role.now (R.seen ledger.old).held now reply.now) }
+    ensures again { OnOk result (IsAgain R.replies R.rules R.answers role.now now
+        (R.seen ledger.old) (R.seen ledger.new) (request_view request.now) reply.now) }
+    ensures made { OnOk result
+        (MakesCompaction R.rules now (R.seen ledger.old).held (D.told disk.old) (D.told disk.new)) }
+    ensures serves { IfErr result (λ fault.
+        ServesOnDisk R.rules R.answers (R.seen ledger.old).held (request_view request.now) now
+        (Rose (D.faults_of disk.old) (D.faults_of disk.new)) (Fixed (code_of fault))
+        (provider role.now (R.seen ledger.old)) (provider role.now (R.seen ledger.new))
+        (D.told disk.old) (D.told disk.new)) }
+    ensures own { Owns R.rules (D.told disk.new) (R.seen ledger.new) }
+    ensures moments { LeavesOnly D.moment D.left_since disk.old disk.new
+        (ServingLeaves R.rules R.answers role.now (R.seen ledger.old).held (request_view request.now) now
+        (D.told disk.old)) }
+    ensures faults { D.faults_of disk.old ≤ D.faults_of disk.new }
+{
+    role.laws_hold(now);
+    R::holds_records(ledger);
+    R::compact(ledger, disk, now)
+}
+
+/// Answers with a reply after a compaction, as there was no place for its record.
+fn serve_again<R: Role, D: Disk>(
+    role: &R,
+    ledger: &mut R::Ledger,
+    request: &HttpRequest<'_>,
+    reply: &R::Reply,
+    now: u64,
+    disk: &mut D,
+) -> Answer
+    requires can { CanServe R.rules (R.key role.now) (R.seen ledger.old) (D.told disk.old) now }
+    requires wants { R.replies.wants role.now (R.seen ledger.old).held (request_view request.now) now reply.now }
+    requires full { HasNoPlace R.rules (R.seen ledger.old).held
+        (R.replies.record_for role.now (R.seen ledger.old).held now reply.now) }
+    ensures serves { ServesOnDisk R.rules R.answers (R.seen ledger.old).held (request_view request.now) now
+        (Rose (D.faults_of disk.old) (D.faults_of disk.new)) result
+        (provider role.now (R.seen ledger.old)) (provider role.now (R.seen ledger.new))
+        (D.told disk.old) (D.told disk.new) }
+    ensures has_bytes { HasBytes result }
+    ensures own { Owns R.rules (D.told disk.new) (R.seen ledger.new) }
+    ensures moments { LeavesOnly D.moment D.left_since disk.old disk.new
+        (ServingLeaves R.rules R.answers role.now (R.seen ledger.old).held (request_view request.now) now
+        (D.told disk.old)) }
+    ensures faults { D.faults_of disk.old ≤ D.faults_of disk.new }
+{
+    role.laws_hold(now);
+    if let Err(fault) = make_room(role, ledger, request, reply, now, disk) {
+        return Answer::Fixed(code_of(fault));
+    }
+    match role.draft(reply, ledger, now) {
+        Drafted::Ready(draft) => added(role, ledger, reply, draft, now, disk),
+        Drafted::Nothing => unreachable!(),
+        Drafted::NoPlace => Answer::Fixed(FULL),
+        Drafted::NoMemory => Answer::Fixed(NO_MEMORY),
+    }
+}
+
+/// Answers with a reply: a second time after a compaction where there was no place for its record.
+fn serve<R: Role, D: Disk>(
+    role: &R,
+    ledger: &mut R::Ledger,
+    request: &HttpRequest<'_>,
+    reply: &R::Reply,
+    now: u64,
+    disk: &mut D,
+) -> Answer
+    requires can { CanServe R.rules (R.key role.now) (R.seen ledger.old) (D.told disk.old) now }
+    requires wants { R.replies.wants role.now (R.seen ledger.old).held (request_view request.now) now reply.now }
+    ensures serves { ServesOnDisk R.rules R.answers (R.seen ledger.old).held (request_view request.now) now
+        (Rose (D.faults_of disk.old) (D.faults_of disk.new)) result
+        (provider role.now (R.seen ledger.old)) (provider role.now (R.seen ledger.new))
+        (D.told disk.old) (D.told disk.new) }
+    ensures has_bytes { HasBytes result }
+    ensures own { Owns R.rules (D.told disk.new) (R.seen ledger.new) }
+    ensures moments { LeavesOnly D.moment D.left_since disk.old disk.new
+        (ServingLeaves R.rules R.answers role.now (R.seen ledger.old).held (request_view request.now) now
+        (D.told disk.old)) }
+    ensures faults { D.faults_of disk.old ≤ D.faults_of disk.new }
+{
+    role.laws_hold(now);
+    match role.draft(reply, ledger, now) {
+        Drafted::Ready(draft) => added(role, ledger, reply, draft, now, disk),
+        Drafted::Nothing => Answer::Fixed(role.refusal(reply)),
+        Drafted::NoPlace => serve_again(role, ledger, request, reply, now, disk),
+        Drafted::NoMemory => Answer::Fixed(NO_MEMORY),
+    }
+}
+
+/// Answers a request over a ledger that is whole.
+pub(crate) fn answer_whole<R: Role, D: Disk>(
+    role: &R,
+    ledger: &mut R::Ledger,
+    request: &HttpRequest<'_>,
+    now: u64,
+    disk: &mut D,
+) -> Answer
+    requires can { CanServe R.rules (R.key role.now) (R.seen ledger.old) (D.told disk.old) now }
+    ensures serves { ServesOnDisk R.rules R.answers (R.seen ledger.old).held (request_view request.now) now
+        (Rose (D.faults_of disk.old) (D.faults_of disk.new)) result
+        (provider role.now (R.seen ledger.old)) (provider role.now (R.seen ledger.new))
+        (D.told disk.old) (D.told disk.new) }
+    ensures has_bytes { HasBytes result }
+    ensures own { Owns R.rules (D.told disk.new) (R.seen ledger.new) }
+    ensures moments { LeavesOnly D.moment D.left_since disk.old disk.new
+        (ServingLeaves R.rules R.answers role.now (R.seen ledger.old).held (request_view request.now) now
+        (D.told disk.old)) }
+    ensures faults { D.faults_of disk.old ≤ D.faults_of disk.new }
+{
+    match role.reply(ledger, request, now) {
+        Ok(Replied::Plain(answer)) => answer,
+        Ok(Replied::ForRecord(reply)) => serve(role, ledger, request, &reply, now, disk),
+        Err(_) => Answer::Fixed(NO_MEMORY),
+    }
+}

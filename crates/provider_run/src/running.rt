@@ -1,0 +1,142 @@
+// The run of a provider.
+
+ghost use Rattle.std.specs.Prelude.{◌≡◌, ◌≢◌, ◌≤◌, ◌⊎◌, ℕ, List, Option, Err};
+ghost use Rattle.saml_outside.specs.Files.{File};
+ghost use Rattle.crash_disk.specs.Counts.{Rose};
+ghost use Rattle.crash_disk.specs.Moments.{LeavesOnly};
+ghost use Rattle.serve_loop.specs.Serving.{MightLeave};
+ghost use Rattle.serve_loop.specs.Turns.{Turn};
+ghost use Rattle.provider_node.specs.Step.{OwnsDisk, StepLeaves};
+ghost use Rattle.provider_run.specs.Runs.{IsNotSetUp, IsServed, Outside, outside};
+ghost use Rattle.provider_run.specs.Providers.{Begins, IsRunnable, RunLeaves, Runs};
+
+use crate::ended::{Ended, RunFault, ended_of};
+use crate::runs_provider::RunsProvider;
+use crash_disk::Disk;
+use event_link::{Clock, Link};
+use gate_journal::OpenFault;
+use provider_node::ProviderNode;
+use saml_outside::Files;
+use serve_loop::serve;
+use sp_setup::SetupFault;
+use std::alloc::Global;
+
+/// Listens at the address of a provider that was started, and serves.
+fn listen_and_serve<R: RunsProvider, L: Link, D: Disk, C: Clock>(
+    alloc: Global,
+    node: &mut ProviderNode<R::Role>,
+    link: &mut L,
+    disk: &mut D,
+    clock: &mut C,
+    budget: u64,
+) -> Result<Ended, RunFault>
+    requires { OwnsDisk R.Role.rules node.old (D.told disk.old) }
+    // Where it was set up and started so, this is how the run goes.
+    ensures runs { (turns : List (Turn _))
+        × ((told : Option (List File)) (file : List ℕ) (before : Outside) →
+        Begins R.sets_up R.Role.key R.Role.rules told file before node.old
+        (outside (D.told disk.old) (D.faults_of disk.old) (D.moment disk.old)
+        (L.told link.old) (L.faults_of link.old) (L.send_faults_of link.old) (C.to_come clock.old)) →
+        Runs R.sets_up R.is_bad R.Role.key R.Role.rules R.Role.answers (D.left_since disk.new) told file
+        budget before turns result
+        (outside (D.told disk.new) (D.faults_of disk.new) (D.moment disk.new)
+        (L.told link.new) (L.faults_of link.new) (L.send_faults_of link.new) (C.to_come clock.new)))
+        × LeavesOnly D.moment D.left_since disk.old disk.new
+        (MightLeave (StepLeaves R.Role.rules R.Role.answers) (D.told disk.old) turns) }
+    ensures disk_never_falls { D.faults_of disk.old ≤ D.faults_of disk.new }
+    ensures link_never_falls { L.faults_of link.old ≤ L.faults_of link.new }
+    ensures set_up { ¬ (IsNotSetUp result) }
+    ensures disk_fault { result ≢ Err RunFault.DiskFault }
+    ensures link_fault { result ≡ Err RunFault.LinkFault → Rose (L.faults_of link.old) (L.faults_of link.new) }
+{
+    link.listen(R::address(node.role()))?;
+    ended_of(serve(alloc, node, link, disk, clock, budget))
+}
+
+/// Opens the ledger of a provider that was set up, listens, and serves.
+fn run_by<R: RunsProvider, L: Link, D: Disk, C: Clock>(
+    alloc: Global,
+    role: R::Role,
+    link: &mut L,
+    disk: &mut D,
+    clock: &mut C,
+    budget: u64,
+) -> Result<Ended, RunFault>
+    // Where it was set up so, this is how the run goes.
+    ensures runs { (turns : List (Turn _))
+        × ((told : Option (List File)) (file : List ℕ) → R.sets_up told file role →
+        Runs R.sets_up R.is_bad R.Role.key R.Role.rules R.Role.answers (D.left_since disk.new) told file budget
+        (outside (D.told disk.old) (D.faults_of disk.old) (D.moment disk.old)
+        (L.told link.old) (L.faults_of link.old) (L.send_faults_of link.old) (C.to_come clock.old)) turns result
+        (outside (D.told disk.new) (D.faults_of disk.new) (D.moment disk.new)
+        (L.told link.new) (L.faults_of link.new) (L.send_faults_of link.new) (C.to_come clock.new)))
+        × LeavesOnly D.moment D.left_since disk.old disk.new
+        (RunLeaves R.Role.rules R.Role.answers (D.told disk.old) turns) }
+    ensures disk_never_falls { D.faults_of disk.old ≤ D.faults_of disk.new }
+    ensures link_never_falls { L.faults_of link.old ≤ L.faults_of link.new }
+    ensures set_up { ¬ (IsNotSetUp result) }
+    ensures disk_fault { result ≡ Err RunFault.DiskFault → Rose (D.faults_of disk.old) (D.faults_of disk.new) }
+    ensures link_fault { result ≡ Err RunFault.LinkFault → Rose (L.faults_of link.old) (L.faults_of link.new) }
+{
+    match ProviderNode::start(alloc, role, disk) {
+        Ok(mut node) => listen_and_serve::<R, L, D, C>(alloc, &mut node, link, disk, clock, budget),
+        Err(OpenFault::Foreign { file, place }) => Ok(Ended::Foreign { file, place }),
+        Err(OpenFault::DiskFault) => Err(RunFault::DiskFault),
+        Err(OpenFault::NoMemory) => Err(RunFault::NoMemory),
+    }
+}
+
+/// Runs a provider by the config in a file: it is set up by the config and the files that this names, opens its
+/// ledger on the disk, listens at the address of the config, and serves until the link gives Stop or `budget` events
+/// were taken.
+///
+/// [`Ended::BadFile`] tells the first file that can't be used, and [`Ended::Foreign`] that what the disk holds is no
+/// ledger, and where. A fault comes only where the count of its kind rose: of the files, of the disk while the ledger
+/// was opened, of the link. Want of memory may come in place of any other answer before serving began.
+pub fn run<R: RunsProvider, F: Files, L: Link, D: Disk, C: Clock>(
+    alloc: Global,
+    files: &mut F,
+    config: &str,
+    link: &mut L,
+    disk: &mut D,
+    clock: &mut C,
+    budget: u64,
+) -> Result<Ended, RunFault>
+    // The run goes so, and a crash at any moment of it leaves what one inside the opening or inside an answer may
+    // leave.
+    ensures runs { (turns : List (Turn _))
+        × Runs R.sets_up R.is_bad R.Role.key R.Role.rules R.Role.answers (D.left_since disk.new) (F.holds files.old)
+        config.now budget
+        (outside (D.told disk.old) (D.faults_of disk.old) (D.moment disk.old)
+        (L.told link.old) (L.faults_of link.old) (L.send_faults_of link.old) (C.to_come clock.old)) turns result
+        (outside (D.told disk.new) (D.faults_of disk.new) (D.moment disk.new)
+        (L.told link.new) (L.faults_of link.new) (L.send_faults_of link.new) (C.to_come clock.new))
+        × LeavesOnly D.moment D.left_since disk.old disk.new
+        (RunLeaves R.Role.rules R.Role.answers (D.told disk.old) turns) }
+
+    // Each fault has a cause.
+    ensures read_fault { result ≡ Err RunFault.ReadFault → Rose (F.faults_of files.old) (F.faults_of files.new) }
+    ensures disk_fault { result ≡ Err RunFault.DiskFault → Rose (D.faults_of disk.old) (D.faults_of disk.new) }
+    ensures link_fault { result ≡ Err RunFault.LinkFault → Rose (L.faults_of link.old) (L.faults_of link.new) }
+
+    // Where the provider can be run and no fault kept it from that, it served, or there was no memory.
+    ensures complete { IsRunnable R.sets_up R.Role.rules (F.holds files.old) config.now (D.told disk.old) →
+        ¬ (Rose (F.faults_of files.old) (F.faults_of files.new)) →
+        ¬ (Rose (L.faults_of link.old) (L.faults_of link.new)) → result ≢ Err RunFault.DiskFault →
+        IsServed result ⊎ (result ≡ Err RunFault.NoMemory) }
+
+    // A provider that was not set up touches nothing. The files hold what they held, and no count falls.
+    ensures untouched { IsNotSetUp result → (link.new ≡ link.old) × (disk.new ≡ disk.old) × (clock.new ≡ clock.old) }
+    ensures same { F.holds files.new ≡ F.holds files.old }
+    ensures files_never_fall { F.faults_of files.old ≤ F.faults_of files.new }
+    ensures disk_never_falls { D.faults_of disk.old ≤ D.faults_of disk.new }
+    ensures link_never_falls { L.faults_of link.old ≤ L.faults_of link.new }
+{
+    R::never_both();
+    match R::set_up(alloc, files, config) {
+        Ok(role) => run_by::<R, L, D, C>(alloc, role, link, disk, clock, budget),
+        Err(SetupFault::BadFile { file, line }) => Ok(Ended::BadFile { file, line }),
+        Err(SetupFault::ReadFault) => Err(RunFault::ReadFault),
+        Err(SetupFault::NoMemory) => Err(RunFault::NoMemory),
+    }
+}

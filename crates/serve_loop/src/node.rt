@@ -1,0 +1,73 @@
+//! What answers requests.
+ghost use Rattle.std.specs.Prelude.{◌≡◌, ◌≤◌, ℕ, Option, Result, Err, OnOk, OnErr};
+ghost use Rattle.crash_disk.specs.Disk.{Image, DiskState};
+ghost use Rattle.crash_disk.specs.Moments.{LeavesOnly};
+ghost use Rattle.http_wire.specs.declared.answer.Answer.{Answer};
+ghost use Rattle.http_wire.specs.Requests.{Request};
+ghost use Rattle.http_wire.specs.Views.{request_view};
+ghost use Rattle.gate_journal.specs.declared.fault.OpenFault.{OpenFault};
+ghost use Rattle.gate_journal.specs.Opening.{CausesFaults};
+ghost use Rattle.serve_loop.specs.Worlds.{HasBytes};
+
+use crash_disk::Disk;
+use gate_journal::OpenFault;
+use http_wire::{Answer, HttpRequest};
+use saml_time::LAST;
+
+/// What answers requests, one after the other, and keeps what it has to keep on a disk.
+pub trait Node {
+    /// The disk is the node's own, as far as it tells.
+    ghost own: { Self → Option DiskState → Type 0 };
+
+    /// What an answer does: node and disk before it, the request, the moment, the disk's count of faults before and after, the
+    /// answer, node and disk after it.
+    ghost step: { Self → Option DiskState → Request → ℕ → ℕ → ℕ → Answer → Self → Option DiskState → Type 0 };
+
+    /// What a crash inside an answer may leave: node and disk before it, the request, the moment, the image.
+    ghost leaves: { Self → Option DiskState → Request → ℕ → Image → Type 0 };
+
+    /// Whatever a crash may leave on the disk, as far as it tells, a node can be opened from.
+    ghost may_open: { Option DiskState → Type 0 };
+
+    /// What a restart does: node and disk before it, the disk's count of faults before and after, the result, node and disk
+    /// after it.
+    ghost reopens: { Self → Option DiskState → ℕ → ℕ → Result (Unit {0}) OpenFault → Self → Option DiskState → Type 0 };
+
+    /// What a crash inside a restart may leave: node and disk before it, the image.
+    ghost reopening_leaves: { Self → Option DiskState → Image → Type 0 };
+
+    /// What a compaction does: node and disk before it, the moment, the disk's count of faults before and after, the result,
+    /// node and disk after it.
+    ghost compacts: { Self → Option DiskState → ℕ → ℕ → ℕ → Result (Unit {0}) OpenFault → Self → Option DiskState → Type 0 };
+
+    /// What a crash inside a compaction may leave: node and disk before it, the moment, the image.
+    ghost compaction_leaves: { Self → Option DiskState → ℕ → Image → Type 0 };
+
+    /// Answers a request at a moment.
+    fn answer<D: Disk>(&mut self, request: &HttpRequest<'_>, now: u64, disk: &mut D) -> Answer
+        requires moment { now ≤ LAST }
+        requires own { own self.old (D.told disk.old) }
+        ensures step { step self.old (D.told disk.old) (request_view request.now) now (D.faults_of disk.old) (D.faults_of disk.new) result self.new (D.told disk.new) }
+        ensures has_bytes { HasBytes result }
+        ensures own { own self.new (D.told disk.new) }
+        ensures moments { LeavesOnly D.moment D.left_since disk.old disk.new (leaves self.old (D.told disk.old) (request_view request.now) now) }
+        ensures faults { D.faults_of disk.old ≤ D.faults_of disk.new };
+
+    /// Opens what is kept on the disk again, whatever a crash left there. Where that fails the node goes on owning the disk if
+    /// nothing else may be left there than what it can be opened from.
+    fn restart<D: Disk>(&mut self, disk: &mut D) -> Result<(), OpenFault>
+        ensures reopens { reopens self.old (D.told disk.old) (D.faults_of disk.old) (D.faults_of disk.new) result self.new (D.told disk.new) }
+        ensures own { OnOk result (own self.new (D.told disk.new)) }
+        ensures own_err { OnErr result (may_open (D.told disk.old) → own self.new (D.told disk.new)) }
+        ensures moments { LeavesOnly D.moment D.left_since disk.old disk.new (reopening_leaves self.old (D.told disk.old)) }
+        ensures faults { CausesFaults result (D.faults_of disk.old) (D.faults_of disk.new) };
+
+    /// Lets go what is kept on the disk and no longer needed at a moment.
+    fn compact<D: Disk>(&mut self, disk: &mut D, now: u64) -> Result<(), OpenFault>
+        requires moment { now ≤ LAST }
+        requires own { own self.old (D.told disk.old) }
+        ensures compacts { compacts self.old (D.told disk.old) now (D.faults_of disk.old) (D.faults_of disk.new) result self.new (D.told disk.new) }
+        ensures own { own self.new (D.told disk.new) }
+        ensures moments { LeavesOnly D.moment D.left_since disk.old disk.new (compaction_leaves self.old (D.told disk.old) now) }
+        ensures faults { CausesFaults result (D.faults_of disk.old) (D.faults_of disk.new) };
+}
