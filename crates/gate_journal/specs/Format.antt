@@ -19,12 +19,18 @@ number_at file at = from_be_bytes w64 (take 8 (drop at file))
 abbrev pub header_of : List ℕ → Header
 header_of file = record { generation = number_at file 8; horizon = number_at file 16; next = number_at file 24 }
 
--- how long a file of a version may be, and a payload of it
+-- How many bytes a file may have, and a payload of it: half as many in version 1.
+abbrev pub LONGEST_FILE : ℕ
+LONGEST_FILE = 134217728
+
+abbrev pub LONGEST_PAYLOAD : ℕ
+LONGEST_PAYLOAD = 1048576
+
 abbrev pub longest_file : ℕ → ℕ
-longest_file version = if version == 1 then 67108864 else 134217728
+longest_file version = if version == 1 then 67108864 else LONGEST_FILE
 
 abbrev pub longest_payload : ℕ → ℕ
-longest_payload version = if version == 1 then 524288 else 1048576
+longest_payload version = if version == 1 then 524288 else LONGEST_PAYLOAD
 
 -- From place 72 on stand bodies: the length of a payload in four bytes, the payload, and the gate of the next record.
 abbrev pub size_of : List ℕ → ℕ

@@ -3,7 +3,7 @@ use Rattle.std.specs.Prelude.{◌≡◌, ◌⊎◌, ℕ, ◌+◌, ◌-◌, ◌�
 use Rattle.crash_disk.specs.declared.file_no.FileNo.{FileNo}
 use Rattle.crash_disk.specs.Disk.{Image, DiskState, MayLeave, IsSettled, image_of}
 use Rattle.crash_disk.specs.Torn.{other_file}
-use Rattle.gate_journal.specs.Format.{Kept, journal, longest_file, longest_payload, end_of, gate_place}
+use Rattle.gate_journal.specs.Format.{Kept, LONGEST_FILE, LONGEST_PAYLOAD, journal, longest_file, longest_payload, end_of, gate_place}
 
 -- an opened journal
 pub record Opened : Type 0 where
@@ -16,7 +16,7 @@ pub record Opened : Type 0 where
 
 -- how many bytes are left for bodies
 abbrev pub room_of : Kept → ℕ
-room_of kept = 134217728 - end_of kept.holds.payloads
+room_of kept = LONGEST_FILE - end_of kept.holds.payloads
 
 -- The disk is the journal's own. While it is not broken, a crash leaves what a read gives, which stands for the journal.
 -- While it is broken, each image that a crash may leave stands for some list of records.
@@ -39,7 +39,7 @@ pub record FitsVersion (version : ℕ) (payloads : List (List ℕ)) : Type 0 whe
   pub each : All (λ payload. length payload ≤ longest_payload version) payloads
   pub file : end_of payloads ≤ longest_file version
 
--- Payloads that fit a file of version 2: each has at most 1048576 bytes, and the file 134217728.
+-- Payloads that fit a file of version 2: neither one of them nor the file is too long.
 abbrev pub Fits : List (List ℕ) → Type 0
 Fits payloads = FitsVersion 2 payloads
 
@@ -64,8 +64,8 @@ pub record IsReadyFor (file : FileNo) (end gate : ℕ) (payload : List ℕ) (dis
   pub file_is : file ≡ kept.file
   pub end_is : end ≡ end_of kept.holds.payloads
   pub gate_is : gate ≡ gate_place kept.holds.payloads
-  pub longest : length payload ≤ 1048576
-  pub fits : end + (length payload + 5) ≤ 134217728
+  pub longest : length payload ≤ LONGEST_PAYLOAD
+  pub fits : end + (length payload + 5) ≤ LONGEST_FILE
 
 -- The image stands for what the disk stood for, or for that and the one payload more.
 abbrev pub WithOrWithout : List ℕ → DiskState → Image → Type 0

@@ -6,13 +6,13 @@ use Rattle.crash_disk.specs.Ranges.{IsOutside}
 use Rattle.crash_disk.specs.Torn.{IsQuietDisk, IsQuiet, other_file}
 use Rattle.std.specs.Int.{w64, to_be_bytes}
 use Rattle.gate_journal.specs.declared.header.Header.{Header}
-use Rattle.gate_journal.specs.Format.{Committed, letters, file_of}
+use Rattle.gate_journal.specs.Format.{Committed, LONGEST_FILE, letters, file_of}
 
 -- a file of a header at least, with the letters, that is not too long
 pub record IsHead (file : List ℕ) : Type 0 where
   pub long : 72 ≤ length file
   pub letters_are : take 7 (drop 1 file) ≡ letters
-  pub short : length file ≤ 134217728
+  pub short : length file ≤ LONGEST_FILE
 
 -- The file holds no journal, and the other file is as it was.
 abbrev pub IsBlankBeside : FileNo → List ℕ → Image → Type 0
@@ -79,7 +79,7 @@ pub record IsMade (file : FileNo) (holds : Committed) (other : List ℕ) (disk :
 -- header's length at least, and is not too long.
 pub record IsUnderWay (file : FileNo) (bytes other : List ℕ) (disk : DiskState) : Type 0 where
   pub least : 72 ≤ (state_of disk file).least
-  pub greatest : (state_of disk file).greatest ≤ 134217728
+  pub greatest : (state_of disk file).greatest ≤ LONGEST_FILE
   pub outside : (i : ℕ) → i < 8 → IsOutside i (state_of disk file).written
   pub same : (i : ℕ) → i < 8 → slice_index (state_of disk file).kept i ≡ slice_index bytes i
   pub long : 72 ≤ length bytes

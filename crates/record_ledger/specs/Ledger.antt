@@ -5,7 +5,7 @@ use Rattle.crash_disk.specs.declared.file_no.FileNo.TheVariants.{Zero}
 use Rattle.crash_disk.specs.Disk.{Image, DiskState, MayLeave, IsSettled, image_of}
 use Rattle.crash_disk.specs.Torn.{other_file}
 use Rattle.gate_journal.specs.declared.header.Header.{Header}
-use Rattle.gate_journal.specs.Format.{Kept, Fault, journal, end_of}
+use Rattle.gate_journal.specs.Format.{Kept, Fault, LONGEST_FILE, LONGEST_PAYLOAD, journal, end_of}
 use Rattle.ledger_rules.specs.Numbers.{Drawn, NUMBER_END}
 use Rattle.record_ledger.specs.Rules.{RecordRules, RowRules, next_of, records_of}
 
@@ -76,12 +76,12 @@ module _ {R : Type 0} (rules : RecordRules R) where
 
   -- how many bytes are left in the file for bodies
   abbrev pub room_left : Held R → ℕ
-  room_left held = 134217728 - end_of (map (rules.bytes 2) held.records)
+  room_left held = LONGEST_FILE - end_of (map (rules.bytes 2) held.records)
 
   -- A record fits: its payload is not too long, there is room for it and the 5 bytes around it, and its numbers are below the
   -- end.
   pub record IsFitting (held : Held R) (r : R) : Type 0 where
-    pub payload : length (rules.bytes 2 r) ≤ 1048576
+    pub payload : length (rules.bytes 2 r) ≤ LONGEST_PAYLOAD
     pub room : length (rules.bytes 2 r) + 5 ≤ room_left held
     pub numbers : All (λ (d : Drawn). d.number < NUMBER_END) (rules.drawn r)
 
