@@ -3,32 +3,33 @@ use Rattle.std.proofs.Common.{◌≡◌, ℕ, ◌+◌, ◌<◌, ◌⊎◌, inl, 
 use Rattle.std.specs.Prelude.{◌↔◌}
 use Rattle.std.proofs.lemmas.Bool.{cases_eq, cases_lt, false≢true}
 use Rattle.std.proofs.lemmas.List.{get_or_past, length-set}
-use Rattle.ledger_rules.specs.Kept.{AreFlagsOf, last_of, AreShort}
+use Rattle.ledger_rules.specs.Kept.{AreFlagsOf, AreEnds}
 use Rattle.ledger_rules.proofs.Links.{kept_end, end_kept}
 
-module _ (links : List (Option ℕ)) (seen : List Bool) where
+module _ (links : List (Option ℕ)) (seen : List Bool) (ends : List ℕ) where
   -- the links of one of the first i records, with a visible row, end there
   abbrev pub IsMarked : ℕ → ℕ → Type 0
-  IsMarked i g = (j : ℕ) × (j < i) × (get_or seen j false ≡ true) × (last_of links j ≡ g)
+  IsMarked i g = (j : ℕ) × (j < i) × (get_or seen j false ≡ true) × (get_or ends j 0 ≡ g)
 
   -- the marks that the first i records make
   pub record AreMarks (i : ℕ) (groups : List Bool) : Type 0 where
     pub long : length groups ≡ length links
     pub each : (g : ℕ) → g < length links → (get_or groups g false ≡ true) ↔ IsMarked i g
 
-module _ (links : List (Option ℕ)) (seen : List Bool) (i : ℕ) (groups : List Bool) (marks : AreMarks links seen i groups) where
-  mark_more : (g : ℕ) → IsMarked links seen i g → IsMarked links seen (i + 1) g
+module _ (links : List (Option ℕ)) (seen : List Bool) (ends : List ℕ) (i : ℕ) (groups : List Bool)
+    (marks : AreMarks links seen ends i groups) where
+  mark_more : (g : ℕ) → IsMarked links seen ends i g → IsMarked links seen ends (i + 1) g
   mark_more g mark = let least = mark.1 in (mark.0, omega arith, mark.2, mark.3)
 
-  mark_cases : (g : ℕ) → IsMarked links seen (i + 1) g → IsMarked links seen i g ⊎ ((get_or seen i false ≡ true) × (last_of links i ≡ g))
+  mark_cases : (g : ℕ) → IsMarked links seen ends (i + 1) g → IsMarked links seen ends i g ⊎ ((get_or seen i false ≡ true) × (get_or ends i 0 ≡ g))
   mark_cases g mark = let least = mark.1 in elim (cases_lt mark.0 i) [
     | inl less ↦ inl (mark.0, less, mark.2, mark.3)
     | inr not ↦
         let same : mark.0 ≡ i = omega arith in
-        inr (subst (λ j. get_or seen j false ≡ true) same mark.2, subst (λ j. last_of links j ≡ g) same mark.3)
+        inr (subst (λ j. get_or seen j false ≡ true) same mark.2, subst (λ j. get_or ends j 0 ≡ g) same mark.3)
   ]
 
-  pub marks_unseen : get_or seen i false ≡ false → AreMarks links seen (i + 1) groups
+  pub marks_unseen : get_or seen i false ≡ false → AreMarks links seen ends (i + 1) groups
   marks_unseen not = record {
     long = marks.long;
     each = λ g within. (
@@ -40,7 +41,7 @@ module _ (links : List (Option ℕ)) (seen : List Bool) (i : ℕ) (groups : List
     );
   }
 
-  pub marks_seen : get_or seen i false ≡ true → (end : ℕ) → end ≡ last_of links i → end < length links → AreMarks links seen (i + 1) (set groups end true)
+  pub marks_seen : get_or seen i false ≡ true → (end : ℕ) → end ≡ get_or ends i 0 → end < length links → AreMarks links seen ends (i + 1) (set groups end true)
   marks_seen is end last inside =
       let long = marks.long in
       let there : get_or (set groups end true) end false ≡ true = get_or-set_same groups end true false (omega arith) in record {
@@ -65,17 +66,18 @@ visible_within seen j is n same = elim (cases_lt j (length seen)) [
 ]
 
 -- where each flag is the mark of the record at which links end, the flags say what is kept
-pub marks_flags : (links : List (Option ℕ)) (seen groups flags : List Bool) → AreShort links → length seen ≡ length links → AreMarks links seen (length links) groups
-    → ((k : ℕ) → k < length links → last_of links k < length links) → length flags ≡ length links
-    → ((k : ℕ) → k < length links → get_or flags k false ≡ get_or groups (last_of links k) false) → AreFlagsOf links seen flags
-marks_flags links seen groups flags short same marks within long each = record {
+pub marks_flags : (links : List (Option ℕ)) (seen : List Bool) (ends : List ℕ) (groups flags : List Bool) → AreEnds links ends
+    → length seen ≡ length links → AreMarks links seen ends (length links) groups → length flags ≡ length links
+    → ((k : ℕ) → k < length links → get_or flags k false ≡ get_or groups (get_or ends k 0) false) → AreFlagsOf links seen flags
+marks_flags links seen ends groups flags are same marks long each = record {
   long = long;
   each = λ k inside. (
     λ flag.
-        let mark = (marks.each (last_of links k) (within k inside)).0 (sym (each k inside) ∙ flag) in
-        end_kept links (λ j. get_or seen j false) mark.0 k mark.2 (sym mark.3),
+        let mark = (marks.each (get_or ends k 0) (are.within k inside)).0 (sym (each k inside) ∙ flag) in
+        end_kept links (λ j. get_or seen j false) ends are mark.0 k mark.1 inside mark.2 (sym mark.3),
     λ kept.
-        let there = kept_end links (λ j. get_or seen j false) short kept.0 k kept.1 in
-        each k inside ∙ (marks.each (last_of links k) (within k inside)).1 (there.0, visible_within seen there.0 there.1 (length links) same, there.1, sym there.2),
+        let there = kept_end links (λ j. get_or seen j false) ends are kept.0 k kept.1 in
+        each k inside ∙ (marks.each (get_or ends k 0) (are.within k inside)).1
+        (there.0, visible_within seen there.0 there.1 (length links) same, there.1, sym there.2),
   );
 }

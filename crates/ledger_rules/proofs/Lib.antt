@@ -4,5 +4,6 @@ pub mod TextSets
 pub mod Places
 pub mod Links
 pub mod Groups
+pub mod Ends
 pub mod Counted
 pub mod Passing

@@ -4,7 +4,8 @@ use mathlib.Core.Logic.{inl, inr}
 use Rattle.std.specs.Str.{chars}
 use Rattle.hex.specs.Hex.{encode_with}
 use Rattle.ledger_rules.specs.Numbers.{Drawn, number_text, has_number, above, are_fresh, is_xml_text}
-use Rattle.ledger_rules.specs.Kept.{IsKept, is_link, last_of, selected}
+use Rattle.std.proofs.Common.{lit<}
+use Rattle.ledger_rules.specs.Kept.{IsKept, is_link, along, AreOrdered, selected}
 
 three : number_text 3 ≡ codes "_0000000000000003"
 unfolding encode_with
@@ -39,9 +40,13 @@ xml_texts = (refl, refl)
 abbrev links : List (Option ℕ)
 links = Some 1 ∷ None ∷ None ∷ []
 
--- its links end at the second, and those of the others at themselves
-ends : (last_of links 0 ≡ 1) × (last_of links 1 ≡ 1) × (last_of links 2 ≡ 2)
-ends = (refl, refl, refl)
+-- links lead from it to the second, and from the others nowhere else
+led : (along links 1 0 ≡ 1) × (along links 2 0 ≡ 1) × (along links 5 2 ≡ 2)
+led = (refl, refl, refl)
+
+-- two records are not linked to each other
+no_circle : ¬ (AreOrdered (Some 1 ∷ Some 0 ∷ []))
+no_circle ordered = ordered.start 1 0 0 refl (lit< tt) refl
 
 -- where the second has a visible row it is kept, and by one step the first
 abbrev seen : ℕ → Bool

@@ -37,20 +37,31 @@ is_link links j k = is_that j (link_at links k)
 abbrev pub next_of : List (Option ℕ) → ℕ → ℕ
 next_of links k = unwrap_or (link_at links k) k
 
--- the record at which the links from a record end
-abbrev pub last_of : List (Option ℕ) → ℕ → ℕ
-last_of links k = next_of links (next_of links (next_of links k))
+-- the record to which so many links lead, the last one where there are fewer
+abbrev pub along : List (Option ℕ) → (steps : ℕ) → ℕ → ℕ
+along links zero k = k
+along links (suc steps) k = along links steps (next_of links k)
 
--- No link leads on for more than three steps.
-abbrev pub AreShort : List (Option ℕ) → Type 0
-AreShort links =
-    (k a b c : ℕ) → link_at links k ≡ Some a → link_at links a ≡ Some b → link_at links b ≡ Some c → link_at links c ≡ None
+-- A link leads to another record. One that leads to an earlier record starts at a record to which nothing is linked, and leads
+-- to one whose own link, if it has one, leads to a later record.
+pub record AreOrdered (links : List (Option ℕ)) : Type 0 where
+  pub other : (k l : ℕ) → link_at links k ≡ Some l → ¬ (l ≡ k)
+  pub start : (k l j : ℕ) → link_at links k ≡ Some l → l < k → ¬ (link_at links j ≡ Some k)
+  pub later : (k l m : ℕ) → link_at links k ≡ Some l → l < k → link_at links l ≡ Some m → l < m
 
 -- each link leads to a record
 abbrev pub AreWithin : List (Option ℕ) → Type 0
 AreWithin links = (k l : ℕ) → link_at links k ≡ Some l → l < length links
 
+-- Of each record one to which links lead from it, the same for two records of which one is linked to the other.
+pub record AreEnds (links : List (Option ℕ)) (ends : List ℕ) : Type 0 where
+  pub long : length ends ≡ length links
+  pub within : (k : ℕ) → k < length links → slice_index_or ends k 0 < length links
+  pub led : (k : ℕ) → k < length links → (steps : ℕ) × (slice_index_or ends k 0 ≡ along links steps k)
+  pub same : (k l : ℕ) → link_at links k ≡ Some l → slice_index_or ends k 0 ≡ slice_index_or ends l 0
+
 -- The flags say which of the records are kept, where two are linked where one names the other.
 pub record AreFlagsOf (links : List (Option ℕ)) (seen flags : List Bool) : Type 0 where
   pub long : length flags ≡ length links
-  pub each : (k : ℕ) → k < length links → (slice_index_or flags k false ≡ true) ↔ IsKept (λ j. slice_index_or seen j false) (is_link links) k
+  pub each : (k : ℕ) → k < length links →
+      (slice_index_or flags k false ≡ true) ↔ IsKept (λ j. slice_index_or seen j false) (is_link links) k

@@ -1,5 +1,5 @@
-use Rattle.std.proofs.Common.{arith}
-use Rattle.ledger_rules.proofs.Links.{last_within}
+use Rattle.std.proofs.Common.{◌≡◌, ◌<◌, length, get_or, sym, subst, ◌∙◌, arith}
+use Rattle.std.proofs.lemmas.List.{get_or_default}
 use Rattle.ledger_rules.proofs.Groups.{marks_seen, marks_unseen, marks_flags}
 use Rattle.ledger_rules.proofs.kept.keep.Goals as goal
 use Rattle.ledger_rules.proofs.kept.keep.Goals.{then-is_seen, else-is_seen}
@@ -8,15 +8,23 @@ pub loop-place-preserved : goal.loop-place-preserved
 loop-place-preserved c =
     let links = c.args.links.now in
     let seen = c.args.seen.now in
+    let ends = c.in_ok-ends.ends.items in
+    let place = c.loop-place.place in
+    let are = c.in_ok-ends.ensures in
+    let same = c.requires.long in
     elim c.if-is_seen.branch [
       | then-is_seen w ↦
+          let is : w.index.result.now ≡ get_or ends place 0 =
+          w.index.ensures ∙ get_or_default ends place w.index.result.now 0 (omega (arith, are.long)) in
           rw w.groups-is
-          (marks_seen links seen c.loop-place.place c.loop-place.groups.items c.loop-place.invariant w.if-is_seen.true w.last_of.result w.last_of.ensures.last w.last_of.ensures.within)
+          (marks_seen links seen ends place c.loop-place.groups.items c.loop-place.invariant w.if-is_seen.true w.index.result.now is
+          (subst (λ e. e < length links) (sym is) (are.within place (omega arith))))
       | else-is_seen w ↦
-          rw w.groups-is (marks_unseen links seen c.loop-place.place c.loop-place.groups.items c.loop-place.invariant w.if-is_seen.false)
+          rw w.groups-is (marks_unseen links seen ends place c.loop-place.groups.items c.loop-place.invariant w.if-is_seen.false)
     ]
 
 pub returns : goal.returns
 returns c =
-    marks_flags c.args.links.now c.args.seen.now c.loop-place.groups.items c.loop-place-2.flags.items c.requires.short c.requires.long c.loop-place-2.invariant.marks
-    (last_within c.args.links.now c.requires.within) c.loop-place-2.invariant.long (λ k inside. c.loop-place-2.invariant.each k (omega arith))
+    marks_flags c.args.links.now c.args.seen.now c.in_ok-ends.ends.items c.loop-place.groups.items c.loop-place-2.flags.items
+    c.in_ok-ends.ensures c.requires.long c.loop-place-2.invariant.marks c.loop-place-2.invariant.long
+    (λ k inside. c.loop-place-2.invariant.each k (omega arith))
