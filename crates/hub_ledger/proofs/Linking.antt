@@ -1,5 +1,5 @@
 -- The record that a login names, which no other names.
-use Rattle.std.proofs.Common.{◌≡◌, ℕ, ◌<◌, ◌≤◌, true, false, not, List, [], ◌∷◌, slice_get, Some, bytes_eq, refl, sym, ◌∙◌, subst, arith}
+use Rattle.std.proofs.Common.{◌≡◌, ℕ, true, false, not, List, [], ◌∷◌, slice_get, Some, bytes_eq, refl, sym, ◌∙◌, subst}
 use Rattle.std.proofs.lemmas.Bool.{false≢true, and_parts, not-true}
 use Rattle.ledger_records.specs.declared.hub_record.Backed.{Backed}
 use Rattle.ledger_records.specs.declared.hub_record.HubRecord.{HubRecord}
@@ -13,7 +13,7 @@ use Rattle.request_ledger.proofs.LinkFree.{some_at}
 use Rattle.hub_ledger.specs.RowsOf.{asked_rows, below_rows, opened_rows}
 use Rattle.hub_ledger.specs.Record.{drawn, goes_to, is_record, is_routed, hub_rules}
 use Rattle.hub_ledger.specs.Naming.{names, names_routed}
-use Rattle.hub_ledger.specs.Linking.{named, rank, row_found, hub_links}
+use Rattle.hub_ledger.specs.Linking.{named, row_found, hub_links}
 use Rattle.hub_ledger.specs.RowsOf.{below_row}
 use Rattle.hub_ledger.proofs.Words.{backs, routes, routed_any, spent_any, parts}
 
@@ -68,21 +68,6 @@ found_drawn (kinds.Routed r) d is = (0, is)
 found_drawn (kinds.Backed r) d is = absurd (cc)
 found_drawn (kinds.Spoke r) d is = absurd (cc)
 
-rank_routed : (request : List ℕ) (x : HubRecord) → names_routed request x ≡ true → rank x ≡ 0
-rank_routed request (kinds.Routed r) is = refl
-rank_routed request (kinds.Backed r) is = absurd (false≢true is)
-rank_routed request (kinds.Spoke r) is = absurd (false≢true is)
-
-names_rank : (y x : HubRecord) → names y x ≡ true → rank x < rank y
-names_rank (kinds.Routed r) x is = absurd (false≢true is)
-names_rank (kinds.Backed r) x is = let e = rank_routed r.request x is in omega (arith, e)
-names_rank (kinds.Spoke r) x is = absurd (false≢true is)
-
-most : (r : HubRecord) → rank r ≤ 3
-most (kinds.Routed r) = omega arith
-most (kinds.Backed r) = omega arith
-most (kinds.Spoke r) = omega arith
-
 pub link_laws : LinkLaws hub_rules hub_links
 link_laws = record {
   drawn = found_drawn;
@@ -91,7 +76,4 @@ link_laws = record {
   within = λ before r id is some. absurd (cc);
   within_names = λ r x id some is. absurd (cc);
   within_none = λ r id some. absurd (cc);
-  up = names_rank;
-  down = λ y x is. absurd (false≢true is);
-  most = most;
 }

@@ -17,12 +17,6 @@ row_found (kinds.Routed r) = Some (record { number = r.first; id = r.request })
 row_found (kinds.Backed r) = None
 row_found (kinds.Spoke r) = None
 
--- how far links lead: a Routed is named by a Backed
-abbrev pub rank : HubRecord → ℕ
-rank (kinds.Routed r) = 0
-rank (kinds.Backed r) = 1
-rank (kinds.Spoke r) = 1
-
 -- no record is itself linked to one that it names
 abbrev pub hub_links : any.LinkRules HubRecord
-hub_links = record { row = row_found; named = named; within = λ r. None; rank = rank }
+hub_links = record { row = row_found; named = named; within = λ r. None }

@@ -22,7 +22,7 @@ use Rattle.idp_ledger.specs.Ledger.{Held}
 use Rattle.idp_ledger.specs.Compacting.{AreKept, IsCompacted}
 use Rattle.idp_ledger.specs.Laws.{CompactionsChangeNoAnswer}
 use Rattle.idp_ledger.proofs.LawWords.{Each}
-use Rattle.idp_ledger.proofs.KeptMarks.{Marked, AreLinked}
+use Rattle.idp_ledger.proofs.KeptMarks.{Marked, AreClosed}
 use Rattle.idp_ledger.proofs.KeptIssues.{issues_alike, peers_alike}
 use Rattle.idp_ledger.proofs.KeptRows.{pending_seen, session_seen, left_seen, pendings_alike, sessions_alike, lefts_alike}
 
@@ -62,11 +62,11 @@ same_seen now later horizon records some first are_kept =
     let keeps = each_weaker (λ (k : Marked). has_visible now horizon k.1 ≡ true → k.0 ≡ true) (λ (k : Marked). has_visible later horizon k.1 ≡ true → k.0 ≡ true)
     (λ k here seen. here (had_visible now later horizon k.1 first seen)) m.marks m.visible in
     record {
-      pendings = ap (λ l. filter (pending_seen later horizon) (pending_rows l)) (sym m.are_kept) ∙ pendings_alike later horizon m.marks keeps m.linked
+      pendings = ap (λ l. filter (pending_seen later horizon) (pending_rows l)) (sym m.are_kept) ∙ pendings_alike later horizon m.marks keeps m.closed
           ∙ ap (λ l. filter (pending_seen later horizon) (pending_rows l)) m.are_all;
-      sessions = ap (λ l. filter (session_seen later horizon) (session_rows l)) (sym m.are_kept) ∙ sessions_alike later horizon m.marks keeps m.linked
+      sessions = ap (λ l. filter (session_seen later horizon) (session_rows l)) (sym m.are_kept) ∙ sessions_alike later horizon m.marks keeps m.closed
           ∙ ap (λ l. filter (session_seen later horizon) (session_rows l)) m.are_all;
-      lefts = ap (λ l. filter (left_seen later horizon) (left_rows l)) (sym m.are_kept) ∙ lefts_alike later horizon m.marks keeps m.linked
+      lefts = ap (λ l. filter (left_seen later horizon) (left_rows l)) (sym m.are_kept) ∙ lefts_alike later horizon m.marks keeps m.closed
           ∙ ap (λ l. filter (left_seen later horizon) (left_rows l)) m.are_all;
     }
 
@@ -94,12 +94,12 @@ found_has P test (y ∷ xs) x each found = elim (cases_Bool (test y)) [
 
 -- what holds of what was issued in the sessions that are kept, among all and among what is kept
 same_where : (now horizon : ℕ) (records some : List IdpRecord) (P : List IssuedRow → List IssuedRow → List ℕ → Type 0) → AreRecords records → AreKept now horizon records some
-    → ((marks : List Marked) → AreRecords (all marks) → AreLinked marks → Each (λ (row : SessionRow). P (issued_rows (kept marks)) (issued_rows (all marks)) row.cookie) (session_rows (kept marks)))
+    → ((marks : List Marked) → AreRecords (all marks) → AreClosed marks → Each (λ (row : SessionRow). P (issued_rows (kept marks)) (issued_rows (all marks)) row.cookie) (session_rows (kept marks)))
     → Each (λ (row : SessionRow). P (issued_rows some) (issued_rows records) row.cookie) (session_rows some)
 same_where now horizon records some P are are_kept alike =
     let m = are_marked idp_rules now horizon records some are_kept in
     let one = subst (λ rs. Each (λ (row : SessionRow). P (issued_rows rs) (issued_rows (all m.marks)) row.cookie) (session_rows rs)) m.are_kept
-    (alike m.marks (subst AreRecords (sym m.are_all) are) m.linked) in
+    (alike m.marks (subst AreRecords (sym m.are_all) are) m.closed) in
     subst (λ rs. Each (λ (row : SessionRow). P (issued_rows some) (issued_rows rs) row.cookie) (session_rows some)) m.are_all one
 
 -- what was issued in the sessions that are kept

@@ -25,7 +25,7 @@ use Rattle.record_ledger.proofs.LinkRows.{only, less_number}
 use Rattle.idp_ledger.specs.Linking.{idp_links}
 use Rattle.idp_ledger.proofs.LinkFree.{began_at, session_has}
 use Rattle.idp_ledger.proofs.RuleLaws.{freshly_drawn, link_laws}
-use Rattle.idp_ledger.proofs.KeptMarks.{Marked, NamersOf, AreLinked}
+use Rattle.idp_ledger.proofs.KeptMarks.{Marked, NamersOf, AreClosed}
 
 -- whether a record is an Issued with this cookie
 abbrev pub is_of : List ℕ → IdpRecord → Bool
@@ -187,7 +187,7 @@ onward earlier later m numbered is are rest =
     subst (λ ms. Each (λ (row : SessionRow). KeepsAll (is_of row.cookie) ms) (session_rows (kept later))) (split earlier later m)
     (rest (subst AreNumbered (sym (all_push earlier m)) (numbered_push (all earlier) m.1 numbered is)) (subst (λ b. AreRecordsAfter b (all later)) (sym (all_push earlier m)) are))
 
-each_session_keeps : (earlier later : List Marked) → AreNumbered (all earlier) → AreRecordsAfter (all earlier) (all later) → AreLinked later
+each_session_keeps : (earlier later : List Marked) → AreNumbered (all earlier) → AreRecordsAfter (all earlier) (all later) → AreClosed later
     → Each (λ (row : SessionRow). KeepsAll (is_of row.cookie) (earlier ++ later)) (session_rows (kept later))
 each_session_keeps earlier [] numbered are linked = tt
 each_session_keeps earlier ((true, kinds.Issued r) ∷ later) numbered are linked =
@@ -253,7 +253,7 @@ told_alike beside cookie peer marks keeps =
     (λ m keep here. keep (to_is_of beside cookie peer m.1 here)) marks keeps)
     ∙ sym (has_issued_any beside (all marks) cookie peer)
 
-pub issues_alike : (beside : Bool) (peer : List ℕ) (marks : List Marked) → AreRecords (all marks) → AreLinked marks
+pub issues_alike : (beside : Bool) (peer : List ℕ) (marks : List Marked) → AreRecords (all marks) → AreClosed marks
     → Each (λ (row : SessionRow). has_issued beside (issued_rows (kept marks)) row.cookie peer ≡ has_issued beside (issued_rows (all marks)) row.cookie peer) (session_rows (kept marks))
 issues_alike beside peer marks are linked =
     each_weaker (λ (row : SessionRow). KeepsAll (is_of row.cookie) marks)
@@ -295,7 +295,7 @@ last_same cookie ((false, kinds.Left r) ∷ marks) keeps = last_same cookie mark
 last_same cookie ((false, kinds.Confirmed r) ∷ marks) keeps = last_same cookie marks keeps.1
 last_same cookie ((false, kinds.Spoke r) ∷ marks) keeps = last_same cookie marks keeps.1
 
-pub peers_alike : (marks : List Marked) → AreRecords (all marks) → AreLinked marks
+pub peers_alike : (marks : List Marked) → AreRecords (all marks) → AreClosed marks
     → Each (λ (row : SessionRow). last_peer (issued_rows (kept marks)) row.cookie ≡ last_peer (issued_rows (all marks)) row.cookie) (session_rows (kept marks))
 peers_alike marks are linked =
     each_weaker (λ (row : SessionRow). KeepsAll (is_of row.cookie) marks)

@@ -193,7 +193,7 @@ free_kept marks (kinds.Confirmed r) keeps free = waiting_kept r.request marks ke
 free_kept marks (kinds.Spoke r) keeps free = refl
 
 pub record_kept : StaysRecord idp_rules
-record_kept marks r keeps is =
+record_kept marks r are closed keeps is =
     let p = parts (all marks) r is in
     from_parts (kept marks) r (record {
       free = free_kept marks r keeps p.free;

@@ -16,7 +16,7 @@ use Rattle.idp_ledger.specs.declared.row.SessionRow.{SessionRow}
 use Rattle.idp_ledger.specs.declared.row.LeftRow.{LeftRow}
 use Rattle.idp_ledger.specs.Finding.{visible}
 use Rattle.idp_ledger.specs.RowsOf.{if_pending, pending_rows, session_rows, left_rows, pending_row, session_row, left_row, is_pending, uses, ends, confirms}
-use Rattle.idp_ledger.proofs.KeptMarks.{Marked, NamersOf, AreLinked}
+use Rattle.idp_ledger.proofs.KeptMarks.{Marked, NamersOf, AreClosed}
 
 -- what uses a login, ends a session or confirms a logout names its record
 issue_user : (r : Pending) (p : Option (List ℕ)) (cookie : List ℕ) → is_pending r.pending p ≡ true → issue_names p cookie (kinds.Pending r) ≡ true
@@ -66,7 +66,7 @@ module _ (now horizon : ℕ) where
   unseen : (r : IdpRecord) → (has_visible now horizon r ≡ true → false ≡ true) → has_visible now horizon r ≡ false
   unseen r keeps = false_from_ne_true (has_visible now horizon r) (λ here. false≢true (keeps here))
 
-  pub pendings_alike : (marks : List Marked) → KeepsAll (has_visible now horizon) marks → AreLinked marks
+  pub pendings_alike : (marks : List Marked) → KeepsAll (has_visible now horizon) marks → AreClosed marks
       → filter pending_seen (pending_rows (kept marks)) ≡ filter pending_seen (pending_rows (all marks))
   pendings_alike [] keeps linked = refl
   pendings_alike ((true, kinds.Pending r) ∷ marks) keeps linked =
@@ -106,7 +106,7 @@ module _ (now horizon : ℕ) where
   left_begun r None marks none rest = rest
   left_begun r (Some pending) marks none rest = rw none rest
 
-  pub sessions_alike : (marks : List Marked) → KeepsAll (has_visible now horizon) marks → AreLinked marks
+  pub sessions_alike : (marks : List Marked) → KeepsAll (has_visible now horizon) marks → AreClosed marks
       → filter session_seen (session_rows (kept marks)) ≡ filter session_seen (session_rows (all marks))
   sessions_alike [] keeps linked = refl
   sessions_alike ((true, kinds.Issued r) ∷ marks) keeps linked = begun_alike r r.pending marks refl linked.0 (sessions_alike marks keeps.1 linked.1)
@@ -123,7 +123,7 @@ module _ (now horizon : ℕ) where
   sessions_alike ((false, kinds.Confirmed r) ∷ marks) keeps linked = sessions_alike marks keeps.1 linked.1
   sessions_alike ((false, kinds.Spoke r) ∷ marks) keeps linked = sessions_alike marks keeps.1 linked.1
 
-  pub lefts_alike : (marks : List Marked) → KeepsAll (has_visible now horizon) marks → AreLinked marks
+  pub lefts_alike : (marks : List Marked) → KeepsAll (has_visible now horizon) marks → AreClosed marks
       → filter left_seen (left_rows (kept marks)) ≡ filter left_seen (left_rows (all marks))
   lefts_alike [] keeps linked = refl
   lefts_alike ((true, kinds.Left r) ∷ marks) keeps linked =

@@ -1,8 +1,6 @@
 -- The laws of the records of an identity provider, and of their rows.
-use Rattle.std.proofs.Common.{◌≡◌, ℕ, suc, ◌+◌, ◌<◌, ◌≤◌, max, true, ◌&&◌, not, List, [], ◌∷◌, ◌++◌, length, slice_get, Option, None, Some, refl, sym, ap, ◌∙◌, subst, arith}
+use Rattle.std.proofs.Common.{◌≡◌, ℕ, suc, ◌+◌, ◌<◌, ◌≤◌, max, List, [], ◌∷◌, ◌++◌, length, slice_get, Option, None, Some, sym, ap, ◌∙◌, subst, arith}
 use Rattle.std.specs.List.{list_any}
-use Rattle.std.specs.Option.{is_some}
-use Rattle.std.proofs.lemmas.Bool.{false≢true, and_parts}
 use Rattle.ledger_records.specs.declared.idp_record.Issued.{Issued}
 use Rattle.ledger_records.specs.declared.idp_record.IdpRecord.{IdpRecord}
 use Rattle.ledger_records.specs.declared.idp_record.IdpRecord.TheVariants as kinds
@@ -13,13 +11,12 @@ use Rattle.record_ledger.specs.Linking.{LinkLaws}
 use Rattle.idp_ledger.specs.declared.row.SessionRow.{SessionRow}
 use Rattle.idp_ledger.specs.RowsOf.{if_pending, ends, pending_rows, issued_rows, session_row, session_rows, left_rows, rows_of, rows_after}
 use Rattle.idp_ledger.specs.Record.{drawn, is_next, is_record, idp_rules}
-use Rattle.idp_ledger.specs.Naming.{has_cookie, has_pending, has_session, has_logout, issue_names, names}
 use Rattle.idp_ledger.specs.Standing.{StandingView, AreFew, AreRowsOf, IsAfter, idp_row_rules}
-use Rattle.idp_ledger.specs.Linking.{rank, rank_of, row_found, session_found, where_none, within, idp_links}
+use Rattle.idp_ledger.specs.Linking.{row_found, session_found, idp_links}
 use Rattle.idp_ledger.proofs.RowLaws.{is_record-is, rows_of-push, next_of-push}
 use Rattle.idp_ledger.proofs.LawWords.{parts}
 use Rattle.idp_ledger.proofs.StandingRows.{assertion_of, message_of, cookie_of, index_of}
-use Rattle.idp_ledger.proofs.LinkFree.{names_up, names_down, names_has, free_row, within_row, within_names, within_none, is_within}
+use Rattle.idp_ledger.proofs.LinkFree.{names_has, free_row, within_row, within_names, within_none}
 
 no_longer : (n : ℕ) → n ≤ n + 1
 no_longer n = omega arith
@@ -119,72 +116,6 @@ found_drawn (kinds.Left r) d is = (0, is)
 found_drawn (kinds.Confirmed r) d is = absurd (cc)
 found_drawn (kinds.Spoke r) d is = absurd (cc)
 
-rank_pending : (pending : List ℕ) (x : IdpRecord) → has_pending pending x ≡ true → rank x ≡ 0
-rank_pending pending (kinds.Pending r) is = refl
-rank_pending pending (kinds.Issued r) is = absurd (false≢true is)
-rank_pending pending (kinds.Ended r) is = absurd (false≢true is)
-rank_pending pending (kinds.Left r) is = absurd (false≢true is)
-rank_pending pending (kinds.Confirmed r) is = absurd (false≢true is)
-rank_pending pending (kinds.Spoke r) is = absurd (false≢true is)
-
-rank_cookie : (cookies : List (List ℕ)) (p : Option (List ℕ)) (cookie : List ℕ) → has_cookie cookies p cookie ≡ true → rank_of p ≡ 1
-rank_cookie cookies None cookie is = absurd (false≢true is)
-rank_cookie cookies (Some pending) cookie is = refl
-
-rank_session : (cookies : List (List ℕ)) (x : IdpRecord) → has_session cookies x ≡ true → rank x ≡ 1
-rank_session cookies (kinds.Pending r) is = absurd (false≢true is)
-rank_session cookies (kinds.Issued r) is = rank_cookie cookies r.pending r.cookie is
-rank_session cookies (kinds.Ended r) is = absurd (false≢true is)
-rank_session cookies (kinds.Left r) is = absurd (false≢true is)
-rank_session cookies (kinds.Confirmed r) is = absurd (false≢true is)
-rank_session cookies (kinds.Spoke r) is = absurd (false≢true is)
-
-rank_logout : (request : List ℕ) (x : IdpRecord) → has_logout request x ≡ true → rank x ≡ 2
-rank_logout request (kinds.Pending r) is = absurd (false≢true is)
-rank_logout request (kinds.Issued r) is = absurd (false≢true is)
-rank_logout request (kinds.Ended r) is = absurd (false≢true is)
-rank_logout request (kinds.Left r) is = refl
-rank_logout request (kinds.Confirmed r) is = absurd (false≢true is)
-rank_logout request (kinds.Spoke r) is = absurd (false≢true is)
-
-issue_rank : (p : Option (List ℕ)) (cookie : List ℕ) (x : IdpRecord) → (not (is_some (where_none p cookie)) && issue_names p cookie x) ≡ true → (rank_of p ≡ 1) × (rank x ≡ 0)
-issue_rank None cookie x is = absurd (false≢true is)
-issue_rank (Some pending) cookie x is = (refl, rank_pending pending x is)
-
-up_rank : (y x : IdpRecord) → names_up y x ≡ true → rank x < rank y
-up_rank (kinds.Pending r) x is = absurd (false≢true is)
-up_rank (kinds.Issued r) x is = let e = issue_rank r.pending r.cookie x is in omega (arith, e.0, e.1)
-up_rank (kinds.Ended r) x is = let e = rank_session r.cookies x is in omega (arith, e)
-up_rank (kinds.Left r) x is = let e = rank_session (r.cookie ∷ []) x is in omega (arith, e)
-up_rank (kinds.Confirmed r) x is = let e = rank_logout r.request x is in omega (arith, e)
-up_rank (kinds.Spoke r) x is = absurd (false≢true is)
-
-some_there : (o : Option (List ℕ)) → is_some o ≡ true → (id : List ℕ) × (o ≡ Some id)
-some_there None is = absurd (cc)
-some_there (Some id) is = (id, refl)
-
-down_rank : (y x : IdpRecord) → names_down y x ≡ true → rank y < rank x
-down_rank y x is =
-    let both = and_parts (is_some (within y)) (names y x) is in
-    let at = some_there (within y) both.0 in
-    let w = is_within y at.0 at.1 in
-    let here : rank y ≡ 0 = ap rank w.is ∙ ap rank_of w.none in
-    let has : has_session (w.issue.cookie ∷ []) x ≡ true = sym (ap (λ z. names z x) w.is ∙ ap (λ p. issue_names p w.issue.cookie x) w.none) ∙ both.1 in
-    let there = rank_session (w.issue.cookie ∷ []) x has in
-    omega (arith, here, there)
-
-issued_most : (p : Option (List ℕ)) → rank_of p ≤ 3
-issued_most None = omega arith
-issued_most (Some pending) = omega arith
-
-most : (r : IdpRecord) → rank r ≤ 3
-most (kinds.Pending r) = omega arith
-most (kinds.Issued r) = issued_most r.pending
-most (kinds.Ended r) = omega arith
-most (kinds.Left r) = omega arith
-most (kinds.Confirmed r) = omega arith
-most (kinds.Spoke r) = omega arith
-
 pub link_laws : LinkLaws idp_rules idp_links
 link_laws = record {
   drawn = found_drawn;
@@ -193,7 +124,4 @@ link_laws = record {
   within = within_row;
   within_names = within_names;
   within_none = within_none;
-  up = up_rank;
-  down = down_rank;
-  most = most;
 }

@@ -41,19 +41,5 @@ within (kinds.Left r) = None
 within (kinds.Confirmed r) = None
 within (kinds.Spoke r) = None
 
--- how far links lead: a Pending to the Issued that names it, an Issued in a session to the one that began it, that one to the
--- Left or the Ended that names it, and a Left to its Confirmed
-abbrev pub rank_of : Option (List ℕ) → ℕ
-rank_of None = 0
-rank_of (Some pending) = 1
-
-abbrev pub rank : IdpRecord → ℕ
-rank (kinds.Pending r) = 0
-rank (kinds.Issued r) = rank_of r.pending
-rank (kinds.Ended r) = 3
-rank (kinds.Left r) = 2
-rank (kinds.Confirmed r) = 3
-rank (kinds.Spoke r) = 3
-
 abbrev pub idp_links : any.LinkRules IdpRecord
-idp_links = record { row = row_found; named = named; within = within; rank = rank }
+idp_links = record { row = row_found; named = named; within = within }

@@ -9,16 +9,16 @@ use Rattle.std.proofs.lemmas.List.Elements.{All-head, All-tail, All-cons}
 use Rattle.std.proofs.lemmas.Option.{slice_get_within}
 use Rattle.gate_journal.specs.Format.{sizes, end_of}
 use Rattle.gate_journal.specs.Journal.{Fits}
-use Rattle.ledger_rules.specs.Kept.{IsKeptIn, selected, link_at, is_link, AreWithin, AreShort, AreFlagsOf}
+use Rattle.ledger_rules.specs.Kept.{IsKeptIn, selected, link_at, is_link, AreWithin, AreOrdered, AreFlagsOf}
 use Rattle.record_ledger.specs.declared.links.Links.{Links}
 use Rattle.record_ledger.specs.Rules.{StandReady, RecordRules, RowRules, CanPut, records_of, AreRecordsAfter}
 use Rattle.record_ledger.specs.Laws.{KeptAreRecords}
 use Rattle.record_ledger.specs.Compacting.{passes, names_at, seen_at, AreFlags}
 use Rattle.record_ledger.specs.Choosing.{AreStanding}
-use Rattle.record_ledger.specs.Linking.{LinkRules, LinkLaws, names_up, names_down, AreLinks, IsLinked, CanTake}
+use Rattle.record_ledger.specs.Linking.{LinkRules, LinkLaws, names_up, names_down, has_id, AreLinks, IsLinked, CanTake}
 use Rattle.record_ledger.proofs.Records.{records_of-are, records_of-read, records_of-length, record_at}
 use Rattle.record_ledger.proofs.Committing.{sizes_least}
-use Rattle.record_ledger.proofs.LinkSteps.{relates_parts, relates_from}
+use Rattle.record_ledger.proofs.LinkSteps.{RelatesParts, relates_parts, relates_from}
 
 -- the items whose flags are set
 pub selected_map : {X Y : Type 0} (f : X → Y) (flags : List Bool) (xs : List X) → selected flags (map f xs) ≡ map f (selected flags xs)
@@ -149,56 +149,93 @@ module _ {R : Type 0} (rules : RecordRules R) where
       some_there payloads records i payload (records_of-are rules 2 records payloads read).1 within (ap (rules.found 2) (sym (same ∙ item)) ∙ sym is ∙ none)
 
 module _ {R : Type 0} (rules : RecordRules R) (link_rules : LinkRules R) (laws : LinkLaws rules link_rules) where
-  record Ranks (from to : R) : Type 0 where
-    less : link_rules.rank from < link_rules.rank to
-    most : link_rules.rank to ≤ 3
-
-  same_row : (o : Option R) (a b : R) → o ≡ Some a → o ≡ Some b → link_rules.rank a ≡ link_rules.rank b
-  same_row o a b is is_too = let same : a ≡ b = cc in ap link_rules.rank same
-
-  no_link : (o : Option ℕ) → ((d : ℕ) → o ≡ Some d → ⊥) → o ≡ None
-  no_link None none = refl
-  no_link (Some d) none = absurd (none d refl)
-
-  -- what a link leads from and to
-  record Leads (records : List R) (k l : ℕ) : Type 0 where
-    from : R
-    to : R
-    at_from : slice_get records k ≡ Some from
-    at_to : slice_get records l ≡ Some to
-    ranks : Ranks from to
-
-  leads : (records : List R) (links : List (Option ℕ)) → AreLinks rules link_rules records links → (k l : ℕ) → link_at links k ≡ Some l → Leads records k l
-  leads records links are k l link = elim (are.are k l link) [
+  pub links_within : (records : List R) (links : List (Option ℕ)) → AreLinks rules link_rules records links → AreWithin links
+  links_within records links are k l link = elim (are.are k l link) [
     | inl up ↦
         let p = relates_parts (names_up rules link_rules) records l k up in
-        record { from = p.earlier; to = p.later; at_from = p.at_earlier; at_to = p.at_later; ranks = record { less = laws.up p.later p.earlier p.is; most = laws.most p.later } }
+        let within = slice_get_within records l p.later p.at_later in
+        omega (arith, are.long, within)
     | inr down ↦
         let p = relates_parts (names_down rules link_rules) records k l down in
-        record { from = p.later; to = p.earlier; at_from = p.at_later; at_to = p.at_earlier; ranks = record { less = laws.down p.later p.earlier p.is; most = laws.most p.earlier } }
+        let within = slice_get_within records k p.later p.at_later in
+        omega (arith, are.long, within, p.less)
   ]
 
-  pub links_within : (records : List R) (links : List (Option ℕ)) → AreLinks rules link_rules records links → AreWithin links
-  links_within records links are k l link =
-      let p = leads records links are k l link in
-      let within = slice_get_within records l p.to p.at_to in
-      omega (arith, are.long, within)
+  -- ---- the order of links
 
-  pub links_short : (records : List R) (links : List (Option ℕ)) → AreLinks rules link_rules records links → AreShort links
-  links_short records links are k a b c first second third =
-      no_link (link_at links c) (λ d fourth.
-      let p = leads records links are k a first in
-      let q = leads records links are a b second in
-      let s = leads records links are b c third in
-      let t = leads records links are c d fourth in
-      let one = same_row (slice_get records a) p.to q.from p.at_to q.at_from in
-      let two = same_row (slice_get records b) q.to s.from q.at_to s.at_from in
-      let three = same_row (slice_get records c) s.to t.from s.at_to t.at_from in
-      let w = p.ranks in
-      let x = q.ranks in
-      let y = s.ranks in
-      let z = t.ranks in
-      omega (arith, one, two, three, w.less, x.less, y.less, z.less, z.most))
+  down_of : (y x : R) → names_down rules link_rules y x ≡ true → rules.names y x ≡ true
+  down_of y x is = (and_parts (is_some (link_rules.within y)) (rules.names y x) is).1
+
+  -- a record that is itself linked, to one with a row
+  record IsWithin (y : R) : Type 0 where
+    id : List ℕ
+    is : link_rules.within y ≡ Some id
+
+  is_within : (y x : R) → names_down rules link_rules y x ≡ true → IsWithin y
+  is_within y x down = by_within (link_rules.within y) refl (and_parts (is_some (link_rules.within y)) (rules.names y x) down).0
+    where
+      by_within : (o : Option (List ℕ)) → link_rules.within y ≡ o → is_some o ≡ true → IsWithin y
+      by_within None none is = absurd (false≢true is)
+      by_within (Some id) some is = record { id = id; is = some }
+
+  has_no_row : (y : R) (id : List ℕ) → link_rules.row y ≡ None → has_id rules link_rules (id ∷ []) y ≡ true → ⊥
+  has_no_row y id none has =
+      let not : has_id rules link_rules (id ∷ []) y ≡ false = rw none refl in
+      false≢true (sym not ∙ has)
+
+  -- nothing is itself linked to a record that is itself linked
+  down_once : (y x z : R) → names_down rules link_rules y x ≡ true → names_down rules link_rules x z ≡ true → ⊥
+  down_once y x z down down_too =
+      let first = is_within y x down in
+      let second = is_within x z down_too in
+      has_no_row x first.id (laws.within_none x second.id second.is) (laws.within_names y x first.id first.is (down_of y x down))
+
+  -- and none that it names is linked to it
+  up_or_within : (y x z : R) → names_up rules link_rules y x ≡ true → names_down rules link_rules y z ≡ true → ⊥
+  up_or_within y x z up down =
+      let not_within = (and_parts (not (is_some (link_rules.within y))) (rules.names y x) up).0 in
+      let is = (and_parts (is_some (link_rules.within y)) (rules.names y z) down).0 in
+      false≢true (sym (ap not is) ∙ not_within)
+
+  same_at : (records : List R) (k : ℕ) (x y : R) → slice_get records k ≡ Some x → slice_get records k ≡ Some y → x ≡ y
+  same_at records k x y at at_too = cc
+
+  -- a link to an earlier record leads from one that is itself linked to one that it names
+  down_link : (records : List R) (links : List (Option ℕ)) → AreLinks rules link_rules records links → (k l : ℕ)
+      → link_at links k ≡ Some l → l < k → RelatesParts (names_down rules link_rules) records k l
+  down_link records links are k l link less = elim (are.are k l link) [
+    | inl up ↦ let p = relates_parts (names_up rules link_rules) records l k up in absurd (omega (arith, p.less))
+    | inr down ↦ relates_parts (names_down rules link_rules) records k l down
+  ]
+
+  pub links_ordered : (records : List R) (links : List (Option ℕ)) → AreLinks rules link_rules records links → AreOrdered links
+  links_ordered records links are = record {
+    other = λ k l link same. elim (are.are k l link) [
+      | inl up ↦ let p = relates_parts (names_up rules link_rules) records l k up in absurd (omega (arith, p.less))
+      | inr down ↦ let p = relates_parts (names_down rules link_rules) records k l down in absurd (omega (arith, p.less))
+    ];
+    start = λ k l j link less link_too.
+        let d = down_link records links are k l link less in
+        elim (are.are j k link_too) [
+          | inl up ↦
+              let p = relates_parts (names_up rules link_rules) records k j up in
+              let same = same_at records k p.later d.later p.at_later d.at_later in
+              up_or_within d.later p.earlier d.earlier (subst (λ y. names_up rules link_rules y p.earlier ≡ true) same p.is) d.is
+          | inr down ↦
+              let p = relates_parts (names_down rules link_rules) records j k down in
+              let same = same_at records k p.earlier d.later p.at_earlier d.at_later in
+              down_once p.later d.later d.earlier (subst (λ y. names_down rules link_rules p.later y ≡ true) same p.is) d.is
+        ];
+    later = λ k l m link less link_too.
+        let d = down_link records links are k l link less in
+        elim (are.are l m link_too) [
+          | inl up ↦ (relates_parts (names_up rules link_rules) records m l up).less
+          | inr down ↦
+              let p = relates_parts (names_down rules link_rules) records l m down in
+              let same = same_at records l p.later d.earlier p.at_later d.at_earlier in
+              absurd (down_once d.later d.earlier p.earlier d.is (subst (λ y. names_down rules link_rules y p.earlier ≡ true) same p.is))
+        ];
+  }
 
   -- what names the other is linked to it, or the other to it
   up_or_down : (y x : R) → rules.names y x ≡ true → (names_up rules link_rules y x ≡ true) ⊎ (names_down rules link_rules y x ≡ true)
@@ -210,9 +247,6 @@ module _ {R : Type 0} (rules : RecordRules R) (link_rules : LinkRules R) (laws :
 
   up_names : (y x : R) → names_up rules link_rules y x ≡ true → rules.names y x ≡ true
   up_names y x is = (and_parts (not (is_some (link_rules.within y))) (rules.names y x) is).1
-
-  down_of : (y x : R) → names_down rules link_rules y x ≡ true → rules.names y x ≡ true
-  down_of y x is = (and_parts (is_some (link_rules.within y)) (rules.names y x) is).1
 
   link_names : (records : List R) (links : List (Option ℕ)) → AreLinks rules link_rules records links → (j i : ℕ) → is_link links j i ≡ true → Linked (names_at rules records) j i
   link_names records links are j i on = elim (are.are i j (from_link links j i on)) [
@@ -276,6 +310,12 @@ module _ {R : Type 0} (rules : RecordRules R) (link_rules : LinkRules R) (laws :
       let least = sizes_least payloads in
       let front = length-take-le i records (omega (arith, size, within)) in
       record { records = take i records; are = linked; is = at.is; few = omega (arith, front, least, fit, within) }
+
+  pub links_few : (payloads : List (List ℕ)) (records : List R) (links : List (Option ℕ)) → records_of rules 2 payloads ≡ Ok records
+      → end_of payloads ≤ 134217728 → AreLinks rules link_rules records links → length links < 4294967296
+  links_few payloads records links read fit are =
+      let size = records_of-length rules 2 records payloads read in
+      let least = sizes_least payloads in omega (arith, size, least, fit, are.long)
 
   pub whole_links : (payloads : List (List ℕ)) (records : List R) (i : ℕ) (links : Links) → records_of rules 2 payloads ≡ Ok records → length payloads ≤ i → IsLinked rules link_rules (take i records) links
       → AreLinks rules link_rules records links.links.items

@@ -5,8 +5,7 @@ use Rattle.std.proofs.lemmas.Option.{slice_get_within}
 use Rattle.ledger_rules.specs.Kept.{selected}
 use Rattle.record_ledger.specs.Rules.{RecordRules}
 use Rattle.record_ledger.specs.Compacting.{passes, relates_at, seen_at, names_at, AreKept}
-use Rattle.record_ledger.specs.Marks.{Each, Marked, all, kept, KeepsAll}
-use Rattle.record_ledger.proofs.KeptMarks.{AreLinked}
+use Rattle.record_ledger.specs.Marks.{Each, Marked, all, kept, KeepsAll, AreClosed}
 
 same_flags : (a b : Bool) → (a ≡ true → b ≡ true) → (b ≡ true → a ≡ true) → a ≡ b
 same_flags a b there back =
@@ -40,16 +39,16 @@ module _ {R : Type 0} where
   each_marked P (flag ∷ flags) (r ∷ records) each = (each 0 r refl, each_marked P flags records (λ k x is. each (suc k) x is))
 
 module _ {R : Type 0} (rules : RecordRules R) where
-  linked_marked : (flags : List Bool) (records : List R)
+  closed_marked : (flags : List Bool) (records : List R)
       → ((i j : ℕ) (x y : R) → i < j → slice_get records i ≡ Some x → slice_get records j ≡ Some y → rules.names y x ≡ true
       → slice_index_or flags j false ≡ slice_index_or flags i false)
-      → AreLinked rules (marked flags records)
-  linked_marked [] records link = tt
-  linked_marked (flag ∷ flags) [] link = tt
-  linked_marked (flag ∷ flags) (r ∷ records) link = (
+      → AreClosed rules (marked flags records)
+  closed_marked [] records link = tt
+  closed_marked (flag ∷ flags) [] link = tt
+  closed_marked (flag ∷ flags) (r ∷ records) link = (
     each_marked (λ (n : Marked R). rules.names n.1 r ≡ true → n.0 ≡ flag) flags records
         (λ k y is named. link 0 (suc k) r y (omega arith) refl is named),
-    linked_marked flags records (λ i j x y less is is_too named. link (suc i) (suc j) x y (omega arith) is is_too named),
+    closed_marked flags records (λ i j x y less is is_too named. link (suc i) (suc j) x y (omega arith) is is_too named),
   )
 
   -- Marks of records of which some are kept.
@@ -58,7 +57,7 @@ module _ {R : Type 0} (rules : RecordRules R) where
     pub are_all : all marks ≡ records
     pub are_kept : kept marks ≡ some
     pub visible : KeepsAll (rules.has_visible now horizon) marks
-    pub linked : AreLinked rules marks
+    pub closed : AreClosed rules marks
 
   module _ (now horizon : ℕ) (records some : List R) (are : AreKept rules now horizon records some) where
     seen_flag : (k : ℕ) (r : R) → slice_get records k ≡ Some r → rules.has_visible now horizon r ≡ true → slice_index_or are.flags k false ≡ true
@@ -73,9 +72,9 @@ module _ {R : Type 0} (rules : RecordRules R) where
         and_from (nat_lt i j) (passes (λ later. passes (rules.names later) (slice_get records i)) (slice_get records j)) (lt-ltb i j less)
         (ap (passes (λ later. passes (rules.names later) (slice_get records i))) is_too ∙ ap (passes (rules.names y)) is ∙ named)
 
-    linked_flags : (i j : ℕ) (x y : R) → i < j → slice_get records i ≡ Some x → slice_get records j ≡ Some y → rules.names y x ≡ true
+    closed_flags : (i j : ℕ) (x y : R) → i < j → slice_get records i ≡ Some x → slice_get records j ≡ Some y → rules.names y x ≡ true
         → slice_index_or are.flags j false ≡ slice_index_or are.flags i false
-    linked_flags i j x y less is is_too named =
+    closed_flags i j x y less is is_too named =
         let link = names_there i j x y less is is_too named in
         let first = are.each i (slice_get_within records i x is) in
         let second = are.each j (slice_get_within records j y is_too) in
@@ -89,5 +88,5 @@ module _ {R : Type 0} (rules : RecordRules R) where
       are_all = all_marked are.flags records are.long;
       are_kept = kept_marked are.flags records ∙ sym are.are;
       visible = each_marked (λ (m : Marked R). rules.has_visible now horizon m.1 ≡ true → m.0 ≡ true) are.flags records seen_flag;
-      linked = linked_marked are.flags records linked_flags;
+      closed = closed_marked are.flags records closed_flags;
     }

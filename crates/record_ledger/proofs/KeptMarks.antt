@@ -3,7 +3,8 @@ use Rattle.std.proofs.Common.{◌≡◌, Bool, true, false, ◌||◌, List, [], 
 use Rattle.std.specs.List.{list_any}
 use Rattle.std.proofs.lemmas.Bool.{false≢true, or_from, or_parts, false_from_ne_true}
 use Rattle.record_ledger.specs.Rules.{RecordRules}
-use Rattle.record_ledger.specs.Marks.{Each, Marked, all, kept, KeepsAll}
+use Rattle.record_ledger.specs.Marks.{Each, Marked, all, kept, KeepsAll, AreClosed}
+use Rattle.record_ledger.proofs.Words.{each_push}
 
 module _ {R : Type 0} where
   pub all_push : (marks : List (Marked R)) (m : Marked R) → all (marks ++ m ∷ []) ≡ all marks ++ m.1 ∷ []
@@ -36,10 +37,11 @@ module _ {R : Type 0} where
   none_kept test ((false, r) ∷ marks) none = none_kept test marks (or_parts (test r) (list_any test (all marks)) none).1
 
 module _ {R : Type 0} (rules : RecordRules R) where
-  -- those that name this record are kept just where it is
-  abbrev pub NamersOf : Marked R → List (Marked R) → Type 0
-  NamersOf m = Each (λ (n : Marked R). rules.names n.1 m.1 ≡ true → n.0 ≡ m.0)
-
-  abbrev pub AreLinked : List (Marked R) → Type 0
-  AreLinked [] = Unit {0}
-  AreLinked (m ∷ marks) = NamersOf m marks × AreLinked marks
+  -- one record more that is kept just where those are that it names
+  pub closed_push : (earlier : List (Marked R)) (m : Marked R) → AreClosed rules earlier
+      → Each (λ (e : Marked R). rules.names m.1 e.1 ≡ true → m.0 ≡ e.0) earlier → AreClosed rules (earlier ++ m ∷ [])
+  closed_push [] m closed own = (tt, tt)
+  closed_push (e ∷ earlier) m closed own = (
+    each_push (λ (n : Marked R). rules.names n.1 e.1 ≡ true → n.0 ≡ e.0) earlier m closed.0 own.0,
+    closed_push earlier m closed.1 own.1,
+  )

@@ -1,5 +1,5 @@
 -- How a compaction finds which record names which.
-use Rattle.std.specs.Prelude.{◌≡◌, ◌⊎◌, ℕ, ◌+◌, ◌<◌, ◌≤◌, Bool, true, false, not, ◌&&◌, List, [], ◌∷◌, ◌++◌, length, map, slice_index, slice_get, Option, None, Some, if◌then◌else◌}
+use Rattle.std.specs.Prelude.{◌≡◌, ◌⊎◌, ℕ, ◌+◌, ◌<◌, Bool, true, false, not, ◌&&◌, List, [], ◌∷◌, ◌++◌, length, map, slice_index, slice_get, Option, None, Some, if◌then◌else◌}
 use Rattle.std.specs.List.{flat_map, list_any}
 use Rattle.std.specs.Option.{option_map, is_some}
 use Rattle.std.specs.Str.{bytes_eq}
@@ -18,8 +18,6 @@ pub record LinkRules (R : Type 0) : Type 0 where
   pub named : R → List (List ℕ)
   -- the ID of the row to whose record a record is itself linked
   pub within : R → Option (List ℕ)
-  -- how far the links to a record lead
-  pub rank : R → ℕ
 
 abbrev pub as_list : {X : Type 0} → Option X → List X
 as_list None = []
@@ -61,7 +59,8 @@ module _ {R : Type 0} (rules : RecordRules R) (link_rules : LinkRules R) where
   -- each record is linked so
   pub record AreLinks (records : List R) (links : List (Option ℕ)) : Type 0 where
     pub long : length links ≡ length records
-    pub are : (i l : ℕ) → link_at links i ≡ Some l → (relates_at names_up records l i ≡ true) ⊎ (relates_at names_down records i l ≡ true)
+    pub are : (i l : ℕ) → link_at links i ≡ Some l →
+        (relates_at names_up records l i ≡ true) ⊎ (relates_at names_down records i l ≡ true)
     pub up : (i l : ℕ) → relates_at names_up records l i ≡ true → link_at links i ≡ Some l
     pub down : (i l : ℕ) → relates_at names_down records i l ≡ true → link_at links i ≡ Some l
 
@@ -126,12 +125,10 @@ module _ {R : Type 0} (rules : RecordRules R) (link_rules : LinkRules R) where
     pub drawn : (r : R) (d : Drawn) → link_rules.row r ≡ Some d → (k : ℕ) × (slice_get (rules.drawn r) k ≡ Some d)
     -- what is named and linked has one of the IDs, and each of these has a row that is named once
     pub named : (r x : R) → names_up r x ≡ true → has_id (link_rules.named r) x ≡ true
-    pub free : (before : List R) (r : R) (id : List ℕ) → rules.is_record before r ≡ true → is_among id (link_rules.named r) ≡ true → FreeRow before r id
-    -- a record that is itself linked names the row of that ID alone, and has none that is found
-    pub within : (before : List R) (r : R) (id : List ℕ) → rules.is_record before r ≡ true → link_rules.within r ≡ Some id → NamedRow before r id
+    pub free : (before : List R) (r : R) (id : List ℕ) → rules.is_record before r ≡ true →
+        is_among id (link_rules.named r) ≡ true → FreeRow before r id
+    -- a record that is itself linked names the row of that ID alone, and has none that is found: so nothing is linked to it
+    pub within : (before : List R) (r : R) (id : List ℕ) → rules.is_record before r ≡ true →
+        link_rules.within r ≡ Some id → NamedRow before r id
     pub within_names : (r x : R) (id : List ℕ) → link_rules.within r ≡ Some id → rules.names r x ≡ true → has_id (id ∷ []) x ≡ true
     pub within_none : (r : R) (id : List ℕ) → link_rules.within r ≡ Some id → link_rules.row r ≡ None
-    -- links lead from a lesser rank to a greater one
-    pub up : (y x : R) → names_up y x ≡ true → link_rules.rank x < link_rules.rank y
-    pub down : (y x : R) → names_down y x ≡ true → link_rules.rank y < link_rules.rank x
-    pub most : (r : R) → link_rules.rank r ≤ 3

@@ -1,6 +1,6 @@
 -- Records with marks that say which are kept.
 use Rattle.std.specs.Prelude.{◌≡◌, Bool, true, List, [], ◌∷◌, if◌then◌else◌}
-use Rattle.record_ledger.specs.Rules.{RecordRules}
+use Rattle.record_ledger.specs.Rules.{RecordRules, AreRecords}
 
 -- what holds of each
 abbrev pub Each : {X : Type 0} → (X → Type 0) → List X → Type 0
@@ -24,7 +24,19 @@ kept (m ∷ marks) = if m.0 then m.1 ∷ kept marks else kept marks
 abbrev pub KeepsAll : {R : Type 0} → (R → Bool) → List (Marked R) → Type 0
 KeepsAll {R} test = Each (λ (m : Marked R). test m.1 ≡ true → m.0 ≡ true)
 
--- A record stays one of the ledger where some of those before it are left out, but none that it names.
-abbrev pub StaysRecord : {R : Type 0} → RecordRules R → Type 0
-StaysRecord {R} rules =
-    (marks : List (Marked R)) (r : R) → KeepsAll (rules.names r) marks → rules.is_record (all marks) r ≡ true → rules.is_record (kept marks) r ≡ true
+module _ {R : Type 0} (rules : RecordRules R) where
+  -- of a record and of each that names it, both are kept or neither
+  abbrev pub NamersOf : Marked R → List (Marked R) → Type 0
+  NamersOf m = Each (λ (n : Marked R). rules.names n.1 m.1 ≡ true → n.0 ≡ m.0)
+
+  -- The marks are closed: of two records of which the later names the earlier, both are kept or neither.
+  abbrev pub AreClosed : List (Marked R) → Type 0
+  AreClosed [] = Unit {0}
+  AreClosed (m ∷ marks) = NamersOf m marks × AreClosed marks
+
+  -- A record stays one of the ledger where some of the ledger's records before it are left out, but none that it names, and none
+  -- without those that it names and those that name it.
+  abbrev pub StaysRecord : Type 0
+  StaysRecord =
+      (marks : List (Marked R)) (r : R) → AreRecords rules (all marks) → AreClosed marks → KeepsAll (rules.names r) marks
+      → rules.is_record (all marks) r ≡ true → rules.is_record (kept marks) r ≡ true

@@ -56,9 +56,9 @@ same_seen now later horizon records some first are_kept =
     record {
       asked = ap (λ l. filter (asked_seen later horizon) (asked_rows l)) (sym m.are_kept) ∙ asked_alike later horizon m.marks keeps
           ∙ ap (λ l. filter (asked_seen later horizon) (asked_rows l)) m.are_all;
-      opened = ap (λ l. filter (opened_seen later horizon) (opened_rows l)) (sym m.are_kept) ∙ opened_alike later horizon m.marks keeps m.linked
+      opened = ap (λ l. filter (opened_seen later horizon) (opened_rows l)) (sym m.are_kept) ∙ opened_alike later horizon m.marks keeps m.closed
           ∙ ap (λ l. filter (opened_seen later horizon) (opened_rows l)) m.are_all;
-      left = ap (λ l. filter (left_seen later horizon) (left_rows l)) (sym m.are_kept) ∙ left_alike later horizon m.marks keeps m.linked
+      left = ap (λ l. filter (left_seen later horizon) (left_rows l)) (sym m.are_kept) ∙ left_alike later horizon m.marks keeps m.closed
           ∙ ap (λ l. filter (left_seen later horizon) (left_rows l)) m.are_all;
     }
 

@@ -133,7 +133,7 @@ free_kept marks (kinds.Ended r) keeps free = all_open_kept r.tokens marks keeps 
 free_kept marks (kinds.Confirmed r) keeps free = waiting_kept r.request marks keeps free
 
 pub record_kept : StaysRecord request_rules
-record_kept marks r keeps is =
+record_kept marks r are closed keeps is =
     let p = parts (all marks) r is in
     from_parts (kept marks) r (record {
       free = free_kept marks r keeps p.free;

@@ -15,7 +15,7 @@ use Rattle.record_ledger.specs.Marks.{all, kept, KeepsAll}
 use Rattle.record_ledger.proofs.Words.{each_weaker, other_way}
 use Rattle.record_ledger.proofs.KeptMarks.{any_same}
 use Rattle.request_ledger.specs.RowsOf.{asked_rows, opened_rows, left_rows, asked_row, opened_row, left_row, closes, confirms}
-use Rattle.request_ledger.proofs.KeptMarks.{Marked, NamersOf, AreLinked}
+use Rattle.request_ledger.proofs.KeptMarks.{Marked, NamersOf, AreClosed}
 
 -- what closes a session names its record, and what confirms a logout
 closer_names : (r : Opened) (x : SpRecord) → closes r.token x ≡ true → names x (kinds.Opened r) ≡ true
@@ -72,7 +72,7 @@ module _ (now horizon : ℕ) where
   asked_alike ((false, kinds.Ended r) ∷ marks) keeps = asked_alike marks keeps.1
   asked_alike ((false, kinds.Confirmed r) ∷ marks) keeps = asked_alike marks keeps.1
 
-  pub opened_alike : (marks : List Marked) → KeepsAll (has_visible now horizon) marks → AreLinked marks
+  pub opened_alike : (marks : List Marked) → KeepsAll (has_visible now horizon) marks → AreClosed marks
       → filter opened_seen (opened_rows (kept marks)) ≡ filter opened_seen (opened_rows (all marks))
   opened_alike [] keeps linked = refl
   opened_alike ((true, kinds.Opened r) ∷ marks) keeps linked =
@@ -91,7 +91,7 @@ module _ (now horizon : ℕ) where
   opened_alike ((false, kinds.Ended r) ∷ marks) keeps linked = opened_alike marks keeps.1 linked.1
   opened_alike ((false, kinds.Confirmed r) ∷ marks) keeps linked = opened_alike marks keeps.1 linked.1
 
-  pub left_alike : (marks : List Marked) → KeepsAll (has_visible now horizon) marks → AreLinked marks
+  pub left_alike : (marks : List Marked) → KeepsAll (has_visible now horizon) marks → AreClosed marks
       → filter left_seen (left_rows (kept marks)) ≡ filter left_seen (left_rows (all marks))
   left_alike [] keeps linked = refl
   left_alike ((true, kinds.Left r) ∷ marks) keeps linked =

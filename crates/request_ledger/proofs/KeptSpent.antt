@@ -13,7 +13,7 @@ use Rattle.request_ledger.specs.Record.{next_of, is_record, AreRecordsAfter, Are
 use Rattle.request_ledger.specs.Compacting.{AreKept}
 use Rattle.request_ledger.proofs.LawWords.{opens, parts, opens_rightly, push_none}
 use Rattle.request_ledger.proofs.LawNumbers.{next_push, asked_as, not_asked_later}
-use Rattle.request_ledger.proofs.KeptMarks.{Marked, NamersOf, AreLinked}
+use Rattle.request_ledger.proofs.KeptMarks.{Marked, NamersOf, AreClosed}
 
 -- what opens a session for a request names the record that asked with it
 opener_names : (request : List ℕ) (x r : SpRecord) → names_asked request r ≡ true → opens request x ≡ true → names x r ≡ true
@@ -47,7 +47,7 @@ other_one true b is none = absurd (false≢true (sym none))
 other_one false b is none = is
 
 spent_kept : (request : List ℕ) (before : List SpRecord) (marks : List Marked) → AreRecordsAfter before (all marks)
-    → list_any (names_asked request) before ≡ false → AreLinked marks → list_any (names_asked request) (kept marks) ≡ true
+    → list_any (names_asked request) before ≡ false → AreClosed marks → list_any (names_asked request) (kept marks) ≡ true
     → list_any (opens request) (kept marks) ≡ list_any (opens request) (all marks)
 spent_kept request before [] are none linked some = absurd (false≢true some)
 spent_kept request before ((true, r) ∷ marks) are none linked some =
@@ -71,7 +71,7 @@ pub spent_alike : (now horizon : ℕ) (records some : List SpRecord) → AreReco
     → (request : List ℕ) → list_any (names_asked request) some ≡ true → list_any (opens request) some ≡ list_any (opens request) records
 spent_alike now horizon records some are are_kept request there =
     let m = are_marked request_rules now horizon records some are_kept in
-    let alike = spent_kept request [] m.marks (subst AreRecords (sym m.are_all) are) refl m.linked
+    let alike = spent_kept request [] m.marks (subst AreRecords (sym m.are_all) are) refl m.closed
     (subst (λ l. list_any (names_asked request) l ≡ true) (sym m.are_kept) there) in
     sym (ap (list_any (opens request)) m.are_kept) ∙ alike ∙ ap (list_any (opens request)) m.are_all
 

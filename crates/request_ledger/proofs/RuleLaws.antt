@@ -1,6 +1,5 @@
 -- The laws of the records of a service provider, and of their rows.
-use Rattle.std.proofs.Common.{◌≡◌, ℕ, suc, ◌+◌, ◌<◌, ◌≤◌, true, List, [], ◌∷◌, ◌++◌, length, slice_get, Some, refl, sym, ap, ◌∙◌, subst, max, arith}
-use Rattle.std.proofs.lemmas.Bool.{false≢true}
+use Rattle.std.proofs.Common.{◌≡◌, ℕ, suc, ◌+◌, ◌<◌, ◌≤◌, List, [], ◌∷◌, ◌++◌, length, slice_get, Some, sym, ap, ◌∙◌, subst, max, arith}
 use Rattle.std.proofs.lemmas.List.{length-append}
 use Rattle.ledger_records.specs.declared.key_number.KeyNumber.{KeyNumber}
 use Rattle.ledger_records.specs.declared.sp_record.SpRecord.{SpRecord}
@@ -12,9 +11,8 @@ use Rattle.record_ledger.specs.Laws.{AreFreshlyDrawn, AreRowsOfRecords, IsOneByt
 use Rattle.record_ledger.specs.Linking.{LinkLaws}
 use Rattle.request_ledger.specs.RowsOf.{asked_rows, opened_rows, left_rows, rows_of, rows_after}
 use Rattle.request_ledger.specs.Record.{drawn, is_next, is_record, request_rules}
-use Rattle.request_ledger.specs.Naming.{names, names_asked, names_opened, names_left}
 use Rattle.request_ledger.specs.Standing.{StandingView, AreFew, AreRowsOf, IsAfter, request_row_rules}
-use Rattle.request_ledger.specs.Linking.{rank, row_found, request_links}
+use Rattle.request_ledger.specs.Linking.{row_found, request_links}
 use Rattle.request_ledger.proofs.RowLaws.{is_record-is, rows_of-push, next_of-push}
 use Rattle.request_ledger.proofs.LawWords.{parts}
 use Rattle.request_ledger.proofs.LinkFree.{names_has, free_row}
@@ -106,41 +104,6 @@ found_drawn (kinds.Left r) d is = (0, is)
 found_drawn (kinds.Ended r) d is = absurd (cc)
 found_drawn (kinds.Confirmed r) d is = absurd (cc)
 
-rank_asked : (request : List ℕ) (x : SpRecord) → names_asked request x ≡ true → rank x ≡ 0
-rank_asked request (kinds.Asked r) is = refl
-rank_asked request (kinds.Opened r) is = absurd (false≢true is)
-rank_asked request (kinds.Left r) is = absurd (false≢true is)
-rank_asked request (kinds.Ended r) is = absurd (false≢true is)
-rank_asked request (kinds.Confirmed r) is = absurd (false≢true is)
-
-rank_opened : (tokens : List (List ℕ)) (x : SpRecord) → names_opened tokens x ≡ true → rank x ≡ 1
-rank_opened tokens (kinds.Asked r) is = absurd (false≢true is)
-rank_opened tokens (kinds.Opened r) is = refl
-rank_opened tokens (kinds.Left r) is = absurd (false≢true is)
-rank_opened tokens (kinds.Ended r) is = absurd (false≢true is)
-rank_opened tokens (kinds.Confirmed r) is = absurd (false≢true is)
-
-rank_left : (request : List ℕ) (x : SpRecord) → names_left request x ≡ true → rank x ≡ 2
-rank_left request (kinds.Asked r) is = absurd (false≢true is)
-rank_left request (kinds.Opened r) is = absurd (false≢true is)
-rank_left request (kinds.Left r) is = refl
-rank_left request (kinds.Ended r) is = absurd (false≢true is)
-rank_left request (kinds.Confirmed r) is = absurd (false≢true is)
-
-names_rank : (y x : SpRecord) → names y x ≡ true → rank x < rank y
-names_rank (kinds.Asked r) x is = absurd (false≢true is)
-names_rank (kinds.Opened r) x is = let e = rank_asked r.request x is in omega (arith, e)
-names_rank (kinds.Left r) x is = let e = rank_opened (r.token ∷ []) x is in omega (arith, e)
-names_rank (kinds.Ended r) x is = let e = rank_opened r.tokens x is in omega (arith, e)
-names_rank (kinds.Confirmed r) x is = let e = rank_left r.request x is in omega (arith, e)
-
-most : (r : SpRecord) → rank r ≤ 3
-most (kinds.Asked r) = omega arith
-most (kinds.Opened r) = omega arith
-most (kinds.Left r) = omega arith
-most (kinds.Ended r) = omega arith
-most (kinds.Confirmed r) = omega arith
-
 pub link_laws : LinkLaws request_rules request_links
 link_laws = record {
   drawn = found_drawn;
@@ -149,7 +112,4 @@ link_laws = record {
   within = λ before r id is some. absurd (cc);
   within_names = λ r x id some is. absurd (cc);
   within_none = λ r id some. absurd (cc);
-  up = names_rank;
-  down = λ y x is. absurd (false≢true is);
-  most = most;
 }

@@ -24,14 +24,6 @@ row_found (kinds.Left r) = Some (record { number = r.first; id = r.request })
 row_found (kinds.Ended r) = None
 row_found (kinds.Confirmed r) = None
 
--- how far links lead: an Asked is named by an Opened, that by a Left or an Ended, and a Left by a Confirmed
-abbrev pub rank : SpRecord → ℕ
-rank (kinds.Asked r) = 0
-rank (kinds.Opened r) = 1
-rank (kinds.Left r) = 2
-rank (kinds.Ended r) = 3
-rank (kinds.Confirmed r) = 3
-
 -- no record is itself linked to one that it names
 abbrev pub request_links : any.LinkRules SpRecord
-request_links = record { row = row_found; named = named; within = λ r. None; rank = rank }
+request_links = record { row = row_found; named = named; within = λ r. None }

@@ -1,10 +1,10 @@
-use Rattle.std.proofs.Common.{◌∙◌, length, sym, ap, subst, arith}
+use Rattle.std.proofs.Common.{◌∙◌, ◌<◌, length, sym, ap, subst, arith}
 use Rattle.std.proofs.lemmas.List.{length-map}
 use Rattle.std.proofs.lemmas.Result.{IfOk-weaker}
 use Rattle.gate_journal.specs.Format.{end_of}
-use Rattle.ledger_rules.specs.Kept.{AreWithin, AreShort, AreFlagsOf}
+use Rattle.ledger_rules.specs.Kept.{AreWithin, AreOrdered, AreFlagsOf}
 use Rattle.record_ledger.specs.Rules.{records_of}
-use Rattle.record_ledger.proofs.CompactLaws.{read_at, never_unread, seen_more, linked_more, can_take, whole_links, whole_seen, links_within, links_short, are_flags}
+use Rattle.record_ledger.proofs.CompactLaws.{read_at, never_unread, seen_more, linked_more, can_take, whole_links, whole_seen, links_few, links_within, links_ordered, are_flags}
 use Rattle.record_ledger.proofs.compacting.flags_of.Goals as goal
 
 pub loop-payload-init : goal.loop-payload-init
@@ -39,6 +39,16 @@ loop-payload-preserved g c = record {
       at c.in_ok-push.ensures.items c.has_visible-is_seen.ensures (c.loop-payload.invariant.seen records is);
 }
 
+pub keep-requires-clause-few : goal.keep-requires-clause-few
+keep-requires-clause-few g c =
+    let read = ap (records_of g.S.Standing.rules 2) c.records-payload-items.ensures ∙ c.requires.are in
+    let linked = whole_links g.S.Standing.rules g.S.Standing.link_rules c.laws_hold.ensures.links c.records-payload-items.result.now
+    c.requires.records c.loop-payload.payload-index c.loop-payload.links read c.loop-payload-test.false
+    (c.loop-payload.invariant.links c.requires.records c.requires.are) in
+    subst (λ ls. length ls < 4294967296) (sym c.deref.ensures.value)
+    (links_few g.S.Standing.rules g.S.Standing.link_rules c.laws_hold.ensures.links c.records-payload-items.result.now c.requires.records
+    c.loop-payload.links.links.items read (omega (arith, ap end_of c.records-payload-items.ensures, c.records_fit.ensures.two.file)) linked)
+
 pub keep-requires-clause-long : goal.keep-requires-clause-long
 keep-requires-clause-long g c =
     let items = c.records-payload-items.result.now in
@@ -55,11 +65,11 @@ keep-requires-clause-within g c =
     (links_within g.S.Standing.rules g.S.Standing.link_rules c.laws_hold.ensures.links c.requires.records c.loop-payload.links.links.items
     (whole_links g.S.Standing.rules g.S.Standing.link_rules c.laws_hold.ensures.links c.records-payload-items.result.now c.requires.records c.loop-payload.payload-index c.loop-payload.links read c.loop-payload-test.false (c.loop-payload.invariant.links c.requires.records c.requires.are)))
 
-pub keep-requires-clause-short : goal.keep-requires-clause-short
-keep-requires-clause-short g c =
+pub keep-requires-clause-ordered : goal.keep-requires-clause-ordered
+keep-requires-clause-ordered g c =
     let read = ap (records_of g.S.Standing.rules 2) c.records-payload-items.ensures ∙ c.requires.are in
-    subst AreShort (sym c.deref.ensures.value)
-    (links_short g.S.Standing.rules g.S.Standing.link_rules c.laws_hold.ensures.links c.requires.records c.loop-payload.links.links.items
+    subst AreOrdered (sym c.deref.ensures.value)
+    (links_ordered g.S.Standing.rules g.S.Standing.link_rules c.laws_hold.ensures.links c.requires.records c.loop-payload.links.links.items
     (whole_links g.S.Standing.rules g.S.Standing.link_rules c.laws_hold.ensures.links c.records-payload-items.result.now c.requires.records c.loop-payload.payload-index c.loop-payload.links read c.loop-payload-test.false (c.loop-payload.invariant.links c.requires.records c.requires.are)))
 
 pub returns : goal.returns
