@@ -42,8 +42,8 @@ abbrev pub along : List (Option ℕ) → (steps : ℕ) → ℕ → ℕ
 along links zero k = k
 along links (suc steps) k = along links steps (next_of links k)
 
--- A link leads to another record. One that leads to an earlier record starts at a record to which nothing is linked, and leads
--- to one whose own link, if it has one, leads to a later record.
+-- A link leads to another record. One that leads to an earlier record starts at a record to which nothing is linked, and
+-- leads to one whose own link, if it has one, leads to a later record.
 pub record AreOrdered (links : List (Option ℕ)) : Type 0 where
   pub other : (k l : ℕ) → link_at links k ≡ Some l → ¬ (l ≡ k)
   pub start : (k l j : ℕ) → link_at links k ≡ Some l → l < k → ¬ (link_at links j ≡ Some k)

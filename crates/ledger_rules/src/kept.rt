@@ -48,7 +48,7 @@ fn ends_of(alloc: Global, links: &[Option<u32>]) -> Result<Vec<u32>, NoMemory>
 /// `links` says of each record, counted from 0, which other it is linked to, as one of the two names the other; `seen`
 /// whether it has a visible row.
 ///
-/// It takes linear time.
+/// It takes linear time, however far links lead.
 pub fn keep(alloc: Global, links: &[Option<u32>], seen: &[bool]) -> Result<Vec<bool>, NoMemory>
     requires few { length links.now < 2 ^ 32 }
     requires long { length seen.now ≡ length links.now }

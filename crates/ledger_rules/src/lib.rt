@@ -12,7 +12,8 @@
 //! ```
 //!
 //! An ID begins with its number, so IDs of different numbers differ, and a list of rows whose numbers ascend needs no
-//! index: [`Numbers`] finds the place of an ID by halving. [`keep`] follows links between records in linear time.
+//! index: [`Numbers`] finds the place of an ID by halving. [`keep`] follows links between records, however far they lead, in
+//! linear time.
 //!
 //! The IDs of lesser numbers are less by bytes too, so the order of such rows by their IDs is that of their places:
 //! [`RowPlaces`] shows it. [`TextSet`] says whether a text is among others without going over all of them.

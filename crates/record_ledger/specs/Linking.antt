@@ -127,7 +127,8 @@ module _ {R : Type 0} (rules : RecordRules R) (link_rules : LinkRules R) where
     pub named : (r x : R) → names_up r x ≡ true → has_id (link_rules.named r) x ≡ true
     pub free : (before : List R) (r : R) (id : List ℕ) → rules.is_record before r ≡ true →
         is_among id (link_rules.named r) ≡ true → FreeRow before r id
-    -- a record that is itself linked names the row of that ID alone, and has none that is found: so nothing is linked to it
+    -- A record that is itself linked names the row of that ID alone, and has none that is found: so nothing is linked to
+    -- it.
     pub within : (before : List R) (r : R) (id : List ℕ) → rules.is_record before r ≡ true →
         link_rules.within r ≡ Some id → NamedRow before r id
     pub within_names : (r x : R) (id : List ℕ) → link_rules.within r ≡ Some id → rules.names r x ≡ true → has_id (id ∷ []) x ≡ true

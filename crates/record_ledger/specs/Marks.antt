@@ -34,9 +34,9 @@ module _ {R : Type 0} (rules : RecordRules R) where
   AreClosed [] = Unit {0}
   AreClosed (m ∷ marks) = NamersOf m marks × AreClosed marks
 
-  -- A record stays one of the ledger where some of the ledger's records before it are left out, but none that it names, and none
-  -- without those that it names and those that name it.
+  -- A record stays one of the ledger where some of the ledger's records before it are left out, but none that it names,
+  -- and each together with those that it names and those that name it.
   abbrev pub StaysRecord : Type 0
   StaysRecord =
-      (marks : List (Marked R)) (r : R) → AreRecords rules (all marks) → AreClosed marks → KeepsAll (rules.names r) marks
-      → rules.is_record (all marks) r ≡ true → rules.is_record (kept marks) r ≡ true
+      (marks : List (Marked R)) (r : R) → AreRecords rules (all marks) → AreClosed marks
+      → KeepsAll (rules.names r) marks → rules.is_record (all marks) r ≡ true → rules.is_record (kept marks) r ≡ true
