@@ -52,6 +52,7 @@ fn config(alloc: Global) -> Result<IdpConfig, UserFault> {
         id_key: [0; 32],
         skew: 0,
         mode: SignMode::Assertion,
+        fanout: false,
     })
 }
 

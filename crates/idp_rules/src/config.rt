@@ -34,6 +34,8 @@ pub struct IdpConfig {
     pub skew: u64,
     /// What is signed of a login.
     pub mode: SignMode,
+    /// Whether its config has the line `fanout`.
+    pub fanout: bool,
 }
 
 /// The address to which requests for a login are posted (SAML Metadata, 2.4.3, SingleSignOnService).

@@ -49,7 +49,7 @@ known_value key value =
 
 known_words : (number : ℕ) (words : List (List ℕ)) → IfSome (spelled number words) IsKnown
 known_words number [] = tt
-known_words number (key ∷ []) = tt
+known_words number (key ∷ []) = where_some IsKnown (bytes_eq key (codes "fanout")) _ refl
 known_words number (key ∷ value ∷ []) = known_value key value
 known_words number (key ∷ a ∷ b ∷ []) = tt
 known_words number (key ∷ metadata ∷ key_in ∷ key_out ∷ []) = where_some IsKnown (bytes_eq key (codes "peer")) _ refl
@@ -110,20 +110,29 @@ peer_files (line ∷ lines) known =
     )
 
 -- a config has the files that were found
-made_of : (entity base listen : Option (List ℕ)) (skew : Option ℕ) (sign : Option SignMode) (files : List IdpFile) (whole : Bool) (config : IdpConfig) →
+made_of : (entity base listen : Option (List ℕ)) (skew : Option ℕ) (sign : Option SignMode) (fanout : Bool)
+    (files : List IdpFile) (whole : Bool) (config : IdpConfig) →
     (entity >>= λ e. base >>= λ b. listen >>= λ l. skew >>= λ s.
-    cond whole (Some (record { entity = e; base = b; listen = l; skew = s; files = files; sign = unwrap_or sign modes.Assertion })) None) ≡ Some config →
+    cond whole (Some (record {
+      entity = e;
+      base = b;
+      listen = l;
+      skew = s;
+      files = files;
+      sign = unwrap_or sign modes.Assertion;
+      fanout = fanout;
+    })) None) ≡ Some config →
     config.files ≡ files
-made_of (Some e) (Some b) (Some l) (Some s) sign files true config is = let same = is in ap (λ (o : Option IdpConfig). files_in files o) (sym is)
+made_of (Some e) (Some b) (Some l) (Some s) sign fanout files true config is = let same = is in ap (λ (o : Option IdpConfig). files_in files o) (sym is)
   where
     files_in : List IdpFile → Option IdpConfig → List IdpFile
     files_in files None = files
     files_in files (Some config) = config.files
-made_of (Some e) (Some b) (Some l) (Some s) sign files false config is = absurd (cc)
-made_of None base listen skew sign files whole config is = absurd (cc)
-made_of entity None listen skew sign files whole config is = absurd (cc)
-made_of entity base None skew sign files whole config is = absurd (cc)
-made_of entity base listen None sign files whole config is = absurd (cc)
+made_of (Some e) (Some b) (Some l) (Some s) sign fanout files false config is = absurd (cc)
+made_of None base listen skew sign fanout files whole config is = absurd (cc)
+made_of entity None listen skew sign fanout files whole config is = absurd (cc)
+made_of entity base None skew sign fanout files whole config is = absurd (cc)
+made_of entity base listen None sign fanout files whole config is = absurd (cc)
 
 of_lines : (r : Result (List Line) ℕ) (config : IdpConfig) → and_then (λ (lines : List Line). ok_or {E = ℕ} (complete (found lines)) 0) r ≡ Ok config →
     (lines : List Line) × (r ≡ Ok lines) × (complete (found lines) ≡ Some config)
@@ -138,7 +147,7 @@ pub few_named : (text : List ℕ) (config : IdpConfig) → idp_config text ≡ O
 few_named text config e =
     let (lines, read, whole) = of_lines (lines_from [] (said text)) config e in
     let f = found lines in
-    let files : config.files ≡ f.files = made_of f.entity f.base f.listen f.skew f.sign f.files (has_files f.files) config whole in
+    let files : config.files ≡ f.files = made_of f.entity f.base f.listen f.skew f.sign f.fanout f.files (has_files f.files) config whole in
     let few = few_behind [] lines (said text) (record { known = tt; few = omega arith }) read in
     let same : count_by is_peer_file f.files ≡ peers_in lines = peer_files lines few.known in
     omega (arith, few.few, same, ap (λ (named : List IdpFile). count_by is_peer_file named) files)

@@ -138,6 +138,7 @@ config_of lines loaded = do
     id_key = id_key;
     skew = lines.skew;
     mode = lines.sign;
+    fanout = lines.fanout;
   })
 
 -- the files that these lines name are there, no two peers have one name, and they set a provider up so

@@ -29,6 +29,7 @@ fn config_of(lines: IdpLines, loaded: Loaded) -> Option<IdpConfig>
         id_key,
         skew: lines.skew,
         mode: lines.sign,
+        fanout: lines.fanout,
     })
 }
 

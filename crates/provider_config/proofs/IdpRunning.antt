@@ -1,16 +1,17 @@
 -- What the code finds line by line is what the definition says of all lines, for an identity provider.
 use Rattle.std.proofs.Common.{◌≡◌, ℕ, Bool, false, cond, nat_le, List, [], ◌∷◌, ◌++◌, Option, None, Some, Result, Ok, Err, codes, is_some, ok_or, refl, sym, ap, ◌∙◌}
 use Rattle.std.specs.Option.{option_map_or}
+use Rattle.std.specs.List.{list_any}
 use Rattle.std.specs.Str.{bytes_eq}
 use Rattle.text_lines.specs.Lines.{Said, Says, NoText, said}
 use Rattle.provider_config.specs.declared.idp_config.TheConstants.{MAX_PEERS}
 use Rattle.provider_config.specs.declared.idp_line.IdpLine.{IdpLine}
-use Rattle.provider_config.specs.declared.idp_line.IdpLine.TheVariants.{Entity, Base, Listen, Users, IdKey, Skew, Sign, Peer}
+use Rattle.provider_config.specs.declared.idp_line.IdpLine.TheVariants.{Entity, Base, Listen, Users, IdKey, Skew, Sign, Fanout, Peer}
 use Rattle.provider_config.specs.IdpLine.{line_of}
-use Rattle.provider_config.specs.IdpConfig.{IdpConfig, entity, base, listen, skew, sign, file, found, is_users, is_id_key, is_peer_file, key_of, is_peer, is_beyond, fresh, line_behind, lines_from, complete, idp_config}
+use Rattle.provider_config.specs.IdpConfig.{IdpConfig, entity, base, listen, skew, sign, is_fanout, file, found, is_users, is_id_key, is_peer_file, key_of, is_peer, is_beyond, fresh, line_behind, lines_from, complete, idp_config}
 use Rattle.provider_config.specs.IdpDrafts.{taken, stands, unless_found, next_line, config_from}
 use Rattle.provider_config.specs.Shared.{and_then}
-use Rattle.provider_config.proofs.Sharing.{the-push, filter_map-push, is_some-the, any_filtered, count_filtered}
+use Rattle.provider_config.proofs.Sharing.{the-push, any-push, filter_map-push, is_some-the, any_filtered, count_filtered}
 
 found-push : (lines : List IdpLine) (line : IdpLine) → found (lines ++ line ∷ []) ≡ taken line (found lines)
 found-push lines line = λ i. record {
@@ -19,6 +20,7 @@ found-push lines line = λ i. record {
   listen = the-push listen lines line i;
   skew = the-push skew lines line i;
   sign = the-push sign lines line i;
+  fanout = any-push is_fanout lines line i;
   files = filter_map-push file lines line i;
 }
 
@@ -46,6 +48,10 @@ sign_key : (line : IdpLine) → is_some (sign line) ≡ has_key (codes "sign") l
 sign_key (Sign mode) = refl
 sign_key line = refl
 
+fanout_key : (line : IdpLine) → is_fanout line ≡ has_key (codes "fanout") line
+fanout_key Fanout = refl
+fanout_key line = refl
+
 users_key : (line : IdpLine) → option_map_or is_users (file line) false ≡ has_key (codes "users") line
 users_key (Users name) = refl
 users_key line = refl
@@ -66,6 +72,7 @@ stands-found (Users name) before = any_filtered file is_users (has_key (codes "u
 stands-found (IdKey name) before = any_filtered file is_id_key (has_key (codes "id_key")) id_key_key before
 stands-found (Skew milliseconds) before = is_some-the skew (has_key (codes "skew")) skew_key before
 stands-found (Sign mode) before = is_some-the sign (has_key (codes "sign")) sign_key before
+stands-found Fanout before = λ i. list_any (λ line. fanout_key line i) before
 stands-found (Peer names) before = ap (nat_le MAX_PEERS) (count_filtered file is_peer_file is_peer peer_key before)
 
 -- ---- all lines

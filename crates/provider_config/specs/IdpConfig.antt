@@ -11,7 +11,7 @@ use Rattle.provider_config.specs.declared.idp_config.SignMode.{SignMode}
 use Rattle.provider_config.specs.declared.idp_config.SignMode.TheVariants as modes
 use Rattle.provider_config.specs.declared.idp_config.TheConstants.{MAX_PEERS}
 use Rattle.provider_config.specs.declared.idp_line.IdpLine.{IdpLine}
-use Rattle.provider_config.specs.declared.idp_line.IdpLine.TheVariants.{Entity, Base, Listen, Users, IdKey, Skew, Sign, Peer}
+use Rattle.provider_config.specs.declared.idp_line.IdpLine.TheVariants.{Entity, Base, Listen, Users, IdKey, Skew, Sign, Fanout, Peer}
 use Rattle.provider_config.specs.declared.line.TheConstants.{MILLIS, MOST_SKEW}
 use Rattle.provider_config.specs.IdpLine.{line_of}
 use Rattle.provider_config.specs.Shared.{and_then, the, ◌>>=◌}
@@ -27,6 +27,7 @@ key_of (Users name) = codes "users"
 key_of (IdKey name) = codes "id_key"
 key_of (Skew milliseconds) = codes "skew"
 key_of (Sign mode) = codes "sign"
+key_of Fanout = codes "fanout"
 key_of (Peer names) = codes "peer"
 
 abbrev pub is_peer : IdpLine → Bool
@@ -85,6 +86,10 @@ abbrev pub sign : IdpLine → Option SignMode
 sign (Sign mode) = Some mode
 sign line = None
 
+abbrev pub is_fanout : IdpLine → Bool
+is_fanout Fanout = true
+is_fanout line = false
+
 abbrev pub file : IdpLine → Option IdpFile
 file (Users name) = Some (files.Users name)
 file (IdKey name) = Some (files.IdKey name)
@@ -98,6 +103,7 @@ pub record Found : Type 0 where
   pub listen : Option (List ℕ)
   pub skew : Option ℕ
   pub sign : Option SignMode
+  pub fanout : Bool
   pub files : List IdpFile
 
 abbrev pub found : List IdpLine → Found
@@ -108,12 +114,13 @@ found lines =
       listen = the listen lines;
       skew = the skew lines;
       sign = the sign lines;
+      fanout = list_any is_fanout lines;
       files = filter_map file lines;
     }
 
 -- ---- a config
 
--- the name and the places, the files in the order of their lines, and what is signed
+-- the name and the places, the files in the order of their lines, what is signed, and whether the line `fanout` stands
 pub record IdpConfig : Type 0 where
   pub entity : List ℕ
   pub base : List ℕ
@@ -121,6 +128,7 @@ pub record IdpConfig : Type 0 where
   pub skew : ℕ
   pub files : List IdpFile
   pub sign : SignMode
+  pub fanout : Bool
 
 abbrev pub is_users : IdpFile → Bool
 is_users (files.Users name) = true
@@ -154,7 +162,15 @@ complete found = do
   base ← found.base
   listen ← found.listen
   skew ← found.skew
-  if has_files found.files then Some (record { entity = entity; base = base; listen = listen; skew = skew; files = found.files; sign = unwrap_or found.sign modes.Assertion }) else None
+  if has_files found.files then Some (record {
+    entity = entity;
+    base = base;
+    listen = listen;
+    skew = skew;
+    files = found.files;
+    sign = unwrap_or found.sign modes.Assertion;
+    fanout = found.fanout;
+  }) else None
 
 -- the config of a text, or the number of the first line that is bad; 0 where no line is bad and a key is missing
 abbrev pub idp_config : List ℕ → Result IdpConfig ℕ
@@ -171,4 +187,5 @@ config_view lines =
       skew = lines.skew;
       files = lines.files.items;
       sign = lines.sign;
+      fanout = lines.fanout;
     }

@@ -1,11 +1,11 @@
 -- Words by which the code keeps the definitions: what is found so far, and what one more line adds.
-use Rattle.std.specs.Prelude.{ℕ, Bool, nat_le, List, [], ◌∷◌, count_by, Option, None, Some, Result, Err, ok_or, is_some, if◌then◌else◌}
+use Rattle.std.specs.Prelude.{ℕ, Bool, ◌||◌, nat_le, List, [], ◌∷◌, count_by, Option, None, Some, Result, Err, ok_or, is_some, if◌then◌else◌}
 use Rattle.text_lines.specs.Lines.{Said, Says, NoText}
 use Rattle.provider_config.specs.declared.idp_config.TheConstants.{MAX_PEERS}
 use Rattle.provider_config.specs.declared.idp_line.IdpLine.{IdpLine}
-use Rattle.provider_config.specs.declared.idp_line.IdpLine.TheVariants.{Entity, Base, Listen, Users, IdKey, Skew, Sign, Peer}
+use Rattle.provider_config.specs.declared.idp_line.IdpLine.TheVariants.{Entity, Base, Listen, Users, IdKey, Skew, Sign, Fanout, Peer}
 use Rattle.provider_config.specs.IdpLine.{line_of}
-use Rattle.provider_config.specs.IdpConfig.{Found, IdpConfig, entity, base, listen, skew, sign, file, has_users, has_id_key, is_peer_file, complete}
+use Rattle.provider_config.specs.IdpConfig.{Found, IdpConfig, entity, base, listen, skew, sign, is_fanout, file, has_users, has_id_key, is_peer_file, complete}
 use Rattle.provider_config.specs.Shared.{and_then, or_else, pushed}
 
 -- what is found with one more line
@@ -17,6 +17,7 @@ taken line found =
       listen = or_else (listen line) found.listen;
       skew = or_else (skew line) found.skew;
       sign = or_else (sign line) found.sign;
+      fanout = is_fanout line || found.fanout;
       files = pushed found.files (file line);
     }
 
@@ -29,6 +30,7 @@ stands (Users name) found = has_users found.files
 stands (IdKey name) found = has_id_key found.files
 stands (Skew milliseconds) found = is_some found.skew
 stands (Sign mode) found = is_some found.sign
+stands Fanout found = found.fanout
 stands (Peer names) found = nat_le MAX_PEERS (count_by is_peer_file found.files)
 
 abbrev pub unless_found : Found → Option IdpLine → Option IdpLine

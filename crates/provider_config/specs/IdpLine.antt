@@ -6,7 +6,7 @@ use Rattle.text_lines.specs.Words.{words_of}
 use Rattle.provider_config.specs.declared.idp_config.SignMode.{SignMode}
 use Rattle.provider_config.specs.declared.idp_config.SignMode.TheVariants as modes
 use Rattle.provider_config.specs.declared.idp_line.IdpLine.{IdpLine}
-use Rattle.provider_config.specs.declared.idp_line.IdpLine.TheVariants.{Entity, Base, Listen, Users, IdKey, Skew, Sign, Peer}
+use Rattle.provider_config.specs.declared.idp_line.IdpLine.TheVariants.{Entity, Base, Listen, Users, IdKey, Skew, Sign, Fanout, Peer}
 use Rattle.provider_config.specs.Line.{skew_of}
 
 -- `assertion`, `response` or `both`
@@ -34,8 +34,13 @@ valued key value =
 abbrev pub peer : ℕ → List ℕ → List ℕ → List ℕ → IdpLine
 peer number metadata key_in key_out = Peer (record { line = number; metadata = metadata; key_in = key_in; key_out = key_out })
 
+-- `fanout`, with no word behind it
+abbrev pub alone : List ℕ → Option IdpLine
+alone key = if bytes_eq key (codes "fanout") then Some Fanout else None
+
 -- the line of these words, which has this number
 abbrev pub spelled : ℕ → List (List ℕ) → Option IdpLine
+spelled number (key ∷ []) = alone key
 spelled number (key ∷ value ∷ []) = valued key value
 spelled number (key ∷ metadata ∷ key_in ∷ key_out ∷ []) =
     if bytes_eq key (codes "peer") then Some (peer number metadata key_in key_out) else None

@@ -55,4 +55,6 @@ pub struct IdpLines {
     pub files: Vec<IdpFile>,
     /// What is signed of a login.
     pub sign: SignMode,
+    /// Whether the line `fanout` stands.
+    pub fanout: bool,
 }

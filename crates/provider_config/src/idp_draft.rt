@@ -72,6 +72,7 @@ pub(crate) struct IdpDraft {
     listen: Option<Text>,
     skew: Option<u64>,
     sign: Option<SignMode>,
+    fanout: bool,
     files: Vec<IdpFile>,
 }
 
@@ -84,7 +85,7 @@ impl Model for IdpDraft {
 
     ghost Value = { spec.Found };
 
-    ghost view = { λ d. record { entity = d.entity; base = d.base; listen = d.listen; skew = d.skew; sign = d.sign; files = d.files.items } };
+    ghost view = { λ d. record { entity = d.entity; base = d.base; listen = d.listen; skew = d.skew; sign = d.sign; fanout = d.fanout; files = d.files.items } };
 
     ghost invariant = { λ d. ForSome d.entity IsText × ForSome d.base IsText × ForSome d.listen IsText × ForSome d.skew (λ milliseconds. milliseconds ≤ MILLIS * MOST_SKEW) };
 }
@@ -100,6 +101,7 @@ impl IdpDraft {
             listen: None,
             skew: None,
             sign: None,
+            fanout: false,
             files: Vec::new(alloc),
         }
     }
@@ -116,6 +118,7 @@ impl IdpDraft {
             IdpLine::IdKey(_) => has_id_key(self.files.as_slice()),
             IdpLine::Skew(_) => self.skew.is_some(),
             IdpLine::Sign(_) => self.sign.is_some(),
+            IdpLine::Fanout => self.fanout,
             IdpLine::Peer(_) => MAX_PEERS <= peer_count(self.files.as_slice()),
         }
     }
@@ -133,6 +136,7 @@ impl IdpDraft {
             IdpLine::IdKey(name) => self.files.push(IdpFile::IdKey(name))?,
             IdpLine::Skew(milliseconds) => self.skew = Some(milliseconds),
             IdpLine::Sign(mode) => self.sign = Some(mode),
+            IdpLine::Fanout => self.fanout = true,
             IdpLine::Peer(files) => self.files.push(IdpFile::Peer(files))?,
         }
         Ok(())
@@ -151,6 +155,7 @@ impl IdpDraft {
             listen,
             skew,
             sign,
+            fanout,
             files,
         } = self;
         if !has_users(files.as_slice())
@@ -166,6 +171,7 @@ impl IdpDraft {
             skew: skew?,
             files,
             sign: sign.unwrap_or(SignMode::Assertion),
+            fanout,
         })
     }
 }

@@ -23,6 +23,7 @@ pub(crate) enum IdpLine {
     /// In milliseconds.
     Skew(u64),
     Sign(SignMode),
+    Fanout,
     Peer(PeerFiles),
 }
 
@@ -76,6 +77,7 @@ fn spelled(alloc: Global, number: u32, words: &[Text]) -> Result<Option<IdpLine>
     ensures sound { IfOk result (λ line. IfSome line IsSound) }
 {
     match words {
+        [key] if key.as_str() == "fanout" => Ok(Some(IdpLine::Fanout)),
         [key, value] => valued(alloc, key.as_str(), value.as_str()),
         [key, metadata, key_in, key_out] if key.as_str() == "peer" => {
             Ok(Some(peer(number, metadata, key_in, key_out)?))

@@ -50,6 +50,7 @@ fn config(alloc: Global) -> Result<IdpConfig, UserFault>
         id_key: [0x44; 32],
         skew: 60_000,
         mode: SignMode::Assertion,
+        fanout: false,
     })
 }
 

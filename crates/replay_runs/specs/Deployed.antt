@@ -67,6 +67,7 @@ idp_config all = record {
   id_key = replicate 32 0x33;
   skew = 60000;
   mode = Assertion;
+  fanout = false;
 }
 
 -- The identity provider has these users. It signs Assertions.

@@ -135,6 +135,7 @@ fn idp_config(alloc: Global) -> Result<IdpConfig, NoMemory>
         id_key: IDS_OF_IDP,
         skew: SKEW,
         mode: SignMode::Assertion,
+        fanout: false,
     })
 }
 
