@@ -72,7 +72,7 @@ pub link_laws : LinkLaws hub_rules hub_links
 link_laws = record {
   drawn = found_drawn;
   named = names_has;
-  free = free_row;
+  free = λ before r id are. free_row before r id;
   within = λ before r id is some. absurd (cc);
   within_names = λ r x id some is. absurd (cc);
   within_none = λ r id some. absurd (cc);

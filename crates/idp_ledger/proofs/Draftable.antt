@@ -29,15 +29,21 @@ three_of r = record { number = r.first + 2; id = r.cookie }
 abbrev pub four_of : Issued → Drawn
 four_of r = record { number = r.first + 3; id = r.index }
 
+pub both_below : (first : ℕ) (one other : List ℕ)
+    → IsTrue (nat_lt first 9223372036854775807) ↔ All BelowEnd (record { number = first; id = one } ∷ record { number = first + 1; id = other } ∷ [])
+both_below first one other =
+    let a : Drawn = record { number = first; id = one } in
+    let b : Drawn = record { number = first + 1; id = other } in (
+      λ less.
+          let is = ltb-true first 9223372036854775807 less in
+          All-cons BelowEnd a (b ∷ []) (omega (arith, is)) (All-cons BelowEnd b [] (omega (arith, is)) (All-nil BelowEnd)),
+      λ all.
+          let is = All-head BelowEnd b [] (All-tail BelowEnd a (b ∷ []) all) in
+          lt-ltb first 9223372036854775807 (omega (arith, is)),
+    )
+
 pub two_below : (r : Issued) → IsTrue (nat_lt r.first 9223372036854775807) ↔ All BelowEnd (one_of r ∷ two_of r ∷ [])
-two_below r = (
-  λ less.
-      let is = ltb-true r.first 9223372036854775807 less in
-      All-cons BelowEnd (one_of r) (two_of r ∷ []) (omega (arith, is)) (All-cons BelowEnd (two_of r) [] (omega (arith, is)) (All-nil BelowEnd)),
-  λ all.
-      let is = All-head BelowEnd (two_of r) [] (All-tail BelowEnd (one_of r) (two_of r ∷ []) all) in
-      lt-ltb r.first 9223372036854775807 (omega (arith, is)),
-)
+two_below r = both_below r.first r.assertion r.message
 
 pub four_below : (r : Issued) → IsTrue (nat_lt r.first 9223372036854775805) ↔ All BelowEnd (one_of r ∷ two_of r ∷ three_of r ∷ four_of r ∷ [])
 four_below r = (

@@ -43,11 +43,11 @@ ask_texts ask is =
     let two = and_parts (is_xml_text ask.peer) _ one.1 in
     record { request = one.0; peer = two.0; consumer = (and_parts (is_xml_text ask.consumer) true two.1).0 }
 
-abbrev AreXml : List (List ℕ) → Type 0
+abbrev pub AreXml : List (List ℕ) → Type 0
 AreXml [] = Unit {0}
 AreXml (t ∷ ts) = (is_xml_text t ≡ true) × AreXml ts
 
-front_xml : (ts rest : List (List ℕ)) → AreXml ts → list_all is_xml_text rest ≡ true → list_all is_xml_text (ts ++ rest) ≡ true
+pub front_xml : (ts rest : List (List ℕ)) → AreXml ts → list_all is_xml_text rest ≡ true → list_all is_xml_text (ts ++ rest) ≡ true
 front_xml [] rest are later = later
 front_xml (t ∷ ts) rest are later = both (is_xml_text t) (list_all is_xml_text (ts ++ rest)) are.0 (front_xml ts rest are.1 later)
 
@@ -196,20 +196,20 @@ module _ (held : Held) (key : List ℕ) (ids : LoginIds) (are : AreLoginIds key 
 
 -- ---- where the next number is the end or greater no record fits, whatever its IDs are
 
-abbrev AreAlike : List Field → List Field → Type 0
+abbrev pub AreAlike : List Field → List Field → Type 0
 AreAlike [] [] = Unit {0}
 AreAlike [] (g ∷ gs) = ⊥
 AreAlike (f ∷ fs) [] = ⊥
 AreAlike (f ∷ fs) (g ∷ gs) = (length (field f) ≡ length (field g)) × AreAlike fs gs
 
-fields_alike : (fs gs : List Field) → AreAlike fs gs → length (bytes_of fs) ≡ length (bytes_of gs)
+pub fields_alike : (fs gs : List Field) → AreAlike fs gs → length (bytes_of fs) ≡ length (bytes_of gs)
 fields_alike [] [] are = refl
 fields_alike [] (g ∷ gs) are = absurd are
 fields_alike (f ∷ fs) [] are = absurd are
 fields_alike (f ∷ fs) (g ∷ gs) are =
     omega (arith, length-append (field f) (bytes_of fs), length-append (field g) (bytes_of gs), are.0, fields_alike fs gs are.1)
 
-text_alike : (a b : List ℕ) → length a ≡ length b → length (field (Text a)) ≡ length (field (Text b))
+pub text_alike : (a b : List ℕ) → length a ≡ length b → length (field (Text a)) ≡ length (field (Text b))
 text_alike a b same = omega (arith, length-append (count (length a)) a, length-append (count (length b)) b, same)
 
 issued_alike : (one other : Issued) → one.first ≡ other.first → one.moment ≡ other.moment → one.pending ≡ other.pending → length one.cookie ≡ length other.cookie → length one.index ≡ length other.index

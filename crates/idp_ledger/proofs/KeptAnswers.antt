@@ -15,6 +15,9 @@ use Rattle.idp_ledger.specs.declared.row.PendingRow.{PendingRow}
 use Rattle.idp_ledger.specs.declared.row.IssuedRow.{IssuedRow}
 use Rattle.idp_ledger.specs.declared.row.SessionRow.{SessionRow}
 use Rattle.idp_ledger.specs.declared.row.LeftRow.{LeftRow}
+use Rattle.round_rows.specs.declared.row.RoundRow.{RoundRow}
+use Rattle.round_rows.specs.Rounds.{waits_for, is_turn_of, round_found, turn_found}
+use Rattle.idp_ledger.specs.RoundsOf.{round_rows}
 use Rattle.idp_ledger.specs.Finding.{visible, pending_found, session_found, is_waiting_now, is_listed, is_ending, ending, is_partial, has_issued, last_peer}
 use Rattle.idp_ledger.specs.RowsOf.{pending_rows, issued_rows, session_rows, left_rows, rows_of}
 use Rattle.idp_ledger.specs.Record.{AreRecords, idp_rules}
@@ -24,6 +27,7 @@ use Rattle.idp_ledger.specs.Laws.{CompactionsChangeNoAnswer}
 use Rattle.idp_ledger.proofs.LawWords.{Each}
 use Rattle.idp_ledger.proofs.KeptMarks.{Marked, AreClosed}
 use Rattle.idp_ledger.proofs.KeptIssues.{issues_alike, peers_alike}
+use Rattle.idp_ledger.proofs.KeptRounds.{round_seen, rounds_alike}
 use Rattle.idp_ledger.proofs.KeptRows.{pending_seen, session_seen, left_seen, pendings_alike, sessions_alike, lefts_alike}
 
 -- what is visible at a moment was visible before
@@ -49,12 +53,15 @@ had_visible now later horizon (kinds.Ended r) first seen = seen
 had_visible now later horizon (kinds.Left r) first seen = visible_before r.until now later horizon first seen
 had_visible now later horizon (kinds.Confirmed r) first seen = seen
 had_visible now later horizon (kinds.Spoke r) first seen = seen
+had_visible now later horizon (kinds.Round r) first seen = visible_before r.until now later horizon first seen
+had_visible now later horizon (kinds.Told r) first seen = seen
 
 -- the rows that count are alike
 record SameSeen (later horizon : ℕ) (records some : List IdpRecord) : Type 0 where
   pendings : filter (pending_seen later horizon) (pending_rows some) ≡ filter (pending_seen later horizon) (pending_rows records)
   sessions : filter (session_seen later horizon) (session_rows some) ≡ filter (session_seen later horizon) (session_rows records)
   lefts : filter (left_seen later horizon) (left_rows some) ≡ filter (left_seen later horizon) (left_rows records)
+  rounds : filter (round_seen later horizon) (round_rows some) ≡ filter (round_seen later horizon) (round_rows records)
 
 same_seen : (now later horizon : ℕ) (records some : List IdpRecord) → now ≤ later → AreKept now horizon records some → SameSeen later horizon records some
 same_seen now later horizon records some first are_kept =
@@ -68,6 +75,8 @@ same_seen now later horizon records some first are_kept =
           ∙ ap (λ l. filter (session_seen later horizon) (session_rows l)) m.are_all;
       lefts = ap (λ l. filter (left_seen later horizon) (left_rows l)) (sym m.are_kept) ∙ lefts_alike later horizon m.marks keeps m.closed
           ∙ ap (λ l. filter (left_seen later horizon) (left_rows l)) m.are_all;
+      rounds = ap (λ l. filter (round_seen later horizon) (round_rows l)) (sym m.are_kept) ∙ rounds_alike later horizon m.marks keeps m.closed
+          ∙ ap (λ l. filter (round_seen later horizon) (round_rows l)) m.are_all;
     }
 
 filter_each : {X : Type 0} (test other : X → Bool) (xs : List X) → Each (λ x. test x ≡ other x) xs → filter test xs ≡ filter other xs
@@ -201,6 +210,22 @@ module _ (now later : ℕ) (old new : Held) (are : AreRecords old.records) (made
       (λ row is. (and_parts (bytes_eq row.request request && not row.confirmed) (visible row.until later old.header.horizon) is).1)
       (left_rows new.records) (left_rows old.records) same.lefts
 
+  round_same : (request : List ℕ) → round_found (round_rows new.records) request later new.header.horizon ≡ round_found (round_rows old.records) request later old.header.horizon
+  round_same request =
+      ap (λ m. find (λ (row : RoundRow). waits_for request row && nat_lt m row.until) (round_rows new.records)) latest
+      ∙ find_same (λ (row : RoundRow). waits_for request row && visible row.until later old.header.horizon)
+      (round_seen later old.header.horizon)
+      (λ row is. (and_parts (waits_for request row) (visible row.until later old.header.horizon) is).1)
+      (round_rows new.records) (round_rows old.records) same.rounds
+
+  turn_same : (request peer : List ℕ) → turn_found (round_rows new.records) request peer later new.header.horizon ≡ turn_found (round_rows old.records) request peer later old.header.horizon
+  turn_same request peer =
+      ap (λ m. find (λ (row : RoundRow). waits_for request row && (nat_lt m row.until && is_turn_of peer row)) (round_rows new.records)) latest
+      ∙ find_same (λ (row : RoundRow). waits_for request row && (visible row.until later old.header.horizon && is_turn_of peer row))
+      (round_seen later old.header.horizon)
+      (λ row is. (and_parts (visible row.until later old.header.horizon) (is_turn_of peer row) (and_parts (waits_for request row) (visible row.until later old.header.horizon && is_turn_of peer row) is).1).0)
+      (round_rows new.records) (round_rows old.records) same.rounds
+
 pub compactions_change_no_answer : CompactionsChangeNoAnswer
 compactions_change_no_answer now later old new are made first = record {
   pending = pending_same now later old new are made first;
@@ -209,4 +234,6 @@ compactions_change_no_answer now later old new are made first = record {
   partial = partial_same now later old new are made first;
   last_peer = peer_same now later old new are made first;
   waiting = waiting_same now later old new are made first;
+  round = round_same now later old new are made first;
+  turn = turn_same now later old new are made first;
 }

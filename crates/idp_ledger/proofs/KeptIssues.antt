@@ -35,6 +35,8 @@ is_of cookie (kinds.Ended r) = false
 is_of cookie (kinds.Left r) = false
 is_of cookie (kinds.Confirmed r) = false
 is_of cookie (kinds.Spoke r) = false
+is_of cookie (kinds.Round r) = false
+is_of cookie (kinds.Told r) = false
 
 -- ---- the numbers of cookies
 
@@ -63,6 +65,8 @@ session_is_of cookie (kinds.Ended x) has = has
 session_is_of cookie (kinds.Left x) has = has
 session_is_of cookie (kinds.Confirmed x) has = has
 session_is_of cookie (kinds.Spoke x) has = has
+session_is_of cookie (kinds.Round x) has = has
+session_is_of cookie (kinds.Told x) has = has
 
 any_at : {X : Type 0} (test : X → Bool) (xs : List X) (k : ℕ) (x : X) → slice_get xs k ≡ Some x → test x ≡ true → list_any test xs ≡ true
 any_at test [] k x there is = absurd (cc)
@@ -94,6 +98,8 @@ one_numbered before (kinds.Ended r) cookie numbered is of = absurd (false≢true
 one_numbered before (kinds.Left r) cookie numbered is of = absurd (false≢true of)
 one_numbered before (kinds.Confirmed r) cookie numbered is of = absurd (false≢true of)
 one_numbered before (kinds.Spoke r) cookie numbered is of = absurd (false≢true of)
+one_numbered before (kinds.Round r) cookie numbered is of = absurd (false≢true of)
+one_numbered before (kinds.Told r) cookie numbered is of = absurd (false≢true of)
 
 numbered_push : (before : List IdpRecord) (r : IdpRecord) → AreNumbered before → is_record before r ≡ true → AreNumbered (before ++ r ∷ [])
 numbered_push before r numbered is cookie some =
@@ -141,6 +147,8 @@ of_names r pending (kinds.Ended x) e of never = absurd (false≢true of)
 of_names r pending (kinds.Left x) e of never = absurd (false≢true of)
 of_names r pending (kinds.Confirmed x) e of never = absurd (false≢true of)
 of_names r pending (kinds.Spoke x) e of never = absurd (false≢true of)
+of_names r pending (kinds.Round x) e of never = absurd (false≢true of)
+of_names r pending (kinds.Told x) e of never = absurd (false≢true of)
 
 -- ---- those with the cookie of a session that is kept are kept
 
@@ -203,6 +211,10 @@ each_session_keeps earlier ((true, kinds.Confirmed r) ∷ later) numbered are li
     onward earlier later (true, kinds.Confirmed r) numbered are.0 are.1 (λ n a. each_session_keeps (earlier ++ (true, kinds.Confirmed r) ∷ []) later n a linked.1)
 each_session_keeps earlier ((true, kinds.Spoke r) ∷ later) numbered are linked =
     onward earlier later (true, kinds.Spoke r) numbered are.0 are.1 (λ n a. each_session_keeps (earlier ++ (true, kinds.Spoke r) ∷ []) later n a linked.1)
+each_session_keeps earlier ((true, kinds.Round r) ∷ later) numbered are linked =
+    onward earlier later (true, kinds.Round r) numbered are.0 are.1 (λ n a. each_session_keeps (earlier ++ (true, kinds.Round r) ∷ []) later n a linked.1)
+each_session_keeps earlier ((true, kinds.Told r) ∷ later) numbered are linked =
+    onward earlier later (true, kinds.Told r) numbered are.0 are.1 (λ n a. each_session_keeps (earlier ++ (true, kinds.Told r) ∷ []) later n a linked.1)
 each_session_keeps earlier ((false, kinds.Pending r) ∷ later) numbered are linked =
     onward earlier later (false, kinds.Pending r) numbered are.0 are.1 (λ n a. each_session_keeps (earlier ++ (false, kinds.Pending r) ∷ []) later n a linked.1)
 each_session_keeps earlier ((false, kinds.Issued r) ∷ later) numbered are linked =
@@ -215,6 +227,10 @@ each_session_keeps earlier ((false, kinds.Confirmed r) ∷ later) numbered are l
     onward earlier later (false, kinds.Confirmed r) numbered are.0 are.1 (λ n a. each_session_keeps (earlier ++ (false, kinds.Confirmed r) ∷ []) later n a linked.1)
 each_session_keeps earlier ((false, kinds.Spoke r) ∷ later) numbered are linked =
     onward earlier later (false, kinds.Spoke r) numbered are.0 are.1 (λ n a. each_session_keeps (earlier ++ (false, kinds.Spoke r) ∷ []) later n a linked.1)
+each_session_keeps earlier ((false, kinds.Round r) ∷ later) numbered are linked =
+    onward earlier later (false, kinds.Round r) numbered are.0 are.1 (λ n a. each_session_keeps (earlier ++ (false, kinds.Round r) ∷ []) later n a linked.1)
+each_session_keeps earlier ((false, kinds.Told r) ∷ later) numbered are linked =
+    onward earlier later (false, kinds.Told r) numbered are.0 are.1 (λ n a. each_session_keeps (earlier ++ (false, kinds.Told r) ∷ []) later n a linked.1)
 
 -- ---- so what was issued in it is told alike
 
@@ -225,6 +241,8 @@ issues_to beside cookie peer (kinds.Ended r) = false
 issues_to beside cookie peer (kinds.Left r) = false
 issues_to beside cookie peer (kinds.Confirmed r) = false
 issues_to beside cookie peer (kinds.Spoke r) = false
+issues_to beside cookie peer (kinds.Round r) = false
+issues_to beside cookie peer (kinds.Told r) = false
 
 has_issued_any : (beside : Bool) (records : List IdpRecord) (cookie peer : List ℕ) → has_issued beside (issued_rows records) cookie peer ≡ list_any (issues_to beside cookie peer) records
 has_issued_any beside [] cookie peer = refl
@@ -235,6 +253,8 @@ has_issued_any beside (kinds.Ended r ∷ later) cookie peer = has_issued_any bes
 has_issued_any beside (kinds.Left r ∷ later) cookie peer = has_issued_any beside later cookie peer
 has_issued_any beside (kinds.Confirmed r ∷ later) cookie peer = has_issued_any beside later cookie peer
 has_issued_any beside (kinds.Spoke r ∷ later) cookie peer = has_issued_any beside later cookie peer
+has_issued_any beside (kinds.Round r ∷ later) cookie peer = has_issued_any beside later cookie peer
+has_issued_any beside (kinds.Told r ∷ later) cookie peer = has_issued_any beside later cookie peer
 
 to_is_of : (beside : Bool) (cookie peer : List ℕ) (x : IdpRecord) → issues_to beside cookie peer x ≡ true → is_of cookie x ≡ true
 to_is_of beside cookie peer (kinds.Pending r) is = is
@@ -243,6 +263,8 @@ to_is_of beside cookie peer (kinds.Ended r) is = is
 to_is_of beside cookie peer (kinds.Left r) is = is
 to_is_of beside cookie peer (kinds.Confirmed r) is = is
 to_is_of beside cookie peer (kinds.Spoke r) is = is
+to_is_of beside cookie peer (kinds.Round r) is = is
+to_is_of beside cookie peer (kinds.Told r) is = is
 
 told_alike : (beside : Bool) (cookie peer : List ℕ) (marks : List Marked) → KeepsAll (is_of cookie) marks
     → has_issued beside (issued_rows (kept marks)) cookie peer ≡ has_issued beside (issued_rows (all marks)) cookie peer
@@ -289,11 +311,15 @@ last_same cookie ((true, kinds.Ended r) ∷ marks) keeps = last_same cookie mark
 last_same cookie ((true, kinds.Left r) ∷ marks) keeps = last_same cookie marks keeps.1
 last_same cookie ((true, kinds.Confirmed r) ∷ marks) keeps = last_same cookie marks keeps.1
 last_same cookie ((true, kinds.Spoke r) ∷ marks) keeps = last_same cookie marks keeps.1
+last_same cookie ((true, kinds.Round r) ∷ marks) keeps = last_same cookie marks keeps.1
+last_same cookie ((true, kinds.Told r) ∷ marks) keeps = last_same cookie marks keeps.1
 last_same cookie ((false, kinds.Pending r) ∷ marks) keeps = last_same cookie marks keeps.1
 last_same cookie ((false, kinds.Ended r) ∷ marks) keeps = last_same cookie marks keeps.1
 last_same cookie ((false, kinds.Left r) ∷ marks) keeps = last_same cookie marks keeps.1
 last_same cookie ((false, kinds.Confirmed r) ∷ marks) keeps = last_same cookie marks keeps.1
 last_same cookie ((false, kinds.Spoke r) ∷ marks) keeps = last_same cookie marks keeps.1
+last_same cookie ((false, kinds.Round r) ∷ marks) keeps = last_same cookie marks keeps.1
+last_same cookie ((false, kinds.Told r) ∷ marks) keeps = last_same cookie marks keeps.1
 
 pub peers_alike : (marks : List Marked) → AreRecords (all marks) → AreClosed marks
     → Each (λ (row : SessionRow). last_peer (issued_rows (kept marks)) row.cookie ≡ last_peer (issued_rows (all marks)) row.cookie) (session_rows (kept marks))

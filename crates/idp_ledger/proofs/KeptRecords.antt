@@ -15,7 +15,8 @@ use Rattle.idp_ledger.specs.RowsOf.{rows_of, if_pending, session_row, pending_ro
 use Rattle.idp_ledger.specs.Record.{is_unused, is_unended, is_waiting, is_issue_free, is_free, drawn, next_of, idp_rules}
 use Rattle.idp_ledger.specs.Laws.{KeptAreRecords}
 use Rattle.idp_ledger.proofs.LawWords.{parts, from_parts}
-use Rattle.idp_ledger.proofs.KeptMarks.{Marked}
+use Rattle.idp_ledger.proofs.KeptMarks.{Marked, AreClosed}
+use Rattle.idp_ledger.proofs.KeptRounds.{answer_kept}
 
 unused_kept : (pending : List ℕ) (marks : List Marked) → KeepsAll (has_pending pending) marks
     → is_unused (pending_rows (all marks)) pending ≡ true → is_unused (pending_rows (kept marks)) pending ≡ true
@@ -42,11 +43,15 @@ unused_kept pending ((true, kinds.Ended r) ∷ marks) keeps is = unused_kept pen
 unused_kept pending ((true, kinds.Left r) ∷ marks) keeps is = unused_kept pending marks keeps.1 is
 unused_kept pending ((true, kinds.Confirmed r) ∷ marks) keeps is = unused_kept pending marks keeps.1 is
 unused_kept pending ((true, kinds.Spoke r) ∷ marks) keeps is = unused_kept pending marks keeps.1 is
+unused_kept pending ((true, kinds.Round r) ∷ marks) keeps is = unused_kept pending marks keeps.1 is
+unused_kept pending ((true, kinds.Told r) ∷ marks) keeps is = unused_kept pending marks keeps.1 is
 unused_kept pending ((false, kinds.Issued r) ∷ marks) keeps is = unused_kept pending marks keeps.1 is
 unused_kept pending ((false, kinds.Ended r) ∷ marks) keeps is = unused_kept pending marks keeps.1 is
 unused_kept pending ((false, kinds.Left r) ∷ marks) keeps is = unused_kept pending marks keeps.1 is
 unused_kept pending ((false, kinds.Confirmed r) ∷ marks) keeps is = unused_kept pending marks keeps.1 is
 unused_kept pending ((false, kinds.Spoke r) ∷ marks) keeps is = unused_kept pending marks keeps.1 is
+unused_kept pending ((false, kinds.Round r) ∷ marks) keeps is = unused_kept pending marks keeps.1 is
+unused_kept pending ((false, kinds.Told r) ∷ marks) keeps is = unused_kept pending marks keeps.1 is
 
 waiting_kept : (request : List ℕ) (marks : List Marked) → KeepsAll (has_logout request) marks
     → is_waiting (left_rows (all marks)) request ≡ true → is_waiting (left_rows (kept marks)) request ≡ true
@@ -73,11 +78,15 @@ waiting_kept request ((true, kinds.Issued r) ∷ marks) keeps is = waiting_kept 
 waiting_kept request ((true, kinds.Ended r) ∷ marks) keeps is = waiting_kept request marks keeps.1 is
 waiting_kept request ((true, kinds.Confirmed r) ∷ marks) keeps is = waiting_kept request marks keeps.1 is
 waiting_kept request ((true, kinds.Spoke r) ∷ marks) keeps is = waiting_kept request marks keeps.1 is
+waiting_kept request ((true, kinds.Round r) ∷ marks) keeps is = waiting_kept request marks keeps.1 is
+waiting_kept request ((true, kinds.Told r) ∷ marks) keeps is = waiting_kept request marks keeps.1 is
 waiting_kept request ((false, kinds.Pending r) ∷ marks) keeps is = waiting_kept request marks keeps.1 is
 waiting_kept request ((false, kinds.Issued r) ∷ marks) keeps is = waiting_kept request marks keeps.1 is
 waiting_kept request ((false, kinds.Ended r) ∷ marks) keeps is = waiting_kept request marks keeps.1 is
 waiting_kept request ((false, kinds.Confirmed r) ∷ marks) keeps is = waiting_kept request marks keeps.1 is
 waiting_kept request ((false, kinds.Spoke r) ∷ marks) keeps is = waiting_kept request marks keeps.1 is
+waiting_kept request ((false, kinds.Round r) ∷ marks) keeps is = waiting_kept request marks keeps.1 is
+waiting_kept request ((false, kinds.Told r) ∷ marks) keeps is = waiting_kept request marks keeps.1 is
 
 -- whether a record begins the session of this cookie
 abbrev begins : List ℕ → IdpRecord → Bool
@@ -124,11 +133,15 @@ unended_kept cookie ((true, kinds.Ended r) ∷ marks) keeps is = unended_kept co
 unended_kept cookie ((true, kinds.Left r) ∷ marks) keeps is = unended_kept cookie marks keeps.1 is
 unended_kept cookie ((true, kinds.Confirmed r) ∷ marks) keeps is = unended_kept cookie marks keeps.1 is
 unended_kept cookie ((true, kinds.Spoke r) ∷ marks) keeps is = unended_kept cookie marks keeps.1 is
+unended_kept cookie ((true, kinds.Round r) ∷ marks) keeps is = unended_kept cookie marks keeps.1 is
+unended_kept cookie ((true, kinds.Told r) ∷ marks) keeps is = unended_kept cookie marks keeps.1 is
 unended_kept cookie ((false, kinds.Pending r) ∷ marks) keeps is = unended_kept cookie marks keeps.1 is
 unended_kept cookie ((false, kinds.Ended r) ∷ marks) keeps is = unended_kept cookie marks keeps.1 is
 unended_kept cookie ((false, kinds.Left r) ∷ marks) keeps is = unended_kept cookie marks keeps.1 is
 unended_kept cookie ((false, kinds.Confirmed r) ∷ marks) keeps is = unended_kept cookie marks keeps.1 is
 unended_kept cookie ((false, kinds.Spoke r) ∷ marks) keeps is = unended_kept cookie marks keeps.1 is
+unended_kept cookie ((false, kinds.Round r) ∷ marks) keeps is = unended_kept cookie marks keeps.1 is
+unended_kept cookie ((false, kinds.Told r) ∷ marks) keeps is = unended_kept cookie marks keeps.1 is
 
 -- the session of a cookie that is listed is named
 first_cookie : (cookie : List ℕ) (cookies : List (List ℕ)) (p : Option (List ℕ)) (own : List ℕ) → has_cookie (cookie ∷ []) p own ≡ true → has_cookie (cookie ∷ cookies) p own ≡ true
@@ -150,6 +163,8 @@ first_named cookie cookies (kinds.Ended r) here = here
 first_named cookie cookies (kinds.Left r) here = here
 first_named cookie cookies (kinds.Confirmed r) here = here
 first_named cookie cookies (kinds.Spoke r) here = here
+first_named cookie cookies (kinds.Round r) here = here
+first_named cookie cookies (kinds.Told r) here = here
 
 rest_named : (cookie : List ℕ) (cookies : List (List ℕ)) (x : IdpRecord) → has_session cookies x ≡ true → has_session (cookie ∷ cookies) x ≡ true
 rest_named cookie cookies (kinds.Pending r) here = here
@@ -158,6 +173,8 @@ rest_named cookie cookies (kinds.Ended r) here = here
 rest_named cookie cookies (kinds.Left r) here = here
 rest_named cookie cookies (kinds.Confirmed r) here = here
 rest_named cookie cookies (kinds.Spoke r) here = here
+rest_named cookie cookies (kinds.Round r) here = here
+rest_named cookie cookies (kinds.Told r) here = here
 
 keeps_first : (cookie : List ℕ) (cookies : List (List ℕ)) (marks : List Marked) → KeepsAll (has_session (cookie ∷ cookies)) marks → KeepsAll (begins cookie) marks
 keeps_first cookie cookies =
@@ -184,19 +201,21 @@ issue_kept : (marks : List Marked) (p : Option (List ℕ)) (cookie : List ℕ) �
 issue_kept marks None cookie keeps free = unended_kept cookie marks keeps free
 issue_kept marks (Some pending) cookie keeps free = unused_kept pending marks keeps free
 
-free_kept : (marks : List Marked) (r : IdpRecord) → KeepsAll (names r) marks → is_free (rows_of (all marks)) r ≡ true → is_free (rows_of (kept marks)) r ≡ true
-free_kept marks (kinds.Pending r) keeps free = refl
-free_kept marks (kinds.Issued r) keeps free = issue_kept marks r.pending r.cookie keeps free
-free_kept marks (kinds.Ended r) keeps free = all_unended_kept r.cookies marks keeps free
-free_kept marks (kinds.Left r) keeps free = unended_kept r.cookie marks keeps free
-free_kept marks (kinds.Confirmed r) keeps free = waiting_kept r.request marks keeps free
-free_kept marks (kinds.Spoke r) keeps free = refl
+free_kept : (marks : List Marked) (r : IdpRecord) → AreClosed marks → KeepsAll (names r) marks → is_free (rows_of (all marks)) r ≡ true → is_free (rows_of (kept marks)) r ≡ true
+free_kept marks (kinds.Pending r) closed keeps free = refl
+free_kept marks (kinds.Issued r) closed keeps free = issue_kept marks r.pending r.cookie keeps free
+free_kept marks (kinds.Ended r) closed keeps free = all_unended_kept r.cookies marks keeps free
+free_kept marks (kinds.Left r) closed keeps free = unended_kept r.cookie marks keeps free
+free_kept marks (kinds.Confirmed r) closed keeps free = waiting_kept r.request marks keeps free
+free_kept marks (kinds.Spoke r) closed keeps free = refl
+free_kept marks (kinds.Round r) closed keeps free = all_unended_kept r.cookies marks keeps free
+free_kept marks (kinds.Told r) closed keeps free = answer_kept marks r closed keeps free
 
 pub record_kept : StaysRecord idp_rules
 record_kept marks r are closed keeps is =
     let p = parts (all marks) r is in
     from_parts (kept marks) r (record {
-      free = free_kept marks r keeps p.free;
+      free = free_kept marks r closed keeps p.free;
       fresh = fresh_below (next_of (all marks)) (next_of (kept marks)) (drawn r) (any.next_kept idp_rules marks) p.fresh;
       texts = p.texts;
       dated = p.dated;

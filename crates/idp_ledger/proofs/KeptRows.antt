@@ -30,6 +30,8 @@ user_names r (kinds.Ended x) here = absurd (false≢true here)
 user_names r (kinds.Left x) here = absurd (false≢true here)
 user_names r (kinds.Confirmed x) here = absurd (false≢true here)
 user_names r (kinds.Spoke x) here = absurd (false≢true here)
+user_names r (kinds.Round x) here = absurd (false≢true here)
+user_names r (kinds.Told x) here = absurd (false≢true here)
 
 ender_names : (r : Issued) (pending : List ℕ) → r.pending ≡ Some pending → (x : IdpRecord) → ends r.cookie x ≡ true → names x (kinds.Issued r) ≡ true
 ender_names r pending e (kinds.Pending x) here = absurd (false≢true here)
@@ -38,6 +40,8 @@ ender_names r pending e (kinds.Ended x) here = ap (λ p. has_cookie x.cookies p 
 ender_names r pending e (kinds.Left x) here = ap (λ p. has_cookie (x.cookie ∷ []) p r.cookie) e ∙ or_left (bytes_eq x.cookie r.cookie) false here
 ender_names r pending e (kinds.Confirmed x) here = absurd (false≢true here)
 ender_names r pending e (kinds.Spoke x) here = absurd (false≢true here)
+ender_names r pending e (kinds.Round x) here = ap (λ p. has_cookie x.cookies p r.cookie) e ∙ here
+ender_names r pending e (kinds.Told x) here = absurd (false≢true here)
 
 confirmer_names : (r : Left) (x : IdpRecord) → confirms r.request x ≡ true → names x (kinds.Left r) ≡ true
 confirmer_names r (kinds.Pending x) here = absurd (false≢true here)
@@ -46,6 +50,8 @@ confirmer_names r (kinds.Ended x) here = absurd (false≢true here)
 confirmer_names r (kinds.Left x) here = absurd (false≢true here)
 confirmer_names r (kinds.Confirmed x) here = other_way x.request r.request here
 confirmer_names r (kinds.Spoke x) here = absurd (false≢true here)
+confirmer_names r (kinds.Round x) here = absurd (false≢true here)
+confirmer_names r (kinds.Told x) here = absurd (false≢true here)
 
 same_marked : (r : IdpRecord) (test : IdpRecord → Bool) (later : List Marked) → ((x : IdpRecord) → test x ≡ true → names x r ≡ true) → NamersOf (true, r) later
     → list_any test (kept later) ≡ list_any test (all later)
@@ -81,11 +87,15 @@ module _ (now horizon : ℕ) where
   pendings_alike ((true, kinds.Left r) ∷ marks) keeps linked = pendings_alike marks keeps.1 linked.1
   pendings_alike ((true, kinds.Confirmed r) ∷ marks) keeps linked = pendings_alike marks keeps.1 linked.1
   pendings_alike ((true, kinds.Spoke r) ∷ marks) keeps linked = pendings_alike marks keeps.1 linked.1
+  pendings_alike ((true, kinds.Round r) ∷ marks) keeps linked = pendings_alike marks keeps.1 linked.1
+  pendings_alike ((true, kinds.Told r) ∷ marks) keeps linked = pendings_alike marks keeps.1 linked.1
   pendings_alike ((false, kinds.Issued r) ∷ marks) keeps linked = pendings_alike marks keeps.1 linked.1
   pendings_alike ((false, kinds.Ended r) ∷ marks) keeps linked = pendings_alike marks keeps.1 linked.1
   pendings_alike ((false, kinds.Left r) ∷ marks) keeps linked = pendings_alike marks keeps.1 linked.1
   pendings_alike ((false, kinds.Confirmed r) ∷ marks) keeps linked = pendings_alike marks keeps.1 linked.1
   pendings_alike ((false, kinds.Spoke r) ∷ marks) keeps linked = pendings_alike marks keeps.1 linked.1
+  pendings_alike ((false, kinds.Round r) ∷ marks) keeps linked = pendings_alike marks keeps.1 linked.1
+  pendings_alike ((false, kinds.Told r) ∷ marks) keeps linked = pendings_alike marks keeps.1 linked.1
 
   begun_alike : (r : Issued) (p : Option (List ℕ)) (marks : List Marked) → r.pending ≡ p → NamersOf (true, kinds.Issued r) marks
       → filter session_seen (session_rows (kept marks)) ≡ filter session_seen (session_rows (all marks))
@@ -117,11 +127,15 @@ module _ (now horizon : ℕ) where
   sessions_alike ((true, kinds.Left r) ∷ marks) keeps linked = sessions_alike marks keeps.1 linked.1
   sessions_alike ((true, kinds.Confirmed r) ∷ marks) keeps linked = sessions_alike marks keeps.1 linked.1
   sessions_alike ((true, kinds.Spoke r) ∷ marks) keeps linked = sessions_alike marks keeps.1 linked.1
+  sessions_alike ((true, kinds.Round r) ∷ marks) keeps linked = sessions_alike marks keeps.1 linked.1
+  sessions_alike ((true, kinds.Told r) ∷ marks) keeps linked = sessions_alike marks keeps.1 linked.1
   sessions_alike ((false, kinds.Pending r) ∷ marks) keeps linked = sessions_alike marks keeps.1 linked.1
   sessions_alike ((false, kinds.Ended r) ∷ marks) keeps linked = sessions_alike marks keeps.1 linked.1
   sessions_alike ((false, kinds.Left r) ∷ marks) keeps linked = sessions_alike marks keeps.1 linked.1
   sessions_alike ((false, kinds.Confirmed r) ∷ marks) keeps linked = sessions_alike marks keeps.1 linked.1
   sessions_alike ((false, kinds.Spoke r) ∷ marks) keeps linked = sessions_alike marks keeps.1 linked.1
+  sessions_alike ((false, kinds.Round r) ∷ marks) keeps linked = sessions_alike marks keeps.1 linked.1
+  sessions_alike ((false, kinds.Told r) ∷ marks) keeps linked = sessions_alike marks keeps.1 linked.1
 
   pub lefts_alike : (marks : List Marked) → KeepsAll (has_visible now horizon) marks → AreClosed marks
       → filter left_seen (left_rows (kept marks)) ≡ filter left_seen (left_rows (all marks))
@@ -138,8 +152,12 @@ module _ (now horizon : ℕ) where
   lefts_alike ((true, kinds.Ended r) ∷ marks) keeps linked = lefts_alike marks keeps.1 linked.1
   lefts_alike ((true, kinds.Confirmed r) ∷ marks) keeps linked = lefts_alike marks keeps.1 linked.1
   lefts_alike ((true, kinds.Spoke r) ∷ marks) keeps linked = lefts_alike marks keeps.1 linked.1
+  lefts_alike ((true, kinds.Round r) ∷ marks) keeps linked = lefts_alike marks keeps.1 linked.1
+  lefts_alike ((true, kinds.Told r) ∷ marks) keeps linked = lefts_alike marks keeps.1 linked.1
   lefts_alike ((false, kinds.Pending r) ∷ marks) keeps linked = lefts_alike marks keeps.1 linked.1
   lefts_alike ((false, kinds.Issued r) ∷ marks) keeps linked = lefts_alike marks keeps.1 linked.1
   lefts_alike ((false, kinds.Ended r) ∷ marks) keeps linked = lefts_alike marks keeps.1 linked.1
   lefts_alike ((false, kinds.Confirmed r) ∷ marks) keeps linked = lefts_alike marks keeps.1 linked.1
   lefts_alike ((false, kinds.Spoke r) ∷ marks) keeps linked = lefts_alike marks keeps.1 linked.1
+  lefts_alike ((false, kinds.Round r) ∷ marks) keeps linked = lefts_alike marks keeps.1 linked.1
+  lefts_alike ((false, kinds.Told r) ∷ marks) keeps linked = lefts_alike marks keeps.1 linked.1

@@ -2,13 +2,19 @@ pub mod RowPlaces
 pub mod RowOrders
 pub mod IssueLaws
 pub mod StandingRows
+pub mod RoundRows
+pub mod RoundFound
+pub mod RoundStanding
 pub mod RowLaws
 pub mod Draftable
 pub mod RowTexts
 pub mod Endings
 pub mod DraftedRecords
+pub mod RoundDrafts
 pub mod LawWords
 pub mod KeptMarks
+pub mod RoundChains
+pub mod KeptRounds
 pub mod KeptRecords
 pub mod KeptRows
 pub mod LinkFree
@@ -18,3 +24,4 @@ pub mod CauseLaws
 pub mod FoundDrafts
 pub mod RuleLaws
 pub mod SessionsStaying
+pub mod RoundLaws

@@ -5,6 +5,8 @@ use Rattle.std.proofs.lemmas.Bool.{false≢true, and_parts, or_from, or_cases, n
 use Rattle.ledger_records.specs.declared.idp_record.Pending.{Pending}
 use Rattle.ledger_records.specs.declared.idp_record.Issued.{Issued}
 use Rattle.ledger_records.specs.declared.idp_record.Left.{Left}
+use Rattle.ledger_records.specs.declared.idp_round.Round.{Round}
+use Rattle.ledger_records.specs.declared.idp_round.Told.{Told}
 use Rattle.ledger_records.specs.declared.idp_record.IdpRecord.{IdpRecord}
 use Rattle.ledger_records.specs.declared.idp_record.IdpRecord.TheVariants as kinds
 use Rattle.std.specs.Option.{is_some}
@@ -14,9 +16,12 @@ use Rattle.record_ledger.specs.Linking as any
 use Rattle.record_ledger.proofs.Words.{same_text, text_itself, other_way}
 use Rattle.record_ledger.proofs.LinkRows.{alone, other_not, among_one, among_itself, none_at}
 use Rattle.idp_ledger.specs.RowsOf.{if_pending, session_row, is_among, is_pending, uses, ends, confirms, pending_rows, session_rows, left_rows, rows_of}
-use Rattle.idp_ledger.specs.Record.{of_option, is_unused, is_unended, is_waiting, is_issue_free, is_record, idp_rules}
-use Rattle.idp_ledger.specs.Naming.{has_cookie, has_pending, has_session, has_logout, issue_names, names}
-use Rattle.idp_ledger.specs.Linking.{idp_links, named, row_found, session_found, where_none, within}
+use Rattle.idp_ledger.specs.Record.{of_option, is_unused, is_unended, is_waiting, is_issue_free, is_record, fits_where_waiting, AreRecords, idp_rules}
+use Rattle.idp_ledger.specs.Naming.{has_cookie, has_pending, has_session, has_logout, has_request, is_next_request, issue_names, names}
+use Rattle.idp_ledger.specs.Linking.{idp_links, named, row_found, next_found, session_found, where_none, within}
+use Rattle.round_rows.specs.Rounds.{waits_for}
+use Rattle.idp_ledger.specs.RoundsOf.{round_rows}
+use Rattle.idp_ledger.proofs.RoundChains.{answers_it, holder_at}
 use Rattle.idp_ledger.proofs.LawWords.{parts}
 
 -- whether a record has a row with one of these IDs, and whether one names another that is linked to it
@@ -44,6 +49,8 @@ pending_has id (kinds.Ended x) is = absurd (false≢true is)
 pending_has id (kinds.Left x) is = absurd (false≢true is)
 pending_has id (kinds.Confirmed x) is = absurd (false≢true is)
 pending_has id (kinds.Spoke x) is = absurd (false≢true is)
+pending_has id (kinds.Round x) is = absurd (false≢true is)
+pending_has id (kinds.Told x) is = absurd (false≢true is)
 
 pub session_has : (ids : List (List ℕ)) (x : IdpRecord) → has_session ids x ≡ true → has_id ids x ≡ true
 session_has ids (kinds.Pending x) is = absurd (false≢true is)
@@ -52,6 +59,8 @@ session_has ids (kinds.Ended x) is = absurd (false≢true is)
 session_has ids (kinds.Left x) is = absurd (false≢true is)
 session_has ids (kinds.Confirmed x) is = absurd (false≢true is)
 session_has ids (kinds.Spoke x) is = absurd (false≢true is)
+session_has ids (kinds.Round x) is = absurd (false≢true is)
+session_has ids (kinds.Told x) is = absurd (false≢true is)
 
 logout_has : (request : List ℕ) (x : IdpRecord) → has_logout request x ≡ true → has_id (request ∷ []) x ≡ true
 logout_has request (kinds.Pending x) is = absurd (false≢true is)
@@ -60,6 +69,22 @@ logout_has request (kinds.Ended x) is = absurd (false≢true is)
 logout_has request (kinds.Left l) is = alone (bytes_eq request l.request) (other_way l.request request is)
 logout_has request (kinds.Confirmed x) is = absurd (false≢true is)
 logout_has request (kinds.Spoke x) is = absurd (false≢true is)
+logout_has request (kinds.Round x) is = absurd (false≢true is)
+logout_has request (kinds.Told x) is = absurd (false≢true is)
+
+request_found : (request : List ℕ) (first : ℕ) (next : Option (List ℕ)) → is_next_request request next ≡ true → passes (λ (d : Drawn). is_among d.id (request ∷ [])) (next_found first next) ≡ true
+request_found request first None is = absurd (false≢true is)
+request_found request first (Some next) is = alone (bytes_eq request next) (other_way next request is)
+
+request_has : (request : List ℕ) (x : IdpRecord) → has_request request x ≡ true → has_id (request ∷ []) x ≡ true
+request_has request (kinds.Pending x) is = absurd (false≢true is)
+request_has request (kinds.Issued x) is = absurd (false≢true is)
+request_has request (kinds.Ended x) is = absurd (false≢true is)
+request_has request (kinds.Left x) is = absurd (false≢true is)
+request_has request (kinds.Confirmed x) is = absurd (false≢true is)
+request_has request (kinds.Spoke x) is = absurd (false≢true is)
+request_has request (kinds.Round x) is = alone (bytes_eq request x.request) (other_way x.request request is)
+request_has request (kinds.Told x) is = request_found request x.first x.next is
 
 -- a record that is named and linked has one of the IDs
 issue_has : (p : Option (List ℕ)) (cookie : List ℕ) (x : IdpRecord) → (not (is_some (where_none p cookie)) && issue_names p cookie x) ≡ true → has_id (of_option p) x ≡ true
@@ -73,6 +98,8 @@ names_has (kinds.Ended r) x is = session_has r.cookies x is
 names_has (kinds.Left r) x is = session_has (r.cookie ∷ []) x is
 names_has (kinds.Confirmed r) x is = logout_has r.request x is
 names_has (kinds.Spoke r) x is = absurd (false≢true is)
+names_has (kinds.Round r) x is = session_has r.cookies x is
+names_has (kinds.Told r) x is = request_has r.request x is
 
 -- the row of this pending, which nothing names yet, at its place
 record IsUnusedHere (records : List IdpRecord) (pending : List ℕ) : Type 0 where
@@ -123,6 +150,8 @@ unused_at (kinds.Ended r ∷ later) pending is = unused_later (kinds.Ended r) la
 unused_at (kinds.Left r ∷ later) pending is = unused_later (kinds.Left r) later pending (unused_at later pending is)
 unused_at (kinds.Confirmed r ∷ later) pending is = unused_later (kinds.Confirmed r) later pending (unused_at later pending is)
 unused_at (kinds.Spoke r ∷ later) pending is = unused_later (kinds.Spoke r) later pending (unused_at later pending is)
+unused_at (kinds.Round r ∷ later) pending is = unused_later (kinds.Round r) later pending (unused_at later pending is)
+unused_at (kinds.Told r ∷ later) pending is = unused_later (kinds.Told r) later pending (unused_at later pending is)
 
 -- the row of this request, which nothing names yet, at its place
 record IsWaitingHere (records : List IdpRecord) (request : List ℕ) : Type 0 where
@@ -173,6 +202,8 @@ waiting_at (kinds.Issued r ∷ later) request is = waiting_later (kinds.Issued r
 waiting_at (kinds.Ended r ∷ later) request is = waiting_later (kinds.Ended r) later request (waiting_at later request is)
 waiting_at (kinds.Confirmed r ∷ later) request is = waiting_later (kinds.Confirmed r) later request (waiting_at later request is)
 waiting_at (kinds.Spoke r ∷ later) request is = waiting_later (kinds.Spoke r) later request (waiting_at later request is)
+waiting_at (kinds.Round r ∷ later) request is = waiting_later (kinds.Round r) later request (waiting_at later request is)
+waiting_at (kinds.Told r ∷ later) request is = waiting_later (kinds.Told r) later request (waiting_at later request is)
 
 -- the row of this cookie, which nothing names yet, at its place
 record IsUnendedHere (records : List IdpRecord) (cookie : List ℕ) : Type 0 where
@@ -231,6 +262,8 @@ unended_at (kinds.Ended r ∷ later) cookie is = unended_later (kinds.Ended r) l
 unended_at (kinds.Left r ∷ later) cookie is = unended_later (kinds.Left r) later cookie (unended_at later cookie is)
 unended_at (kinds.Confirmed r ∷ later) cookie is = unended_later (kinds.Confirmed r) later cookie (unended_at later cookie is)
 unended_at (kinds.Spoke r ∷ later) cookie is = unended_later (kinds.Spoke r) later cookie (unended_at later cookie is)
+unended_at (kinds.Round r ∷ later) cookie is = unended_later (kinds.Round r) later cookie (unended_at later cookie is)
+unended_at (kinds.Told r ∷ later) cookie is = unended_later (kinds.Told r) later cookie (unended_at later cookie is)
 
 -- a record that is linked does not name what it does not use, end or confirm
 unused_by : (o : Pending) (p : Option (List ℕ)) (cookie : List ℕ) → is_pending o.pending p ≡ false → (not (is_some (where_none p cookie)) && issue_names p cookie (kinds.Pending o)) ≡ false
@@ -244,6 +277,8 @@ unused_names o (kinds.Ended r) none = refl
 unused_names o (kinds.Left r) none = refl
 unused_names o (kinds.Confirmed r) none = refl
 unused_names o (kinds.Spoke r) none = refl
+unused_names o (kinds.Round r) none = refl
+unused_names o (kinds.Told r) none = refl
 
 within_or_pending : (o : Issued) (p : Option (List ℕ)) (cookie : List ℕ) → (not (is_some (where_none p cookie)) && issue_names p cookie (kinds.Issued o)) ≡ false
 within_or_pending o None cookie = refl
@@ -260,6 +295,8 @@ unended_names o (kinds.Ended r) none = not_among r.cookies o.pending o.cookie no
 unended_names o (kinds.Left r) none = not_among (r.cookie ∷ []) o.pending o.cookie (or_from (bytes_eq r.cookie o.cookie) false none refl)
 unended_names o (kinds.Confirmed r) none = refl
 unended_names o (kinds.Spoke r) none = refl
+unended_names o (kinds.Round r) none = not_among r.cookies o.pending o.cookie none
+unended_names o (kinds.Told r) none = refl
 
 unconfirmed_by : (o : Left) (p : Option (List ℕ)) (cookie : List ℕ) → (not (is_some (where_none p cookie)) && issue_names p cookie (kinds.Left o)) ≡ false
 unconfirmed_by o None cookie = refl
@@ -272,6 +309,45 @@ unconfirmed_names o (kinds.Ended r) none = refl
 unconfirmed_names o (kinds.Left r) none = refl
 unconfirmed_names o (kinds.Confirmed r) none = other_not r.request o.request none
 unconfirmed_names o (kinds.Spoke r) none = refl
+unconfirmed_names o (kinds.Round r) none = refl
+unconfirmed_names o (kinds.Told r) none = refl
+
+-- a record that made a request, and a record that does not answer it
+unasked_by : (a : Round) (p : Option (List ℕ)) (cookie : List ℕ) → (not (is_some (where_none p cookie)) && issue_names p cookie (kinds.Round a)) ≡ false
+unasked_by a None cookie = refl
+unasked_by a (Some pending) cookie = refl
+
+untold_by : (a : Told) (p : Option (List ℕ)) (cookie : List ℕ) → (not (is_some (where_none p cookie)) && issue_names p cookie (kinds.Told a)) ≡ false
+untold_by a None cookie = refl
+untold_by a (Some pending) cookie = refl
+
+not_next : (q request : List ℕ) (next : Option (List ℕ)) → is_next_request q next ≡ true → bytes_eq request q ≡ false → is_next_request request next ≡ false
+not_next q request None has none = refl
+not_next q request (Some id) has none = ap (λ x. bytes_eq x request) (same_text id q has) ∙ other_not request q none
+
+unanswered_names : (q : List ℕ) (x y : IdpRecord) → has_request q x ≡ true → answers_it q y ≡ false → names_up y x ≡ false
+unanswered_names q (kinds.Pending a) y has none = absurd (false≢true has)
+unanswered_names q (kinds.Issued a) y has none = absurd (false≢true has)
+unanswered_names q (kinds.Ended a) y has none = absurd (false≢true has)
+unanswered_names q (kinds.Left a) y has none = absurd (false≢true has)
+unanswered_names q (kinds.Confirmed a) y has none = absurd (false≢true has)
+unanswered_names q (kinds.Spoke a) y has none = absurd (false≢true has)
+unanswered_names q (kinds.Round a) (kinds.Issued r) has none = unasked_by a r.pending r.cookie
+unanswered_names q (kinds.Round a) (kinds.Told r) has none = ap (λ x. bytes_eq x r.request) (same_text a.request q has) ∙ other_not r.request q none
+unanswered_names q (kinds.Round a) (kinds.Pending r) has none = refl
+unanswered_names q (kinds.Round a) (kinds.Ended r) has none = refl
+unanswered_names q (kinds.Round a) (kinds.Left r) has none = refl
+unanswered_names q (kinds.Round a) (kinds.Confirmed r) has none = refl
+unanswered_names q (kinds.Round a) (kinds.Spoke r) has none = refl
+unanswered_names q (kinds.Round a) (kinds.Round r) has none = refl
+unanswered_names q (kinds.Told a) (kinds.Issued r) has none = untold_by a r.pending r.cookie
+unanswered_names q (kinds.Told a) (kinds.Told r) has none = not_next q r.request a.next has none
+unanswered_names q (kinds.Told a) (kinds.Pending r) has none = refl
+unanswered_names q (kinds.Told a) (kinds.Ended r) has none = refl
+unanswered_names q (kinds.Told a) (kinds.Left r) has none = refl
+unanswered_names q (kinds.Told a) (kinds.Confirmed r) has none = refl
+unanswered_names q (kinds.Told a) (kinds.Spoke r) has none = refl
+unanswered_names q (kinds.Told a) (kinds.Round r) has none = refl
 
 has_it : (ids : List (List ℕ)) (o : Issued) → (p : List ℕ) × (o.pending ≡ Some p) → is_among o.cookie ids ≡ true → has_session ids (kinds.Issued o) ≡ true
 has_it ids o begun among = ap (λ p. has_cookie ids p o.cookie) begun.1 ∙ among
@@ -312,18 +388,32 @@ issued_free before r id (Some pending) e free among =
       free = λ l y less there. unused_names o.row y (o.free l y less there);
     }
 
-pub free_row : (before : List IdpRecord) (r : IdpRecord) (id : List ℕ) → is_record before r ≡ true → is_among id (named r) ≡ true → FreeRow before r id
-free_row before (kinds.Pending r) id is among = absurd (false≢true among)
-free_row before (kinds.Issued r) id is among = issued_free before r id r.pending refl (parts before (kinds.Issued r) is).free among
-free_row before (kinds.Left r) id is among =
+told_free : (before : List IdpRecord) (r : Told) (id : List ℕ) → AreRecords before → is_record before (kinds.Told r) ≡ true → is_among id (r.request ∷ []) ≡ true → FreeRow before (kinds.Told r) id
+told_free before r id are is among =
+    let same : id ≡ r.request = among_one r.request id among in
+    let waits = (and_parts (list_any (waits_for r.request) (round_rows before)) (list_all (fits_where_waiting r) (round_rows before)) (parts before (kinds.Told r) is).free).0 in
+    let h = holder_at [] before are r.request waits in
+    record {
+      place = h.place;
+      row = h.row;
+      there = h.there;
+      has = subst (λ t. has_id (t ∷ []) h.row ≡ true) (sym same) (request_has r.request h.row h.has);
+      named_is = h.has;
+      free = λ l y less there. unanswered_names r.request h.row y h.has (h.free l y less there);
+    }
+
+pub free_row : (before : List IdpRecord) (r : IdpRecord) (id : List ℕ) → AreRecords before → is_record before r ≡ true → is_among id (named r) ≡ true → FreeRow before r id
+free_row before (kinds.Pending r) id are is among = absurd (false≢true among)
+free_row before (kinds.Issued r) id are is among = issued_free before r id r.pending refl (parts before (kinds.Issued r) is).free among
+free_row before (kinds.Left r) id are is among =
     let same : id ≡ r.cookie = among_one r.cookie id among in
     let o = unended_at before id (subst (λ t. is_unended (session_rows before) t ≡ true) (sym same) (parts before (kinds.Left r) is).free) in
     unended_free before (kinds.Left r) id o
     (has_it (r.cookie ∷ []) o.row o.begun (subst (λ t. is_among t (r.cookie ∷ []) ≡ true) (sym o.id_is) among))
-free_row before (kinds.Ended r) id is among =
+free_row before (kinds.Ended r) id are is among =
     let o = unended_at before id (among_cookie before r.cookies id (parts before (kinds.Ended r) is).free among) in
     unended_free before (kinds.Ended r) id o (has_it r.cookies o.row o.begun (subst (λ t. is_among t r.cookies ≡ true) (sym o.id_is) among))
-free_row before (kinds.Confirmed r) id is among =
+free_row before (kinds.Confirmed r) id are is among =
     let same : id ≡ r.request = among_one r.request id among in
     let o = waiting_at before id (subst (λ t. is_waiting (left_rows before) t ≡ true) (sym same) (parts before (kinds.Confirmed r) is).free) in
     record {
@@ -334,7 +424,11 @@ free_row before (kinds.Confirmed r) id is among =
       named_is = subst (λ t. bytes_eq t r.request ≡ true) (sym o.id_is) (subst (λ t. bytes_eq t r.request ≡ true) (sym same) (text_itself r.request));
       free = λ l y less there. unconfirmed_names o.row y (o.free l y less there);
     }
-free_row before (kinds.Spoke r) id is among = absurd (false≢true among)
+free_row before (kinds.Spoke r) id are is among = absurd (false≢true among)
+free_row before (kinds.Round r) id are is among =
+    let o = unended_at before id (among_cookie before r.cookies id (parts before (kinds.Round r) is).free among) in
+    unended_free before (kinds.Round r) id o (has_it r.cookies o.row o.begun (subst (λ t. is_among t r.cookies ≡ true) (sym o.id_is) among))
+free_row before (kinds.Told r) id are is among = told_free before r id are is among
 
 -- ---- the record that began a session
 
@@ -374,6 +468,8 @@ is_within (kinds.Ended r) id some = absurd (cc)
 is_within (kinds.Left r) id some = absurd (cc)
 is_within (kinds.Confirmed r) id some = absurd (cc)
 is_within (kinds.Spoke r) id some = absurd (cc)
+is_within (kinds.Round r) id some = absurd (cc)
+is_within (kinds.Told r) id some = absurd (cc)
 
 pub within_row : (before : List IdpRecord) (r : IdpRecord) (id : List ℕ) → is_record before r ≡ true → within r ≡ Some id → any.NamedRow idp_rules idp_links before r id
 within_row before r id is some =

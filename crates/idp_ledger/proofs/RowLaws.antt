@@ -13,7 +13,10 @@ use Rattle.idp_ledger.specs.declared.row.PendingRow.{PendingRow}
 use Rattle.idp_ledger.specs.declared.row.SessionRow.{SessionRow}
 use Rattle.idp_ledger.specs.declared.row.LeftRow.{LeftRow}
 use Rattle.idp_ledger.specs.RowsOf.{pending_row, issued_row, session_row, left_row, if_pending, begun, is_among, is_pending, uses, ends, confirms, pending_rows, issued_rows, session_rows, left_rows, rows_of, used_where, ended_where, confirmed_where, rows_after}
+use Rattle.idp_ledger.specs.RoundsOf.{round_row, round_rows}
 use Rattle.idp_ledger.specs.Record.{drawn, next_of, is_next, is_record, idp_rules}
+use Rattle.round_rows.specs.Rounds.{answered}
+use Rattle.idp_ledger.proofs.RoundRows.{round_rows-push, rounds_stay, map_nothing}
 
 or-false : (b : Bool) → (b || false) ≡ b
 or-false true = refl
@@ -32,6 +35,8 @@ pending_rows-push (kinds.Ended o ∷ later) r = pending_rows-push later r
 pending_rows-push (kinds.Left o ∷ later) r = pending_rows-push later r
 pending_rows-push (kinds.Confirmed o ∷ later) r = pending_rows-push later r
 pending_rows-push (kinds.Spoke o ∷ later) r = pending_rows-push later r
+pending_rows-push (kinds.Round o ∷ later) r = pending_rows-push later r
+pending_rows-push (kinds.Told o ∷ later) r = pending_rows-push later r
 
 issued_rows-append : (records more : List IdpRecord) → issued_rows (records ++ more) ≡ issued_rows records ++ issued_rows more
 issued_rows-append [] more = refl
@@ -41,6 +46,8 @@ issued_rows-append (kinds.Ended r ∷ later) more = issued_rows-append later mor
 issued_rows-append (kinds.Left r ∷ later) more = issued_rows-append later more
 issued_rows-append (kinds.Confirmed r ∷ later) more = issued_rows-append later more
 issued_rows-append (kinds.Spoke r ∷ later) more = issued_rows-append later more
+issued_rows-append (kinds.Round r ∷ later) more = issued_rows-append later more
+issued_rows-append (kinds.Told r ∷ later) more = issued_rows-append later more
 
 begun-push : (pending : Option (List ℕ)) (o : Issued) (r : IdpRecord) (later : List IdpRecord) (rows more : List SessionRow)
     → if_pending pending (session_row (list_any (ends o.cookie) (later ++ r ∷ [])) o ∷ []) ++ (ended_where (λ row. ends row.cookie r) rows ++ more)
@@ -59,6 +66,8 @@ session_rows-push (kinds.Ended o ∷ later) r = session_rows-push later r
 session_rows-push (kinds.Left o ∷ later) r = session_rows-push later r
 session_rows-push (kinds.Confirmed o ∷ later) r = session_rows-push later r
 session_rows-push (kinds.Spoke o ∷ later) r = session_rows-push later r
+session_rows-push (kinds.Round o ∷ later) r = session_rows-push later r
+session_rows-push (kinds.Told o ∷ later) r = session_rows-push later r
 
 left_rows-push : (records : List IdpRecord) (r : IdpRecord) → left_rows (records ++ r ∷ []) ≡ confirmed_where (λ row. confirms row.request r) (left_rows records) ++ left_rows (r ∷ [])
 left_rows-push [] r = refl
@@ -69,6 +78,8 @@ left_rows-push (kinds.Left o ∷ later) r =
     λ i. left_row (list_any-push (confirms o.request) later r i) o ∷ left_rows-push later r i
 left_rows-push (kinds.Confirmed o ∷ later) r = left_rows-push later r
 left_rows-push (kinds.Spoke o ∷ later) r = left_rows-push later r
+left_rows-push (kinds.Round o ∷ later) r = left_rows-push later r
+left_rows-push (kinds.Told o ∷ later) r = left_rows-push later r
 
 -- where no row is meant all stay
 pub used_where-nothing : (rows : List PendingRow) → used_where (λ _. false) rows ≡ rows
@@ -99,37 +110,57 @@ rows_of-push records (kinds.Pending r) =
     let issues = issued_rows-append records (kinds.Pending r ∷ []) ∙ append-nil (issued_rows records) in
     let sessions = session_rows-push records (kinds.Pending r) ∙ sessions_stay (session_rows records) in
     let lefts = left_rows-push records (kinds.Pending r) ∙ lefts_stay (left_rows records) in
-    λ i. record { pendings = pendings i; issues = issues i; sessions = sessions i; lefts = lefts i }
+    let rounds = round_rows-push records (kinds.Pending r) ∙ rounds_stay (round_rows records) in
+    λ i. record { pendings = pendings i; issues = issues i; sessions = sessions i; lefts = lefts i; rounds = rounds i }
 rows_of-push records (kinds.Issued r) =
     let pendings = pending_rows-push records (kinds.Issued r) ∙ append-nil (used_where (λ row. is_pending row.pending r.pending) (pending_rows records)) in
     let issues = issued_rows-append records (kinds.Issued r ∷ []) in
     let sessions = session_rows-push records (kinds.Issued r) ∙ ap (λ rows. rows ++ session_rows (kinds.Issued r ∷ [])) (ended_where-nothing (session_rows records)) ∙ ap (λ rows. session_rows records ++ rows) (append-nil (begun false r)) in
     let lefts = left_rows-push records (kinds.Issued r) ∙ lefts_stay (left_rows records) in
-    λ i. record { pendings = pendings i; issues = issues i; sessions = sessions i; lefts = lefts i }
+    let rounds = round_rows-push records (kinds.Issued r) ∙ rounds_stay (round_rows records) in
+    λ i. record { pendings = pendings i; issues = issues i; sessions = sessions i; lefts = lefts i; rounds = rounds i }
 rows_of-push records (kinds.Ended r) =
     let pendings = pending_rows-push records (kinds.Ended r) ∙ pendings_stay (pending_rows records) in
     let issues = issued_rows-append records (kinds.Ended r ∷ []) ∙ append-nil (issued_rows records) in
     let sessions = session_rows-push records (kinds.Ended r) ∙ append-nil (ended_where (λ row. is_among row.cookie r.cookies) (session_rows records)) in
     let lefts = left_rows-push records (kinds.Ended r) ∙ lefts_stay (left_rows records) in
-    λ i. record { pendings = pendings i; issues = issues i; sessions = sessions i; lefts = lefts i }
+    let rounds = round_rows-push records (kinds.Ended r) ∙ rounds_stay (round_rows records) in
+    λ i. record { pendings = pendings i; issues = issues i; sessions = sessions i; lefts = lefts i; rounds = rounds i }
 rows_of-push records (kinds.Left r) =
     let pendings = pending_rows-push records (kinds.Left r) ∙ pendings_stay (pending_rows records) in
     let issues = issued_rows-append records (kinds.Left r ∷ []) ∙ append-nil (issued_rows records) in
     let sessions = session_rows-push records (kinds.Left r) ∙ append-nil (ended_where (λ row. bytes_eq r.cookie row.cookie) (session_rows records)) in
     let lefts = left_rows-push records (kinds.Left r) ∙ ap (λ rows. rows ++ left_row false r ∷ []) (confirmed_where-nothing (left_rows records)) in
-    λ i. record { pendings = pendings i; issues = issues i; sessions = sessions i; lefts = lefts i }
+    let rounds = round_rows-push records (kinds.Left r) ∙ rounds_stay (round_rows records) in
+    λ i. record { pendings = pendings i; issues = issues i; sessions = sessions i; lefts = lefts i; rounds = rounds i }
 rows_of-push records (kinds.Confirmed r) =
     let pendings = pending_rows-push records (kinds.Confirmed r) ∙ pendings_stay (pending_rows records) in
     let issues = issued_rows-append records (kinds.Confirmed r ∷ []) ∙ append-nil (issued_rows records) in
     let sessions = session_rows-push records (kinds.Confirmed r) ∙ sessions_stay (session_rows records) in
     let lefts = left_rows-push records (kinds.Confirmed r) ∙ append-nil (confirmed_where (λ row. bytes_eq r.request row.request) (left_rows records)) in
-    λ i. record { pendings = pendings i; issues = issues i; sessions = sessions i; lefts = lefts i }
+    let rounds = round_rows-push records (kinds.Confirmed r) ∙ rounds_stay (round_rows records) in
+    λ i. record { pendings = pendings i; issues = issues i; sessions = sessions i; lefts = lefts i; rounds = rounds i }
 rows_of-push records (kinds.Spoke r) =
     let pendings = pending_rows-push records (kinds.Spoke r) ∙ pendings_stay (pending_rows records) in
     let issues = issued_rows-append records (kinds.Spoke r ∷ []) ∙ append-nil (issued_rows records) in
     let sessions = session_rows-push records (kinds.Spoke r) ∙ sessions_stay (session_rows records) in
     let lefts = left_rows-push records (kinds.Spoke r) ∙ lefts_stay (left_rows records) in
-    λ i. record { pendings = pendings i; issues = issues i; sessions = sessions i; lefts = lefts i }
+    let rounds = round_rows-push records (kinds.Spoke r) ∙ rounds_stay (round_rows records) in
+    λ i. record { pendings = pendings i; issues = issues i; sessions = sessions i; lefts = lefts i; rounds = rounds i }
+rows_of-push records (kinds.Round r) =
+    let pendings = pending_rows-push records (kinds.Round r) ∙ pendings_stay (pending_rows records) in
+    let issues = issued_rows-append records (kinds.Round r ∷ []) ∙ append-nil (issued_rows records) in
+    let sessions = session_rows-push records (kinds.Round r) ∙ append-nil (ended_where (λ row. is_among row.cookie r.cookies) (session_rows records)) in
+    let lefts = left_rows-push records (kinds.Round r) ∙ lefts_stay (left_rows records) in
+    let rounds = round_rows-push records (kinds.Round r) ∙ ap (λ rows. rows ++ round_row r ∷ []) (map_nothing (round_rows records)) in
+    λ i. record { pendings = pendings i; issues = issues i; sessions = sessions i; lefts = lefts i; rounds = rounds i }
+rows_of-push records (kinds.Told r) =
+    let pendings = pending_rows-push records (kinds.Told r) ∙ pendings_stay (pending_rows records) in
+    let issues = issued_rows-append records (kinds.Told r ∷ []) ∙ append-nil (issued_rows records) in
+    let sessions = session_rows-push records (kinds.Told r) ∙ sessions_stay (session_rows records) in
+    let lefts = left_rows-push records (kinds.Told r) ∙ lefts_stay (left_rows records) in
+    let rounds = round_rows-push records (kinds.Told r) ∙ append-nil (answered r.request r.confirmed r.next (round_rows records)) in
+    λ i. record { pendings = pendings i; issues = issues i; sessions = sessions i; lefts = lefts i; rounds = rounds i }
 
 -- the least number above all of one record more
 pub next_of-push : (records : List IdpRecord) (r : IdpRecord) → next_of (records ++ r ∷ []) ≡ max (next_of records) (above (drawn r))

@@ -112,6 +112,8 @@ pendings_after before (kinds.Ended r ∷ later) are = pendings_after (before ++ 
 pendings_after before (kinds.Left r ∷ later) are = pendings_after (before ++ kinds.Left r ∷ []) later are.1
 pendings_after before (kinds.Confirmed r ∷ later) are = pendings_after (before ++ kinds.Confirmed r ∷ []) later are.1
 pendings_after before (kinds.Spoke r ∷ later) are = pendings_after (before ++ kinds.Spoke r ∷ []) later are.1
+pendings_after before (kinds.Round r ∷ later) are = pendings_after (before ++ kinds.Round r ∷ []) later are.1
+pendings_after before (kinds.Told r ∷ later) are = pendings_after (before ++ kinds.Told r ∷ []) later are.1
 
 pub pendings_allowed : (records : List IdpRecord) → AreRecords records → list_all is_pending_xml (pending_rows records) ≡ true
 pendings_allowed records are = pendings_after [] records are
@@ -125,6 +127,8 @@ peers_after before (kinds.Ended r ∷ later) are = peers_after (before ++ kinds.
 peers_after before (kinds.Left r ∷ later) are = peers_after (before ++ kinds.Left r ∷ []) later are.1
 peers_after before (kinds.Confirmed r ∷ later) are = peers_after (before ++ kinds.Confirmed r ∷ []) later are.1
 peers_after before (kinds.Spoke r ∷ later) are = peers_after (before ++ kinds.Spoke r ∷ []) later are.1
+peers_after before (kinds.Round r ∷ later) are = peers_after (before ++ kinds.Round r ∷ []) later are.1
+peers_after before (kinds.Told r ∷ later) are = peers_after (before ++ kinds.Told r ∷ []) later are.1
 
 pub peers_allowed : (records : List IdpRecord) → AreRecords records → list_all is_peer_xml (issued_rows records) ≡ true
 peers_allowed records are = peers_after [] records are
@@ -139,6 +143,8 @@ sessions_after before (kinds.Ended r ∷ later) are = sessions_after (before ++ 
 sessions_after before (kinds.Left r ∷ later) are = sessions_after (before ++ kinds.Left r ∷ []) later are.1
 sessions_after before (kinds.Confirmed r ∷ later) are = sessions_after (before ++ kinds.Confirmed r ∷ []) later are.1
 sessions_after before (kinds.Spoke r ∷ later) are = sessions_after (before ++ kinds.Spoke r ∷ []) later are.1
+sessions_after before (kinds.Round r ∷ later) are = sessions_after (before ++ kinds.Round r ∷ []) later are.1
+sessions_after before (kinds.Told r ∷ later) are = sessions_after (before ++ kinds.Told r ∷ []) later are.1
 
 pub sessions_allowed : (records : List IdpRecord) → AreRecords records → list_all is_session_xml (session_rows records) ≡ true
 sessions_allowed records are = sessions_after [] records are
@@ -154,6 +160,8 @@ requests_after before (kinds.Left r ∷ later) are =
     both (is_xml_text r.request) (list_all is_request_xml (left_rows later)) request (requests_after (before ++ kinds.Left r ∷ []) later are.1)
 requests_after before (kinds.Confirmed r ∷ later) are = requests_after (before ++ kinds.Confirmed r ∷ []) later are.1
 requests_after before (kinds.Spoke r ∷ later) are = requests_after (before ++ kinds.Spoke r ∷ []) later are.1
+requests_after before (kinds.Round r ∷ later) are = requests_after (before ++ kinds.Round r ∷ []) later are.1
+requests_after before (kinds.Told r ∷ later) are = requests_after (before ++ kinds.Told r ∷ []) later are.1
 
 pub requests_allowed : (records : List IdpRecord) → AreRecords records → list_all is_request_xml (left_rows records) ≡ true
 requests_allowed records are = requests_after [] records are

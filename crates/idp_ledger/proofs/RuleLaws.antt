@@ -10,10 +10,11 @@ use Rattle.record_ledger.specs.Laws.{AreFreshlyDrawn, AreRowsOfRecords, IsOneByt
 use Rattle.record_ledger.specs.Linking.{LinkLaws}
 use Rattle.idp_ledger.specs.declared.row.SessionRow.{SessionRow}
 use Rattle.idp_ledger.specs.RowsOf.{if_pending, ends, pending_rows, issued_rows, session_row, session_rows, left_rows, rows_of, rows_after}
-use Rattle.idp_ledger.specs.Record.{drawn, is_next, is_record, idp_rules}
+use Rattle.idp_ledger.specs.Record.{drawn, next_drawn, is_next, is_record, idp_rules}
 use Rattle.idp_ledger.specs.Standing.{StandingView, AreFew, AreRowsOf, IsAfter, idp_row_rules}
-use Rattle.idp_ledger.specs.Linking.{row_found, session_found, idp_links}
+use Rattle.idp_ledger.specs.Linking.{row_found, next_found, session_found, idp_links}
 use Rattle.idp_ledger.proofs.RowLaws.{is_record-is, rows_of-push, next_of-push}
+use Rattle.idp_ledger.proofs.RoundRows.{rounds_few, counted}
 use Rattle.idp_ledger.proofs.LawWords.{parts}
 use Rattle.idp_ledger.proofs.StandingRows.{assertion_of, message_of, cookie_of, index_of}
 use Rattle.idp_ledger.proofs.LinkFree.{names_has, free_row, within_row, within_names, within_none}
@@ -37,6 +38,8 @@ pendings_few (kinds.Ended r ∷ later) = omega (arith, pendings_few later)
 pendings_few (kinds.Left r ∷ later) = omega (arith, pendings_few later)
 pendings_few (kinds.Confirmed r ∷ later) = omega (arith, pendings_few later)
 pendings_few (kinds.Spoke r ∷ later) = omega (arith, pendings_few later)
+pendings_few (kinds.Round r ∷ later) = omega (arith, pendings_few later)
+pendings_few (kinds.Told r ∷ later) = omega (arith, pendings_few later)
 
 issues_few : (records : List IdpRecord) → length (issued_rows records) ≤ length records
 issues_few [] = omega arith
@@ -46,6 +49,8 @@ issues_few (kinds.Ended r ∷ later) = omega (arith, issues_few later)
 issues_few (kinds.Left r ∷ later) = omega (arith, issues_few later)
 issues_few (kinds.Confirmed r ∷ later) = omega (arith, issues_few later)
 issues_few (kinds.Spoke r ∷ later) = omega (arith, issues_few later)
+issues_few (kinds.Round r ∷ later) = omega (arith, issues_few later)
+issues_few (kinds.Told r ∷ later) = omega (arith, issues_few later)
 
 begun_few : (pending : Option (List ℕ)) (row : SessionRow) (rows : List SessionRow) → length (if_pending pending (row ∷ []) ++ rows) ≤ suc (length rows)
 begun_few None row rows = omega arith
@@ -59,6 +64,8 @@ sessions_few (kinds.Ended r ∷ later) = omega (arith, sessions_few later)
 sessions_few (kinds.Left r ∷ later) = omega (arith, sessions_few later)
 sessions_few (kinds.Confirmed r ∷ later) = omega (arith, sessions_few later)
 sessions_few (kinds.Spoke r ∷ later) = omega (arith, sessions_few later)
+sessions_few (kinds.Round r ∷ later) = omega (arith, sessions_few later)
+sessions_few (kinds.Told r ∷ later) = omega (arith, sessions_few later)
 
 lefts_few : (records : List IdpRecord) → length (left_rows records) ≤ length records
 lefts_few [] = omega arith
@@ -68,6 +75,8 @@ lefts_few (kinds.Ended r ∷ later) = omega (arith, lefts_few later)
 lefts_few (kinds.Left r ∷ later) = omega (arith, lefts_few later)
 lefts_few (kinds.Confirmed r ∷ later) = omega (arith, lefts_few later)
 lefts_few (kinds.Spoke r ∷ later) = omega (arith, lefts_few later)
+lefts_few (kinds.Round r ∷ later) = omega (arith, lefts_few later)
+lefts_few (kinds.Told r ∷ later) = omega (arith, lefts_few later)
 
 pub rows_of_records : AreRowsOfRecords idp_rules
 rows_of_records records (kinds.Pending r) = pendings_few records
@@ -76,6 +85,8 @@ rows_of_records records (kinds.Ended r) = tt
 rows_of_records records (kinds.Left r) = lefts_few records
 rows_of_records records (kinds.Confirmed r) = tt
 rows_of_records records (kinds.Spoke r) = tt
+rows_of_records records (kinds.Round r) = rounds_few records
+rows_of_records records (kinds.Told r) = tt
 
 -- ---- one record more
 
@@ -90,6 +101,11 @@ few_rows standing records are few =
       issues = omega (arith, few, issues_few records);
       sessions = omega (arith, few, sessions_few records);
       lefts = omega (arith, few, lefts_few records);
+      rounds = record {
+        rows_are = omega (arith, few, rounds_few records);
+        told = λ k row there. omega (arith, few, (counted records k row there).told);
+        confirmed = λ k row there. omega (arith, few, (counted records k row there).confirmed);
+      };
     })
 
 pub one_more : (old new : StandingView) (records : List IdpRecord) (r : IdpRecord) → AreRowsOf old records → IsAfter old new r → AreRowsOf new (records ++ r ∷ [])
@@ -99,7 +115,7 @@ one_more old new records r are after = record {
 }
 
 pub keeps_itself : KeepsItself idp_row_rules
-keeps_itself standing = record { pendings = omega arith; issues = omega arith; lefts = omega arith }
+keeps_itself standing = record { pendings = omega arith; issues = omega arith; lefts = omega arith; rounds = omega arith }
 
 -- ---- how records are linked
 
@@ -108,6 +124,10 @@ issued_drawn : (r : Issued) (p : Option (List ℕ)) (d : Drawn) → session_foun
 issued_drawn r None d is = absurd (cc)
 issued_drawn r (Some pending) d is = is
 
+told_drawn : (first : ℕ) (next : Option (List ℕ)) (d : Drawn) → next_found first next ≡ Some d → (k : ℕ) × (slice_get (next_drawn first next) k ≡ Some d)
+told_drawn first None d is = absurd (cc)
+told_drawn first (Some next) d is = (0, is)
+
 found_drawn : (r : IdpRecord) (d : Drawn) → row_found r ≡ Some d → (k : ℕ) × (slice_get (drawn r) k ≡ Some d)
 found_drawn (kinds.Pending r) d is = (0, is)
 found_drawn (kinds.Issued r) d is = (2, issued_drawn r r.pending d is)
@@ -115,6 +135,8 @@ found_drawn (kinds.Ended r) d is = absurd (cc)
 found_drawn (kinds.Left r) d is = (0, is)
 found_drawn (kinds.Confirmed r) d is = absurd (cc)
 found_drawn (kinds.Spoke r) d is = absurd (cc)
+found_drawn (kinds.Round r) d is = (1, is)
+found_drawn (kinds.Told r) d is = told_drawn r.first r.next d is
 
 pub link_laws : LinkLaws idp_rules idp_links
 link_laws = record {

@@ -30,6 +30,8 @@ module _ (r : Issued) (pending : List ℕ) (has : r.pending ≡ Some pending) wh
       ap (λ (o : Option (List ℕ)). has_cookie (x.cookie ∷ []) o r.cookie) has ∙ or_none (bytes_eq x.cookie r.cookie) e
   ending_names (kinds.Confirmed x) e = absurd (cc)
   ending_names (kinds.Spoke x) e = absurd (cc)
+  ending_names (kinds.Round x) e = ap (λ (o : Option (List ℕ)). has_cookie x.cookies o r.cookie) has ∙ e
+  ending_names (kinds.Told x) e = absurd (cc)
 
   -- it is visible where its end is behind a moment and a horizon
   seen : (now horizon : ℕ) → now < r.session_end → horizon < r.session_end → idp_rules.has_visible now horizon (kinds.Issued r) ≡ true
@@ -57,6 +59,8 @@ module _ (r : Issued) (pending : List ℕ) (has : r.pending ≡ Some pending) wh
   row_at (kinds.Left x ∷ before) behind = row_at before behind
   row_at (kinds.Confirmed x ∷ before) behind = row_at before behind
   row_at (kinds.Spoke x ∷ before) behind = row_at before behind
+  row_at (kinds.Round x ∷ before) behind = row_at before behind
+  row_at (kinds.Told x ∷ before) behind = row_at before behind
 
 -- the record of a row
 record IsRowOf (records : List IdpRecord) (row : SessionRow) : Type 0 where
@@ -96,6 +100,8 @@ row_of (kinds.Ended x ∷ later) row there = one_before (kinds.Ended x) later ro
 row_of (kinds.Left x ∷ later) row there = one_before (kinds.Left x) later row (row_of later row there)
 row_of (kinds.Confirmed x ∷ later) row there = one_before (kinds.Confirmed x) later row (row_of later row there)
 row_of (kinds.Spoke x ∷ later) row there = one_before (kinds.Spoke x) later row (row_of later row there)
+row_of (kinds.Round x ∷ later) row there = one_before (kinds.Round x) later row (row_of later row there)
+row_of (kinds.Told x ∷ later) row there = one_before (kinds.Told x) later row (row_of later row there)
 
 pub sessions_stay : SessionsStay
 sessions_stay start held events moments row leads at there behind =

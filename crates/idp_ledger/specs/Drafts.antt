@@ -1,7 +1,10 @@
 -- The records that are drafted, and why one is refused.
-use Rattle.std.specs.Prelude.{◌≡◌, ℕ, ◌+◌, min, Bool, true, List, [], ◌∷◌, Option, None, Some, Result}
+use Rattle.std.specs.Prelude.{◌≡◌, ℕ, ◌+◌, min, Bool, true, false, List, [], ◌∷◌, Option, None, Some, Result}
 use Rattle.std.specs.List.{flat_map, list_all}
+use Rattle.std.specs.Option.{is_some}
 use Rattle.owned_values.specs.declared.attributes.Attribute.{Attribute}
+use Rattle.logout_turns.specs.declared.part.Asker.{Asker}
+use Rattle.logout_turns.specs.declared.turns.Turn.{Turn}
 use Rattle.ledger_records.specs.declared.idp_record.IdpRecord.{IdpRecord}
 use Rattle.ledger_records.specs.declared.idp_record.IdpRecord.TheVariants as kinds
 use Rattle.ledger_rules.specs.declared.fault.DraftFault.{DraftFault}
@@ -9,14 +12,18 @@ use Rattle.ledger_rules.specs.Numbers.{is_xml_text}
 use Rattle.record_ledger.specs.Drafts as any
 use Rattle.saml_ids.specs.IdText.{id_text}
 use Rattle.saml_ids.specs.declared.Kind.TheVariants.{Request, Message, Pending as PendingId}
+use Rattle.round_rows.specs.declared.row.RoundRow.{RoundRow}
+use Rattle.round_rows.specs.Rounds as rounds
 use Rattle.idp_ledger.specs.declared.row.Ask.{Ask}
 use Rattle.idp_ledger.specs.declared.row.PendingRow.{PendingRow}
 use Rattle.idp_ledger.specs.declared.row.SessionRow.{SessionRow}
 use Rattle.idp_ledger.specs.declared.ids.LoginIds.{LoginIds}
+use Rattle.idp_ledger.specs.declared.ids.RoundIds.{RoundIds}
 use Rattle.idp_ledger.specs.RowsOf.{IdpRows, rows_of_kind}
 use Rattle.idp_ledger.specs.Standing.{idp_row_rules}
-use Rattle.idp_ledger.specs.Ids.{login_ids}
-use Rattle.idp_ledger.specs.Record.{LAST, of_attribute, idp_rules}
+use Rattle.idp_ledger.specs.Ids.{login_ids, round_ids}
+use Rattle.idp_ledger.specs.Finding.{session_found}
+use Rattle.idp_ledger.specs.Record.{LAST, of_attribute, of_asker, of_turn, idp_rules}
 use Rattle.idp_ledger.specs.Ledger.{Held, Opened}
 pub use Rattle.ledger_rules.specs.Moments.{LIFE}
 
@@ -132,6 +139,50 @@ spoke key next now ask = kinds.Spoke (record {
   request = ask.request;
   peer = ask.peer;
 })
+
+-- A round of the sessions of these cookies, with these IDs.
+abbrev pub round_with : (first now : ℕ) → RoundIds → (cookies : List (List ℕ)) → Option Asker → List Turn → (skipped : Bool) → IdpRecord
+round_with first now ids cookies asker turns skipped = kinds.Round (record {
+  first = first;
+  moment = now;
+  until = now + LIFE;
+  message = ids.message;
+  request = ids.request;
+  cookies = cookies;
+  asker = asker;
+  turns = turns;
+  skipped = skipped;
+})
+
+-- The same, with the IDs of the next two numbers.
+abbrev pub round : (key : List ℕ) (next now : ℕ) (cookies : List (List ℕ)) → Option Asker → List Turn → (skipped : Bool) → IdpRecord
+round key next now cookies asker turns skipped = round_with next now (round_ids key next) cookies asker turns skipped
+
+-- An answer to a request of a round, with this next request.
+abbrev pub told_with : (first now : ℕ) (request : List ℕ) (confirmed : Bool) (next : Option (List ℕ)) → IdpRecord
+told_with first now request confirmed next =
+    kinds.Told (record { first = first; moment = now; request = request; confirmed = confirmed; next = next })
+
+-- The same, with a next request of the next number where a turn is left.
+abbrev pub told : (key : List ℕ) (next now : ℕ) (request : List ℕ) (confirmed left : Bool) → IdpRecord
+told key next now request confirmed true = told_with next now request confirmed (Some (id_text key Request next))
+told key next now request confirmed false = told_with 0 now request confirmed None
+
+-- whether a turn is left behind the answer to a round, where there is one
+abbrev pub is_turn_left : Option RoundRow → Bool
+is_turn_left None = false
+is_turn_left (Some row) = rounds.is_turn_left row
+
+-- a document may hold the texts of the provider that asks, but the relay state, and those of turns
+abbrev pub IsXmlAsker : Option Asker → Type 0
+IsXmlAsker asker = list_all is_xml_text (of_asker asker) ≡ true
+
+abbrev pub AreXmlTurns : List Turn → Type 0
+AreXmlTurns turns = list_all is_xml_text (flat_map of_turn turns) ≡ true
+
+-- each of these is the cookie of a live session
+abbrev pub AreLive : List SessionRow → (cookies : List (List ℕ)) (now horizon : ℕ) → Type 0
+AreLive sessions cookies now horizon = list_all (λ cookie. is_some (session_found sessions cookie now horizon)) cookies ≡ true
 
 -- whether there are as many rows of a record's kind as there may be, or more
 abbrev pub is_full : IdpRows → IdpRecord → Bool

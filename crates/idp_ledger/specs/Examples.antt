@@ -3,8 +3,12 @@ use Rattle.std.specs.Prelude.{◌≡◌, ℕ, true, false, List, [], ◌∷◌, 
 use Rattle.ledger_records.specs.declared.idp_record.IdpRecord.{IdpRecord}
 use Rattle.ledger_records.specs.declared.idp_record.IdpRecord.TheVariants as kinds
 use Rattle.idp_ledger.specs.declared.row.SessionRow.{SessionRow}
+use Rattle.ledger_records.specs.declared.idp_round.Round.{Round}
+use Rattle.logout_turns.specs.declared.turns.Turn.{Turn}
+use Rattle.round_rows.specs.declared.row.RoundRow.{RoundRow}
+use Rattle.idp_ledger.specs.RoundsOf.{round_rows, confirmed_all}
 use Rattle.idp_ledger.specs.RowsOf.{rows_of, issued_rows, session_rows}
-use Rattle.idp_ledger.specs.Finding.{session_found, last_peer, has_issued, ending, is_partial}
+use Rattle.idp_ledger.specs.Finding.{session_found, last_peer, has_issued, ending, is_partial, parts_of, round_found}
 use Rattle.idp_ledger.specs.Record.{is_free}
 
 -- a login of this ID that the service provider `sp` asked for, until moment 600000
@@ -76,3 +80,44 @@ ends_it : (ending 1000 0 (codes "sp") (codes "alice") [] (rows_of one_login) ≡
     × (ending 1000 0 (codes "third") (codes "alice") [] (rows_of one_login) ≡ [])
 unfolding pending_login issued_to one_login
 ends_it = (refl, refl, refl, refl)
+
+-- a round that ends that session and asks two providers, and an answer to a request
+turn_to : List ℕ → Turn
+turn_to peer = record { peer = peer; name = codes "alice"; indexes = codes "_i" ∷ [] }
+
+begun_round : Round
+begun_round = record {
+  first = 6;
+  moment = 0;
+  until = 600000;
+  message = codes "_m2";
+  request = codes "_r1";
+  cookies = codes "_c" ∷ [];
+  asker = None;
+  turns = turn_to (codes "other") ∷ turn_to (codes "third") ∷ [];
+  skipped = false;
+}
+
+answer_to : List ℕ → Option (List ℕ) → IdpRecord
+answer_to request next = kinds.Told (record { first = 8; moment = 0; request = request; confirmed = true; next = next })
+
+-- the providers to which assertions were issued in the session, and a round that ends it
+parts_and_end : (map (λ p. p.peer) (parts_of (codes "_c" ∷ []) (issued_rows one_login)) ≡ codes "sp" ∷ codes "other" ∷ [])
+    × (session_found (session_rows (pending_login ∷ issued_to (Some (codes "_p")) (codes "sp") ∷ kinds.Round begun_round ∷ [])) (codes "_c") 0 0 ≡ None)
+unfolding pending_login issued_to one_login begun_round
+parts_and_end = (refl, refl)
+
+-- the first answer has a next request, and the second, behind which no turn is left, has none
+two_answers : (is_free (rows_of (kinds.Round begun_round ∷ [])) (answer_to (codes "_r1") (Some (codes "_r2"))) ≡ true)
+    × (is_free (rows_of (kinds.Round begun_round ∷ [])) (answer_to (codes "_r2") (Some (codes "_r3"))) ≡ false)
+    × (is_free (rows_of (kinds.Round begun_round ∷ answer_to (codes "_r1") (Some (codes "_r2")) ∷ [])) (answer_to (codes "_r2") (Some (codes "_r3"))) ≡ false)
+    × (map (λ (row : RoundRow). row.told) (round_rows (kinds.Round begun_round ∷ answer_to (codes "_r1") (Some (codes "_r2")) ∷ answer_to (codes "_r2") None ∷ [])) ≡ 2 ∷ [])
+    × (confirmed_all begun_round (answer_to (codes "_r1") (Some (codes "_r2")) ∷ []) ≡ false)
+    × (confirmed_all begun_round (answer_to (codes "_r1") (Some (codes "_r2")) ∷ answer_to (codes "_r2") None ∷ []) ≡ true)
+unfolding begun_round answer_to turn_to
+two_answers = (refl, refl, refl, refl, refl, refl)
+
+-- behind the last answer no request is waited for
+done_round : round_found (round_rows (kinds.Round begun_round ∷ answer_to (codes "_r1") (Some (codes "_r2")) ∷ answer_to (codes "_r2") None ∷ [])) (codes "_r2") 0 0 ≡ None
+unfolding begun_round answer_to turn_to
+done_round = refl

@@ -1,18 +1,15 @@
 -- What is looked up in the rows of an identity provider. A moment is the milliseconds since 1970-01-01T00:00:00Z.
-use Rattle.std.specs.Prelude.{ℕ, Bool, true, false, ◌&&◌, ◌||◌, not, List, [], map, filter, reverse, Option, None, Some, nat_lt, max}
+use Rattle.std.specs.Prelude.{ℕ, Bool, true, false, ◌&&◌, ◌||◌, not, List, [], map, filter, reverse, Option, None, Some}
 use Rattle.std.specs.List.{find, list_any}
 use Rattle.std.specs.Str.{bytes_eq}
+use Rattle.logout_turns.specs.declared.part.Part.{Part}
 use Rattle.idp_ledger.specs.declared.row.PendingRow.{PendingRow}
 use Rattle.idp_ledger.specs.declared.row.IssuedRow.{IssuedRow}
 use Rattle.idp_ledger.specs.declared.row.SessionRow.{SessionRow}
 use Rattle.idp_ledger.specs.declared.row.LeftRow.{LeftRow}
 use Rattle.idp_ledger.specs.RowsOf.{IdpRows, is_among}
 pub use Rattle.ledger_rules.specs.Texts.{is_empty}
-
--- something is visible where the moment until which it holds is greater than the larger of the present and the horizon, which
--- is the latest moment at which rows were dropped
-abbrev pub visible : (until now horizon : ℕ) → Bool
-visible until now horizon = nat_lt (max now horizon) until
+pub use Rattle.round_rows.specs.Rounds.{visible, round_found, turn_found}
 
 -- the pending login of an ID: the first one that is not used and is visible
 abbrev pub pending_found : List PendingRow → (pending : List ℕ) (now horizon : ℕ) → Option PendingRow
@@ -68,3 +65,11 @@ ending now horizon peer name indexes rows =
 abbrev pub is_partial : (now horizon : ℕ) (peer name : List ℕ) (indexes : List (List ℕ)) → IdpRows → Bool
 is_partial now horizon peer name indexes rows =
     list_any (λ row. is_ending now horizon peer name indexes rows.issues row && has_issued true rows.issues row.cookie peer) rows.sessions
+
+-- SAML Profiles, 4.4.3.3: the session participants are those to which assertions were issued in the session. One part for each
+-- assertion that was issued in the sessions of these cookies.
+abbrev pub part_of : IssuedRow → Part
+part_of row = record { peer = row.peer; name = row.user; index = row.index }
+
+abbrev pub parts_of : (cookies : List (List ℕ)) → List IssuedRow → List Part
+parts_of cookies issues = map part_of (filter (λ row. is_among row.cookie cookies) issues)

@@ -1,12 +1,15 @@
 -- The laws of a ledger.
-use Rattle.std.specs.Prelude.{◌≡◌, ℕ, ◌≤◌, false, List, ◌∷◌, ◌++◌, Option, None, Some, IsSome, slice_get, Contains}
+use Rattle.std.specs.Prelude.{◌≡◌, ℕ, ◌≤◌, false, List, ◌∷◌, ◌++◌, length, Option, None, Some, IsSome, slice_get, Contains}
 use Rattle.ledger_records.specs.declared.idp_record.Issued.{Issued}
+use Rattle.ledger_records.specs.declared.idp_round.Round.{Round}
 use Rattle.ledger_records.specs.declared.idp_record.IdpRecord.{IdpRecord}
 use Rattle.ledger_records.specs.declared.idp_record.IdpRecord.TheVariants as kinds
+use Rattle.round_rows.specs.declared.row.RoundRow.{RoundRow}
 use Rattle.idp_ledger.specs.declared.row.PendingRow.{PendingRow}
 use Rattle.idp_ledger.specs.declared.row.SessionRow.{SessionRow}
 use Rattle.record_ledger.specs.Laws as any
-use Rattle.idp_ledger.specs.Finding.{pending_found, session_found, ending, is_partial, last_peer, is_waiting_now}
+use Rattle.idp_ledger.specs.Finding.{pending_found, session_found, ending, is_partial, last_peer, is_waiting_now, round_found, turn_found}
+use Rattle.idp_ledger.specs.RoundsOf.{round_row, round_behind, round_rows, answers, confirmed_all, is_confirmed}
 use Rattle.idp_ledger.specs.RowsOf.{IdpRows, rows_of, session_rows, ended_if, ends}
 use Rattle.idp_ledger.specs.Record.{AreRecords, idp_rules}
 use Rattle.idp_ledger.specs.Ledger.{Held}
@@ -16,7 +19,7 @@ use Rattle.record_ledger.specs.Runs.{Event, Leads, added, CompactsAt, EndsBehind
 
 -- At a moment the two rows with their horizons answer all that is asked of them alike: which login is pending, which session
 -- lives, which sessions an answered logout ends and whether it is partial, to which peer the last assertion in a live session
--- went, and which logout waits.
+-- went, which logout waits, and which round waits for a request, also by whose turn has come.
 pub record AnswerAlike (now : ℕ) (one other : Held) : Type 0 where
   pub pending : (pending : List ℕ) → pending_found (rows_of one.records).pendings pending now one.header.horizon ≡ pending_found (rows_of other.records).pendings pending now other.header.horizon
   pub session : (cookie : List ℕ) → session_found (rows_of one.records).sessions cookie now one.header.horizon ≡ session_found (rows_of other.records).sessions cookie now other.header.horizon
@@ -24,6 +27,8 @@ pub record AnswerAlike (now : ℕ) (one other : Held) : Type 0 where
   pub partial : (peer name : List ℕ) (indexes : List (List ℕ)) → is_partial now one.header.horizon peer name indexes (rows_of one.records) ≡ is_partial now other.header.horizon peer name indexes (rows_of other.records)
   pub last_peer : (cookie : List ℕ) → IsSome (session_found (rows_of one.records).sessions cookie now one.header.horizon) → last_peer (rows_of one.records).issues cookie ≡ last_peer (rows_of other.records).issues cookie
   pub waiting : (request : List ℕ) → is_waiting_now (rows_of one.records).lefts request now one.header.horizon ≡ is_waiting_now (rows_of other.records).lefts request now other.header.horizon
+  pub round : (request : List ℕ) → round_found (rows_of one.records).rounds request now one.header.horizon ≡ round_found (rows_of other.records).rounds request now other.header.horizon
+  pub turn : (request peer : List ℕ) → turn_found (rows_of one.records).rounds request peer now one.header.horizon ≡ turn_found (rows_of other.records).rounds request peer now other.header.horizon
 
 -- what an image stands for has records of the ledger, each behind those before it
 abbrev pub ImagesHoldRecords : Type 0
@@ -68,3 +73,23 @@ SessionsStay =
     (start held : Held) (events : List (Event IdpRecord)) (moments : List ℕ) (row : SessionRow) → Leads idp_rules start events held → CompactsAt moments events
     → Contains (session_rows start.records) row → EndsBehind start.header.horizon moments row.until
     → Contains (session_rows held.records) (ended_if (list_any (ends row.cookie) (added events)) row)
+
+-- What is counted in the row of a round are the answers to it, and those of them that confirm; so the counts say whether all
+-- confirmed.
+pub record IsCounted (r : Round) (later : List IdpRecord) : Type 0 where
+  pub told : (round_behind (round_row r) later).told ≡ length (answers r later)
+  pub confirmed : is_confirmed (round_behind (round_row r) later) ≡ confirmed_all r later
+
+abbrev pub RoundsAreCounted : Type 0
+RoundsAreCounted = (r : Round) (later : List IdpRecord) → IsCounted r later
+
+-- each row of a round is that of a Round, behind the records that came later
+pub record IsRowOf (records : List IdpRecord) (row : RoundRow) : Type 0 where
+  pub before : List IdpRecord
+  pub begun : Round
+  pub later : List IdpRecord
+  pub are : records ≡ before ++ kinds.Round begun ∷ later
+  pub is : row ≡ round_behind (round_row begun) later
+
+abbrev pub EachRoundHasItsRecord : Type 0
+EachRoundHasItsRecord = (records : List IdpRecord) (row : RoundRow) → Contains (round_rows records) row → IsRowOf records row

@@ -1,3 +1,4 @@
+pub mod RoundsOf
 pub mod RowsOf
 pub mod Finding
 pub mod Naming

@@ -14,11 +14,17 @@ named (kinds.Ended r) = r.cookies
 named (kinds.Left r) = r.cookie ∷ []
 named (kinds.Confirmed r) = r.request ∷ []
 named (kinds.Spoke r) = []
+named (kinds.Round r) = r.cookies
+named (kinds.Told r) = r.request ∷ []
 
 -- the number and the ID by which a record's row is found, where it has one
 abbrev pub session_found : Option (List ℕ) → ℕ → List ℕ → Option Drawn
 session_found None first cookie = None
 session_found (Some pending) first cookie = Some (record { number = first + 2; id = cookie })
+
+abbrev pub next_found : ℕ → Option (List ℕ) → Option Drawn
+next_found first None = None
+next_found first (Some next) = Some (record { number = first; id = next })
 
 abbrev pub row_found : IdpRecord → Option Drawn
 row_found (kinds.Pending r) = Some (record { number = r.first; id = r.pending })
@@ -27,6 +33,8 @@ row_found (kinds.Ended r) = None
 row_found (kinds.Left r) = Some (record { number = r.first; id = r.request })
 row_found (kinds.Confirmed r) = None
 row_found (kinds.Spoke r) = None
+row_found (kinds.Round r) = Some (record { number = r.first + 1; id = r.request })
+row_found (kinds.Told r) = next_found r.first r.next
 
 -- An Issued in a session that the user had is itself linked to the record that began the session: its cookie.
 abbrev pub where_none : Option (List ℕ) → List ℕ → Option (List ℕ)
@@ -40,6 +48,8 @@ within (kinds.Ended r) = None
 within (kinds.Left r) = None
 within (kinds.Confirmed r) = None
 within (kinds.Spoke r) = None
+within (kinds.Round r) = None
+within (kinds.Told r) = None
 
 abbrev pub idp_links : any.LinkRules IdpRecord
 idp_links = record { row = row_found; named = named; within = within }

@@ -7,10 +7,13 @@ use Rattle.ledger_records.specs.declared.idp_record.Issued.{Issued}
 use Rattle.ledger_records.specs.declared.idp_record.Left.{Left}
 use Rattle.ledger_records.specs.declared.idp_record.IdpRecord.{IdpRecord}
 use Rattle.ledger_records.specs.declared.idp_record.IdpRecord.TheVariants as kinds
+use Rattle.round_rows.specs.declared.row.RoundRow.{RoundRow}
+use Rattle.round_rows.specs.Rounds.{answered}
 use Rattle.idp_ledger.specs.declared.row.PendingRow.{PendingRow}
 use Rattle.idp_ledger.specs.declared.row.IssuedRow.{IssuedRow}
 use Rattle.idp_ledger.specs.declared.row.SessionRow.{SessionRow}
 use Rattle.idp_ledger.specs.declared.row.LeftRow.{LeftRow}
+use Rattle.idp_ledger.specs.RoundsOf.{round_row, round_rows}
 pub use Rattle.ledger_rules.specs.Texts.{is_among}
 
 -- the rows of each kind, in the order of their records
@@ -19,6 +22,7 @@ pub record IdpRows : Type 0 where
   pub issues : List IssuedRow
   pub sessions : List SessionRow
   pub lefts : List LeftRow
+  pub rounds : List RoundRow
 
 -- a row has the fields of its record
 abbrev pub pending_row : Bool → Pending → PendingRow
@@ -78,8 +82,10 @@ uses pending (kinds.Ended r) = false
 uses pending (kinds.Left r) = false
 uses pending (kinds.Confirmed r) = false
 uses pending (kinds.Spoke r) = false
+uses pending (kinds.Round r) = false
+uses pending (kinds.Told r) = false
 
--- whether a record ends the session of this cookie: a Left of it, or an Ended that lists it
+-- whether a record ends the session of this cookie: a Left of it, or an Ended or a Round that lists it
 abbrev pub ends : List ℕ → IdpRecord → Bool
 ends cookie (kinds.Pending r) = false
 ends cookie (kinds.Issued r) = false
@@ -87,6 +93,8 @@ ends cookie (kinds.Ended r) = is_among cookie r.cookies
 ends cookie (kinds.Left r) = bytes_eq r.cookie cookie
 ends cookie (kinds.Confirmed r) = false
 ends cookie (kinds.Spoke r) = false
+ends cookie (kinds.Round r) = is_among cookie r.cookies
+ends cookie (kinds.Told r) = false
 
 -- whether a record confirms the logout of this request
 abbrev pub confirms : List ℕ → IdpRecord → Bool
@@ -96,6 +104,8 @@ confirms request (kinds.Ended r) = false
 confirms request (kinds.Left r) = false
 confirms request (kinds.Confirmed r) = bytes_eq r.request request
 confirms request (kinds.Spoke r) = false
+confirms request (kinds.Round r) = false
+confirms request (kinds.Told r) = false
 
 -- a pending row for each Pending, used where a later Issued names it
 abbrev pub pending_rows : List IdpRecord → List PendingRow
@@ -106,6 +116,8 @@ pending_rows (kinds.Ended r ∷ later) = pending_rows later
 pending_rows (kinds.Left r ∷ later) = pending_rows later
 pending_rows (kinds.Confirmed r ∷ later) = pending_rows later
 pending_rows (kinds.Spoke r ∷ later) = pending_rows later
+pending_rows (kinds.Round r ∷ later) = pending_rows later
+pending_rows (kinds.Told r ∷ later) = pending_rows later
 
 -- an issued row for each Issued
 abbrev pub issued_rows : List IdpRecord → List IssuedRow
@@ -116,6 +128,8 @@ issued_rows (kinds.Ended r ∷ later) = issued_rows later
 issued_rows (kinds.Left r ∷ later) = issued_rows later
 issued_rows (kinds.Confirmed r ∷ later) = issued_rows later
 issued_rows (kinds.Spoke r ∷ later) = issued_rows later
+issued_rows (kinds.Round r ∷ later) = issued_rows later
+issued_rows (kinds.Told r ∷ later) = issued_rows later
 
 -- a session for each Issued that draws its cookie, ended where a later record ends it
 abbrev pub session_rows : List IdpRecord → List SessionRow
@@ -126,6 +140,8 @@ session_rows (kinds.Ended r ∷ later) = session_rows later
 session_rows (kinds.Left r ∷ later) = session_rows later
 session_rows (kinds.Confirmed r ∷ later) = session_rows later
 session_rows (kinds.Spoke r ∷ later) = session_rows later
+session_rows (kinds.Round r ∷ later) = session_rows later
+session_rows (kinds.Told r ∷ later) = session_rows later
 
 -- a row of a logout for each Left, confirmed where a later record confirms it
 abbrev pub left_rows : List IdpRecord → List LeftRow
@@ -136,12 +152,19 @@ left_rows (kinds.Ended r ∷ later) = left_rows later
 left_rows (kinds.Left r ∷ later) = left_row (list_any (confirms r.request) later) r ∷ left_rows later
 left_rows (kinds.Confirmed r ∷ later) = left_rows later
 left_rows (kinds.Spoke r ∷ later) = left_rows later
+left_rows (kinds.Round r ∷ later) = left_rows later
+left_rows (kinds.Told r ∷ later) = left_rows later
 
 abbrev pub rows_of : List IdpRecord → IdpRows
-rows_of records =
-    record { pendings = pending_rows records; issues = issued_rows records; sessions = session_rows records; lefts = left_rows records }
+rows_of records = record {
+  pendings = pending_rows records;
+  issues = issued_rows records;
+  sessions = session_rows records;
+  lefts = left_rows records;
+  rounds = round_rows records;
+}
 
--- The rows after one record more: rows more, a login used, sessions ended, or a logout confirmed.
+-- The rows after one record more: rows more, a login used, sessions ended, a logout confirmed, or a round answered.
 abbrev pub used_if : Bool → PendingRow → PendingRow
 used_if now row = record row { used = row.used || now }
 
@@ -174,6 +197,11 @@ rows_after rows (kinds.Left r) = record rows {
 }
 rows_after rows (kinds.Confirmed r) = record rows { lefts = confirmed_where (λ row. bytes_eq r.request row.request) rows.lefts }
 rows_after rows (kinds.Spoke r) = rows
+rows_after rows (kinds.Round r) = record rows {
+  sessions = ended_where (λ row. is_among row.cookie r.cookies) rows.sessions;
+  rounds = rows.rounds ++ round_row r ∷ [];
+}
+rows_after rows (kinds.Told r) = record rows { rounds = answered r.request r.confirmed r.next rows.rounds }
 
 -- how many rows there are of a record's kind, where it has rows
 abbrev pub rows_of_kind : IdpRows → IdpRecord → Option ℕ
@@ -183,3 +211,5 @@ rows_of_kind rows (kinds.Ended r) = None
 rows_of_kind rows (kinds.Left r) = Some (length rows.lefts)
 rows_of_kind rows (kinds.Confirmed r) = None
 rows_of_kind rows (kinds.Spoke r) = None
+rows_of_kind rows (kinds.Round r) = Some (length rows.rounds)
+rows_of_kind rows (kinds.Told r) = None

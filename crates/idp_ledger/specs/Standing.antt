@@ -8,6 +8,7 @@ use Rattle.std.specs.Cmp.Lexicographic.{slice_cmp}
 use Rattle.ledger_records.specs.declared.idp_record.IdpRecord.{IdpRecord}
 use Rattle.ledger_records.specs.declared.idp_record.IdpRecord.TheVariants as kinds
 use Rattle.ledger_rules.specs.Numbers.{above, has_number}
+use Rattle.round_rows.specs.Kept.{AreFew as AreFewRounds}
 use Rattle.idp_ledger.specs.declared.row.PendingRow.{PendingRow}
 use Rattle.idp_ledger.specs.declared.row.IssuedRow.{IssuedRow}
 use Rattle.idp_ledger.specs.declared.row.SessionRow.{SessionRow}
@@ -22,6 +23,7 @@ pub record RowSpare : Type 0 where
   pub pendings : ℕ
   pub issues : ℕ
   pub lefts : ℕ
+  pub rounds : ℕ
 
 -- the rows, the least number above all that were drawn, and the memory that was made ready
 pub record StandingView : Type 0 where
@@ -103,19 +105,23 @@ HasRoom spare (kinds.Ended r) = Unit {0}
 HasRoom spare (kinds.Left r) = 0 < spare.lefts
 HasRoom spare (kinds.Confirmed r) = Unit {0}
 HasRoom spare (kinds.Spoke r) = Unit {0}
+HasRoom spare (kinds.Round r) = 0 < spare.rounds
+HasRoom spare (kinds.Told r) = 0 < spare.rounds
 
 -- no memory that was made ready is given up
 pub record KeepsRoom (old new : RowSpare) : Type 0 where
   pub pendings : old.pendings ≤ new.pendings
   pub issues : old.issues ≤ new.issues
   pub lefts : old.lefts ≤ new.lefts
+  pub rounds : old.rounds ≤ new.rounds
 
--- 32 bits hold the place of each row, and of one more of each kind
+-- 32 bits hold the place of each row, and of one more of each kind, and the count of one answer more
 pub record AreFew (rows : IdpRows) : Type 0 where
   pub pendings : length rows.pendings < 4294967295
   pub issues : length rows.issues < 4294967295
   pub sessions : length rows.sessions < 4294967295
   pub lefts : length rows.lefts < 4294967295
+  pub rounds : AreFewRounds rows.rounds
 
 -- at that place there is the row of this ID, and no other row has it
 pub record IsRowAt {X : Type 0} (key : X → List ℕ) (rows : List X) (id : List ℕ) (place : ℕ) : Type 0 where
@@ -136,6 +142,8 @@ session_begun (kinds.Ended r) = None
 session_begun (kinds.Left r) = None
 session_begun (kinds.Confirmed r) = None
 session_begun (kinds.Spoke r) = None
+session_begun (kinds.Round r) = None
+session_begun (kinds.Told r) = None
 
 -- what stands after one record more
 pub record IsAfter (old new : StandingView) (r : IdpRecord) : Type 0 where

@@ -1,17 +1,19 @@
 //! What makes a record one of the ledger, beside the rows that it names.
 ghost use Rattle.std.specs.Prelude.{◌≡◌, ◌+◌, ◌<◌, ◌^◌, ◌∷◌, [], nat_le, ◌↔◌, All, IsTrue};
-ghost use Rattle.std.specs.List.{list_all};
+ghost use Rattle.std.specs.List.{flat_map, list_all};
 ghost use Rattle.ledger_rules.specs.Numbers.{NUMBER_END, is_xml_text};
 ghost use Rattle.ledger_rules.specs.Numbers.{are_fresh as are_fresh_numbers};
 ghost use Rattle.ledger_records.specs.declared.idp_record.IdpRecord.TheVariants as kinds;
 ghost use Rattle.idp_ledger.specs.RowsOf.{if_pending};
-ghost use Rattle.idp_ledger.specs.Record.{LAST, drawn, moments, texts};
+ghost use Rattle.idp_ledger.specs.Record.{LAST, drawn, moments, of_turn, texts};
 
 use ledger_records::IdpRecord;
 use ledger_records::idp_record::Issued;
+use ledger_records::idp_round::{Round, Told};
 use ledger_rules::{
     END_OF_NUMBERS, LAST, are_allowed, are_allowed_attributes, is_allowed, is_fresh,
 };
+use logout_turns::Turn;
 
 /// Whether the cookie and the index that an Issued draws are fresh, where it draws them.
 fn is_session_fresh(least: u64, r: &Issued) -> bool
@@ -41,6 +43,13 @@ pub(crate) fn are_fresh(least: u64, entry: &IdpRecord) -> bool
         IdpRecord::Left(r) => is_fresh(least, r.first, &r.request),
         IdpRecord::Confirmed(_) => true,
         IdpRecord::Spoke(r) => is_fresh(least, r.first, &r.message),
+        IdpRecord::Round(r) => {
+            is_fresh(least, r.first, &r.message) && is_fresh(least, r.first + 1, &r.request)
+        }
+        IdpRecord::Told(r) => match &r.next {
+            Some(next) => is_fresh(least, r.first, next),
+            None => true,
+        },
     }
 }
 
@@ -58,6 +67,11 @@ pub(crate) fn are_before_end(entry: &IdpRecord) -> bool
         IdpRecord::Left(r) => r.first < END_OF_NUMBERS,
         IdpRecord::Confirmed(_) => true,
         IdpRecord::Spoke(r) => r.first < END_OF_NUMBERS,
+        IdpRecord::Round(r) => r.first < END_OF_NUMBERS - 1,
+        IdpRecord::Told(r) => match r.next {
+            Some(_) => r.first < END_OF_NUMBERS,
+            None => true,
+        },
     }
 }
 
@@ -79,6 +93,46 @@ fn is_allowed_issue(r: &Issued) -> bool
         && is_allowed(&r.request)
         && is_pending_allowed
         && are_allowed_attributes(r.attributes.as_slice())
+}
+
+/// Whether a document may hold the characters of what a turn tells to its provider.
+fn is_allowed_turn(turn: &Turn) -> bool
+    ensures { result ≡ list_all is_xml_text (of_turn turn.now) }
+{
+    is_allowed(&turn.peer) && is_allowed(&turn.name) && are_allowed(turn.indexes.as_slice())
+}
+
+/// Whether a document may hold the characters of what turns tell.
+fn are_allowed_turns(turns: &[Turn]) -> bool
+    ensures { result ≡ list_all is_xml_text (flat_map of_turn turns.now) }
+{
+    turns.iter().all(|turn| is_allowed_turn(turn))
+}
+
+/// Whether a document may hold the characters of a Round's texts.
+fn is_allowed_round(r: &Round) -> bool
+    ensures { result ≡ list_all is_xml_text (texts (kinds.Round r.now)) }
+{
+    let is_asker_allowed = match &r.asker {
+        Some(asker) => is_allowed(&asker.peer) && is_allowed(&asker.request),
+        None => true,
+    };
+    is_allowed(&r.message)
+        && is_allowed(&r.request)
+        && is_asker_allowed
+        && are_allowed_turns(r.turns.as_slice())
+        && are_allowed(r.cookies.as_slice())
+}
+
+/// Whether a document may hold the characters of a Told's texts.
+fn is_allowed_told(r: &Told) -> bool
+    ensures { result ≡ list_all is_xml_text (texts (kinds.Told r.now)) }
+{
+    let is_next_allowed = match &r.next {
+        Some(next) => is_allowed(next),
+        None => true,
+    };
+    is_allowed(&r.request) && is_next_allowed
 }
 
 /// Whether a document may hold the characters of a record's texts. A relay state may hold any.
@@ -106,6 +160,8 @@ pub(crate) fn are_xml_texts(entry: &IdpRecord) -> bool
         IdpRecord::Spoke(r) => {
             is_allowed(&r.message) && is_allowed(&r.request) && is_allowed(&r.peer)
         }
+        IdpRecord::Round(r) => is_allowed_round(r),
+        IdpRecord::Told(r) => is_allowed_told(r),
     }
 }
 
@@ -120,5 +176,7 @@ pub(crate) fn is_dated(entry: &IdpRecord) -> bool
         IdpRecord::Left(r) => r.moment <= LAST,
         IdpRecord::Confirmed(r) => r.moment <= LAST,
         IdpRecord::Spoke(r) => r.moment <= LAST,
+        IdpRecord::Round(r) => r.moment <= LAST,
+        IdpRecord::Told(r) => r.moment <= LAST,
     }
 }

@@ -29,7 +29,7 @@ impl Model for Draft {
 
 impl Draft {
     /// The ID that goes out first: of the login of a Pending, of the answer of an Issued, an Ended or a Spoke, of the
-    /// request of a Left.
+    /// request of a Left or a Round, of the next request of a Told.
     pub fn first(&self) -> &Id
         requires { IsSome (first_id self.now) }
         ensures { Some result.now ≡ first_id self.now }
@@ -37,7 +37,7 @@ impl Draft {
         self.ids[0].as_ref().unwrap()
     }
 
-    /// The cookie that an Issued draws where a login was pending.
+    /// The cookie that an Issued draws where a login was pending, and the ID of the answer of a Round.
     pub fn second(&self) -> &Id
         requires { IsSome (second_id self.now) }
         ensures { Some result.now ≡ second_id self.now }

@@ -152,7 +152,7 @@ impl IdpLedger {
     {
         self.holds_records();
         let set = TextSet::of(self.ledger.allocator(), indexes)?;
-        let cookies = self.ending(now, peer, name, indexes, &set)?;
+        let cookies = self.cookies_ending(now, peer, name, indexes, &set)?;
         if cookies.is_empty() {
             return Ok(None);
         }
@@ -206,7 +206,7 @@ impl IdpLedger {
     }
 
     /// The cookies of these sessions.
-    fn ending(
+    fn cookies_ending(
         &self,
         now: u64,
         peer: &str,
@@ -224,6 +224,21 @@ impl IdpLedger {
             }
         }
         Ok(cookies)
+    }
+
+    /// The cookies of the live sessions of a name in which an assertion was issued to a peer, and whose index is listed, or of
+    /// all of these where none is listed: those that `draft_end` would end.
+    pub fn ending(
+        &self,
+        now: u64,
+        peer: &str,
+        name: &str,
+        indexes: &Texts,
+    ) -> Result<Texts, NoMemory>
+        ensures { IfOk result (λ cookies. cookies ≡ ending now self.now.held.header.horizon peer.now name.now indexes.now (rows_in self.now)) }
+    {
+        let set = TextSet::of(self.ledger.allocator(), indexes)?;
+        self.cookies_ending(now, peer, name, indexes, &set)
     }
 
     /// Whether in one of these sessions an assertion was issued to another peer too.

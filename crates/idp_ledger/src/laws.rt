@@ -1,5 +1,5 @@
 //! Laws of a ledger, each the contract of a function that does nothing.
-ghost use Rattle.idp_ledger.specs.Laws.{ImagesHoldRecords, KeptAreRecords, CompactionsChangeNoAnswer, EachIssueHasItsCause, SessionsStay};
+ghost use Rattle.idp_ledger.specs.Laws.{ImagesHoldRecords, KeptAreRecords, CompactionsChangeNoAnswer, EachIssueHasItsCause, EachRoundHasItsRecord, RoundsAreCounted, SessionsStay};
 
 /// What an image stands for has records of the ledger, each behind those before it.
 pub fn images_hold_records()
@@ -25,4 +25,14 @@ pub fn each_issue_has_its_cause()
 /// ended as it was left.
 pub fn sessions_stay()
     ensures { SessionsStay }
+{}
+
+/// Each row of a round is that of a record that began it, with the answers that came later.
+pub fn each_round_has_its_record()
+    ensures { EachRoundHasItsRecord }
+{}
+
+/// A row counts the answers to its round, and says whether all providers confirmed.
+pub fn rounds_are_counted()
+    ensures { RoundsAreCounted }
 {}

@@ -21,6 +21,7 @@ use crate::row::{IssuedRow, LeftRow, PendingRow, SessionRow};
 use crate::standing::Standing;
 use gate_journal::{Disk, Failed, Header, OpenFault};
 use record_ledger::RecordLedger;
+use round_rows::RoundRow;
 use std::alloc::Global;
 use std::marker::Model;
 
@@ -120,6 +121,13 @@ impl IdpLedger {
         ensures { IsOrder (keys_of key (rows_in self.now)) result.now }
     {
         self.standing().order(key)
+    }
+
+    /// The rounds, in the order of their records, those that are done and past ones too.
+    pub fn rounds(&self) -> &[RoundRow]
+        ensures { result.now ≡ (rows_in self.now).rounds }
+    {
+        self.standing().rounds()
     }
 
     /// What the journal's header keeps.

@@ -10,6 +10,10 @@
 //! let cookie = *draft.second();
 //! ledger.commit(&mut disk, draft)?;
 //! ledger.session(cookie.as_str(), now);                               // the live session of a cookie
+//! let draft = ledger.draft_round(now, &cookies, Some(&asker), plan.turns.as_slice(), plan.skipped)?;   // a logout of all providers
+//! let request = *draft.first();
+//! ledger.commit(&mut disk, draft)?;
+//! ledger.draft_told(now, request.as_str(), peer, true)?;              // the answer of the first, and a request to the next
 //! ledger.compact(&mut disk, now)?;                                    // leaves out what no one can ask for any more
 //! ```
 //!
@@ -23,10 +27,14 @@
 //!
 //! An identity provider's ledger, with the words and clauses of the service provider's: `IdpLedger::start`, `reopen`,
 //! `commit`, `compact`; drafts of a pending login, a login, an issue in a session, an answer without an assertion, a
-//! logout and its answers (`Drafts`, `DraftsSome`); `pending` and `session` find what is visible, unused and not ended.
+//! logout and its answers, a round of logouts that asks one provider after the other and each answer to it (`Drafts`,
+//! `DraftsSome`); `pending`, `session` and `round` find what is visible, unused, not ended and not done; `parts` are the
+//! providers to which assertions were issued in sessions, `ending` the sessions that a logout would end.
 //! Laws: what an image stands for are records of a ledger, and so is what is kept of them; from the moment of a
 //! compaction on it changes no answer; each Issued names a login that was pending and unused, or lies in a session that
-//! was not ended (`each_issue_has_its_cause`). A session that ends behind each moment at which a run compacts the
+//! was not ended (`each_issue_has_its_cause`); each row of a round is that of a record that began it, with the answers that
+//! came later (`each_round_has_its_record`), and what it counts says whether all providers confirmed
+//! (`rounds_are_counted`). A session that ends behind each moment at which a run compacts the
 //! ledger has a row to the end of the run, open or ended as it was left (`laws::sessions_stay`).
 #![tactic(auto)]
 
@@ -44,6 +52,7 @@ mod logins;
 mod naming;
 mod noted;
 mod pendings;
+mod rounds;
 mod row;
 mod rules;
 mod sessions;
@@ -56,5 +65,6 @@ pub use ledger::IdpLedger;
 pub use ledger_rules::DraftFault;
 pub use noted::Noted;
 pub use record_ledger::MOST_ROWS;
+pub use round_rows::RoundRow;
 pub use row::{Ask, IssuedRow, LeftRow, PendingRow, SessionRow};
 pub use standing::Standing;

@@ -17,7 +17,9 @@ pub(crate) fn has_visible(entry: &IdpRecord, now: u64, horizon: u64) -> bool
         IdpRecord::Pending(r) => from < r.until,
         IdpRecord::Issued(r) => from < r.until || r.pending.is_some() && from < r.session_end,
         IdpRecord::Left(r) => from < r.until,
-        IdpRecord::Ended(_) | IdpRecord::Confirmed(_) | IdpRecord::Spoke(_) => false,
+        IdpRecord::Round(r) => from < r.until,
+        IdpRecord::Ended(_) | IdpRecord::Confirmed(_) | IdpRecord::Spoke(_) | IdpRecord::Told(_) =>
+            false,
     }
 }
 
@@ -33,6 +35,8 @@ pub(crate) fn named(entry: &IdpRecord) -> &[Text]
         IdpRecord::Ended(r) => r.cookies.as_slice(),
         IdpRecord::Left(r) => slice::from_ref(&r.cookie),
         IdpRecord::Confirmed(r) => slice::from_ref(&r.request),
+        IdpRecord::Round(r) => r.cookies.as_slice(),
+        IdpRecord::Told(r) => slice::from_ref(&r.request),
         IdpRecord::Pending(_) | IdpRecord::Spoke(_) => &[],
     }
 }
@@ -49,6 +53,11 @@ pub(crate) fn row_number(entry: &IdpRecord) -> Option<u64>
             None => None,
         },
         IdpRecord::Left(r) => Some(r.first),
+        IdpRecord::Round(r) => Some(r.first + 1),
+        IdpRecord::Told(r) => match r.next {
+            Some(_) => Some(r.first),
+            None => None,
+        },
         IdpRecord::Ended(_) | IdpRecord::Confirmed(_) | IdpRecord::Spoke(_) => None,
     }
 }

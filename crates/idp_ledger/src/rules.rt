@@ -23,7 +23,11 @@ impl Standing {
             IdpRecord::Pending(_) => Some(self.pendings().len()),
             IdpRecord::Issued(_) => Some(self.issues().len()),
             IdpRecord::Left(_) => Some(self.lefts().len()),
-            IdpRecord::Ended(_) | IdpRecord::Confirmed(_) | IdpRecord::Spoke(_) => None,
+            IdpRecord::Round(_) => Some(self.rounds().len()),
+            IdpRecord::Ended(_)
+            | IdpRecord::Confirmed(_)
+            | IdpRecord::Spoke(_)
+            | IdpRecord::Told(_) => None,
         }
     }
 }

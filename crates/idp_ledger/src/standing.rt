@@ -5,7 +5,8 @@ ghost use Rattle.std.specs.Str.{bytes_eq};
 ghost use Rattle.ledger_records.specs.declared.idp_record.IdpRecord.TheVariants as kinds;
 ghost use Rattle.idp_ledger.specs.declared.row.SessionRow.{SessionRow};
 ghost use Rattle.idp_ledger.specs.Finding.{pending_found, session_found, is_waiting_now, last_peer, has_issued};
-ghost use Rattle.idp_ledger.specs.Record.{is_free, is_issue_free, is_next};
+ghost use Rattle.round_rows.specs.Kept.{IsRoundOf};
+ghost use Rattle.idp_ledger.specs.Record.{is_answer_free, is_free, is_issue_free, is_next};
 ghost use Rattle.request_rows.specs.Order.{IsOrder};
 ghost use Rattle.idp_ledger.specs.Order.{keys_of};
 ghost use Rattle.idp_ledger.specs.Standing.{HasRoom, KeepsRoom, AreFew, IsAfter, IsRowAt, session_begun};
@@ -19,7 +20,9 @@ use crate::row::{IssuedRow, LeftRow, PendingRow, SessionRow};
 use crate::sessions::Sessions;
 use ledger_records::IdpRecord;
 use ledger_records::idp_record::{Confirmed, Ended, Issued, Left, Pending, Spoke};
+use ledger_records::idp_round::{Round, Told};
 use owned_values::NoMemory;
+use round_rows::{NextRequest, RoundRow, RoundRows};
 use std::alloc::Global;
 use std::marker::Model;
 
@@ -29,6 +32,7 @@ pub struct Standing {
     pendings: Pendings,
     sessions: Sessions,
     lefts: Lefts,
+    rounds: RoundRows,
     next: u64,
 }
 
@@ -40,24 +44,25 @@ impl Model for Standing {
     ghost Value = { StandingView };
 
     ghost view = { λ s. record {
-      rows = record { pendings = s.pendings.rows; issues = s.sessions.issues; sessions = s.sessions.rows; lefts = s.lefts.rows };
+      rows = record { pendings = s.pendings.rows; issues = s.sessions.issues; sessions = s.sessions.rows; lefts = s.lefts.rows; rounds = s.rounds.rows };
       next = s.next;
-      spare = record { pendings = s.pendings.spare; issues = s.sessions.spare; lefts = s.lefts.spare };
+      spare = record { pendings = s.pendings.spare; issues = s.sessions.spare; lefts = s.lefts.spare; rounds = s.rounds.spare };
     } };
 
-    ghost invariant = { λ s. AreBelow s.next s.pendings.numbers × AreBelow s.next s.sessions.numbers × AreBelow s.next s.lefts.numbers × (s.next ≤ 2 ^ 63) };
+    ghost invariant = { λ s. AreBelow s.next s.pendings.numbers × AreBelow s.next s.sessions.numbers × AreBelow s.next s.lefts.numbers × AreBelow s.next s.rounds.numbers × (s.next ≤ 2 ^ 63) };
 }
 
 impl Standing {
     /// What no records stand for. It takes no memory.
     pub(crate) fn empty(alloc: Global) -> Standing
-        ensures rows { result.rows ≡ record { pendings = []; issues = []; sessions = []; lefts = [] } }
+        ensures rows { result.rows ≡ record { pendings = []; issues = []; sessions = []; lefts = []; rounds = [] } }
         ensures next { result.next ≡ 0 }
     {
         Standing {
             pendings: Pendings::new(alloc),
             sessions: Sessions::new(alloc),
             lefts: Lefts::new(alloc),
+            rounds: RoundRows::new(alloc),
             next: 0,
         }
     }
@@ -98,6 +103,20 @@ impl Standing {
         ensures { result.now ≡ self.now.rows.lefts }
     {
         self.lefts.rows()
+    }
+
+    /// The rows of rounds.
+    pub(crate) fn rounds(&self) -> &[RoundRow]
+        ensures { result.now ≡ self.now.rows.rounds }
+    {
+        self.rounds.rows()
+    }
+
+    /// The round that waits for the answer to a request.
+    pub(crate) fn waiting_round(&self, request: &str) -> Option<&RoundRow>
+        ensures { IsRoundOf self.now.rows.rounds request.now (option_copied result) }
+    {
+        self.rounds.waiting(request)
     }
 
     /// The least number above all that were drawn.
@@ -163,6 +182,19 @@ impl Standing {
         }
     }
 
+    /// Whether the round that a Told answers waits for it, and whether it has the next request that it should.
+    fn is_answer_free(&self, r: &Told) -> bool
+        ensures { result ≡ is_answer_free self.now.rows.rounds r.now }
+    {
+        match self.rounds.waiting(r.request.as_str()) {
+            Some(row) => match r.next {
+                Some(_) => row.is_turn_left(),
+                None => !row.is_turn_left() && r.first == 0,
+            },
+            None => false,
+        }
+    }
+
     /// Whether each row that a record names is there, and free for it.
     fn is_free(&self, entry: &IdpRecord) -> bool
         ensures { result ≡ is_free self.now.rows entry.now }
@@ -174,6 +206,8 @@ impl Standing {
             IdpRecord::Left(r) => self.sessions.is_unended(r.cookie.as_str()),
             IdpRecord::Confirmed(r) => self.lefts.is_waiting(r.request.as_str()),
             IdpRecord::Spoke(_) => true,
+            IdpRecord::Round(r) => self.sessions.are_unended(r.cookies.as_slice()),
+            IdpRecord::Told(r) => self.is_answer_free(r),
         }
     }
 
@@ -198,6 +232,7 @@ impl Standing {
             IdpRecord::Pending(_) => self.pendings.reserve(),
             IdpRecord::Issued(_) => self.sessions.reserve(),
             IdpRecord::Left(_) => self.lefts.reserve(),
+            IdpRecord::Round(_) | IdpRecord::Told(_) => self.rounds.reserve(),
             IdpRecord::Ended(_) | IdpRecord::Confirmed(_) | IdpRecord::Spoke(_) => Ok(()),
         }
     }
@@ -217,6 +252,8 @@ impl Standing {
             IdpRecord::Left(r) => self.put_left(r),
             IdpRecord::Confirmed(r) => self.put_confirmed(r),
             IdpRecord::Spoke(r) => self.put_spoke(r),
+            IdpRecord::Round(r) => self.put_round(r),
+            IdpRecord::Told(r) => self.put_told(r),
         }
     }
 
@@ -306,6 +343,52 @@ impl Standing {
         ensures { IsAfter self.old self.new (kinds.Confirmed r) }
     {
         self.lefts.confirm(r.request.as_str());
+    }
+
+    /// Ends the sessions of a round, and puts its row.
+    fn put_round(&mut self, r: Round)
+        requires few { AreFew self.old.rows }
+        requires is { is_next self.old.rows self.old.next (kinds.Round r) ≡ true }
+        requires room { HasRoom self.old.spare (kinds.Round r) }
+        ensures { IsAfter self.old self.new (kinds.Round r) }
+    {
+        self.sessions.end_all(r.cookies.as_slice());
+        let row = RoundRow {
+            request: r.request,
+            message: r.message,
+            asker: r.asker,
+            turns: r.turns,
+            skipped: r.skipped,
+            told: 0,
+            confirmed: 0,
+            until: r.until,
+        };
+        self.rounds.put(row, r.first + 1);
+        self.next = r.first + 2;
+    }
+
+    /// Counts an answer to a round, and gives it its next request, where it has one.
+    fn put_told(&mut self, r: Told)
+        requires few { AreFew self.old.rows }
+        requires is { is_next self.old.rows self.old.next (kinds.Told r) ≡ true }
+        requires room { HasRoom self.old.spare (kinds.Told r) }
+        ensures { IsAfter self.old self.new (kinds.Told r) }
+    {
+        let Told {
+            first,
+            moment: _,
+            request,
+            confirmed,
+            next,
+        } = r;
+        match next {
+            Some(id) => {
+                let next = NextRequest { id, number: first };
+                self.rounds.tell(request.as_str(), confirmed, Some(next));
+                self.next = first + 1;
+            }
+            None => self.rounds.tell(request.as_str(), confirmed, None),
+        }
     }
 
     /// Takes the number of an answer without an assertion.

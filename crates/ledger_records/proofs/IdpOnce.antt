@@ -20,6 +20,8 @@ idp_again (kinds.Ended r) = refl
 idp_again (kinds.Left r) = refl
 idp_again (kinds.Confirmed r) = refl
 idp_again (kinds.Spoke r) = refl
+idp_again (kinds.Round r) = refl
+idp_again (kinds.Told r) = refl
 
 forms_are : (r : IdpRecord) → idp_forms (idp_kind r) ≡ Some (map form_of (idp_fields r))
 forms_are (kinds.Pending r) = refl
@@ -28,6 +30,8 @@ forms_are (kinds.Ended r) = refl
 forms_are (kinds.Left r) = refl
 forms_are (kinds.Confirmed r) = refl
 forms_are (kinds.Spoke r) = refl
+forms_are (kinds.Round r) = refl
+forms_are (kinds.Told r) = refl
 
 -- ---- a payload
 

@@ -5,7 +5,7 @@ use Rattle.ledger_records.specs.declared.key_number.KeyNumber.{KeyNumber}
 use Rattle.ledger_records.specs.declared.sp_record.Opened.{Opened}
 use Rattle.ledger_records.specs.declared.sp_record.SpRecord.TheVariants as sp
 use Rattle.ledger_records.specs.declared.idp_record.IdpRecord.TheVariants as idp
-use Rattle.ledger_records.specs.Fields.{number, text, optional, attributes}
+use Rattle.ledger_records.specs.Fields.{number, text, optional, attributes, asker, turns}
 use Rattle.ledger_records.specs.SpRecord.{sp_bytes}
 use Rattle.ledger_records.specs.IdpRecord.{idp_bytes}
 
@@ -62,3 +62,15 @@ without_its_key = refl
 the_second_key : sp_bytes 1 (sp.Opened (session First)) ++ 2 ∷ [] ≡ sp_bytes 2 (sp.Opened (session Second))
 unfolding session
 the_second_key = refl
+
+-- an answer that is the last one of its round
+last_answer_bytes : idp_bytes (idp.Told (record { first = 0; moment = 7; request = codes "_r1"; confirmed = true; next = None }))
+    ≡ 18 ∷ (0 ∷ 0 ∷ 0 ∷ 0 ∷ 0 ∷ 0 ∷ 0 ∷ 0 ∷ []) ++ (0 ∷ 0 ∷ 0 ∷ 0 ∷ 0 ∷ 0 ∷ 0 ∷ 7 ∷ []) ++ (0 ∷ 0 ∷ 0 ∷ 3 ∷ 95 ∷ 114 ∷ 49 ∷ []) ++ 1 ∷ 0 ∷ []
+last_answer_bytes = refl
+
+-- a provider that asks, and a turn without an index
+asker_bytes : asker (Some (record { peer = codes "s"; request = codes "r"; relay = None })) ≡ 1 ∷ 0 ∷ 0 ∷ 0 ∷ 1 ∷ 115 ∷ 0 ∷ 0 ∷ 0 ∷ 1 ∷ 114 ∷ 0 ∷ []
+asker_bytes = refl
+
+turn_bytes : turns (record { peer = codes "s"; name = []; indexes = [] } ∷ []) ≡ 0 ∷ 0 ∷ 0 ∷ 1 ∷ 0 ∷ 0 ∷ 0 ∷ 1 ∷ 115 ∷ 0 ∷ 0 ∷ 0 ∷ 0 ∷ 0 ∷ 0 ∷ 0 ∷ 0 ∷ []
+turn_bytes = refl

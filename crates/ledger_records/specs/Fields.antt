@@ -3,6 +3,8 @@ use Rattle.std.specs.Prelude.{ℕ, ◌<◌, ◌^◌, Bool, true, false, List, []
 use Rattle.std.specs.List.{flat_map, AllByRecursion}
 use Rattle.std.specs.Int.{w32, w64, to_be_bytes}
 use Rattle.owned_values.specs.declared.attributes.Attribute.{Attribute}
+use Rattle.logout_turns.specs.declared.part.Asker.{Asker as AskerOf}
+use Rattle.logout_turns.specs.declared.turns.Turn.{Turn}
 use Rattle.ledger_records.specs.declared.key_number.KeyNumber.{KeyNumber}
 use Rattle.ledger_records.specs.declared.key_number.KeyNumber.TheVariants.{First, Second}
 
@@ -34,6 +36,22 @@ attribute a = text a.name ++ texts a.values
 abbrev pub attributes : List Attribute → List ℕ
 attributes items = count (length items) ++ flat_map attribute items
 
+-- a provider that asks: its entity, the ID of its request, and the relay state of that request
+abbrev pub asking : AskerOf → List ℕ
+asking a = text a.peer ++ (text a.request ++ optional a.relay)
+
+-- the same where there may be none: 0x00, or 0x01 and that
+abbrev pub asker : Option AskerOf → List ℕ
+asker None = 0 ∷ []
+asker (Some a) = 1 ∷ asking a
+
+-- a turn: the provider that is asked, the name of the user, and the list of the indexes
+abbrev pub turn : Turn → List ℕ
+turn t = text t.peer ++ (text t.name ++ texts t.indexes)
+
+abbrev pub turns : List Turn → List ℕ
+turns items = count (length items) ++ flat_map turn items
+
 -- no or yes: 0x00 or 0x01
 abbrev pub flag : Bool → List ℕ
 flag false = 0 ∷ []
@@ -53,6 +71,8 @@ pub data Field : Type 0 where
   Optional : (bytes : Option (List ℕ)) → Field
   Texts : (items : List (List ℕ)) → Field
   Attributes : (items : List Attribute) → Field
+  Asker : (asker : Option AskerOf) → Field
+  Turns : (items : List Turn) → Field
   Flag : (is : Bool) → Field
   Key : (key : KeyNumber) → Field
 
@@ -63,6 +83,8 @@ field (Text bytes) = text bytes
 field (Optional bytes) = optional bytes
 field (Texts items) = texts items
 field (Attributes items) = attributes items
+field (Asker a) = asker a
+field (Turns items) = turns items
 field (Flag is) = flag is
 field (Key key) = key_byte key ∷ []
 
@@ -75,6 +97,16 @@ pub record IsAttribute (a : Attribute) : Type 0 where
   pub name : IsUtf8 a.name
   pub values : AllByRecursion IsUtf8 a.values
 
+pub record IsAsking (a : AskerOf) : Type 0 where
+  pub peer : IsUtf8 a.peer
+  pub request : IsUtf8 a.request
+  pub relay : IfSome a.relay IsUtf8
+
+pub record IsTurn (t : Turn) : Type 0 where
+  pub peer : IsUtf8 t.peer
+  pub name : IsUtf8 t.name
+  pub indexes : AllByRecursion IsUtf8 t.indexes
+
 abbrev pub IsField : Field → Type 0
 IsField NoNumber = Unit {0}
 IsField (Number n) = n < 2 ^ 64
@@ -82,6 +114,8 @@ IsField (Text bytes) = IsUtf8 bytes
 IsField (Optional bytes) = IfSome bytes IsUtf8
 IsField (Texts items) = AllByRecursion IsUtf8 items
 IsField (Attributes items) = AllByRecursion IsAttribute items
+IsField (Asker a) = IfSome a IsAsking
+IsField (Turns items) = AllByRecursion IsTurn items
 IsField (Flag is) = Unit {0}
 IsField (Key key) = Unit {0}
 

@@ -2,6 +2,8 @@
 use Rattle.std.specs.Prelude.{ℕ, ◌^◌, ◌==◌, nat_lt, if◌then◌else◌, Bool, false, List, [], length, slice_index_or, Option, None}
 use Rattle.std.specs.Option.{option_map}
 use Rattle.owned_values.specs.declared.attributes.Attribute.{Attribute}
+use Rattle.logout_turns.specs.declared.part.Asker.{Asker as AskerOf}
+use Rattle.logout_turns.specs.declared.turns.Turn.{Turn}
 use Rattle.ledger_records.specs.declared.key_number.KeyNumber.{KeyNumber}
 use Rattle.ledger_records.specs.declared.key_number.KeyNumber.TheVariants.{First}
 use Rattle.ledger_records.specs.declared.sp_record.Asked.{Asked}
@@ -17,9 +19,11 @@ use Rattle.ledger_records.specs.declared.idp_record.Ended.{Ended as IdpEnded}
 use Rattle.ledger_records.specs.declared.idp_record.Left.{Left as IdpLeft}
 use Rattle.ledger_records.specs.declared.idp_record.Confirmed.{Confirmed as IdpConfirmed}
 use Rattle.ledger_records.specs.declared.idp_record.Spoke.{Spoke}
+use Rattle.ledger_records.specs.declared.idp_round.Round.{Round}
+use Rattle.ledger_records.specs.declared.idp_round.Told.{Told}
 use Rattle.ledger_records.specs.declared.idp_record.IdpRecord.{IdpRecord}
 use Rattle.ledger_records.specs.declared.idp_record.IdpRecord.TheVariants as idp
-use Rattle.ledger_records.specs.Fields.{Field, NoNumber, Number, Text, Optional, Texts, Attributes, Flag, Key}
+use Rattle.ledger_records.specs.Fields.{Field, NoNumber, Number, Text, Optional, Texts, Attributes, Asker, Turns, Flag, Key}
 use Rattle.ledger_records.specs.Reading.{sp_forms, idp_forms, record_in}
 
 -- the field at a place, and what a field holds
@@ -45,6 +49,14 @@ texts_of _ = []
 abbrev pub attributes_of : Field → List Attribute
 attributes_of (Attributes items) = items
 attributes_of _ = []
+
+abbrev pub asker_of : Field → Option AskerOf
+asker_of (Asker a) = a
+asker_of _ = None
+
+abbrev pub turns_of : Field → List Turn
+turns_of (Turns items) = items
+turns_of _ = []
 
 abbrev pub flag_of : Field → Bool
 flag_of (Flag is) = is
@@ -186,6 +198,28 @@ spoke_from fs = record {
   peer = text_of (nth fs 4);
 }
 
+abbrev pub round_from : List Field → Round
+round_from fs = record {
+  first = number_of (nth fs 0);
+  moment = number_of (nth fs 1);
+  until = number_of (nth fs 2);
+  message = text_of (nth fs 3);
+  request = text_of (nth fs 4);
+  cookies = texts_of (nth fs 5);
+  asker = asker_of (nth fs 6);
+  turns = turns_of (nth fs 7);
+  skipped = flag_of (nth fs 8);
+}
+
+abbrev pub told_from : List Field → Told
+told_from fs = record {
+  first = number_of (nth fs 0);
+  moment = number_of (nth fs 1);
+  request = text_of (nth fs 2);
+  confirmed = flag_of (nth fs 3);
+  next = optional_of (nth fs 4);
+}
+
 abbrev pub idp_from : ℕ → List Field → IdpRecord
 idp_from kind fs =
     if kind == 11 then idp.Pending (pending_from fs)
@@ -193,7 +227,9 @@ idp_from kind fs =
     else if kind == 13 then idp.Ended (idp_ended_from fs)
     else if kind == 14 then idp.Left (idp_left_from fs)
     else if kind == 15 then idp.Confirmed (idp_confirmed_from fs)
-    else idp.Spoke (spoke_from fs)
+    else if kind == 16 then idp.Spoke (spoke_from fs)
+    else if kind == 17 then idp.Round (round_from fs)
+    else idp.Told (told_from fs)
 
 -- The record of an identity provider that a payload is.
 unfoldable pub idp_record : List ℕ → Option IdpRecord

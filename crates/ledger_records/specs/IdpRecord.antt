@@ -7,9 +7,11 @@ use Rattle.ledger_records.specs.declared.idp_record.Ended.{Ended}
 use Rattle.ledger_records.specs.declared.idp_record.Left.{Left}
 use Rattle.ledger_records.specs.declared.idp_record.Confirmed.{Confirmed}
 use Rattle.ledger_records.specs.declared.idp_record.Spoke.{Spoke}
+use Rattle.ledger_records.specs.declared.idp_round.Round.{Round}
+use Rattle.ledger_records.specs.declared.idp_round.Told.{Told}
 use Rattle.ledger_records.specs.declared.idp_record.IdpRecord.{IdpRecord}
 use Rattle.ledger_records.specs.declared.idp_record.IdpRecord.TheVariants as kinds
-use Rattle.ledger_records.specs.Fields.{Field, NoNumber, Number, Text, Optional, Texts, Attributes, Flag, bytes_of, AreFields}
+use Rattle.ledger_records.specs.Fields.{Field, NoNumber, Number, Text, Optional, Texts, Attributes, Asker, Turns, Flag, bytes_of, AreFields}
 
 -- kind 11
 abbrev pub pending : Pending → List Field
@@ -43,6 +45,16 @@ confirmed r = NoNumber ∷ Number r.moment ∷ Text r.request ∷ []
 abbrev pub spoke : Spoke → List Field
 spoke r = Number r.first ∷ Number r.moment ∷ Text r.message ∷ Text r.request ∷ Text r.peer ∷ []
 
+-- kind 17
+abbrev pub round : Round → List Field
+round r =
+    Number r.first ∷ Number r.moment ∷ Number r.until ∷ Text r.message ∷ Text r.request ∷ Texts r.cookies
+    ∷ Asker r.asker ∷ Turns r.turns ∷ Flag r.skipped ∷ []
+
+-- kind 18, whose first number is that of the next request, and 0 where there is none
+abbrev pub told : Told → List Field
+told r = Number r.first ∷ Number r.moment ∷ Text r.request ∷ Flag r.confirmed ∷ Optional r.next ∷ []
+
 abbrev pub idp_kind : IdpRecord → ℕ
 idp_kind (kinds.Pending r) = 11
 idp_kind (kinds.Issued r) = 12
@@ -50,6 +62,8 @@ idp_kind (kinds.Ended r) = 13
 idp_kind (kinds.Left r) = 14
 idp_kind (kinds.Confirmed r) = 15
 idp_kind (kinds.Spoke r) = 16
+idp_kind (kinds.Round r) = 17
+idp_kind (kinds.Told r) = 18
 
 abbrev pub idp_fields : IdpRecord → List Field
 idp_fields (kinds.Pending r) = pending r
@@ -58,6 +72,8 @@ idp_fields (kinds.Ended r) = ended r
 idp_fields (kinds.Left r) = left r
 idp_fields (kinds.Confirmed r) = confirmed r
 idp_fields (kinds.Spoke r) = spoke r
+idp_fields (kinds.Round r) = round r
+idp_fields (kinds.Told r) = told r
 
 -- the bytes of a record
 abbrev pub idp_bytes : IdpRecord → List ℕ

@@ -4,11 +4,13 @@ use Rattle.std.specs.Prelude.{◌≡◌, ℕ, zero, suc, ◌==◌, nat_lt, if◌
 use Rattle.std.specs.Str.{is_utf8}
 use Rattle.std.specs.Int.{Width, w32, w64, byte_len, from_be_bytes}
 use Rattle.owned_values.specs.declared.attributes.Attribute.{Attribute}
+use Rattle.logout_turns.specs.declared.part.Asker.{Asker as AskerOf}
+use Rattle.logout_turns.specs.declared.turns.Turn.{Turn}
 use Rattle.ledger_records.specs.declared.key_number.KeyNumber.{KeyNumber}
 use Rattle.ledger_records.specs.declared.key_number.KeyNumber.TheVariants.{First, Second}
 use Rattle.ledger_records.specs.declared.reading.Unread.{Unread}
 use Rattle.ledger_records.specs.declared.reading.Unread.TheVariants as errors
-use Rattle.ledger_records.specs.Fields.{Field, NoNumber, Number, Text, Optional, Texts, Attributes, Flag, Key}
+use Rattle.ledger_records.specs.Fields.{Field, NoNumber, Number, Text, Optional, Texts, Attributes, Asker, Turns, Flag, Key}
 
 infixl 10 ◌>>=◌
 abbrev pub ◌>>=◌ : {A B : Type 0} → Option A → (A → Option B) → Option B
@@ -83,6 +85,28 @@ attribute_at bytes = do
   values ← list_at text_at name.1
   Some (record { name = name.0; values = values.0 }, values.1)
 
+unfoldable pub asking_at : List ℕ → Front AskerOf
+asking_at bytes = do
+  peer ← text_at bytes
+  request ← text_at peer.1
+  relay ← optional_at request.1
+  Some (record { peer = peer.0; request = request.0; relay = relay.0 }, relay.1)
+
+-- the provider that asks where the flag says that there is one
+abbrev pub asker_if : Bool × List ℕ → Front (Option AskerOf)
+asker_if (true, bytes) = asking_at bytes >>= λ a. Some (Some a.0, a.1)
+asker_if (false, bytes) = Some (None, bytes)
+
+unfoldable pub asker_at : List ℕ → Front (Option AskerOf)
+asker_at bytes = flag_at bytes >>= asker_if
+
+unfoldable pub turn_at : List ℕ → Front Turn
+turn_at bytes = do
+  peer ← text_at bytes
+  name ← text_at peer.1
+  indexes ← list_at text_at name.1
+  Some (record { peer = peer.0; name = name.0; indexes = indexes.0 }, indexes.1)
+
 -- what kind of field comes
 pub data Form : Type 0 where
   NoNumberForm : Form
@@ -91,6 +115,8 @@ pub data Form : Type 0 where
   OptionalForm : Form
   TextsForm : Form
   AttributesForm : Form
+  AskerForm : Form
+  TurnsForm : Form
   FlagForm : Form
   KeyForm : Form
 
@@ -108,6 +134,8 @@ field_at TextForm bytes = text_at bytes >>= as_field Text
 field_at OptionalForm bytes = optional_at bytes >>= as_field Optional
 field_at TextsForm bytes = list_at text_at bytes >>= as_field Texts
 field_at AttributesForm bytes = list_at attribute_at bytes >>= as_field Attributes
+field_at AskerForm bytes = asker_at bytes >>= as_field Asker
+field_at TurnsForm bytes = list_at turn_at bytes >>= as_field Turns
 field_at FlagForm bytes = flag_at bytes >>= as_field Flag
 field_at KeyForm bytes = key_at bytes >>= as_field Key
 
@@ -167,6 +195,13 @@ idp_left_forms = NumberForm ∷ NumberForm ∷ NumberForm ∷ TextForm ∷ TextF
 abbrev pub spoke_forms : List Form
 spoke_forms = NumberForm ∷ NumberForm ∷ TextForm ∷ TextForm ∷ TextForm ∷ []
 
+abbrev pub round_forms : List Form
+round_forms =
+    NumberForm ∷ NumberForm ∷ NumberForm ∷ TextForm ∷ TextForm ∷ TextsForm ∷ AskerForm ∷ TurnsForm ∷ FlagForm ∷ []
+
+abbrev pub told_forms : List Form
+told_forms = NumberForm ∷ NumberForm ∷ TextForm ∷ FlagForm ∷ OptionalForm ∷ []
+
 abbrev pub idp_forms : ℕ → Option (List Form)
 idp_forms kind =
     if kind == 11 then Some pending_forms
@@ -175,6 +210,8 @@ idp_forms kind =
     else if kind == 14 then Some idp_left_forms
     else if kind == 15 then Some confirmed_forms
     else if kind == 16 then Some spoke_forms
+    else if kind == 17 then Some round_forms
+    else if kind == 18 then Some told_forms
     else None
 
 -- the kind of a record and its fields

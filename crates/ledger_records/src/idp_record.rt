@@ -6,6 +6,7 @@ ghost use Rattle.ledger_records.specs.IdpRecord.{pending, issued, ended, left, c
 ghost use Rattle.ledger_records.specs.Found.{idp_record};
 ghost use Rattle.ledger_records.specs.Writing.{field_view, capped};
 
+use crate::idp_round::{Round, Told};
 use crate::reading::{Fields, Unread};
 use crate::writing::{Field, payload_len_of, payload_of};
 use owned_values::{Attributes, Blob, NoMemory, Text, Texts};
@@ -22,6 +23,10 @@ const LEFT: u8 = 14;
 const CONFIRMED: u8 = 15;
 
 const SPOKE: u8 = 16;
+
+const ROUND: u8 = 17;
+
+const TOLD: u8 = 18;
 
 /// A request for a login came, and the user is asked for a password (SAML Core, 3.4.1).
 #[derive(Debug, Drop)]
@@ -149,6 +154,8 @@ pub enum IdpRecord {
     Left(Left),
     Confirmed(Confirmed),
     Spoke(Spoke),
+    Round(Round),
+    Told(Told),
 }
 
 impl Pending {
@@ -394,6 +401,8 @@ impl IdpRecord {
             IdpRecord::Left(left) => payload_of(alloc, LEFT, &left.fields()),
             IdpRecord::Confirmed(confirmed) => payload_of(alloc, CONFIRMED, &confirmed.fields()),
             IdpRecord::Spoke(spoke) => payload_of(alloc, SPOKE, &spoke.fields()),
+            IdpRecord::Round(round) => payload_of(alloc, ROUND, &round.fields()),
+            IdpRecord::Told(told) => payload_of(alloc, TOLD, &told.fields()),
         }
     }
 
@@ -408,6 +417,8 @@ impl IdpRecord {
             IdpRecord::Left(left) => payload_len_of(&left.fields()),
             IdpRecord::Confirmed(confirmed) => payload_len_of(&confirmed.fields()),
             IdpRecord::Spoke(spoke) => payload_len_of(&spoke.fields()),
+            IdpRecord::Round(round) => payload_len_of(&round.fields()),
+            IdpRecord::Told(told) => payload_len_of(&told.fields()),
         }
     }
 }
@@ -427,6 +438,8 @@ fn record_of(alloc: Global, payload: &[u8]) -> Result<IdpRecord, Unread>
         LEFT => Ok(IdpRecord::Left(Left::read(fields)?)),
         CONFIRMED => Ok(IdpRecord::Confirmed(Confirmed::read(fields)?)),
         SPOKE => Ok(IdpRecord::Spoke(Spoke::read(fields)?)),
+        ROUND => Ok(IdpRecord::Round(Round::read(fields)?)),
+        TOLD => Ok(IdpRecord::Told(Told::read(fields)?)),
         _ => Err(Unread::Malformed),
     }
 }

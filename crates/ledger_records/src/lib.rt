@@ -9,8 +9,8 @@
 //!
 //! A contract sees a record as its fields, and a payload as bytes. What a payload says is one definition for each
 //! provider: `IsSpPayload` of `specs/SpRecord.antt`, `IsIdpPayload` of `specs/IdpRecord.antt` and `IsHubPayload` of
-//! `specs/HubRecord.antt` list the fields of each kind of record in order, and `specs/Fields.antt` has the bytes of each kind of field. A payload is one record at most
-//! ([`laws`]).
+//! `specs/HubRecord.antt` list the fields of each kind of record in order, and `specs/Fields.antt` has the bytes of each
+//! kind of field. A payload is one record at most ([`laws`]).
 //!
 //! [`read_sp_record`], [`read_idp_record`] and [`read_hub_record`] answer none exactly where the payload is no record. A list grows as its items
 //! are read and is not reserved by its count, so memory and time are linear in the payload. `NoMemory` may come from each
@@ -26,10 +26,13 @@
 
 pub mod hub_record;
 pub mod idp_record;
+pub mod idp_round;
 mod key_number;
 pub mod laws;
 mod reading;
 pub mod sp_record;
+mod turn_reading;
+mod turn_writing;
 mod writing;
 
 pub use hub_record::{HubRecord, read_hub_record};

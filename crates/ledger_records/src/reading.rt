@@ -75,7 +75,7 @@ impl<'a> Fields<'a> {
     }
 
     /// How many bytes or items follow.
-    fn count(&mut self) -> Result<u32, Unread>
+    pub(crate) fn count(&mut self) -> Result<u32, Unread>
         ensures { Reads (λ n. (n, self.new.rest.now)) result (number_at w32 self.old.rest.now) }
     {
         if self.rest.len() < 4 {

@@ -6,11 +6,13 @@ ghost use Rattle.ledger_records.specs.Fields.{count, number, text, texts, attrib
 ghost use Rattle.ledger_records.specs.Writing.{field_view, capped};
 
 use crate::KeyNumber;
+use crate::turn_writing::{asker_len, put_asker, put_turns, turns_len};
+use logout_turns::{Asker, Turns};
 use owned_values::{Attribute, Attributes, Blob, NoMemory, Text, Texts};
 use std::alloc::Global;
 
 /// How many bytes a length or a count has.
-const COUNT: u64 = 4;
+pub(crate) const COUNT: u64 = 4;
 
 /// How many bytes a number has.
 const NUMBER: u64 = 8;
@@ -30,6 +32,10 @@ pub(crate) enum Field<'a> {
     Texts(&'a Texts),
     /// A list of attributes.
     Attributes(&'a Attributes),
+    /// A provider that asks, where one does.
+    Asker(&'a Option<Asker>),
+    /// A list of turns.
+    Turns(&'a Turns),
     /// No or yes.
     Flag(bool),
     /// The number of a key.
@@ -38,7 +44,7 @@ pub(crate) enum Field<'a> {
 
 /// Puts a length or a count: the last four of its eight bytes. The others are 0, since a payload has fewer than 2^32
 /// bytes.
-fn put_count(out: &mut Blob, n: usize) -> Result<(), NoMemory>
+pub(crate) fn put_count(out: &mut Blob, n: usize) -> Result<(), NoMemory>
     ensures { OnOk result (out.new ≡ out.old ++ count n) }
 {
     let bytes = (n as u64).to_be_bytes();
@@ -46,7 +52,7 @@ fn put_count(out: &mut Blob, n: usize) -> Result<(), NoMemory>
 }
 
 /// Puts a text.
-fn put_text(out: &mut Blob, value: &Text) -> Result<(), NoMemory>
+pub(crate) fn put_text(out: &mut Blob, value: &Text) -> Result<(), NoMemory>
     ensures put { OnOk result (out.new ≡ out.old ++ text value.now) }
     ensures held { OnOk result (IsUtf8 value.now) }
 {
@@ -57,7 +63,7 @@ fn put_text(out: &mut Blob, value: &Text) -> Result<(), NoMemory>
 }
 
 /// Puts a list of texts.
-fn put_texts(out: &mut Blob, values: &Texts) -> Result<(), NoMemory>
+pub(crate) fn put_texts(out: &mut Blob, values: &Texts) -> Result<(), NoMemory>
     ensures put { OnOk result (out.new ≡ out.old ++ texts values.now) }
     ensures held { OnOk result (AllByRecursion IsUtf8 values.now) }
 {
@@ -91,7 +97,7 @@ fn put_attributes(out: &mut Blob, listed: &Attributes) -> Result<(), NoMemory>
 }
 
 /// Puts a text that may be absent.
-fn put_optional(out: &mut Blob, value: &Option<Text>) -> Result<(), NoMemory>
+pub(crate) fn put_optional(out: &mut Blob, value: &Option<Text>) -> Result<(), NoMemory>
     ensures put { OnOk result (out.new ≡ out.old ++ optional value.now) }
     ensures held { OnOk result (IfSome value.now IsUtf8) }
 {
@@ -120,6 +126,8 @@ fn put_field(out: &mut Blob, value: Field<'_>) -> Result<(), NoMemory>
         Field::Optional(value) => put_optional(out, value)?,
         Field::Texts(values) => put_texts(out, values)?,
         Field::Attributes(values) => put_attributes(out, values)?,
+        Field::Asker(asker) => put_asker(out, asker)?,
+        Field::Turns(turns) => put_turns(out, turns)?,
         Field::Flag(is) => out.push(&[u8::from(is)])?,
         Field::Key(key) => out.push(&[key.number()])?,
     }
@@ -139,14 +147,14 @@ pub(crate) fn payload_of(alloc: Global, kind: u8, fields: &[Field<'_>]) -> Resul
 }
 
 /// How long a text is.
-fn text_len(value: &Text) -> u64
+pub(crate) fn text_len(value: &Text) -> u64
     ensures { result ≡ capped (length (text value.now)) }
 {
     COUNT.saturating_add(value.len() as u64)
 }
 
 /// How long a list of texts is.
-fn texts_len(values: &Texts) -> u64
+pub(crate) fn texts_len(values: &Texts) -> u64
     ensures { result ≡ capped (length (texts values.now)) }
 {
     let mut len = COUNT;
@@ -154,6 +162,16 @@ fn texts_len(values: &Texts) -> u64
         len = len.saturating_add(text_len(value));
     }
     len
+}
+
+/// How long a text is that may be absent.
+pub(crate) fn optional_len(value: &Option<Text>) -> u64
+    ensures { result ≡ capped (length (optional value.now)) }
+{
+    match value {
+        None => 1,
+        Some(value) => text_len(value).saturating_add(1),
+    }
 }
 
 /// How long a list of attributes is.
@@ -175,12 +193,11 @@ fn field_len(value: Field<'_>) -> u64
     match value {
         Field::NoNumber | Field::Number(_) => NUMBER,
         Field::Text(value) => text_len(value),
-        Field::Optional(value) => match value {
-            None => 1,
-            Some(value) => text_len(value).saturating_add(1),
-        },
+        Field::Optional(value) => optional_len(value),
         Field::Texts(values) => texts_len(values),
         Field::Attributes(values) => attributes_len(values),
+        Field::Asker(asker) => asker_len(asker),
+        Field::Turns(turns) => turns_len(turns),
         Field::Flag(_) | Field::Key(_) => 1,
     }
 }

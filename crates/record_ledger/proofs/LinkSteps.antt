@@ -222,9 +222,9 @@ module _ {R : Type 0} (rules : RecordRules R) (link_rules : LinkRules R) (fresh 
     }
 
   -- a record that has one of the IDs
-  has_row : (before : List R) (r : R) → rules.is_record before r ≡ true → (id : List ℕ) → is_among id (link_rules.named r) ≡ true → HasRow rules link_rules before id
-  has_row before r is id among =
-      let f = laws.free before r id is among in
+  has_row : (before : List R) (r : R) → AreRecords rules before → rules.is_record before r ≡ true → (id : List ℕ) → is_among id (link_rules.named r) ≡ true → HasRow rules link_rules before id
+  has_row before r are is id among =
+      let f = laws.free before r id are is among in
       record { place = f.place; row = f.row; there = f.there; has = f.has }
 
   -- what a record with one of the IDs is: it is named, and no later one that is linked rules.names it
@@ -236,7 +236,7 @@ module _ {R : Type 0} (rules : RecordRules R) (link_rules : LinkRules R) (fresh 
       → has_id rules link_rules (link_rules.named r) x ≡ true → IsNamed before r i x
   is_named before r are is i x there has =
       let one = has_one rules link_rules (link_rules.named r) x has in
-      let f = laws.free before r one.0 is one.1 in
+      let f = laws.free before r one.0 are is one.1 in
       let same = one_place rules link_rules fresh laws [] before are one.0 f.place i f.row x f.there there f.has one.2 in
       let at : slice_get before i ≡ Some f.row = subst (λ p. slice_get before p ≡ Some f.row) same f.there in
       let row : f.row ≡ x = cc in
@@ -407,7 +407,7 @@ module _ {R : Type 0} (rules : RecordRules R) (link_rules : LinkRules R) (fresh 
       → new.links ≡ mid.links → new.numbers.listed ≡ mid.numbers.listed ++ as_list (row_number rules link_rules r)
       → new.places.items ≡ mid.places.items ++ map (λ n. place) (as_list (row_number rules link_rules r)) → IsLinked rules link_rules (records ++ r ∷ []) new
   taken_so records r old mid new items own ids place before is own_is at these pushed linked same_numbers same_places links numbers places =
-      let have : HaveRows rules link_rules records ids = λ id among. has_row records r is id (ap (is_among id) (sym these) ∙ among) in
+      let have : HaveRows rules link_rules records ids = λ id among. has_row records r before.rows.are is id (ap (is_among id) (sym these) ∙ among) in
       taken records r old new items own ids place before is own_is (at ∙ before.linked.long) these pushed
       (subst (λ ls. LinksThem rules link_rules records ids place items ls) (ap (λ v. v.items) (sym links)) (linked have))
       (numbers ∙ ap (λ ns. ns.listed ++ as_list (row_number rules link_rules r)) same_numbers)

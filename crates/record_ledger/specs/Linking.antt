@@ -123,9 +123,10 @@ module _ {R : Type 0} (rules : RecordRules R) (link_rules : LinkRules R) where
   pub record LinkLaws : Type 0 where
     -- a record's row is found by an ID that it draws, at this place of its IDs
     pub drawn : (r : R) (d : Drawn) → link_rules.row r ≡ Some d → (k : ℕ) × (slice_get (rules.drawn r) k ≡ Some d)
-    -- what is named and linked has one of the IDs, and each of these has a row that is named once
+    -- what is named and linked has one of the IDs, and each of these has a row that is named once, behind records of the
+    -- ledger
     pub named : (r x : R) → names_up r x ≡ true → has_id (link_rules.named r) x ≡ true
-    pub free : (before : List R) (r : R) (id : List ℕ) → rules.is_record before r ≡ true →
+    pub free : (before : List R) (r : R) (id : List ℕ) → AreRecords rules before → rules.is_record before r ≡ true →
         is_among id (link_rules.named r) ≡ true → FreeRow before r id
     -- A record that is itself linked names the row of that ID alone, and has none that is found: so nothing is linked to
     -- it.

@@ -7,6 +7,8 @@ use Rattle.std.proofs.lemmas.Bool.{cases_Bool, and_parts, and_from, le-leb}
 use Rattle.std.proofs.lemmas.Grind.{flat_map-append}
 use Rattle.std.proofs.lemmas.List.Folds.{list_all-append}
 use Rattle.owned_values.specs.declared.attributes.Attribute.{Attribute}
+use Rattle.logout_turns.specs.declared.part.Asker.{Asker as AskerOf}
+use Rattle.logout_turns.specs.declared.turns.Turn.{Turn}
 use Rattle.saml_time.specs.declared.TheConstants.{LAST}
 use Rattle.saml_time.specs.Instant.{Day, Clock, Instant, digit, two_digits, four_digits, print, print_day, print_clock, print_digits, print_fraction}
 use Rattle.ledger_records.specs.declared.sp_record.SpRecord.{SpRecord}
@@ -18,7 +20,7 @@ use Rattle.ledger_records.specs.declared.hub_record.HubRecord.TheVariants as hub
 use Rattle.record_lines.specs.Escapes.{backslash, is_plain, hex_digit, coded_byte, escaped_byte, escaped, escaped_name_byte, escaped_name}
 use Rattle.record_lines.specs.Instants.{instant_at, instant}
 use Rattle.record_lines.specs.Laws.{is_visible, IsOneLine}
-use Rattle.record_lines.specs.Lines.{Field, Moment, Number, Text, MaybeText, Secret, MaybeSecret, Secrets, Attributes, named, text_piece, secret_piece, attribute_name, value_pieces, pieces, spaced, shown, line, asked, opened, left, ended, confirmed, sp_line, pending, issued, idp_ended, idp_left, idp_confirmed, spoke, idp_line}
+use Rattle.record_lines.specs.Lines.{Field, Moment, Number, Text, MaybeText, Secret, MaybeSecret, Secrets, Attributes, Asker, Turns, turn_pieces, named, text_piece, secret_piece, attribute_name, value_pieces, pieces, spaced, shown, line, asked, opened, left, ended, confirmed, sp_line, pending, issued, idp_ended, idp_left, idp_confirmed, round, told, spoke, idp_line}
 use Rattle.record_lines.specs.HubLines.{routed, backed, hub_spoke, hub_line}
 
 -- ---- texts of visible characters
@@ -162,6 +164,23 @@ attributes_visible (a ∷ attributes) =
     (values_visible (attribute_name a) (both (codes "attribute.") (escaped_name a.name) refl (name_visible a.name)) a.values)
     (attributes_visible attributes)
 
+asker_visible : (asker : Option AskerOf) → AllVisible (pieces (Asker asker))
+asker_visible None = refl
+asker_visible (Some asker) =
+    all_cons (text_piece (codes "asker.peer") asker.peer) (text_piece (codes "asker.request") asker.request ∷ []) (text_visible (codes "asker.peer") refl asker.peer)
+    (all_cons (text_piece (codes "asker.request") asker.request) [] (text_visible (codes "asker.request") refl asker.request) refl)
+
+turn_visible : (turn : Turn) → AllVisible (turn_pieces turn)
+turn_visible turn =
+    let indexes = map (text_piece (codes "turn.index")) turn.indexes in
+    all_cons (text_piece (codes "turn") turn.peer) (text_piece (codes "turn.name") turn.name ∷ indexes) (text_visible (codes "turn") refl turn.peer)
+    (all_cons (text_piece (codes "turn.name") turn.name) indexes (text_visible (codes "turn.name") refl turn.name)
+    (each_piece (text_piece (codes "turn.index")) (text_visible (codes "turn.index") refl) turn.indexes))
+
+turns_visible : (turns : List Turn) → AllVisible (pieces (Turns turns))
+turns_visible [] = refl
+turns_visible (turn ∷ turns) = all_both (turn_pieces turn) (flat_map turn_pieces turns) (turn_visible turn) (turns_visible turns)
+
 -- the name of a field is visible
 abbrev HasVisibleName : Field → Type 0
 HasVisibleName (Moment name moment) = AreVisible name
@@ -172,6 +191,8 @@ HasVisibleName (Secret name text) = AreVisible name
 HasVisibleName (MaybeSecret name text) = AreVisible name
 HasVisibleName (Secrets name texts) = AreVisible name
 HasVisibleName (Attributes attributes) = Unit {0}
+HasVisibleName (Asker asker) = Unit {0}
+HasVisibleName (Turns turns) = Unit {0}
 
 pieces_visible : (field : Field) → HasVisibleName field → AllVisible (pieces field)
 pieces_visible (Moment name moment) h = all_cons (named name (instant moment)) [] (named_visible name (instant moment) h (instant_visible moment)) refl
@@ -184,6 +205,8 @@ pieces_visible (MaybeSecret name None) h = refl
 pieces_visible (MaybeSecret name (Some text)) h = all_cons (secret_piece name text) [] (secret_visible name h text) refl
 pieces_visible (Secrets name texts) h = each_piece (secret_piece name) (secret_visible name h) texts
 pieces_visible (Attributes attributes) h = attributes_visible attributes
+pieces_visible (Asker asker) h = asker_visible asker
+pieces_visible (Turns turns) h = turns_visible turns
 
 -- the names of all fields are visible
 abbrev HaveVisibleNames : List Field → Type 0
@@ -228,6 +251,8 @@ idp_one_line (idp.Ended r) = one_line r.moment (codes "Ended") (idp_ended r) ref
 idp_one_line (idp.Left r) = one_line r.moment (codes "Left") (idp_left r) refl (refl, (refl, (refl, (refl, tt))))
 idp_one_line (idp.Confirmed r) = one_line r.moment (codes "Confirmed") (idp_confirmed r) refl (refl, tt)
 idp_one_line (idp.Spoke r) = one_line r.moment (codes "Spoke") (spoke r) refl (refl, (refl, (refl, tt)))
+idp_one_line (idp.Round r) = one_line r.moment (codes "Round") (round r) refl (refl, (refl, (refl, (refl, (tt, (tt, (refl, tt)))))))
+idp_one_line (idp.Told r) = one_line r.moment (codes "Told") (told r) refl (refl, (refl, (refl, tt)))
 
 pub hub_one_line : (r : HubRecord) → IsOneLine (hub_line r)
 hub_one_line (hub.Routed r) = one_line r.moment (codes "Routed") (routed r) refl (refl, (refl, (refl, (refl, (refl, tt)))))

@@ -5,7 +5,7 @@ use Rattle.ledger_records.specs.declared.sp_record.Left.{Left}
 use Rattle.ledger_records.specs.declared.sp_record.SpRecord.TheVariants as sp
 use Rattle.record_lines.specs.Escapes.{escaped}
 use Rattle.record_lines.specs.Instants.{day_at, instant}
-use Rattle.record_lines.specs.Lines.{Attributes, MaybeText, Secret, Secrets, shown, sp_line}
+use Rattle.record_lines.specs.Lines.{Asker, Attributes, MaybeText, Secret, Secrets, Turns, shown, sp_line}
 
 -- the first moment, the last of the first leap day, and the first moment that has no written form
 first_moment : instant 0 ≡ codes "1970-01-01T00:00:00.000Z"
@@ -39,6 +39,16 @@ secrets = refl
 attributes : shown (Attributes (record { name = codes "none"; values = [] } ∷ record { name = codes "a=b"; values = codes "c=d" ∷ [] ∷ [] } ∷ []))
     ≡ codes " attribute.none attribute.a\\3db=c=d attribute.a\\3db="
 attributes = refl
+
+-- a provider that asks, whose relay state is left out, and two turns, of which one has no index
+asker : shown (Asker (Some (record { peer = codes "sp"; request = codes "_l 1"; relay = Some (codes "back") })))
+    ≡ codes " asker.peer=sp asker.request=_l\\201"
+asker = refl
+
+turns : shown (Turns (record { peer = codes "b"; name = codes "alice"; indexes = [] }
+    ∷ record { peer = codes "c"; name = codes "alice"; indexes = codes "_1" ∷ codes "_2" ∷ [] } ∷ []))
+    ≡ codes " turn=b turn.name=alice turn=c turn.name=alice turn.index=_1 turn.index=_2"
+turns = refl
 
 -- a whole line
 a_left : Left

@@ -2,6 +2,8 @@
 use Rattle.std.specs.Prelude.{ℕ, List, [], ◌∷◌, ◌++◌, map, take, Bool, true, false, Option, None, Some, codes, decimal}
 use Rattle.std.specs.List.{flat_map}
 use Rattle.owned_values.specs.declared.attributes.Attribute.{Attribute}
+use Rattle.logout_turns.specs.declared.part.Asker.{Asker as AskerOf}
+use Rattle.logout_turns.specs.declared.turns.Turn.{Turn}
 use Rattle.ledger_records.specs.Fields.{key_byte}
 use Rattle.ledger_records.specs.declared.sp_record.Asked.{Asked}
 use Rattle.ledger_records.specs.declared.sp_record.Opened.{Opened}
@@ -16,6 +18,8 @@ use Rattle.ledger_records.specs.declared.idp_record.Ended.{Ended as IdpEnded}
 use Rattle.ledger_records.specs.declared.idp_record.Left.{Left as IdpLeft}
 use Rattle.ledger_records.specs.declared.idp_record.Confirmed.{Confirmed as IdpConfirmed}
 use Rattle.ledger_records.specs.declared.idp_record.Spoke.{Spoke}
+use Rattle.ledger_records.specs.declared.idp_round.Round.{Round}
+use Rattle.ledger_records.specs.declared.idp_round.Told.{Told}
 use Rattle.ledger_records.specs.declared.idp_record.IdpRecord.{IdpRecord}
 use Rattle.ledger_records.specs.declared.idp_record.IdpRecord.TheVariants as idp
 use Rattle.record_lines.specs.Escapes.{escaped, escaped_name}
@@ -33,6 +37,8 @@ pub data Field : Type 0 where
   MaybeSecret : (name : List ℕ) (text : Option (List ℕ)) → Field
   Secrets : (name : List ℕ) (texts : List (List ℕ)) → Field
   Attributes : (attributes : List Attribute) → Field
+  Asker : (asker : Option AskerOf) → Field
+  Turns : (turns : List Turn) → Field
 
 -- a name and a value
 abbrev pub named : List ℕ → List ℕ → List ℕ
@@ -54,6 +60,18 @@ abbrev pub value_pieces : List ℕ → List (List ℕ) → List (List ℕ)
 value_pieces name [] = name ∷ []
 value_pieces name (value ∷ values) = map (text_piece name) (value ∷ values)
 
+-- a provider that asks, and the ID of its request; its relay state is left out
+abbrev pub asker_pieces : Option AskerOf → List (List ℕ)
+asker_pieces None = []
+asker_pieces (Some asker) =
+    text_piece (codes "asker.peer") asker.peer ∷ text_piece (codes "asker.request") asker.request ∷ []
+
+-- a provider that is asked, the name of the user, and each index
+abbrev pub turn_pieces : Turn → List (List ℕ)
+turn_pieces turn =
+    text_piece (codes "turn") turn.peer ∷ text_piece (codes "turn.name") turn.name
+    ∷ map (text_piece (codes "turn.index")) turn.indexes
+
 -- the pieces of a field: none of an option that is not there, and one for each item of a list
 abbrev pub pieces : Field → List (List ℕ)
 pieces (Moment name moment) = named name (instant moment) ∷ []
@@ -66,6 +84,8 @@ pieces (MaybeSecret name None) = []
 pieces (MaybeSecret name (Some text)) = secret_piece name text ∷ []
 pieces (Secrets name texts) = map (secret_piece name) texts
 pieces (Attributes attributes) = flat_map (λ a. value_pieces (attribute_name a) a.values) attributes
+pieces (Asker asker) = asker_pieces asker
+pieces (Turns turns) = flat_map turn_pieces turns
 
 -- pieces, each behind a space
 abbrev pub spaced : List (List ℕ) → List ℕ
@@ -145,6 +165,17 @@ idp_confirmed r = Text (codes "request") r.request ∷ []
 abbrev pub spoke : Spoke → List Field
 spoke r = Text (codes "message") r.message ∷ Text (codes "request") r.request ∷ Text (codes "peer") r.peer ∷ []
 
+abbrev pub round : Round → List Field
+round r =
+    Moment (codes "until") r.until ∷ Text (codes "message") r.message ∷ Text (codes "request") r.request
+    ∷ Secrets (codes "cookies") r.cookies ∷ Asker r.asker ∷ Turns r.turns
+    ∷ Number (codes "skipped") (flag_number r.skipped) ∷ []
+
+abbrev pub told : Told → List Field
+told r =
+    Text (codes "request") r.request ∷ Number (codes "confirmed") (flag_number r.confirmed)
+    ∷ MaybeText (codes "next") r.next ∷ []
+
 abbrev pub idp_line : IdpRecord → List ℕ
 idp_line (idp.Pending r) = line r.moment (codes "Pending") (pending r)
 idp_line (idp.Issued r) = line r.moment (codes "Issued") (issued r)
@@ -152,3 +183,5 @@ idp_line (idp.Ended r) = line r.moment (codes "Ended") (idp_ended r)
 idp_line (idp.Left r) = line r.moment (codes "Left") (idp_left r)
 idp_line (idp.Confirmed r) = line r.moment (codes "Confirmed") (idp_confirmed r)
 idp_line (idp.Spoke r) = line r.moment (codes "Spoke") (spoke r)
+idp_line (idp.Round r) = line r.moment (codes "Round") (round r)
+idp_line (idp.Told r) = line r.moment (codes "Told") (told r)

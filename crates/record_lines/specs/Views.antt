@@ -1,7 +1,7 @@
 -- The field that the code names.
 use Rattle.record_lines.specs.declared.field.Field.{Field as Named}
 use Rattle.record_lines.specs.declared.field.Field.TheVariants as kinds
-use Rattle.record_lines.specs.Lines.{Field, Moment, Number, Text, MaybeText, Secret, MaybeSecret, Secrets, Attributes}
+use Rattle.record_lines.specs.Lines.{Field, Moment, Number, Text, MaybeText, Secret, MaybeSecret, Secrets, Attributes, Asker, Turns}
 
 abbrev pub field_view : Named → Field
 field_view (kinds.Moment name moment) = Moment name.now moment
@@ -12,3 +12,5 @@ field_view (kinds.Secret name text) = Secret name.now text.now
 field_view (kinds.MaybeSecret name text) = MaybeSecret name.now text.now
 field_view (kinds.Secrets name texts) = Secrets name.now texts.now
 field_view (kinds.Attributes listed) = Attributes listed.now
+field_view (kinds.Asker asker) = Asker asker.now
+field_view (kinds.Turns turns) = Turns turns.now

@@ -6,6 +6,8 @@ ghost use Rattle.record_lines.specs.Views.{field_view};
 
 use crate::escaping::{put_escaped, put_escaped_name};
 use crate::moments::{put_moment, put_number};
+use crate::turns::{put_asker, put_turns};
+use logout_turns::{Asker, Turns};
 use owned_values::{Attribute, Attributes, Blob, NoMemory, Text, Texts};
 use std::alloc::Global;
 
@@ -25,6 +27,8 @@ pub(crate) enum Field<'r> {
     MaybeSecret(&'static str, &'r Option<Text>),
     Secrets(&'static str, &'r Texts),
     Attributes(&'r Attributes),
+    Asker(&'r Option<Asker>),
+    Turns(&'r Turns),
 }
 
 /// Puts a space, a name and a `=`.
@@ -37,7 +41,7 @@ fn put_name(name: &[u8], line: &mut Blob) -> Result<(), NoMemory>
 }
 
 /// Puts a text behind its name.
-fn put_text(name: &[u8], text: &[u8], line: &mut Blob) -> Result<(), NoMemory>
+pub(crate) fn put_text(name: &[u8], text: &[u8], line: &mut Blob) -> Result<(), NoMemory>
     ensures { OnOk result (line.new ≡ line.old ++ 32 ∷ text_piece name.now text.now) }
 {
     put_name(name, line)?;
@@ -120,6 +124,8 @@ impl<'r> Field<'r> {
             Field::MaybeText(_, None) | Field::MaybeSecret(_, None) => Ok(()),
             Field::Secrets(name, secrets) => put_secrets(name, secrets, line),
             Field::Attributes(attributes) => put_attributes(alloc, attributes, line),
+            Field::Asker(asker) => put_asker(asker, line),
+            Field::Turns(turns) => put_turns(turns, line),
         }
     }
 }

@@ -1,6 +1,6 @@
 //! The lines of an identity provider's records.
 ghost use Rattle.std.specs.Prelude.{◌≡◌, map, IfOk};
-ghost use Rattle.record_lines.specs.Lines.{pending, issued, idp_ended, idp_left, idp_confirmed, spoke, idp_line};
+ghost use Rattle.record_lines.specs.Lines.{pending, issued, idp_ended, idp_left, idp_confirmed, spoke, round, told, idp_line};
 ghost use Rattle.record_lines.specs.Views.{field_view};
 
 use crate::field::{Field, line_of};
@@ -8,6 +8,7 @@ use crate::lists::Lines;
 use idp_ledger::{Noted, Standing};
 use ledger_records::IdpRecord;
 use ledger_records::idp_record::{Confirmed, Ended, Issued, Left, Pending, Spoke};
+use ledger_records::idp_round::{Round, Told};
 use owned_values::{Blob, NoMemory};
 use std::alloc::Global;
 
@@ -87,6 +88,32 @@ fn spoke(r: &Spoke) -> [Field<'_>; 3]
     ]
 }
 
+/// What is printed of a logout that asks one provider after the other.
+fn round(r: &Round) -> [Field<'_>; 7]
+    ensures { map field_view result ≡ round r.now }
+{
+    [
+        Field::Moment("until", r.until),
+        Field::Text("message", &r.message),
+        Field::Text("request", &r.request),
+        Field::Secrets("cookies", &r.cookies),
+        Field::Asker(&r.asker),
+        Field::Turns(&r.turns),
+        Field::Number("skipped", u64::from(r.skipped)),
+    ]
+}
+
+/// What is printed of an answer to it.
+fn told(r: &Told) -> [Field<'_>; 3]
+    ensures { map field_view result ≡ told r.now }
+{
+    [
+        Field::Text("request", &r.request),
+        Field::Number("confirmed", u64::from(r.confirmed)),
+        Field::MaybeText("next", &r.next),
+    ]
+}
+
 /// The line of a record.
 fn line_of_record(alloc: Global, entry: &IdpRecord) -> Result<Blob, NoMemory>
     ensures { IfOk result (λ text. text ≡ idp_line entry.now) }
@@ -98,6 +125,8 @@ fn line_of_record(alloc: Global, entry: &IdpRecord) -> Result<Blob, NoMemory>
         IdpRecord::Left(r) => line_of(alloc, r.moment, "Left", &left(r)),
         IdpRecord::Confirmed(r) => line_of(alloc, r.moment, "Confirmed", &confirmed(r)),
         IdpRecord::Spoke(r) => line_of(alloc, r.moment, "Spoke", &spoke(r)),
+        IdpRecord::Round(r) => line_of(alloc, r.moment, "Round", &round(r)),
+        IdpRecord::Told(r) => line_of(alloc, r.moment, "Told", &told(r)),
     }
 }
 

@@ -37,6 +37,7 @@ mod listing;
 mod lists;
 mod moments;
 mod sp_lines;
+mod turns;
 
 pub use escaping::{put_escaped, put_escaped_name};
 pub use judging::{Judged, judge};

@@ -59,6 +59,7 @@ invariant_of-self c =
       subst (AreBelow (r.first + 4)) (sym c.use_up.ensures.numbers) (below_later c.self.inside.next (r.first + 4) c.self.inside.pendings.numbers c.self.invariant.0 (omega (arith, next, least))),
       subst (AreBelow (r.first + 4)) (sym c.begin.ensures.numbers) (below_more c.self.inside.next (r.first + 4) (r.first + 2) c.self.inside.sessions.numbers c.self.invariant.1 (omega (arith, next, least)) (omega arith)),
       below_later c.self.inside.next (r.first + 4) c.self.inside.lefts.numbers c.self.invariant.2 (omega (arith, next, least)),
+      below_later c.self.inside.next (r.first + 4) c.self.inside.rounds.numbers c.self.invariant.3 (omega (arith, next, least)),
       omega (arith, (index_fresh s).below),
     )
 
@@ -80,6 +81,7 @@ invariant_of-self-in-None c =
       subst (AreBelow (r.first + 2)) (sym c.use_up.ensures.numbers) (below_later c.self.inside.next (r.first + 2) c.self.inside.pendings.numbers c.self.invariant.0 (omega (arith, next, least))),
       subst (AreBelow (r.first + 2)) (sym c.issue.ensures.numbers) (below_later c.self.inside.next (r.first + 2) c.self.inside.sessions.numbers c.self.invariant.1 (omega (arith, next, least))),
       below_later c.self.inside.next (r.first + 2) c.self.inside.lefts.numbers c.self.invariant.2 (omega (arith, next, least)),
+      below_later c.self.inside.next (r.first + 2) c.self.inside.rounds.numbers c.self.invariant.3 (omega (arith, next, least)),
       omega (arith, (fresh_message c.args.self.now.rows c.args.self.now.next c.args.r c.requires.is).below),
     )
 
@@ -94,8 +96,9 @@ returns-in-Some c =
     let sessions = c.begin.ensures.rows ∙ ap (λ (v : StandingView). v.rows.sessions ++ c.in-Some.session ∷ []) c.self.view_is
     ∙ sessions_some old.rows.sessions r c.in-Some.session b.0 b.1 b.2 in
     let lefts = ap (λ (v : StandingView). v.rows.lefts) c.self.view_is in
+    let rounds = ap (λ (v : StandingView). v.rows.rounds) c.self.view_is in
     record {
-      rows = λ i. record { pendings = pendings i; issues = issues i; sessions = sessions i; lefts = lefts i };
+      rows = λ i. record { pendings = pendings i; issues = issues i; sessions = sessions i; lefts = lefts i; rounds = rounds i };
       next = omega (arith, above_some r b.0 b.1, (fresh_assertion old.rows old.next r c.requires.is).least_is);
     }
 
@@ -108,7 +111,8 @@ returns-in-None c =
     let issues = c.issue.ensures.issues ∙ ap (λ (v : StandingView). v.rows.issues ++ issued_row r ∷ []) c.self.view_is in
     let sessions = c.issue.ensures.rows ∙ ap (λ (v : StandingView). v.rows.sessions) c.self.view_is ∙ sessions_none old.rows.sessions r none in
     let lefts = ap (λ (v : StandingView). v.rows.lefts) c.self.view_is in
+    let rounds = ap (λ (v : StandingView). v.rows.rounds) c.self.view_is in
     record {
-      rows = λ i. record { pendings = pendings i; issues = issues i; sessions = sessions i; lefts = lefts i };
+      rows = λ i. record { pendings = pendings i; issues = issues i; sessions = sessions i; lefts = lefts i; rounds = rounds i };
       next = omega (arith, above_none r none, (fresh_assertion old.rows old.next r c.requires.is).least_is);
     }

@@ -3,8 +3,8 @@ use Rattle.std.proofs.lemmas.List.{append-nil, take_all}
 use Rattle.std.proofs.lemmas.Option.{slice_get_read}
 use Rattle.idp_ledger.specs.Ledger.{rows_in}
 use Rattle.idp_ledger.proofs.RowTexts.{ending_of, ending_more}
-use Rattle.idp_ledger.proofs.ledger.IdpLedger.ending.Goals as goal
-use Rattle.idp_ledger.proofs.ledger.IdpLedger.ending.Goals.{then-is_ending+in_ok-copy+in_ok-push, else-is_ending}
+use Rattle.idp_ledger.proofs.ledger.IdpLedger.cookies_ending.Goals as goal
+use Rattle.idp_ledger.proofs.ledger.IdpLedger.cookies_ending.Goals.{then-is_ending+in_ok-copy+in_ok-push, else-is_ending}
 
 pub loop-place-init : goal.loop-place-init
 loop-place-init c = c.new-cookies.ensures
