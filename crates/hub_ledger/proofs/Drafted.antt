@@ -126,6 +126,15 @@ unspent : (b : Bool) (found : Option Route) (route : Route) → cond b None foun
 unspent true found route is = absurd (cc)
 unspent false found route is = (refl, is)
 
+-- the texts of one that is found may stand in a document
+pub routed_texts : (held : Held) (request : List ℕ) (now : ℕ) (route : Route) → AreRecords held.records
+    → routed_row (rows_of held.records) request now held.header.horizon ≡ Some route → IsXmlBelow route.below
+routed_texts held request now route records some =
+    let is_it : Route → Bool = λ (r : Route). bytes_eq r.asked.request request && visible r.asked.until now held.header.horizon in
+    let all = routes (asked_rows held.records) (below_rows held.records) in
+    let found = unspent (is_spent (opened_rows held.records) request) (find is_it all) route some in
+    found_all is_it is_xml_route all route found.1 (routes_after [] held.records records)
+
 same_itself : (t : Option (List ℕ)) → same_option t t ≡ true
 same_itself None = refl
 same_itself (Some t) = text_itself t

@@ -8,3 +8,4 @@ pub mod KeptAnswers
 pub mod Draftable
 pub mod Places
 pub mod Drafted
+mod Backing

@@ -1,9 +1,10 @@
 -- The laws of a ledger.
-use Rattle.std.specs.Prelude.{◌≡◌, ℕ, ◌≤◌, List, IsSome}
+use Rattle.std.specs.Prelude.{◌≡◌, ℕ, ◌≤◌, List, IsSome, Some}
 use Rattle.ledger_records.specs.declared.hub_record.HubRecord.{HubRecord}
 use Rattle.request_rows.specs.Rows.{asked_row, is_spent, is_seen}
 use Rattle.record_ledger.specs.Laws as any
-use Rattle.hub_ledger.specs.RowsOf.{rows_of}
+use Rattle.hub_ledger.specs.RowsOf.{Route, rows_of}
+use Rattle.hub_ledger.specs.Drafts.{IsXmlBelow}
 use Rattle.hub_ledger.specs.Record.{AreRecords, hub_rules}
 use Rattle.hub_ledger.specs.Ledger.{Held}
 use Rattle.hub_ledger.specs.Finding.{routed_row}
@@ -43,3 +44,9 @@ NoRequestBacksTwice = (records : List HubRecord) → AreRecords records → AreD
 abbrev pub NoRequestBacksTwiceInARun : Type 0
 NoRequestBacksTwiceInARun =
     (start held : Held) (events : List Event) → AreRecords start.records → Leads start events held → AreDifferent (requests_of_run start events)
+
+-- a document may hold the texts of each request below that is found by the one that was sent upwards for it
+abbrev pub TheTextsOfARoutedRequestMayStand : Type 0
+TheTextsOfARoutedRequestMayStand =
+    (held : Held) (request : List ℕ) (now : ℕ) (route : Route) → AreRecords held.records
+    → routed_row (rows_of held.records) request now held.header.horizon ≡ Some route → IsXmlBelow route.below

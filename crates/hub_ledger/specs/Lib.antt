@@ -1,3 +1,4 @@
+pub mod Backing
 pub mod RowsOf
 pub mod Naming
 pub mod Record

@@ -1,4 +1,8 @@
 pub mod Held
+mod Pages
 pub mod ReadBack
+pub mod Responses
 pub mod Signable
+pub mod SignedElements
 pub mod Texts
+pub mod Walks

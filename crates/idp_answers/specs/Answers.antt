@@ -8,7 +8,8 @@ use Rattle.assertion_model.specs.Assertion.{IsAssertionOf}
 use Rattle.protocol_messages.specs.Making.{response, IsMadeAt}
 use Rattle.post_binding.specs.Pages.{auto_form, login_page}
 use Rattle.post_binding.specs.declared.posted.Field.TheVariants as fields
-use Rattle.metadata.specs.Making.{metadata}
+use Rattle.metadata.specs.Making.{metadata, plain}
+use Rattle.metadata.specs.declared.peer.Role.{Role}
 use Rattle.metadata.specs.declared.peer.Role.TheVariants.{Idp}
 use Rattle.http_wire.specs.Answers.{answer}
 use Rattle.provider_config.specs.declared.idp_config.SignMode.{SignMode}
@@ -87,3 +88,7 @@ pub record IsNoPassiveAnswer (issuer message request consumer : List ℕ) (relay
 -- the metadata of the provider
 abbrev pub metadata_answer : (entity base : List ℕ) → List ℕ
 metadata_answer entity base = answer 200 None None (written (metadata Idp entity base))
+
+-- the metadata of a provider without logout, in a role
+abbrev pub plain_metadata_answer : Role → (entity base : List ℕ) → List ℕ
+plain_metadata_answer role entity base = answer 200 None None (written (plain role entity base))

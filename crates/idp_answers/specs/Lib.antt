@@ -1,1 +1,3 @@
+pub mod Stating
 pub mod Answers
+pub mod SignedElements

@@ -17,6 +17,8 @@ ghost use Rattle.assertion_model.specs.Parts.{login_at};
 ghost use Rattle.protocol_messages.specs.Messages.{IsResponse};
 ghost use Rattle.provider_config.specs.declared.idp_config.SignMode.{SignMode};
 ghost use Rattle.idp_answers.specs.Answers.{IsIssued, signs_assertion, signs_response};
+ghost use Rattle.idp_answers.specs.SignedElements.{AResponseIsSignedByItsMode};
+ghost use Rattle.idp_answers.specs.Stating.{EachLoginHasAnAnswer, EachRefusalHasAnAnswer};
 
 /// Where the mode signs the Response, the Response that is sent, of no more bytes than a document that is read, is
 /// vouched for with the same key, wherever its written form is read, by a Signature of its own; and without that
@@ -96,3 +98,15 @@ pub fn what_is_not_signed_has_no_signature()
     element_make::a_made_element_spells_its_tree();
     sig_reference::laws::what_is_put_inside_says_the_same();
 }
+
+/// There is an answer with the Assertion of each login that may be stated, in each mode, and one without where the user may not be
+/// asked.
+pub fn each_login_has_an_answer()
+    ensures issued { EachLoginHasAnAnswer }
+    ensures refused { EachRefusalHasAnAnswer }
+{}
+
+/// Of the Response that is sent for a login the Assertion is signed, the Response, or both, as the mode says, and nothing else.
+pub fn a_response_is_signed_by_its_mode()
+    ensures { AResponseIsSignedByItsMode }
+{}

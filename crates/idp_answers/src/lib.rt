@@ -19,13 +19,20 @@
 //! modes that sign the Assertion it is vouched for there, too (`laws::a_signed_assertion_is_vouched_for`); in each mode
 //! the login that is read of the sent Response is the one that was issued (`laws::an_issued_login_is_read`), the
 //! Response is read as a success with that one Assertion (`laws::a_sent_response_is_read`), and what a mode does not
-//! sign has no Signature (`laws::what_is_not_signed_has_no_signature`).
+//! sign has no Signature (`laws::what_is_not_signed_has_no_signature`). `stated_login` is the login of what is stated of
+//! a user to a peer, and there is an answer to each that may be stated (`laws::each_login_has_an_answer`); of a Response
+//! nothing is signed but what its mode says (`laws::a_response_is_signed_by_its_mode`);
+//! `plain_metadata_answer` is the metadata of a provider without logout, in either role.
 #![tactic(auto)]
 
 mod issuing;
 pub mod laws;
 mod sending;
 mod showing;
+mod stating;
+mod writable;
 
 pub use issuing::{issued_answer, no_passive_answer};
-pub use showing::{login_answer, metadata_answer};
+pub use showing::{login_answer, metadata_answer, plain_metadata_answer};
+pub use stating::{Statement, just, stated_login};
+pub use writable::{are_statable, are_told, is_text, is_told, text_of};

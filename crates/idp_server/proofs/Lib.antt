@@ -16,7 +16,6 @@ pub mod Roles
 pub mod Replies
 pub mod Shown
 mod Signed
-pub mod Walks
 mod Starts
 mod Starving
 mod Staying

@@ -14,6 +14,7 @@ use Rattle.idp_rules.specs.declared.config.IdpConfig.{IdpConfig}
 use Rattle.provider_node.specs.Drafted.{drafted_of}
 use Rattle.provider_node.specs.Replies.{AreReplies, IsDrafted}
 use Rattle.provider_node.proofs.Drafting.{drafted_some}
+use Rattle.idp_answers.specs.Stating.{EachLoginHasAnAnswer, EachRefusalHasAnAnswer}
 use Rattle.idp_server.specs.declared.reply.Reply.{Reply}
 use Rattle.idp_server.specs.Replies.{found_record, idp_replies, is_nothing, record_for}
 use Rattle.idp_server.specs.Step.{Answers}
@@ -21,10 +22,10 @@ use Rattle.idp_server.proofs.Alike.{alike}
 use Rattle.idp_server.proofs.Pages.{some_page}
 use Rattle.idp_server.proofs.Replies.{found_record_of, is_some_where, nothing_alike, nothing_where, page_answers, refused_at, wants_still}
 
-pub idp_laws : (setup : IdpConfig) (now : ℕ) → now ≤ LAST → IsUsable setup → CompactionsChangeNoAnswer → AreReplies idp_replies idp_rules Answers setup now
-idp_laws setup now moment usable compactions = record {
+pub idp_laws : EachLoginHasAnAnswer → EachRefusalHasAnAnswer → (setup : IdpConfig) (now : ℕ) → now ≤ LAST → IsUsable setup → CompactionsChangeNoAnswer → AreReplies idp_replies idp_rules Answers setup now
+idp_laws logins refusals setup now moment usable compactions = record {
   answers = λ held request reply r bytes wants is shows. page_answers setup held request now reply r (Full bytes) wants is shows;
-  has_page = λ held request reply r wants is. some_page setup held request now setup.id_key reply r usable.entity moment wants is;
+  has_page = λ held request reply r wants is. some_page logins refusals setup held request now setup.id_key reply r usable.entity moment wants is;
   refused = λ held request reply wants none.
       let found = found_record_of setup held request now setup.id_key reply wants in
       refused_at setup held request now reply wants (nothing_where (is_nothing held now reply) _ found.0 found.1 none);

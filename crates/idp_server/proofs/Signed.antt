@@ -1,16 +1,11 @@
 -- Each signed element of an answer is of its record.
-use Rattle.std.specs.Prelude.{slice_get, codes, if◌then◌else◌}
-use Rattle.std.proofs.Common.{◌≡◌, ℕ, Bool, true, false, List, [], ◌∷◌, ◌++◌, Option, None, Some, refl, sym, subst, ap, ◌∙◌}
+use Rattle.std.specs.Prelude.{slice_get, if◌then◌else◌}
+use Rattle.std.proofs.Common.{◌≡◌, ℕ, Bool, true, false, List, [], ◌∷◌, Option, None, Some, refl, sym, subst, ap, ◌∙◌}
 use Rattle.std.specs.List.{AllByRecursion}
 use Rattle.std.specs.Option.{option_map}
-use Rattle.owned_values.specs.declared.attributes.Attribute.{Attribute}
-use Rattle.xml_spec.specs.Tree.{Attribute as TreeAttribute}
 use Rattle.saml_time.specs.Instant.{TellsInFull}
-use Rattle.element_make.specs.declared.names.Ns.{Ns}
-use Rattle.element_make.specs.declared.names.Ns.TheVariants.{Saml}
-use Rattle.element_make.specs.Made.{Made, MadeNodes, NothingMade, MadeElement, alone, written}
-use Rattle.sig_reference.specs.Signing.{has_no_signature, signed}
-use Rattle.assertion_model.specs.Assertion.{IsAssertionOf, all_holding, assertion, joined_all, stated, statements}
+use Rattle.element_make.specs.Made.{Made, alone, written}
+use Rattle.sig_reference.specs.Signing.{signed}
 use Rattle.saml_names.specs.Uris.{partial_logout}
 use Rattle.protocol_messages.specs.Making.{failed, logged_out, logout_request, request_end, response, succeeded}
 use Rattle.post_binding.specs.Pages.{auto_form}
@@ -38,7 +33,9 @@ use Rattle.idp_rules.specs.declared.asked.Asked.{Asked}
 use Rattle.idp_rules.specs.declared.config.IdpConfig.{IdpConfig}
 use Rattle.idp_answers.specs.Answers.{IsNoPassiveAnswer, session_cookie, signed_assertion, signed_response, signs_assertion, signs_response}
 use Rattle.logout_answers.specs.Answers.{BySending, ByEnding, Leaving}
-use Rattle.idp_server.specs.Logins.{login_of}
+use Rattle.idp_answers.specs.SignedElements.{signed_by}
+use Rattle.idp_answers.proofs.SignedElements.{elements_are}
+use Rattle.idp_server.specs.Logins.{stated_by}
 use Rattle.idp_server.specs.Signed.{Carries, ALogout, AnEnd, AQuestion, AForm, AReply, ARequest, EachSignedElementIsOfARecord, AnAssertion, AResponse, IsSignedOf, signed_elements}
 use Rattle.idp_server.specs.Step as steps
 use Rattle.idp_server.specs.Step.{Answers, IsAnswerFor, IsEndingAnswer, IsLeavingAnswer, IsPeer, ask_of, ended_by, is_in_part, left_by, session_for}
@@ -47,78 +44,13 @@ use Rattle.idp_server.proofs.Issues.{found_itself, the_issued}
 use Rattle.idp_server.proofs.Logouts.{the_ended, the_left}
 use Rattle.idp_server.proofs.Peers.{place_names}
 
--- ---- in an Assertion nothing is signed
-
--- an element in which there is no Signature
-passed : (ns : Ns) (local : List ℕ) (attributes : List TreeAttribute) (kids rest : MadeNodes) → has_no_signature kids ≡ true → signed_elements kids ≡ []
-    → signed_elements (MadeElement ns local attributes kids rest) ≡ signed_elements rest
-passed ns local attributes kids rest plain none =
-    λ i. (if plain i then [] else record { ns = ns; local = local; attributes = attributes; kids = kids } ∷ []) ++ none i ++ signed_elements rest
-
-values_plain : (values : List (List ℕ)) → has_no_signature (all_holding (codes "AttributeValue") values) ≡ true
-values_plain [] = refl
-values_plain (value ∷ values) = values_plain values
-
-values_unsigned : (values : List (List ℕ)) → signed_elements (all_holding (codes "AttributeValue") values) ≡ []
-values_unsigned [] = refl
-values_unsigned (value ∷ values) = values_unsigned values
-
-stated_plain : (attributes : List Attribute) → has_no_signature (joined_all stated attributes) ≡ true
-stated_plain [] = refl
-stated_plain (a ∷ attributes) = stated_plain attributes
-
-stated_unsigned : (attributes : List Attribute) → signed_elements (joined_all stated attributes) ≡ []
-stated_unsigned [] = refl
-stated_unsigned (a ∷ attributes) =
-    passed Saml (codes "Attribute") (record { name = codes "Name"; value = a.name } ∷ []) (all_holding (codes "AttributeValue") a.values) (joined_all stated attributes)
-    (values_plain a.values) (values_unsigned a.values)
-    ∙ stated_unsigned attributes
-
-statements_plain : (attributes : List Attribute) → has_no_signature (statements attributes) ≡ true
-statements_plain [] = refl
-statements_plain (a ∷ attributes) = refl
-
-statements_unsigned : (attributes : List Attribute) → signed_elements (statements attributes) ≡ []
-statements_unsigned [] = refl
-statements_unsigned (a ∷ attributes) =
-    passed Saml (codes "AttributeStatement") [] (joined_all stated (a ∷ attributes)) NothingMade (stated_plain (a ∷ attributes)) (stated_unsigned (a ∷ attributes))
-
 -- ---- what is signed of a Response
 
--- the Assertion, the Response, or both
-abbrev expected : SignMode → (one other : Made) → List Made
-expected modes.Assertion one other = one ∷ []
-expected modes.Response one other = other ∷ []
-expected modes.Both one other = other ∷ one ∷ []
-
 each_expected : (P : Made → Type 0) (mode : SignMode) (one other : Made) → (signs_assertion mode ≡ true → P one) → (signs_response mode ≡ true → P other)
-    → AllByRecursion P (expected mode one other)
+    → AllByRecursion P (signed_by mode one other)
 each_expected P modes.Assertion one other first second = (first refl, tt)
 each_expected P modes.Response one other first second = (second refl, tt)
 each_expected P modes.Both one other first second = (second refl, (first refl, tt))
-
--- an Assertion of an issued record
-record IsOfIssued (issuer : List ℕ) (r : Issued) (made : Made) : Type 0 where
-  is : IsAssertionOf (login_of issuer r) made
-
-elements_are : (mode : SignMode) (key issuer message consumer request at : List ℕ) (r : Issued) (made : Made) → IsOfIssued issuer r made
-    → signed_elements (alone (signed_response mode key (response message issuer consumer request (Some (signed_assertion mode key made)) at)))
-    ≡ expected mode (signed key made) (signed key (response message issuer consumer request (Some (signed_assertion mode key made)) at))
-elements_are mode key issuer message consumer request at r made of =
-    subst (λ (m : Made). signed_elements (alone (signed_response mode key (response message issuer consumer request (Some (signed_assertion mode key m)) at)))
-    ≡ expected mode (signed key m) (signed key (response message issuer consumer request (Some (signed_assertion mode key m)) at))) (sym of.is.is) (by_mode mode)
-  where
-    by_mode : (mode : SignMode) → signed_elements (alone (signed_response mode key (response message issuer consumer request (Some (signed_assertion mode key (assertion (login_of issuer r) of.is.moments))) at)))
-        ≡ expected mode (signed key (assertion (login_of issuer r) of.is.moments))
-        (signed key (response message issuer consumer request (Some (signed_assertion mode key (assertion (login_of issuer r) of.is.moments))) at))
-    by_mode modes.Assertion = ap (λ (xs : List Made). (signed key (assertion (login_of issuer r) of.is.moments) ∷ (xs ++ [])) ++ []) (statements_unsigned r.attributes)
-    by_mode modes.Response =
-        let held = assertion (login_of issuer r) of.is.moments in
-        ap (λ (xs : List Made). signed key (response message issuer consumer request (Some held) at) ∷ (xs ++ []))
-        (passed held.ns held.local held.attributes held.kids NothingMade (statements_plain r.attributes) (statements_unsigned r.attributes))
-    by_mode modes.Both =
-        let held = signed key (assertion (login_of issuer r) of.is.moments) in
-        ap (λ (xs : List Made). signed key (response message issuer consumer request (Some held) at) ∷ ((held ∷ (xs ++ [])) ++ [])) (statements_unsigned r.attributes)
 
 -- ---- of an answer
 
@@ -129,7 +61,6 @@ carries_issued setup held peer r cookie now bytes known at a =
     let i = a.issued in
     let P : Made → Type 0 = IsSignedOf setup held (kinds.Issued r) in
     let built = response r.message setup.entity r.consumer r.request (Some (signed_assertion setup.mode key i.assertion)) i.answers.instant in
-    let of : IsOfIssued setup.entity r i.assertion = record { is = i.of_login } in
     let response_is : signs_response setup.mode ≡ true → P (signed key built) = λ signs. record {
       key = key;
       made = built;
@@ -143,7 +74,7 @@ carries_issued setup held peer r cookie now bytes known at a =
       is = refl;
     } in
     let all : AllByRecursion P (signed_elements (alone (signed_response setup.mode key built))) =
-    subst (AllByRecursion P) (sym (elements_are setup.mode key setup.entity r.message r.consumer r.request i.answers.instant r i.assertion of))
+    subst (AllByRecursion P) (sym (elements_are setup.mode key setup.entity r.message r.consumer r.request i.answers.instant (stated_by r) i.assertion i.of_login))
     (each_expected P setup.mode (signed key i.assertion) (signed key built) assertion_is response_is) in
     let sent : a.sent ≡ signed_response setup.mode key built = i.is ∙ ap (signed_response setup.mode key) i.answers.is in
     AForm a.sent (record { consumer = r.consumer; relay = r.relay; cookie = option_map session_cookie cookie; is = a.is })

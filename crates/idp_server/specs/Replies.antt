@@ -3,7 +3,6 @@ use Rattle.std.specs.Prelude.{◌≡◌, ◌≢◌, ℕ, ◌+◌, ◌≤◌, ◌
 use Rattle.std.specs.List.{AllByRecursion}
 use Rattle.std.specs.Option.{option_map}
 use Rattle.xml_spec.specs.Characters.{IsText}
-use Rattle.saml_time.specs.Instant.{TellsInFull}
 use Rattle.owned_values.specs.declared.attributes.Attribute.{Attribute}
 use Rattle.assertion_model.specs.Assertion.{IsStatable}
 use Rattle.http_wire.specs.declared.answer.Answer.{Answer}
@@ -27,12 +26,14 @@ use Rattle.idp_ledger.specs.Finding.{is_empty, pending_found, session_found}
 use Rattle.idp_ledger.specs.Record.{LAST}
 use Rattle.idp_ledger.specs.Ledger.{Held, next_number}
 use Rattle.idp_ledger.specs.Draft.{first_id, second_id}
-use Rattle.idp_ledger.specs.Drafts.{ASSERTION_LIFE, SESSION_LIFE, AreXmlAttributes, IsXmlAsk, confirmed, issue, login, pending, spoke}
+use Rattle.idp_ledger.specs.Drafts.{SESSION_LIFE, AreXmlAttributes, IsXmlAsk, confirmed, issue, login, pending, spoke}
 use Rattle.idp_rules.specs.Asking.{IsAsked}
 use Rattle.idp_rules.specs.Config.{IsTextPeer, sign_on}
 use Rattle.idp_rules.specs.declared.asked.Asked.{Asked}
 use Rattle.idp_rules.specs.declared.config.IdpConfig.{IdpConfig}
 use Rattle.idp_answers.specs.Answers.{IsNoPassiveAnswer, login_answer}
+use Rattle.idp_answers.specs.Stating.{CanBeStated}
+pub use Rattle.idp_answers.specs.Stating.{AreTold, IsTold}
 use Rattle.logout_answers.specs.Answers.{end_answer}
 use Rattle.logout_profile.specs.declared.logout.Logout.TheVariants as messages
 use Rattle.protocol_messages.specs.declared.logout.LogoutRequest.{LogoutRequest}
@@ -43,6 +44,7 @@ use Rattle.provider_node.specs.Replies.{IsReplied, ReplyRules}
 use Rattle.provider_node.specs.declared.replied.Replied.{Replied}
 use Rattle.idp_server.specs.declared.reply.Reply.{Reply}
 use Rattle.idp_server.specs.declared.reply.Reply.TheVariants as replies
+use Rattle.idp_server.specs.Logins.{stated_by}
 use Rattle.idp_server.specs.Routes as routes
 use Rattle.idp_server.specs.Routes.{To, route}
 use Rattle.idp_server.specs.Step.{Answers, IsAnswerFor, IsEndingAnswer, IsLeavingAnswer, IsObeyed, Typed, ask_of, ended_by, ending_by, is_awaited, is_in_part, left_by, session_for, session_used, typed}
@@ -139,21 +141,11 @@ IsPage setup (replies.Confirm request partial) r now answer = answer ≡ Full (e
 
 -- WHAT A PAGE NEEDS
 
--- an issued record whose IDs and texts may stand in a document, and whose moments have a written form
+-- an issued record of which a login may be stated, and whose message has an ID that may stand in a document
 pub record IsIssuable (r : Issued) : Type 0 where
-  pub assertion : IsText r.assertion
-  pub named : r.assertion ≢ []
+  pub states : CanBeStated (stated_by r)
   pub message : IsText r.message
   pub message_named : r.message ≢ []
-  pub index : IsText r.index
-  pub user : IsText r.user
-  pub peer : IsText r.peer
-  pub consumer : IsText r.consumer
-  pub request : IsText r.request
-  pub attributes : AllByRecursion IsStatable r.attributes
-  pub moment : r.moment ≤ LAST
-  pub until : r.until ≤ LAST
-  pub session_end : r.session_end ≤ LAST
 
 pub record HasAssertion (setup : IdpConfig) (place : ℕ) (r : IdpRecord) : Type 0 where
   pub issued : Issued
@@ -210,18 +202,6 @@ IsXmlReply (replies.End asked peer name relay) = (is_xml_text asked.id ≡ true)
 IsXmlReply (replies.Confirm request partial) = Unit {0}
 
 -- WHEN A REQUEST ASKS FOR A REPLY
-
--- a moment has a written form, which may stand in a document
-pub record IsTold (moment : ℕ) : Type 0 where
-  pub text : List ℕ
-  pub tells : TellsInFull text moment
-  pub may_stand : IsText text
-
--- the moments of an Assertion have written forms
-pub record AreTold (now session_end : ℕ) : Type 0 where
-  pub issued : IsTold now
-  pub until : IsTold (min LAST (now + ASSERTION_LIFE))
-  pub ends : IsTold session_end
 
 -- the texts of an ask, of a session and of a pending login may stand in a document
 pub record IsTextAsk (ask : Ask) : Type 0 where

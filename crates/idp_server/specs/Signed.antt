@@ -1,9 +1,9 @@
 -- Which elements an identity provider's records stand for as signed ones.
-use Rattle.std.specs.Prelude.{◌≡◌, ℕ, Bool, true, List, [], ◌∷◌, ◌++◌, None, Option, Some, if◌then◌else◌}
+use Rattle.std.specs.Prelude.{◌≡◌, ℕ, Bool, true, List, [], ◌∷◌, None, Option, Some, if◌then◌else◌}
 use Rattle.std.specs.List.{AllByRecursion}
-use Rattle.element_make.specs.Made.{Made, MadeNodes, NothingMade, MadeElement, MadeText, alone, written}
+use Rattle.element_make.specs.Made.{Made, alone, written}
 use Rattle.saml_names.specs.Uris.{partial_logout}
-use Rattle.sig_reference.specs.Signing.{has_no_signature, signed}
+use Rattle.sig_reference.specs.Signing.{signed}
 use Rattle.assertion_model.specs.Assertion.{IsAssertionOf}
 use Rattle.protocol_messages.specs.Making.{failed, logged_out, logout_request, request_end, response, succeeded, IsMadeAt, IsMadeFrom}
 use Rattle.post_binding.specs.Pages.{auto_form}
@@ -23,17 +23,10 @@ use Rattle.idp_ledger.specs.RowsOf.{rows_of}
 use Rattle.idp_ledger.specs.Ledger.{Held}
 use Rattle.idp_rules.specs.declared.config.IdpConfig.{IdpConfig}
 use Rattle.idp_answers.specs.Answers.{login_answer, response_form, signed_assertion, signs_assertion, signs_response}
+pub use Rattle.idp_answers.specs.SignedElements.{signed_elements}
 use Rattle.logout_answers.specs.Answers.{end_answer}
 use Rattle.idp_server.specs.Logins.{login_of}
 use Rattle.idp_server.specs.Step.{Answers, IsPeer}
-
--- the elements among made nodes and inside them that have a Signature among their children, in document order
-abbrev pub signed_elements : MadeNodes → List Made
-signed_elements NothingMade = []
-signed_elements (MadeElement ns local attributes kids rest) =
-    (if has_no_signature kids then [] else record { ns = ns; local = local; attributes = attributes; kids = kids } ∷ [])
-    ++ signed_elements kids ++ signed_elements rest
-signed_elements (MadeText text rest) = signed_elements rest
 
 -- An element that is signed for a record, before it is signed, and the key: the Assertion of an Issued where the mode signs it; the
 -- Response that carries this, where the mode signs that; the LogoutRequest of a Left for the user and the index of the session that was

@@ -1,74 +1,39 @@
 //! The pages that stand for records.
-ghost use Rattle.std.specs.Prelude.{◌≡◌, ◌≤◌, [], ◌∷◌, IfOk, IsTrue};
+ghost use Rattle.std.specs.Prelude.{◌≡◌, ◌≤◌, IfOk, IsTrue};
 ghost use Rattle.std.specs.Option.{option_map, ForSome};
-ghost use Rattle.xml_spec.specs.Characters.{IsText};
-ghost use Rattle.assertion_model.specs.Assertion.{CanBeMade};
+ghost use Rattle.idp_answers.specs.Stating.{stated_view};
 ghost use Rattle.http_wire.specs.Answers.{is_one_line};
 ghost use Rattle.http_wire.specs.declared.answer.Answer.TheVariants.{Full};
 ghost use Rattle.saml_time.specs.declared.TheConstants.{LAST};
-ghost use Rattle.idp_server.specs.Logins as spec;
-ghost use Rattle.idp_server.specs.Replies.{CanBeShown, HasAssertion, HasRefusal, HasRequest, HasResponse, IsAssertionPage, IsEndingPage, IsIssuable, IsLeavingPage, IsPage, IsPassivePage};
+ghost use Rattle.idp_server.specs.Logins.{stated_by};
+ghost use Rattle.idp_server.specs.Replies.{CanBeShown, HasAssertion, HasRefusal, HasRequest, HasResponse, IsAssertionPage, IsEndingPage, IsLeavingPage, IsPage, IsPassivePage};
 
 use crate::reply::Reply;
 use crate::role::IdpRole;
-use assertion_model::{Audiences, Login};
-use idp_answers::{issued_answer, login_answer, no_passive_answer};
+use idp_answers::{
+    Statement, issued_answer, just, login_answer, no_passive_answer, stated_login, text_of,
+};
 use idp_ledger::{Ask, Draft};
 use ledger_records::idp_record::Issued;
 use logout_answers::{end_answer, ending_answer, leaving_answer};
-use owned_values::{Blob, NoMemory, Text, Texts};
+use owned_values::{Blob, NoMemory, Text};
 use protocol_messages::LogoutRequest;
-use std::alloc::Global;
 
-/// A list of one text.
-fn just(alloc: Global, text: &Text) -> Result<Texts, NoMemory>
-    ensures { IfOk result (λ texts. texts ≡ text.now ∷ []) }
+/// What is stated by an issued record.
+fn statement_of(issued: &Issued) -> Statement<'_>
+    ensures { stated_view result ≡ stated_by issued.now }
 {
-    let mut texts = Texts::new(alloc);
-    texts.push(text.copy()?)?;
-    Ok(texts)
-}
-
-/// The one audience of an Assertion: the peer that asked (SAML Core, 2.5.1.4).
-fn audiences_of(alloc: Global, peer: &Text) -> Result<Audiences, NoMemory>
-    ensures { IfOk result (λ audiences. audiences ≡ (peer.now ∷ []) ∷ []) }
-{
-    let mut audiences = Audiences::new(alloc);
-    audiences.push(just(alloc, peer)?)?;
-    Ok(audiences)
-}
-
-/// The login that an issued record stands for, with this issuer (SAML Profiles, 4.1.4.2).
-fn login_of(alloc: Global, issued: &Issued, issuer: &str) -> Result<Login, NoMemory>
-    requires issuable { IsIssuable issued.now }
-    requires issuer { IsText issuer.now }
-    ensures is { IfOk result (λ login. login ≡ spec.login_of issuer.now issued.now) }
-    ensures can { IfOk result CanBeMade }
-{
-    Ok(Login {
-        id: issued.assertion.copy()?,
-        issuer: Text::of(alloc, issuer)?,
-        issued: issued.moment,
-        audiences: audiences_of(alloc, &issued.peer)?,
-        recipient: issued.consumer.copy()?,
-        request: issued.request.copy()?,
-        confirm_until: issued.until,
-        not_before: Some(issued.moment),
-        not_on_or_after: Some(issued.until),
-        name: issued.user.copy()?,
-        index: Some(issued.index.copy()?),
-        session_until: Some(issued.session_end),
-        attributes: issued.attributes.copy()?,
-    })
-}
-
-/// A relay state, where there is one.
-fn text_of(relay: &Option<Text>) -> Option<&str>
-    ensures { option_map (λ text. text.now) result ≡ relay.now }
-{
-    match relay {
-        Some(text) => Some(text.as_str()),
-        None => None,
+    Statement {
+        assertion: &issued.assertion,
+        index: &issued.index,
+        user: &issued.user,
+        attributes: &issued.attributes,
+        peer: &issued.peer,
+        consumer: &issued.consumer,
+        request: &issued.request,
+        moment: issued.moment,
+        until: issued.until,
+        session_end: issued.session_end,
     }
 }
 
@@ -87,7 +52,8 @@ impl IdpRole {
         ensures { IfOk result (λ bytes. IsAssertionPage self.now peer (option_map (λ text. text.now) cookie.entry) draft.now now (Full bytes)) }
     {
         let issued = draft.issued();
-        let login = login_of(self.alloc, issued, self.config.entity.as_str())?;
+        let statement = statement_of(issued);
+        let login = stated_login(self.alloc, self.config.entity.as_str(), &statement)?;
         issued_answer(
             self.alloc,
             self.config.mode,

@@ -59,7 +59,6 @@ mod role;
 mod route;
 mod sign_on;
 mod single_logout;
-mod texts;
 
 pub use role::IdpRole;
 

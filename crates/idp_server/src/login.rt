@@ -14,9 +14,9 @@ ghost use Rattle.idp_server.specs.Replies.{AreTold, IsTextPending, Wants};
 
 use crate::reply::Reply;
 use crate::role::IdpRole;
-use crate::texts::{are_told, is_text};
 use fault_verdicts::Judged;
 use http_wire::HttpRequest;
+use idp_answers::{are_told, is_text};
 use idp_ledger::{IdpLedger, PendingRow};
 use owned_values::{NoMemory, Text, Texts};
 use post_binding::read_fields;

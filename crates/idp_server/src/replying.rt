@@ -13,6 +13,7 @@ use crate::role::IdpRole;
 use crate::route::{Route, route_of};
 use fault_verdicts::Judged;
 use http_wire::{Answer, HttpRequest};
+use idp_answers::laws::each_login_has_an_answer;
 use idp_answers::metadata_answer;
 use idp_ledger::laws::compactions_change_no_answer;
 use idp_ledger::{Draft, IdpLedger};
@@ -111,5 +112,6 @@ impl Role for IdpRole {
     fn laws_hold(&self, now: u64) {
         let _usable = &self.config;
         compactions_change_no_answer();
+        each_login_has_an_answer();
     }
 }

@@ -17,9 +17,9 @@ ghost use Rattle.idp_server.specs.Replies.{AreTold, IsTextAsk, IsTextSession, Wa
 
 use crate::reply::Reply;
 use crate::role::IdpRole;
-use crate::texts::{are_statable, are_told, is_text, is_told};
 use fault_verdicts::Judged;
 use http_wire::{HttpRequest, cookie_of};
+use idp_answers::{are_statable, are_told, is_text, is_told};
 use idp_ledger::{Ask, IdpLedger, SessionRow};
 use idp_rules::laws::the_texts_of_a_request_are_texts;
 use idp_rules::{Asked, judge_request, sign_on_address};

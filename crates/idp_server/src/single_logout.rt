@@ -13,9 +13,9 @@ ghost use Rattle.idp_server.specs.Replies.{Wants};
 
 use crate::reply::Reply;
 use crate::role::IdpRole;
-use crate::texts::is_told;
 use fault_verdicts::Judged;
 use http_wire::HttpRequest;
+use idp_answers::is_told;
 use idp_rules::IdpConfig;
 use logout_profile::laws::what_an_obeyed_form_says;
 use logout_profile::{Logout, judge_logout};

@@ -1,1 +1,4 @@
 pub mod Texts
+pub mod Alike
+mod SessionKeys
+mod SessionTexts

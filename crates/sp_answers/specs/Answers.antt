@@ -1,5 +1,5 @@
 -- What a service provider answers, beside refusals.
-use Rattle.std.specs.Prelude.{◌≡◌, ◌≢◌, ℕ, ◌++◌, List, [], codes, Option, None, Some, if◌then◌else◌}
+use Rattle.std.specs.Prelude.{◌≡◌, ℕ, ◌++◌, List, [], codes, None, Some, if◌then◌else◌}
 use Rattle.owned_values.specs.declared.attributes.Attribute.{Attribute}
 use Rattle.xml_spec.specs.Characters.{IsText}
 use Rattle.saml_time.specs.Instant.{TellsInFull}

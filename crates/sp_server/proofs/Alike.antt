@@ -1,7 +1,7 @@
 -- What a compaction leaves as it was: the answers at its moment.
-use Rattle.std.specs.Prelude.{IsSome, IsTrue, not, codes}
+use Rattle.std.specs.Prelude.{codes}
 use Rattle.std.specs.Option.{option_and_then}
-use Rattle.std.proofs.Common.{◌≡◌, inl, inr, ℕ, Bool, List, Option, None, Some, sym, subst, refl, ◌∙◌, arith}
+use Rattle.std.proofs.Common.{◌≡◌, inl, inr, ℕ, List, Option, None, Some, sym, subst, refl, arith}
 use Rattle.http_wire.specs.Requests.{Request}
 use Rattle.http_wire.specs.Cookies.{cookie_value}
 use Rattle.request_rows.specs.declared.row.AskedRow.{AskedRow}
@@ -13,8 +13,9 @@ use Rattle.request_ledger.specs.Laws.{AnswerAlike, CompactionsChangeNoAnswer}
 use Rattle.sp_rules.specs.declared.accepted.Accepted.{Accepted}
 use Rattle.sp_rules.specs.declared.config.SpConfig.{SpConfig}
 use Rattle.sp_rules.specs.Opening.{Brought, Opens}
-use Rattle.sp_rules.specs.Outstanding.{asked_for}
 use Rattle.sp_rules.specs.Shown.{IsOpening}
+use Rattle.sp_answers.specs.Judging.{RowsAnswerAlike}
+use Rattle.sp_answers.proofs.Alike.{open_alike}
 use Rattle.sp_server.specs.Step.{rows_seen, session_for}
 
 alike_self : (now : ℕ) (held : Held) → AnswerAlike now held held
@@ -40,21 +41,16 @@ pub session_alike : (now : ℕ) (one other : Held) (request : Request) → Answe
 session_alike now one other request like =
     and_then_same _ _ (option_and_then (λ header. cookie_value header (codes "sp_sid")) request.cookie) (λ token. like.session token)
 
+-- the rows of ledgers that answer alike do so
+rows_alike : (now : ℕ) (one other : Held) → AnswerAlike now one other
+    → RowsAnswerAlike now (rows_seen (rows_of one.records)) one.header.horizon (rows_seen (rows_of other.records)) other.header.horizon
+rows_alike now one other like = record { asked = like.asked; spent = like.spent; seen = like.seen }
+
 -- a form that opens a session
 pub opens_alike : (config : SpConfig) (now : ℕ) (one other : Held) (body : List ℕ) (b : Brought) (row : AskedRow) → AnswerAlike now one other
     → Opens config (rows_seen (rows_of other.records)) other.header.horizon now body b row → Opens config (rows_seen (rows_of one.records)) one.header.horizon now body b row
 opens_alike config now one other body b row like opens =
-    let request : asked_for (rows_seen (rows_of one.records)) one.header.horizon now b.login ≡ Some row = like.asked b.login.request ∙ opens.request in
-    let some : IsSome (asked_for (rows_seen (rows_of one.records)) one.header.horizon now b.login) = subst (λ (o : Option AskedRow). IsSome o) (sym request) refl in
-    record {
-      brings = opens.brings;
-      meant = opens.meant;
-      request = request;
-      outstanding = opens.outstanding;
-      unspent = subst (λ (s : Bool). IsTrue (not s)) (sym (like.spent b.login.request some)) opens.unspent;
-      unseen = subst (λ (s : Bool). IsTrue (not s)) (sym (like.seen b.login.issuer b.login.id)) opens.unseen;
-      relayed = opens.relayed;
-    }
+    open_alike config now (rows_seen (rows_of one.records)) one.header.horizon (rows_seen (rows_of other.records)) other.header.horizon body b row (rows_alike now one other like) opens
 
 pub opening_alike : (config : SpConfig) (now : ℕ) (one other : Held) (body : List ℕ) (accepted : Accepted) → AnswerAlike now one other
     → IsOpening config (rows_seen (rows_of other.records)) other.header.horizon now body accepted → IsOpening config (rows_seen (rows_of one.records)) one.header.horizon now body accepted

@@ -5,9 +5,7 @@ pub mod Live
 pub mod Obeying
 pub mod Opening
 pub mod Replies
-pub mod Rows
 pub mod Targets
-pub mod Texts
 mod Asked
 mod Closing
 mod Guarding

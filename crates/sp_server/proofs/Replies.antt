@@ -39,7 +39,7 @@ use Rattle.provider_node.specs.Replies.{AreReplies, IsDrafted, IsWanted}
 use Rattle.provider_node.proofs.Drafting.{drafted_some}
 use Rattle.sp_server.specs.Replies.{CanDraft, IsAnswerTo, IsAnswerable, Wants, is_nothing, record_for, refusal_of, sp_replies, stands_for}
 use Rattle.sp_server.proofs.Alike.{alike, session_alike}
-use Rattle.sp_server.proofs.Opening.{its_key, its_request, its_unspent, opens_own, opens_still}
+use Rattle.sp_server.proofs.Opening.{its_request, its_unspent, opens_own, opens_still}
 use Rattle.sp_server.proofs.Targets.{path_is_text}
 
 not_false : (x : Bool) → not x ≡ false → x ≡ true
@@ -142,7 +142,7 @@ live_row held now (Some token) row is =
 pub can_draft : (setup : Setup) (held : Held) (request : Request) (now : ℕ) (reply : Reply) → Wants setup held request now reply → CanDraft held now reply
 can_draft setup held request now (kinds.Ask target) asks = subst (λ (t : List ℕ). is_xml_text t ≡ true) (sym asks.target_is) (path_is_text request asks.to)
 can_draft setup held request now (kinds.Open accepted) asks =
-    record { texts = asks.texts; key = its_key setup held request now accepted asks; asked = its_request setup held request now accepted asks; unspent = its_unspent setup held request now accepted asks }
+    record { texts = asks.recordable.texts; key = asks.recordable.key; asked = its_request setup held request now accepted asks; unspent = its_unspent setup held request now accepted asks }
 can_draft setup held request now (kinds.Leave token name indexes) asks =
     subst (λ (t : List ℕ). IsSome (session_row (rows_of held.records).opened t now held.header.horizon)) (sym asks.token_is)
     (subst (λ (o : Option OpenedRow). IsSome o) (sym (live_row held now _ asks.row asks.live)) refl)

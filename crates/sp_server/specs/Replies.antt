@@ -22,6 +22,7 @@ use Rattle.sp_rules.specs.declared.config.SpConfig.{SpConfig}
 use Rattle.sp_rules.specs.declared.accepted.Accepted.{Accepted}
 use Rattle.sp_rules.specs.Shown.{IsOpening}
 use Rattle.sp_answers.specs.Answers.{HoldsTexts, IsAskAnswer, opened_answer}
+use Rattle.sp_answers.specs.Judging.{CanBeRecorded}
 use Rattle.provider_node.specs.Replies.{IsReplied, ReplyRules}
 use Rattle.provider_node.specs.declared.replied.Replied.{Replied}
 use Rattle.sp_server.specs.declared.reply.Reply.{Reply}
@@ -44,7 +45,7 @@ pub record OpensSession (setup : Setup) (held : Held) (request : Request) (now :
   pub to : route request ≡ To Consumer
   pub unexpired : is_expired setup.expiry now ≡ false
   pub opens : IsOpening setup.config (rows_seen (rows_of held.records)) held.header.horizon now request.body accepted
-  pub texts : AreSessionTexts accepted.session
+  pub recordable : CanBeRecorded accepted.session
 
 -- a user leaves the session of this token, which the identity provider knows by this name and these indexes
 pub record IsLeaving (setup : Setup) (held : Held) (request : Request) (now : ℕ) (token name : List ℕ) (indexes : List (List ℕ)) : Type 0 where

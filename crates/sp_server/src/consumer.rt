@@ -7,13 +7,12 @@ ghost use Rattle.sp_server.specs.Routes.{Consumer, To, route};
 use crate::reply::Reply;
 use crate::replying::REGISTRY_EXPIRED;
 use crate::role::SpRole;
-use assertion_model::laws::the_texts_of_a_login_are_texts;
-use canon_laws::a_spelled_tree_is_writable;
 use http_wire::{Answer, HttpRequest};
 use owned_values::NoMemory;
 use provider_node::Replied;
 use request_ledger::Ledger;
 use saml_time::LAST;
+use sp_answers::laws::{like_rows_are_judged_alike, what_is_accepted_can_be_recorded};
 use sp_rules::{Judged, judge};
 
 impl SpRole {
@@ -32,8 +31,8 @@ impl SpRole {
             return Ok(Replied::Plain(Answer::Fixed(REGISTRY_EXPIRED)));
         }
         // The ledger holds texts of characters that a document may hold: those of a session stand in one.
-        a_spelled_tree_is_writable();
-        the_texts_of_a_login_are_texts();
+        what_is_accepted_can_be_recorded();
+        like_rows_are_judged_alike();
         let horizon = ledger.header().horizon;
         match judge(
             self.alloc,

@@ -3,6 +3,7 @@ use Rattle.std.specs.Option.{option_map}
 use Rattle.std.proofs.Common.{◌≡◌, Bor, List, ℕ, sym, subst, ap, ◌∙◌}
 use Rattle.http_wire.specs.declared.answer.Answer.TheVariants.{Full}
 use Rattle.idp_rules.specs.declared.config.IdpConfig.{IdpConfig}
+use Rattle.idp_answers.specs.Stating.{Stated, stated_login}
 use Rattle.idp_server.specs.Logins.{login_of}
 use Rattle.idp_server.specs.Replies.{HasAssertion, IsAssertionPage}
 use Rattle.idp_server.proofs.Shown.{page_of}
@@ -20,7 +21,10 @@ returns c =
     (subst (λ (s : IdpConfig). HasAssertion s c.args.peer c.args.draft.now) (sym setup_is) c.requires.shown) c.issued-issued.ensures c.at.ensures
     (record {
       key_is = c.as_slice.ensures;
-      login_is = c.in_ok-login.ensures.is ∙ ap (λ (e : List ℕ). login_of e issued) c.as_str.ensures;
+      login_is =
+          c.in_ok-login.ensures.is
+          ∙ ap (λ (s : Stated). stated_login c.as_str.result.now s) c.statement_of-statement.ensures
+          ∙ ap (λ (e : List ℕ). login_of e issued) c.as_str.ensures;
       message_is = c.as_str-2.ensures;
       consumer_is = c.as_str-3.ensures;
       relay_is = c.text_of.ensures;

@@ -1,0 +1,8 @@
+pub mod Alike
+pub mod Forms
+pub mod Histories
+mod Passing
+mod Recorded
+pub mod Replies
+pub mod Roles
+mod Signed

@@ -1,0 +1,295 @@
+-- When a login is passed on.
+use Rattle.std.specs.Prelude.{Option, None, Some}
+use Rattle.std.proofs.Common.{◌≡◌, ◌⊎◌, inl, inr, ℕ, true, false, List, sym, subst, refl, ap, ◌∙◌, arith}
+use Rattle.crash_disk.specs.Counts.{Rose}
+use Rattle.http_wire.specs.declared.answer.Answer.{Answer}
+use Rattle.http_wire.specs.declared.answer.Answer.TheVariants.{Fixed}
+use Rattle.http_wire.specs.Requests.{Request}
+use Rattle.verdict_codes.specs.declared.codes.Verdict.{Verdict}
+use Rattle.ledger_records.specs.declared.hub_record.Backed.{Backed}
+use Rattle.ledger_records.specs.declared.hub_record.HubRecord.{HubRecord}
+use Rattle.ledger_records.specs.declared.hub_record.HubRecord.TheVariants as kinds
+use Rattle.peer_keys.specs.declared.peers.LogoutPeer.{LogoutPeer}
+use Rattle.request_rows.specs.Rows.{RowsView}
+use Rattle.request_rows.specs.declared.row.AskedRow.{AskedRow}
+use Rattle.hub_ledger.specs.Compacting.{Compacts}
+use Rattle.hub_ledger.specs.Laws.{CompactionsChangeNoAnswer}
+use Rattle.hub_ledger.specs.Ledger.{Held, held_with}
+use Rattle.hub_ledger.specs.Record.{AreRecords}
+use Rattle.hub_ledger.specs.RowsOf.{Route, rows_of}
+use Rattle.idp_rules.specs.Asking.{IsAsked}
+use Rattle.idp_rules.specs.declared.asked.Asked.{Asked}
+use Rattle.sp_rules.specs.declared.config.SpConfig.{SpConfig}
+use Rattle.sp_rules.specs.Opening.{Brought, Opens}
+use Rattle.sp_rules.specs.Verdict.{IsRefused}
+use Rattle.sp_answers.specs.Judging.{LikeRowsOpenAlike}
+use Rattle.idp_answers.specs.Answers.{IsNoPassiveAnswer}
+use Rattle.provider_node.specs.Step as any
+use Rattle.provider_node.specs.declared.codes.TheConstants.{NO_MEMORY}
+use Rattle.hub_ledger.specs.Record.{hub_rules}
+use Rattle.identity_hub.specs.declared.config.HubConfig.{HubConfig}
+use Rattle.identity_hub.specs.Config.{sign_on}
+use Rattle.identity_hub.specs.Passing.{CanPassOn, HasRoom, IsPassedOn, IsOfLogin, IsSpoken, NothingIsAskedOfAUserWhoMayNotBeAsked, OnlyWhereALoginIsBrought, PassesLogin, WhereverALoginIsBrought}
+use Rattle.identity_hub.specs.Step as steps
+use Rattle.identity_hub.specs.Step.{Answers, HasPlace, IsFor, Provider, Serves, backed_for, rows_seen}
+use Rattle.identity_hub.proofs.Alike.{rows_alike}
+
+-- a form that brings a login is refused for nothing
+abbrev pub IsNotRefused : Type 0
+IsNotRefused =
+    (config : SpConfig) (rows : RowsView) (horizon now : ℕ) (body : List ℕ) (b : Brought) (asked : AskedRow)
+    (verdict : Verdict)
+    → Opens config rows horizon now body b asked → ¬ (IsRefused config rows horizon now body verdict)
+
+-- and it brings one login alone
+abbrev pub IsOneLogin : Type 0
+IsOneLogin =
+    (config : SpConfig) (rows : RowsView) (horizon now : ℕ) (body : List ℕ) (b other : Brought)
+    (row for_other : AskedRow)
+    → Opens config rows horizon now body b row → Opens config rows horizon now body other for_other → b ≡ other
+
+-- ---- only where
+
+-- what a record says that is the record of a login
+of_login : (setup : HubConfig) (held : Held) (now : ℕ) (b : Brought) (row : Route) (r : Backed)
+    → backed_for setup held now b row.below ≡ kinds.Backed r → IsOfLogin setup now b row r
+of_login setup held now b row r is =
+    subst (IsOfLogin setup now b row) (the_backed _ r is)
+    (record {
+      name = refl;
+      attributes = refl;
+      issuer = refl;
+      above = refl;
+      request = refl;
+      until = refl;
+      peer = refl;
+      consumer = refl;
+      below = refl;
+      relay = refl;
+    })
+  where
+    the_backed : (one other : Backed) → kinds.Backed one ≡ kinds.Backed other → one ≡ other
+    the_backed one other same = cc
+
+passed : (setup : HubConfig) (held : Held) (request : Request) (now : ℕ) (answer : Answer) (adds : Option HubRecord)
+    (r : Backed) → adds ≡ Some (kinds.Backed r) → Answers setup held request now answer adds
+    → PassesLogin setup held request now (kinds.Backed r) answer
+passed setup held request now answer adds r some (steps.ByStatus status to is none) = absurd (cc)
+passed setup held request now answer adds r some (steps.ByMetadata role to is none) = absurd (cc)
+passed setup held request now answer adds r some (steps.ByRefusal verdict to refused is none) = absurd (cc)
+passed setup held request now answer adds r some (steps.BySpeaking asked peer message bytes asks passive is named page shown) =
+    absurd (cc)
+passed setup held request now answer adds r some (steps.ByAsking asked peer q bytes asks passive is adds_is page shown) =
+    absurd (cc)
+passed setup held request now answer adds r some (steps.ByVerdict verdict to refused is none) = absurd (cc)
+passed setup held request now answer adds r some (steps.ByUnknownPeer b asked brings unknown is none) = absurd (cc)
+passed setup held request now answer adds r some (steps.ByPassing b asked row peer own bytes brings is_for is adds_is page shown) =
+    let same : own ≡ r = cc in
+    let own_is : backed_for setup held now b row.below ≡ kinds.Backed r = is ∙ ap (λ (x : Backed). kinds.Backed x) same in
+    record {
+      brought = b;
+      row = row;
+      peer = peer;
+      can = record { asked = asked; brings = brings; is_for = is_for };
+      is = sym own_is;
+      backed = r;
+      kind = refl;
+      says = of_login setup held now b row r own_is;
+      bytes = bytes;
+      answers = subst (λ (x : Backed). steps.IsAnswerFor setup peer x now bytes) same page;
+      answered = shown;
+    }
+
+pub only_where : OnlyWhereALoginIsBrought
+only_where setup held request now answer r answers =
+    passed setup held request now answer (Some (kinds.Backed r)) r refl answers
+
+-- ---- wherever
+
+-- the request below, and its peer, are one
+one_row : (setup : HubConfig) (held : Held) (now : ℕ) (id : List ℕ) (row other : Route) (peer for_other : LogoutPeer)
+    → IsFor setup held now id row peer → IsFor setup held now id other for_other → row ≡ other
+one_row setup held now id row other peer for_other one two =
+    let same : Some row ≡ Some other = sym one.found ∙ two.found in cc
+
+-- what is answered where the form brings a login that can be passed on
+record IsGiven (setup : HubConfig) (held : Held) (request : Request) (now : ℕ) (answer : Answer) (adds : Option HubRecord)
+    (b : Brought) (row : Route) : Type 0 where
+  r : HubRecord
+  is : adds ≡ Some r
+  own : r ≡ backed_for setup held now b row.below
+  passes : PassesLogin setup held request now (backed_for setup held now b row.below) answer
+
+module _ (not_refused : IsNotRefused) (one_login : IsOneLogin) where
+  answered : (setup : HubConfig) (held : Held) (request : Request) (now : ℕ) (answer : Answer) (adds : Option HubRecord)
+      (b : Brought) (row : Route) (peer : LogoutPeer) → CanPassOn setup held request now b row peer
+      → Answers setup held request now answer adds → IsGiven setup held request now answer adds b row
+  answered setup held request now answer adds b row peer can (steps.ByStatus status to is none) =
+      absurd (let e = sym can.brings.to ∙ to in cc)
+  answered setup held request now answer adds b row peer can (steps.ByMetadata role to is none) =
+      absurd (let e = sym can.brings.to ∙ to in cc)
+  answered setup held request now answer adds b row peer can (steps.ByRefusal verdict to refused is none) =
+      absurd (let e = sym can.brings.to ∙ to in cc)
+  answered setup held request now answer adds b row peer can
+      (steps.BySpeaking asked other message bytes asks passive is named page shown) =
+      absurd (let e = sym can.brings.to ∙ asks.to in cc)
+  answered setup held request now answer adds b row peer can
+      (steps.ByAsking asked other q bytes asks passive is adds_is page shown) =
+      absurd (let e = sym can.brings.to ∙ asks.to in cc)
+  answered setup held request now answer adds b row peer can (steps.ByVerdict verdict to refused is none) =
+      absurd (not_refused setup.upstream _ held.header.horizon now request.body b can.asked verdict can.brings.opens refused)
+  answered setup held request now answer adds b row peer can (steps.ByUnknownPeer other asked brings unknown is none) =
+      let same : other ≡ b =
+      one_login setup.upstream (rows_seen (rows_of held.records)) held.header.horizon now request.body other b asked can.asked
+      brings.opens can.brings.opens in
+      absurd (unknown row peer (subst (λ (x : Brought). IsFor setup held now x.login.request row peer) (sym same) can.is_for))
+  answered setup held request now answer adds b row peer can
+      (steps.ByPassing other asked its_row its_peer r bytes brings is_for is adds_is page shown) =
+      let same : other ≡ b =
+      one_login setup.upstream (rows_seen (rows_of held.records)) held.header.horizon now request.body other b asked can.asked
+      brings.opens can.brings.opens in
+      let its : its_row ≡ row =
+      one_row setup held now b.login.request its_row row its_peer peer
+      (subst (λ (x : Brought). IsFor setup held now x.login.request its_row its_peer) same is_for) can.is_for in
+      let own : kinds.Backed r ≡ backed_for setup held now b row.below =
+      sym is ∙ ap (λ (x : Brought). backed_for setup held now x its_row.below) same
+      ∙ ap (λ (x : Route). backed_for setup held now b x.below) its in
+      record {
+        r = kinds.Backed r;
+        is = adds_is;
+        own = own;
+        passes =
+            subst (λ (x : HubRecord). PassesLogin setup held request now x answer) own
+            (passed setup held request now answer adds r adds_is
+            (steps.ByPassing other asked its_row its_peer r bytes brings is_for is adds_is page shown));
+      }
+
+  its_own : (setup : HubConfig) (held : Held) (request : Request) (now : ℕ) (answer : Answer) (r : HubRecord) (b : Brought)
+      (row : Route) (peer : LogoutPeer) → CanPassOn setup held request now b row peer
+      → Answers setup held request now answer (Some r)
+      → (r ≡ backed_for setup held now b row.below) × PassesLogin setup held request now (backed_for setup held now b row.below)
+      answer
+  its_own setup held request now answer r b row peer can answers =
+      let is = answered setup held request now answer (Some r) b row peer can answers in
+      let same : is.r ≡ r = (let e = is.is in cc) in
+      (sym same ∙ is.own, is.passes)
+
+-- behind a compaction at the moment the form brings the login as before
+passes_behind : CompactionsChangeNoAnswer → LikeRowsOpenAlike
+    → (setup : HubConfig) (found held : Held) (request : Request) (now : ℕ) (b : Brought) (row : Route) (peer : LogoutPeer)
+    → AreRecords found.records → Compacts now found held → CanPassOn setup found request now b row peer
+    → CanPassOn setup held request now b row peer
+passes_behind law opens setup found held request now b row peer are (inl (last, same)) can =
+    subst (λ (h : Held). CanPassOn setup h request now b row peer) (sym same) can
+passes_behind law opens setup found held request now b row peer are (inr (less, made)) can =
+    let like = law now now found held are made (omega arith) in
+    record {
+      asked = can.asked;
+      brings =
+          record {
+            to = can.brings.to;
+            opens =
+                opens setup.upstream now (rows_seen (rows_of held.records)) held.header.horizon (rows_seen (rows_of found.records))
+                found.header.horizon request.body b can.asked (rows_alike now held found like) can.brings.opens;
+          };
+      is_for =
+          record {
+            found = like.routed b.login.request ∙ can.is_for.found;
+            place = can.is_for.place;
+            known = can.is_for.known;
+            there = can.is_for.there;
+          };
+    }
+
+module _ (not_refused : IsNotRefused) (one_login : IsOneLogin) (law : CompactionsChangeNoAnswer) (opens : LikeRowsOpenAlike)
+    (found : Held) (request : Request) (now faults later : ℕ) (answer : Answer) (old new : Provider) (b : Brought)
+    (row : Route) (peer : LogoutPeer) (can : CanPassOn old.setup found request now b row peer) (calm : ¬ (Rose faults later)) where
+  abbrev Comes : Type 0
+  Comes = (answer ≡ Fixed NO_MEMORY) ⊎ IsPassedOn old.setup found request now b row answer new.ledger.held
+
+  -- a compaction is made only where there was no place for the record
+  no_place : (held : Held) → any.MakesRoom hub_rules Answers old.setup found request now held
+      → ¬ (HasPlace found (backed_for old.setup found now b row.below))
+  no_place held made place =
+      let its = its_own not_refused one_login old.setup found request now made.other made.wanted b row peer can made.wants in
+      made.none (subst (HasPlace found) (sym its.0) place)
+
+  -- behind it there is one
+  place_behind : (held : Held) → any.MakesRoom hub_rules Answers old.setup found request now held
+      → HasRoom old.setup found now b row
+      → CanPassOn old.setup held request now b row peer × HasPlace held (backed_for old.setup held now b row.below)
+  place_behind held made (inl place) = absurd (no_place held made place)
+  place_behind held made (inr (are, there)) =
+      (passes_behind law opens old.setup found held request now b row peer are made.made can, there held made.made)
+
+  of_case : HasRoom old.setup found now b row → Serves found request now (Rose faults later) answer old new → Comes
+  of_case room (any.Plain answers whole) =
+      absurd (let e = (answered not_refused one_login old.setup found request now answer None b row peer can answers).is in cc)
+  of_case room (any.Recorded r answers place whole) =
+      let its = its_own not_refused one_login old.setup found request now answer r b row peer can answers in
+      inr (record {
+        held = found;
+        over = inl refl;
+        passes = its.1;
+        added = whole.is ∙ ap (λ (x : HubRecord). held_with x found) its.0;
+      })
+  of_case room (any.RecordedAfterCompaction held r made answers place whole) =
+      let its = its_own not_refused one_login old.setup held request now answer r b row peer (place_behind held made room).0 answers in
+      inr (record {
+        held = held;
+        over = inr (no_place held made, made.made);
+        passes = its.1;
+        added = whole.is ∙ ap (λ (x : HubRecord). held_with x held) its.0;
+      })
+  of_case room (any.NoPlace held r another made answers still is whole) =
+      let (brings, place) = place_behind held made room in
+      let its = its_own not_refused one_login old.setup held request now another r b row peer brings answers in
+      absurd (still (subst (HasPlace held) (sym its.0) place))
+  of_case room (any.Failed wanted other wants risen is broken) = absurd (calm risen)
+  of_case room (any.Starved held which is whole) = inl is
+
+pub wherever : IsNotRefused → IsOneLogin → CompactionsChangeNoAnswer → LikeRowsOpenAlike → WhereverALoginIsBrought
+wherever not_refused one_login law opens found request now faults later answer old new b row peer can room calm serves =
+    of_case not_refused one_login law opens found request now faults later answer old new b row peer can calm room serves
+
+-- ---- where the user may not be asked
+
+-- a form asks for one thing alone
+abbrev pub AsksOnce : Type 0
+AsksOnce =
+    (peers : List LogoutPeer) (address body : List ℕ) (one other : Asked) → IsAsked peers address body one
+    → IsAsked peers address body other → one ≡ other
+
+spoken : AsksOnce → (setup : HubConfig) (held : Held) (request : Request) (now : ℕ) (answer : Answer)
+    (adds : Option HubRecord) (r : HubRecord) (asked : Asked) (peer : LogoutPeer) → steps.AsksFor setup request asked peer
+    → asked.passive ≡ true → adds ≡ Some r → Answers setup held request now answer adds
+    → IsSpoken setup asked now r answer
+spoken once setup held request now answer adds r asked peer asks passive some (steps.ByStatus status to is none) = absurd (cc)
+spoken once setup held request now answer adds r asked peer asks passive some (steps.ByMetadata role to is none) = absurd (cc)
+spoken once setup held request now answer adds r asked peer asks passive some (steps.ByRefusal verdict to refused is none) =
+    absurd (cc)
+spoken once setup held request now answer adds r asked peer asks passive some
+    (steps.BySpeaking other its message bytes its_asks its_passive is named page shown) =
+    let same : other ≡ asked = once setup.peers (sign_on setup) request.body other asked its_asks.is asks.is in
+    record {
+      message = message;
+      bytes = bytes;
+      answers =
+          subst (λ (x : Asked). IsNoPassiveAnswer setup.upstream.entity message x.request x.consumer x.relay now bytes) same page;
+      answered = shown;
+    }
+spoken once setup held request now answer adds r asked peer asks passive some
+    (steps.ByAsking other its q bytes its_asks its_passive is adds_is page shown) =
+    let same : other ≡ asked = once setup.peers (sign_on setup) request.body other asked its_asks.is asks.is in
+    absurd (let clash : false ≡ true = sym its_passive ∙ ap (λ (x : Asked). x.passive) same ∙ passive in cc)
+spoken once setup held request now answer adds r asked peer asks passive some (steps.ByVerdict verdict to refused is none) =
+    absurd (cc)
+spoken once setup held request now answer adds r asked peer asks passive some
+    (steps.ByUnknownPeer b row brings unknown is none) = absurd (cc)
+spoken once setup held request now answer adds r asked peer asks passive some
+    (steps.ByPassing b row its_row its_peer q bytes brings is_for is adds_is page shown) =
+    absurd (let e = sym asks.to ∙ brings.to in cc)
+
+pub nothing_asked : AsksOnce → NothingIsAskedOfAUserWhoMayNotBeAsked
+nothing_asked once setup held request now answer r asked peer asks passive answers =
+    spoken once setup held request now answer (Some r) r asked peer asks passive refl answers

@@ -1,0 +1,9 @@
+pub mod Config
+pub mod Histories
+pub mod Logins
+pub mod Passing
+pub mod Recorded
+pub mod Replies
+pub mod Routes
+pub mod Signed
+pub mod Step

@@ -1,0 +1,110 @@
+-- When a login from above is passed on: exactly where a posted form brings one for a request of a provider below that is known.
+use Rattle.std.specs.Prelude.{◌≡◌, ◌⊎◌, ℕ, true, min, List, Some}
+use Rattle.crash_disk.specs.Counts.{Rose}
+use Rattle.http_wire.specs.declared.answer.Answer.{Answer}
+use Rattle.http_wire.specs.declared.answer.Answer.TheVariants.{Fixed, Full}
+use Rattle.http_wire.specs.Requests.{Request}
+use Rattle.ledger_records.specs.declared.hub_record.Backed.{Backed}
+use Rattle.ledger_records.specs.declared.hub_record.HubRecord.{HubRecord}
+use Rattle.ledger_records.specs.declared.hub_record.HubRecord.TheVariants as kinds
+use Rattle.peer_keys.specs.declared.peers.LogoutPeer.{LogoutPeer}
+use Rattle.request_rows.specs.declared.row.AskedRow.{AskedRow}
+use Rattle.hub_ledger.specs.Compacting.{Compacts}
+use Rattle.hub_ledger.specs.Ledger.{Held, held_with}
+use Rattle.hub_ledger.specs.Record.{AreRecords, LAST}
+use Rattle.hub_ledger.specs.RowsOf.{Route}
+use Rattle.idp_rules.specs.declared.asked.Asked.{Asked}
+use Rattle.sp_rules.specs.Opening.{Brought}
+use Rattle.sp_rules.specs.Shown.{session_end}
+use Rattle.idp_answers.specs.Answers.{IsNoPassiveAnswer}
+use Rattle.provider_node.specs.declared.codes.TheConstants.{NO_MEMORY}
+use Rattle.identity_hub.specs.declared.config.HubConfig.{HubConfig}
+use Rattle.identity_hub.specs.Step.{Answers, AsksFor, BringsLogin, HasPlace, IsAnswerFor, IsFor, Provider, Serves, backed_for}
+
+-- Over a ledger, at a moment, the form that a request posts brings a login that can be passed on: for this request below, of this peer.
+pub record CanPassOn (setup : HubConfig) (held : Held) (request : Request) (now : ℕ) (b : Brought) (row : Route)
+    (peer : LogoutPeer) : Type 0 where
+  pub asked : AskedRow
+  pub brings : BringsLogin setup held request now b asked
+  pub is_for : IsFor setup held now b.login.request row peer
+
+-- What a record says of the login from above: who it is and what was stated of the user, by which Assertion and for which request
+-- upwards, until when; and to which request below it goes.
+pub record IsOfLogin (setup : HubConfig) (now : ℕ) (b : Brought) (row : Route) (r : Backed) : Type 0 where
+  pub name : r.name ≡ b.login.name
+  pub attributes : r.attributes ≡ b.login.attributes
+  pub issuer : r.issuer ≡ b.login.issuer
+  pub above : r.above ≡ b.login.id
+  pub request : r.request ≡ b.login.request
+  pub until : r.until ≡ min LAST (session_end now b.login.session_until)
+  pub peer : r.peer ≡ row.below.peer
+  pub consumer : r.consumer ≡ row.below.consumer
+  pub below : r.below ≡ row.below.request
+  pub relay : r.below_relay ≡ row.below.relay
+
+-- This record and this answer pass on the login that the form brings: the answer goes to the peer, with an Assertion of what the record
+-- says.
+pub record PassesLogin (setup : HubConfig) (held : Held) (request : Request) (now : ℕ) (r : HubRecord) (answer : Answer) :
+    Type 0 where
+  pub brought : Brought
+  pub row : Route
+  pub peer : LogoutPeer
+  pub can : CanPassOn setup held request now brought row peer
+  pub is : r ≡ backed_for setup held now brought row.below
+  pub backed : Backed
+  pub kind : r ≡ kinds.Backed backed
+  pub says : IsOfLogin setup now brought row backed
+  pub bytes : List ℕ
+  pub answers : IsAnswerFor setup peer backed now bytes
+  pub answered : answer ≡ Full bytes
+
+-- A login is recorded as passed on only where the form brings it.
+abbrev pub OnlyWhereALoginIsBrought : Type 0
+OnlyWhereALoginIsBrought =
+    (setup : HubConfig) (held : Held) (request : Request) (now : ℕ) (answer : Answer) (r : Backed)
+    → Answers setup held request now answer (Some (kinds.Backed r))
+    → PassesLogin setup held request now (kinds.Backed r) answer
+
+-- There is room for the record: there is a place for it at once, or in a ledger of records behind one compaction at the moment.
+abbrev pub HasRoom : HubConfig → (found : Held) → (now : ℕ) → Brought → Route → Type 0
+HasRoom setup found now b row =
+    HasPlace found (backed_for setup found now b row.below)
+    ⊎ (AreRecords found.records × ((held : Held) → Compacts now found held → HasPlace held
+    (backed_for setup held now b row.below)))
+
+-- The login is recorded behind the records of the ledger that was found, or, where there was no place behind these, of what one
+-- compaction made of it; and it is passed on.
+pub record IsPassedOn (setup : HubConfig) (found : Held) (request : Request) (now : ℕ) (b : Brought) (row : Route)
+    (answer : Answer) (new : Held) : Type 0 where
+  pub held : Held
+  pub over : (held ≡ found) ⊎ (¬ (HasPlace found (backed_for setup found now b row.below)) × Compacts now found held)
+  pub passes : PassesLogin setup held request now (backed_for setup held now b row.below) answer
+  pub added : new ≡ held_with (backed_for setup held now b row.below) held
+
+-- And wherever a form brings one that can be passed on, there is room for it and the disk does not fail, it is; or there was no
+-- memory.
+abbrev pub WhereverALoginIsBrought : Type 0
+WhereverALoginIsBrought =
+    (found : Held) (request : Request) (now faults later : ℕ) (answer : Answer) (old new : Provider) (b : Brought)
+    (row : Route) (peer : LogoutPeer)
+    → CanPassOn old.setup found request now b row peer → HasRoom old.setup found now b row
+    → ¬ (Rose faults later) → Serves found request now (Rose faults later) answer old new
+    → (answer ≡ Fixed NO_MEMORY) ⊎ IsPassedOn old.setup found request now b row answer new.ledger.held
+
+-- ---- where the user may not be asked
+
+-- The record of an answer is that of a Response without an Assertion, and this is the answer.
+pub record IsSpoken (setup : HubConfig) (asked : Asked) (now : ℕ) (r : HubRecord) (answer : Answer) : Type 0 where
+  pub message : List ℕ
+  pub bytes : List ℕ
+  pub answers : IsNoPassiveAnswer setup.upstream.entity message asked.request asked.consumer asked.relay now bytes
+  pub answered : answer ≡ Full bytes
+
+-- Where a request of a provider below says that its user may not be asked, no login is asked for above: whatever is recorded with the
+-- answer is a Response without an Assertion, which says that the user could not be authenticated passively.
+abbrev pub NothingIsAskedOfAUserWhoMayNotBeAsked : Type 0
+NothingIsAskedOfAUserWhoMayNotBeAsked =
+    (setup : HubConfig) (held : Held) (request : Request) (now : ℕ) (answer : Answer) (r : HubRecord) (asked : Asked)
+    (peer : LogoutPeer)
+    → AsksFor setup request asked peer → asked.passive ≡ true → Answers setup held request now answer (Some r)
+    → IsSpoken setup asked now r answer

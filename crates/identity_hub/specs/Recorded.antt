@@ -1,0 +1,32 @@
+-- What stands behind an answer.
+use Rattle.std.specs.Prelude.{◌≡◌, ◌⊎◌, ℕ, List, Option, Some, Ok}
+use Rattle.crash_disk.specs.Counts.{Rose}
+use Rattle.crash_disk.specs.Disk.{Image, DiskState}
+use Rattle.crash_disk.specs.Moments.{Leaves}
+use Rattle.http_wire.specs.declared.answer.Answer.{Answer}
+use Rattle.http_wire.specs.declared.answer.Answer.TheVariants.{Full}
+use Rattle.http_wire.specs.Requests.{Request}
+use Rattle.ledger_records.specs.declared.hub_record.HubRecord.{HubRecord}
+use Rattle.hub_ledger.specs.Ledger.{Held, held_with, ledger_in}
+use Rattle.service_routes.specs.declared.route.Route.TheVariants.{To}
+use Rattle.identity_hub.specs.declared.config.HubConfig.{HubConfig}
+use Rattle.identity_hub.specs.declared.route.Service.TheVariants.{SignOn, Consumer}
+use Rattle.identity_hub.specs.Routes.{route}
+use Rattle.identity_hub.specs.Step.{Answers, OwnsDisk, Provider, Steps}
+
+-- the answer stands for a record, and each ledger that a crash may leave has it behind the others
+pub record IsRecorded (setup : HubConfig) (request : Request) (now : ℕ) (answer : Answer) (disk : Option DiskState) :
+    Type 0 where
+  pub held : Held
+  pub r : HubRecord
+  pub stands : Answers setup held request now answer (Some r)
+  pub kept : (image : Image) → Leaves disk image → ledger_in image ≡ Ok (Some (held_with r held))
+
+-- Whatever form is answered to what is posted, its record is in every image that a crash may leave behind the step: it was written
+-- before the answer is sent. So each request upwards and each login that is passed on has its record.
+abbrev pub WhatIsAnsweredIsRecorded : Type 0
+WhatIsAnsweredIsRecorded =
+    (old new : Provider) (disk later : Option DiskState) (request : Request) (now before after : ℕ) (bytes : List ℕ)
+    → Steps old disk request now (Rose before after) (Full bytes) new → OwnsDisk new later
+    → (route request ≡ To SignOn) ⊎ (route request ≡ To Consumer)
+    → IsRecorded old.setup request now (Full bytes) later

@@ -1,0 +1,101 @@
+//! POST of a form at the address to which the provider above sends its responses.
+ghost use Rattle.std.specs.Prelude.{◌≡◌, ◌≤◌, IfOk, min};
+ghost use Rattle.http_wire.specs.Views.{request_view};
+ghost use Rattle.saml_time.specs.declared.TheConstants.{LAST};
+ghost use Rattle.service_routes.specs.declared.route.Route.TheVariants.{To};
+ghost use Rattle.sp_answers.specs.Judging.{CanBeRecorded};
+ghost use Rattle.sp_rules.specs.Shown.{IsOpening};
+ghost use Rattle.hub_ledger.specs.Drafts.{IsXmlBelow};
+ghost use Rattle.hub_ledger.specs.RowsOf.{rows_of};
+ghost use Rattle.idp_answers.specs.Stating.{AreTold};
+ghost use Rattle.identity_hub.specs.declared.route.Service.TheVariants.{Consumer};
+ghost use Rattle.identity_hub.specs.Replies.{IsTextBelow, RepliesTo};
+ghost use Rattle.identity_hub.specs.Routes.{route};
+ghost use Rattle.identity_hub.specs.Step.{rows_seen};
+
+use crate::reply::Reply;
+use crate::role::HubRole;
+use http_wire::{Answer, HttpRequest};
+use hub_ledger::laws::the_texts_of_a_routed_request_may_stand;
+use hub_ledger::{BelowRow, HubLedger};
+use idp_answers::{are_told, is_text};
+use owned_values::NoMemory;
+use provider_node::Replied;
+use saml_time::LAST;
+use sp_answers::laws::{like_rows_are_judged_alike, what_is_accepted_can_be_recorded};
+use sp_rules::{Accepted, Judged, judge};
+use verdict_codes::Verdict;
+
+/// That the texts of a request below are texts that a document may hold, and that the moments of a login that is passed on
+/// to it have a written form. It is there for the proof.
+fn can_be_passed(below: &BelowRow, until: u64, now: u64)
+    requires texts { IsXmlBelow below.now }
+    requires moment { now ≤ LAST }
+    ensures texts { IsTextBelow below.now }
+    ensures told { AreTold now (min LAST until) }
+{
+    is_text(below.request.as_str());
+    is_text(below.peer.as_str());
+    is_text(below.consumer.as_str());
+    are_told(now, LAST.min(until));
+}
+
+impl HubRole {
+    /// What is replied to a form that brings a login: it is passed on to the provider below for which it was asked, where
+    /// this is still known.
+    fn reply_login(
+        &self,
+        ledger: &HubLedger,
+        request: &HttpRequest<'_>,
+        accepted: Accepted,
+        now: u64,
+    ) -> Replied<Reply>
+        requires moment { now ≤ LAST }
+        requires route { route (request_view request.now) ≡ To Consumer }
+        requires opens { IsOpening self.now.upstream (rows_seen (rows_of ledger.now.held.records))
+            ledger.now.held.header.horizon now request.now.body.now accepted }
+        requires recordable { CanBeRecorded accepted.session }
+        ensures { RepliesTo self.now ledger.now.held (request_view request.now) now result }
+    {
+        ledger.holds_records();
+        the_texts_of_a_routed_request_may_stand();
+        let unknown = Verdict::UnknownIssuer.number();
+        let Some(row) = ledger.routed(accepted.session.request.as_str(), now) else {
+            return Replied::Plain(Answer::Fixed(unknown));
+        };
+        let Some(peer) = self.config.peers.place_of(row.below.peer.as_str()) else {
+            return Replied::Plain(Answer::Fixed(unknown));
+        };
+        can_be_passed(row.below, accepted.session.until, now);
+        Replied::ForRecord(Reply::Pass { accepted, peer })
+    }
+
+    /// What is replied to a posted form.
+    pub(crate) fn reply_form(
+        &self,
+        ledger: &HubLedger,
+        request: &HttpRequest<'_>,
+        now: u64,
+    ) -> Result<Replied<Reply>, NoMemory>
+        requires moment { now ≤ LAST }
+        requires route { route (request_view request.now) ≡ To Consumer }
+        ensures { IfOk result (RepliesTo self.now ledger.now.held (request_view request.now) now) }
+    {
+        like_rows_are_judged_alike();
+        what_is_accepted_can_be_recorded();
+        let upstream = &self.config.upstream;
+        let horizon = ledger.header().horizon;
+        match judge(
+            self.alloc,
+            upstream,
+            ledger.rows(),
+            horizon,
+            now,
+            request.body,
+        ) {
+            Ok(accepted) => Ok(self.reply_login(ledger, request, accepted, now)),
+            Err(Judged::Code(verdict)) => Ok(Replied::Plain(Answer::Fixed(verdict.number()))),
+            Err(Judged::NoMemory) => Err(NoMemory),
+        }
+    }
+}

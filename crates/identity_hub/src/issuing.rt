@@ -1,0 +1,103 @@
+//! The pages that stand for records.
+ghost use Rattle.std.specs.Prelude.{◌≡◌, ◌≤◌, IfOk, min};
+ghost use Rattle.saml_time.specs.declared.TheConstants.{LAST};
+ghost use Rattle.idp_answers.specs.Stating.{stated_view};
+ghost use Rattle.identity_hub.specs.Logins.{stated_by};
+ghost use Rattle.identity_hub.specs.Replies.{CanBeShown, HasLogin, HasRefusal, HasRequest, IsAskingPage, IsPage, IsPassedPage, IsSpokenPage};
+
+use crate::reply::Reply;
+use crate::role::HubRole;
+use hub_ledger::{BelowRow, Draft};
+use idp_answers::{Statement, issued_answer, no_passive_answer, stated_login, text_of};
+use ledger_records::hub_record::Backed;
+use owned_values::{Blob, NoMemory};
+use provider_config::SignMode;
+use saml_time::LAST;
+use sp_answers::ask_answer;
+
+/// How long an Assertion may be presented, in milliseconds.
+const ASSERTION_LIFE: u64 = 300_000;
+
+/// What the hub states by a login that it passes on.
+fn statement_of(passed: &Backed) -> Statement<'_>
+    requires { passed.now.moment ≤ LAST }
+    ensures { stated_view result ≡ stated_by passed.now }
+{
+    Statement {
+        assertion: &passed.assertion,
+        index: &passed.index,
+        user: &passed.name,
+        attributes: &passed.attributes,
+        peer: &passed.peer,
+        consumer: &passed.consumer,
+        request: &passed.below,
+        moment: passed.moment,
+        until: LAST.min(passed.moment + ASSERTION_LIFE),
+        session_end: passed.until,
+    }
+}
+
+impl HubRole {
+    /// The answer without an Assertion of a draft.
+    fn spoken_page(&self, draft: &Draft, below: &BelowRow, now: u64) -> Result<Blob, NoMemory>
+        requires moment { now ≤ LAST }
+        requires shown { HasRefusal below.now draft.now }
+        ensures { IfOk result (IsSpokenPage self.now below.now draft.now now) }
+    {
+        no_passive_answer(
+            self.alloc,
+            self.config.upstream.entity.as_str(),
+            draft.first().as_str(),
+            below.request.as_str(),
+            below.consumer.as_str(),
+            text_of(&below.relay),
+            now,
+        )
+    }
+
+    /// The answer with the request upwards of a draft.
+    fn asking_page(&self, draft: &Draft, now: u64) -> Result<Blob, NoMemory>
+        requires moment { now ≤ LAST }
+        requires shown { HasRequest draft.now }
+        ensures { IfOk result (IsAskingPage self.now draft.now now) }
+    {
+        let id = draft.first().as_str();
+        let relay = draft.second().as_str();
+        ask_answer(self.alloc, &self.config.upstream, id, relay, now)
+    }
+
+    /// The answer with the Assertion of a draft, for the peer at this place.
+    fn passed_page(&self, draft: &Draft, peer: usize, now: u64) -> Result<Blob, NoMemory>
+        requires moment { now ≤ LAST }
+        requires shown { HasLogin self.now peer draft.now }
+        ensures { IfOk result (IsPassedPage self.now peer draft.now now) }
+    {
+        let passed = draft.backed();
+        let statement = statement_of(passed);
+        let login = stated_login(self.alloc, self.config.upstream.entity.as_str(), &statement)?;
+        issued_answer(
+            self.alloc,
+            SignMode::Assertion,
+            self.config.peers.at(peer).key_out.as_slice(),
+            &login,
+            passed.message.as_str(),
+            passed.consumer.as_str(),
+            text_of(&passed.below_relay),
+            None,
+            now,
+        )
+    }
+
+    /// The answer that stands for the draft of a reply.
+    pub(crate) fn page_of(&self, reply: &Reply, draft: &Draft, now: u64) -> Result<Blob, NoMemory>
+        requires moment { now ≤ LAST }
+        requires shown { CanBeShown self.now reply.now draft.now }
+        ensures { IfOk result (IsPage self.now reply.now draft.now now) }
+    {
+        match reply {
+            Reply::Speak { below } => self.spoken_page(draft, below, now),
+            Reply::Ask { .. } => self.asking_page(draft, now),
+            Reply::Pass { peer, .. } => self.passed_page(draft, *peer, now),
+        }
+    }
+}

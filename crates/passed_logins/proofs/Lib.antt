@@ -1,0 +1,2 @@
+mod AsIdp
+mod Passed
