@@ -1,5 +1,5 @@
 -- A service provider and an identity provider in one world, each over its starts with crashes between them, and what joins them.
-use Rattle.std.specs.Prelude.{◌≡◌, ◌⊎◌, ℕ, List, [], ◌∷◌, ◌++◌, Contains, Some}
+use Rattle.std.specs.Prelude.{◌≡◌, ◌⊎◌, ℕ, List, Contains, Some}
 use Rattle.crash_disk.specs.Counts.{Rose}
 use Rattle.http_wire.specs.declared.answer.Answer.{Answer}
 use Rattle.http_wire.specs.declared.answer.Answer.TheVariants.{Fixed}
@@ -14,10 +14,10 @@ use Rattle.login_origin.specs.Premises.{Unforged, NoCollision}
 use Rattle.sp_rules.specs.declared.config.SpConfig.{SpConfig}
 use Rattle.sp_rules.specs.Opening.{Brought}
 use Rattle.sp_rules.specs.Shown.{session_of}
-use Rattle.serve_loop.specs.Turns.{Asked, asked_in}
+use Rattle.serve_loop.specs.Turns.{Asked}
 use Rattle.provider_node.specs.declared.codes.TheConstants.{NO_MEMORY}
 use Rattle.provider_node.specs.Starts as any
-use Rattle.provider_node.specs.Starts.{Start, Cut, Served}
+use Rattle.provider_node.specs.Starts.{Start, asked_over}
 use Rattle.request_ledger.specs.Ledger.{Held}
 use Rattle.request_ledger.specs.Record.{AreRecords}
 use Rattle.sp_server.specs.Sessions.{GivesSession, HasRoom, IsOpened, OpensOver}
@@ -29,12 +29,6 @@ use Rattle.idp_rules.specs.declared.config.IdpConfig.{IdpConfig}
 use Rattle.idp_server.specs.Step as idp
 use Rattle.recorded_logins.specs.Recorded.{Added, AreOf}
 use Rattle.recorded_logins.specs.Logins.{IsRecordedSession}
-
--- the requests that a node was asked in starts, the latest first
-abbrev pub asked_over : {N : Type 0} → List (Start N) → List (Asked N)
-asked_over [] = []
-asked_over (Cut before ∷ earlier) = asked_over earlier
-asked_over (Served before first turns kept last ∷ earlier) = asked_in turns ++ asked_over earlier
 
 -- An identity provider of this setup recorded this at a request of these starts, and its answer stands for it.
 pub record WasRecorded (setup : IdpConfig) (starts : List (Start idp.Provider)) (one : Added) : Type 0 where

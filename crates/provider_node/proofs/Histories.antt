@@ -1,6 +1,7 @@
 -- The histories of what a provider's disk may hold, from turn to turn.
 use Rattle.std.specs.Prelude.{Contains, map, IfSome, IsSome, Option, None, Some, Ok}
-use Rattle.std.proofs.Common.{◌≡◌, ◌⊎◌, inl, inr, ℕ, suc, ◌≤◌, List, [], ◌∷◌, ◌++◌, All, sym, subst, refl, ap, ◌∙◌, true, false, arith}
+use Rattle.std.proofs.Common.{◌≡◌, ◌⊎◌, inl, inr, ℕ, suc, ◌≤◌, List, [], ◌∷◌, ◌++◌, All, sym, subst, refl, ap, ◌∙◌, true, false, append_assoc, arith}
+use Rattle.std.proofs.lemmas.List.{append-nil}
 use Rattle.std.proofs.lemmas.List.Elements.{Contains-append_left, Contains-append_right}
 use Rattle.std.specs.List.{AllByRecursion}
 use Rattle.crash_disk.specs.Disk.{Image, DiskState, MayLeave, image_of}
@@ -14,7 +15,7 @@ use Rattle.serve_loop.specs.Worlds.{World, OnlySends}
 use Rattle.serve_loop.specs.Turns.{AreTold, Asked, Asks, Turn, Taken, Full, StarvedStart, Over, Unknown, Waiting, Answered, Refused, StarvedPiece, Does, Run, asked_by}
 use Rattle.record_ledger.specs.Rules.{RecordRules}
 use Rattle.record_ledger.specs.Ledger.{Held, IsWithOrWithout, LeftByOpening, held_with, ledger_in, migrated, next_number, taken}
-use Rattle.record_ledger.specs.Compacting.{Compacts}
+use Rattle.record_ledger.specs.Compacting.{Compacts, IsOldOrCompacted}
 use Rattle.record_ledger.specs.Laws.{ImagesHoldRecords}
 use Rattle.record_ledger.specs.Linking.{as_list}
 use Rattle.record_ledger.specs.Runs as events
@@ -22,8 +23,10 @@ use Rattle.record_ledger.specs.Runs.{Adds, Opens}
 use Rattle.record_ledger.proofs.Records.{record_there}
 use Rattle.provider_node.specs.declared.codes.TheConstants.{DISK_FAULT, FOREIGN, FULL, NO_MEMORY}
 use Rattle.serve_loop.proofs.Telling.{goes_on_reading, goes_on_telling}
-use Rattle.provider_node.specs.Histories.{Another, AreAcknowledged, AreKept, CameFrom, moments_of, ForCode, ForNone, ForRecord, HoldsWhatCame, IsAtStart, IsProviders, Nothing, Stands, StepOf, This}
-use Rattle.provider_node.specs.Calls.{MakesCompaction}
+use Rattle.provider_node.specs.Histories.{Another, AreAcknowledged, AreBehind, AreKept, CameFrom, moments_of, ForCode, ForNone, ForRecord, HoldsWhatCame, IsAtStart, IsProviders, Nothing, Stands, StepOf, This}
+use Rattle.provider_node.specs.Calls.{CompactingLeaves, MakesCompaction}
+use Rattle.provider_node.specs.Node as node
+use Rattle.provider_node.specs.Node.{CompactionLeaves}
 use Rattle.provider_node.specs.Step as steps
 use Rattle.provider_node.specs.Step.{Adding, AnswersBy, Ledger, Owns, Provider, IsWhole, MakesRoom, OwnsDisk, Serves, ServingLeaves, StepLeaves, Steps}
 use Rattle.provider_node.proofs.Serving.{settled}
@@ -235,6 +238,30 @@ module _ {Setup R : Type 0} (rules : RecordRules R) (Answers : AnswersBy Setup R
   step_left records w request now moment image tells reads holds (steps.InOpening broken left) =
       opening_left rules IsMoment start records w.disk image tells holds.disk left.stands
 
+  -- what a crash leaves inside a compaction of a ledger that is found
+  compacting_left : (records : List R) (found : Held R) (told : Option DiskState) (now : ℕ) → IsMoment now
+      → (image : Image) → CameFrom rules IsMoment start records found → CompactingLeaves rules now found told image
+      → HoldsWhatCame rules IsMoment start records image
+  compacting_left records found told now moment image came left = of_case left.stands
+    where
+      of_case : IsOldOrCompacted rules now found image → HoldsWhatCame rules IsMoment start records image
+      of_case (inl is) = (found, is, came)
+      of_case (inr (held, made, is)) =
+          (held, is, compacted rules IsMoment start records now found held moment made came)
+
+  pub compaction_left : (records : List R) (w : World (Provider Setup R)) (now : ℕ) → IsMoment now → (image : Image)
+      → IsSome w.disk → IfSome w.disk (λ d. MayLeave d (image_of d)) → Known w records
+      → CompactionLeaves rules w.node w.disk now image → HoldsWhatCame rules IsMoment start records image
+  compaction_left records w now moment image tells reads holds (node.InCompaction whole left) =
+      compacting_left records w.node.ledger.held w.disk now moment image
+      (found_whole records w.disk w.node.ledger tells reads whole holds.own holds.disk) left
+  compaction_left records w now moment image tells reads holds
+      (node.InCompactionOfOpened found opened broken is made left) =
+      compacting_left records found opened now moment image
+      (found_told rules IsMoment start records w.disk found tells reads holds.disk is) left
+  compaction_left records w now moment image tells reads holds (node.InRestart broken left) =
+      opening_left rules IsMoment start records w.disk image tells holds.disk left.stands
+
   -- a provider that is whole behind a request, and one that is broken
   whole_behind : (records : List R) (w later : World (Provider Setup R)) (held : Held R)
       → CameFrom rules IsMoment start records held → IsWhole w.node later.node held
@@ -361,11 +388,14 @@ module _ {Setup R : Type 0} (rules : RecordRules R) (Answers : AnswersBy Setup R
 
   -- ---- the world from turn to turn
 
-  -- the records that were acknowledged in turns, and what is known then
-  pub record Knows (turns : List (Turn (Provider Setup R))) (w : World (Provider Setup R)) : Type 0 where
-    pub records : List R
-    pub are : AreAcknowledged Answers turns records
-    pub holds : Known w records
+  -- the records that were acknowledged in turns, behind those from before, and what is known then
+  pub record Knows (former : List R) (turns : List (Turn (Provider Setup R))) (w : World (Provider Setup R)) : Type 0
+    where
+      pub records : List R
+      pub are : AreAcknowledged Answers turns records
+      pub all : List R
+      pub joined : all ≡ records ++ former
+      pub holds : Known w all
 
   same_world : (w later : World (Provider Setup R)) (records : List R) → later ≡ w → Known w records
       → Known later records
@@ -377,87 +407,90 @@ module _ {Setup R : Type 0} (rules : RecordRules R) (Answers : AnswersBy Setup R
       holds_same w later records (ap (λ (x : World (Provider Setup R)). x.node) sends.same)
       (ap (λ (x : World (Provider Setup R)). x.disk) sends.same) holds
 
-  passes : (turns : List (Turn (Provider Setup R))) (turn : Turn (Provider Setup R)) (old new : Table)
-      (w later : World (Provider Setup R))
+  -- where nothing is asked, what was acknowledged stays as it was
+  stays : (former : List R) (turns : List (Turn (Provider Setup R))) (turn : Turn (Provider Setup R))
+      (w later : World (Provider Setup R)) → asked_by turn ≡ [] → (knows : Knows former turns w) → Known later knows.all
+      → Knows former (turn ∷ turns) later
+  stays former turns turn w later none knows holds = record {
+    records = knows.records;
+    are = (
+      knows.records,
+      knows.are,
+      subst (λ (l : List (Asked (Provider Setup R))). AreBehind Answers l knows.records knows.records) (sym none) refl,
+    );
+    all = knows.all;
+    joined = knows.joined;
+    holds = holds;
+  }
+
+  passes : (former : List R) (turns : List (Turn (Provider Setup R))) (turn : Turn (Provider Setup R))
+      (old new : Table) (w later : World (Provider Setup R))
       → AllByRecursion (λ (one : Asked (Provider Setup R)). IsSome one.disk) (asked_by turn)
       → AllByRecursion (λ (one : Asked (Provider Setup R)). IsMoment one.now) (asked_by turn)
-      → Does (IsProviders rules Answers) old w turn new later → Knows turns w → Knows (turn ∷ turns) later
-  passes turns (Taken conn) old new w later told at does knows =
-      record {
-        records = knows.records;
-        are = (knows.records, knows.are, refl);
-        holds = same_world w later
-            knows.records does.1 knows.holds;
-      }
-  passes turns (Full conn) old new w later told at does knows =
-      record {
-        records = knows.records;
-        are = (knows.records, knows.are, refl);
-        holds = sent w later knows.records conn
-            _ does.1 knows.holds;
-      }
-  passes turns (StarvedStart conn) old new w later told at does knows =
-      record {
-        records = knows.records;
-        are = (knows.records, knows.are, refl);
-        holds = sent w later knows.records conn
-            _ does.1 knows.holds;
-      }
-  passes turns (Over conn) old new w later told at does knows =
-      record {
-        records = knows.records;
-        are = (knows.records, knows.are, refl);
-        holds = same_world w later
-            knows.records does.1 knows.holds;
-      }
-  passes turns (Unknown conn piece) old new w later told at does knows =
-      record {
-        records = knows.records;
-        are = (knows.records, knows.are, refl);
-        holds = same_world w later
-            knows.records does.1 knows.holds;
-      }
-  passes turns (Waiting conn piece) old new w later told at does knows =
-      record {
-        records = knows.records;
-        are = (knows.records, knows.are, refl);
-        holds = same_world w later
-            knows.records does.1 knows.holds;
-      }
-  passes turns (Answered piece one) old new w later told at (between, takes, answers) knows =
-      let (r, stands, holds) = asked_goes one w answers.told knows.records told.0 at.0 knows.holds answers.asks in
+      → Does (IsProviders rules Answers) old w turn new later → Knows former turns w → Knows former (turn ∷ turns) later
+  passes former turns (Taken conn) old new w later told at does knows =
+      stays former turns (Taken conn) w later refl knows (same_world w later knows.all does.1 knows.holds)
+  passes former turns (Full conn) old new w later told at does knows =
+      stays former turns (Full conn) w later refl knows (sent w later knows.all conn _ does.1 knows.holds)
+  passes former turns (StarvedStart conn) old new w later told at does knows =
+      stays former turns (StarvedStart conn) w later refl knows (sent w later knows.all conn _ does.1 knows.holds)
+  passes former turns (Over conn) old new w later told at does knows =
+      stays former turns (Over conn) w later refl knows (same_world w later knows.all does.1 knows.holds)
+  passes former turns (Unknown conn piece) old new w later told at does knows =
+      stays former turns (Unknown conn piece) w later refl knows (same_world w later knows.all does.1 knows.holds)
+  passes former turns (Waiting conn piece) old new w later told at does knows =
+      stays former turns (Waiting conn piece) w later refl knows (same_world w later knows.all does.1 knows.holds)
+  passes former turns (Answered piece one) old new w later told at (between, takes, answers) knows =
+      let (r, stands, holds) = asked_goes one w answers.told knows.all told.0 at.0 knows.holds answers.asks in
       record {
         records = as_list r ++ knows.records;
         are = (knows.records, knows.are, (r, stands, refl));
-        holds = sent
-            answers.told later (as_list r ++ knows.records) one.conn _ answers.sends holds;
+        all = as_list r ++ knows.all;
+        joined =
+            ap (λ (l : List R). as_list r ++ l) knows.joined ∙ sym (append_assoc (as_list r) knows.records former);
+        holds = sent answers.told later (as_list r ++ knows.all) one.conn _ answers.sends holds;
       }
-  passes turns (Refused conn piece status) old new w later told at (between, takes, lets) knows =
-      record {
-        records = knows.records;
-        are = (knows.records, knows.are, refl);
-        holds = sent w later knows.records conn
-            _ lets.sends knows.holds;
-      }
-  passes turns (StarvedPiece conn piece) old new w later told at (between, takes, lets) knows =
-      record {
-        records = knows.records;
-        are = (knows.records, knows.are, refl);
-        holds = sent w later knows.records conn
-            _ lets.sends knows.holds;
-      }
+  passes former turns (Refused conn piece status) old new w later told at (between, takes, lets) knows =
+      stays former turns (Refused conn piece status) w later refl knows
+      (sent w later knows.all conn _ lets.sends knows.holds)
+  passes former turns (StarvedPiece conn piece) old new w later told at (between, takes, lets) knows =
+      stays former turns (StarvedPiece conn piece) w later refl knows
+      (sent w later knows.all conn _ lets.sends knows.holds)
 
+  pub known_behind : (former : List R) (first last : World (Provider Setup R)) (turns : List (Turn (Provider Setup R)))
+      (kept : Table) → Known first former → AreTold turns → AreMoments IsMoment turns
+      → Run (IsProviders rules Answers) first turns kept last → Knows former turns last
+  known_behind former first last [] kept begins told at run = record {
+    records = [];
+    are = refl;
+    all = former;
+    joined = refl;
+    holds = same_world first last former run.1 begins;
+  }
+  known_behind former first last (turn ∷ past) kept begins told at (old, before, given, run, next, does) =
+      let knows = known_behind former first before past old begins told.1 at.1 run in
+      let given_holds = holds_same before given knows.all (ap (λ (x : World (Provider Setup R)). x.node) next.same)
+      (ap (λ (x : World (Provider Setup R)). x.disk) next.same) knows.holds in
+      passes former past turn old kept given last told.0 at.0 does
+      (record {
+        records = knows.records;
+        are = knows.are;
+        all = knows.all;
+        joined = knows.joined;
+        holds = given_holds;
+      })
+
+  -- those of the turns alone
   pub known : (first last : World (Provider Setup R)) (turns : List (Turn (Provider Setup R))) (kept : Table)
       → Known first [] → AreTold turns → AreMoments IsMoment turns
-      → Run (IsProviders rules Answers) first turns kept last → Knows turns last
-  known first last [] kept begins told at run =
-      record { records = []; are = refl; holds = same_world first last [] run.1 begins }
-  known first last (turn ∷ past) kept begins told at (old, before, given, run, next, does) =
-      let knows = known first before past old begins told.1 at.1 run in
-      let given_holds = holds_same before given knows.records (ap (λ (x : World (Provider Setup R)). x.node) next.same)
-      (ap (λ (x : World (Provider Setup R)). x.disk) next.same) knows.holds in
-      passes past turn old kept given last told.0 at.0 does
-      (record { records = knows.records; are = knows.are; holds = given_holds })
+      → Run (IsProviders rules Answers) first turns kept last
+      → (records : List R) × AreAcknowledged Answers turns records × Known last records
+  known first last turns kept begins told at run =
+      let knows = known_behind [] first last turns kept begins told at run in (
+        knows.records,
+        knows.are,
+        subst (Known last) (knows.joined ∙ append-nil knows.records) knows.holds,
+      )
 
 -- at the start
 pub came_itself : {R : Type 0} (rules : RecordRules R) (IsMoment : ℕ → Type 0) (start : Held R)
@@ -511,4 +544,4 @@ module _ {Setup R : Type 0} (rules : RecordRules R) (Answers : AnswersBy Setup R
       let knows = known rules Answers law numbers IsMoment first.node.ledger.held first last turns kept
       (begins rules IsMoment first at) told.0
       (moments_are IsMoment turns (λ now there. there)) run in
-      record { records = knows.records; are = knows.are; kept = knows.holds.disk }
+      record { records = knows.0; are = knows.1; kept = knows.2.disk }

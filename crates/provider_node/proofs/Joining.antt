@@ -15,7 +15,7 @@ use Rattle.record_ledger.specs.Ledger.{Held}
 use Rattle.provider_node.specs.Step.{AnswersBy, Provider, StepLeaves}
 use Rattle.provider_node.specs.Histories.{IsProviders}
 use Rattle.provider_node.specs.Joining.{EachImageGoesOn, GoesOn, InOpening, InServing, IsCutOf}
-use Rattle.provider_node.specs.Starts.{AreStarts, Cut, Goes, IsNext, IsServed, LeftBy, Served, Start, told_before}
+use Rattle.provider_node.specs.Starts.{AreStarts, Cut, Goes, InAnswer, IsNext, IsServed, LeftBy, Served, Start, told_before}
 
 -- a disk that was synced as an image
 settled_reads : (image : Image) → MayLeave (settled_image image) image
@@ -132,7 +132,7 @@ module _ {Setup R : Type 0} (rules : RecordRules R) (Answers : AnswersBy Setup R
         (InServing first cut.past cut.later cut.kept cut.last is_first cut.are cut.run)
         (served_next first cut.last cut.past cut.kept
         (record { opened = served.opened; at = served.at; tells = served.tells; run = cut.run }))
-        (inr (cut.request, cut.now, tt, cut.left))
+        (InAnswer cut.request cut.now tt cut.left)
 
   pub each_image_goes_on : (IsFirst : World (Provider Setup R) → Type 0) → EachImageGoesOn rules Answers IsFirst
   each_image_goes_on IsFirst start earlier before turns image were next ran (inl left) =

@@ -3,8 +3,6 @@ use Rattle.std.specs.Prelude.{IfSome, IsSome, Option, None, Some, Ok}
 use Rattle.std.proofs.Common.{◌≡◌, inl, inr, ℕ, List, [], ◌∷◌, ◌++◌, sym, subst, refl, ap, ◌∙◌}
 use Rattle.crash_disk.specs.Disk.{DiskState, Image, MayLeave, image_of}
 use Rattle.crash_disk.specs.Moments.{Leaves}
-use Rattle.conn_table.specs.Table.{Table}
-use Rattle.serve_loop.specs.Turns.{Turn}
 use Rattle.serve_loop.specs.Worlds.{World}
 use Rattle.record_ledger.specs.Rules.{RecordRules}
 use Rattle.record_ledger.specs.Ledger.{Held, LeftByOpening, ledger_in, migrated, taken}
@@ -14,8 +12,8 @@ use Rattle.record_ledger.specs.Runs.{Event, Adds, Opens, Leads}
 use Rattle.serve_loop.proofs.Telling.{goes_on_reading}
 use Rattle.provider_node.specs.Step.{AnswersBy, Provider, OwnsDisk, StepLeaves}
 use Rattle.provider_node.specs.Histories.{AnyMoment, Another, CameFrom, CompactsWhere, HoldsWhatCame, Includes, Nothing, StepOf, This}
-use Rattle.provider_node.specs.Starts.{AreAcknowledgedIn, AreKeptOver, AreKeptOverAt, AreStarts, AreStartsAt, Cut, IsNextAt, IsServed, LeftBehindAt, LeftByAt, OpensWhatCame, Served, Start}
-use Rattle.provider_node.proofs.Histories.{DrawsAbove, all_told, an_image, begins, came_itself, known, moments_are, step_left}
+use Rattle.provider_node.specs.Starts.{AreKeptOver, AreKeptOverAt, AreStarts, AreStartsAt, Behind, Cut, InAnswer, InCompaction, IsNextAt, LeftFromAt, OpensWhatCame, Served, StandsAsOpened, Start, Unopened}
+use Rattle.provider_node.proofs.Histories.{DrawsAbove, Holds, all_told, an_image, begins, came_itself, compaction_left, known, known_behind, moments_are, step_left}
 
 -- ---- one history behind another
 
@@ -108,6 +106,31 @@ held_on rules IsMoment start mid former latest image first (held, is, came) =
 module _ {Setup R : Type 0} (rules : RecordRules R) (Answers : AnswersBy Setup R) (law : ImagesHoldRecords rules)
     (numbers : DrawsAbove rules Answers) (IsMoment : ℕ → Type 0)
     (start : Held R) where
+  -- what may be left of a node that served
+  left_from : (last : World (Provider Setup R)) (records : List R) (i : Image) → IsSome last.disk
+      → IfSome last.disk (λ d. MayLeave d (image_of d)) → (first : Held R)
+      → Holds rules IsMoment first last records → LeftFromAt rules Answers IsMoment last i
+      → HoldsWhatCame rules IsMoment first records i
+  left_from last records i tells reads first holds (Behind left) = holds.disk i left
+  left_from last records i tells reads first holds (InAnswer request now moment left) =
+      step_left rules Answers law numbers IsMoment first records last request now moment i tells reads holds left
+  left_from last records i tells reads first holds (InCompaction now moment left) =
+      compaction_left rules Answers law numbers IsMoment first records last now moment i tells reads holds left
+
+  -- what is known of a ledger that is not opened, when it begins to serve
+  unopened : (first : World (Provider Setup R)) (records : List R) → OwnsDisk rules first.node first.disk
+      → StandsAsOpened rules first.disk
+      → ((i : Image) → Leaves first.disk i → OpensWhatCame rules IsMoment start records i)
+      → Holds rules IsMoment start first records
+  unopened first records own holds each = record {
+    own = own;
+    disk = λ image left.
+        let (held, is, stays) = holds image left in
+        let opens = each image left in
+        let same : opens.held ≡ held = (let e = sym opens.opens ∙ ap taken is in cc) in
+        (held, is, subst (CameFrom rules IsMoment start records) same opens.came);
+  }
+
   one_more : (one : Start (Provider Setup R)) (earlier : List (Start (Provider Setup R)))
       → IsNextAt rules Answers IsMoment start earlier one
       → AreKeptOverAt rules Answers IsMoment start earlier → AreKeptOverAt rules Answers IsMoment start (one ∷ earlier)
@@ -127,31 +150,38 @@ module _ {Setup R : Type 0} (rules : RecordRules R) (Answers : AnswersBy Setup R
       let told = all_told rules Answers first last turns kept served.tells served.run in
       let reads = goes_on_reading (OwnsDisk rules) (StepOf rules Answers) (StepLeaves rules Answers) first turns kept
       last served.run served.at.reads in
-      let knows = known rules Answers law numbers IsMoment mid first last turns kept
+      let (records, are, holds) = known rules Answers law numbers IsMoment mid first last turns kept
       (begins rules IsMoment first served.at) told.0
       (moments_are IsMoment turns next.goes.1) served.run in
       let (image, left) = an_image last.disk told.1 reads in
-      let (held, is, later) = knows.holds.disk image left in
+      let (held, is, later) = holds.disk image left in
       record {
-        records = knows.records ++ was.records;
-        are = (knows.records, was.records, knows.are, was.are, refl);
+        records = records ++ was.records;
+        are = (records, was.records, are, was.are, refl);
         kept =
-            λ i here. opens_held rules IsMoment start (knows.records ++ was.records) i
-            (held_on rules IsMoment start mid was.records knows.records i came
-            (left_in first last turns kept knows.records i told.1 reads knows.holds here));
-        history = (held, came_on rules IsMoment start mid held was.records knows.records came later);
+            λ i here. opens_held rules IsMoment start (records ++ was.records) i
+            (held_on rules IsMoment start mid was.records records i came
+            (left_from last records i told.1 reads mid holds here));
+        history = (held, came_on rules IsMoment start mid held was.records records came later);
       }
-    where
-      left_in : (first last : World (Provider Setup R)) (turns : List (Turn (Provider Setup R))) (kept : Table)
-          (records : List R) (i : Image) → IsSome last.disk
-          → IfSome last.disk (λ d. MayLeave d (image_of d))
-          → Rattle.provider_node.proofs.Histories.Holds rules IsMoment first.node.ledger.held last records
-          → Rattle.provider_node.specs.Starts.LeftByAt rules Answers IsMoment (Served before first turns kept last) i
-          → HoldsWhatCame rules IsMoment first.node.ledger.held records i
-      left_in first last turns kept records i tells reads holds (inl left) = holds.disk i left
-      left_in first last turns kept records i tells reads holds (inr (request, now, moment, left)) =
-          step_left rules Answers law numbers IsMoment first.node.ledger.held records last request now moment i tells
-          reads holds left
+  one_more (Unopened first turns kept last) earlier next was =
+      let goes = next.goes.0 in
+      let told = all_told rules Answers first last turns kept next.tells goes.run in
+      let reads = goes_on_reading (OwnsDisk rules) (StepOf rules Answers) (StepLeaves rules Answers) first turns kept
+      last goes.run next.reads in
+      let knows = known_behind rules Answers law numbers IsMoment start was.records first last turns kept
+      (unopened first was.records goes.own goes.holds (λ i left. was.kept i (next.left i left))) told.0
+      (moments_are IsMoment turns next.goes.1) goes.run in
+      let (image, left) = an_image last.disk told.1 reads in
+      let (held, is, came) = knows.holds.disk image left in
+      record {
+        records = knows.all;
+        are = (knows.records, was.records, knows.are, was.are, knows.joined);
+        kept =
+            λ i here. opens_held rules IsMoment start knows.all i
+            (left_from last knows.all i told.1 reads start knows.holds here);
+        history = (held, came);
+      }
 
   pub kept_over_at : (starts : List (Start (Provider Setup R))) → AreStartsAt rules Answers IsMoment start starts
       → AreKeptOverAt rules Answers IsMoment start starts

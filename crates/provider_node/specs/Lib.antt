@@ -1,6 +1,7 @@
 pub mod Calls
 pub mod Step
 pub mod Node
+pub mod Owning
 pub mod Drafted
 pub mod Replies
 pub mod Serving

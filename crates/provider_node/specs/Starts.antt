@@ -1,28 +1,42 @@
 -- What became of a ledger over several starts of its provider, with crashes between: each start opens what the one
 -- before it may have left.
-use Rattle.std.specs.Prelude.{◌≡◌, ◌⊎◌, ℕ, List, [], ◌∷◌, ◌++◌, Contains, Option, IfSome, IsSome, Ok}
+use Rattle.std.specs.Prelude.{◌≡◌, ℕ, true, List, [], ◌∷◌, ◌++◌, Contains, Option, Some, IfSome, IsSome, Ok}
 use Rattle.crash_disk.specs.Disk.{Image, DiskState, MayLeave, image_of}
 use Rattle.crash_disk.specs.Moments.{Leaves}
 use Rattle.conn_table.specs.Table.{Table}
 use Rattle.http_wire.specs.Requests.{Request}
-use Rattle.serve_loop.specs.Turns.{Turn, Run}
+use Rattle.serve_loop.specs.Turns.{Asked, Turn, Run, asked_in}
 use Rattle.serve_loop.specs.Worlds.{World}
 use Rattle.record_ledger.specs.Rules.{RecordRules}
-use Rattle.record_ledger.specs.Ledger.{Held, LeftByOpening, ledger_in, taken}
-use Rattle.provider_node.specs.Step.{AnswersBy, Provider, StepLeaves}
+use Rattle.record_ledger.specs.Ledger.{Held, LeftByOpening, ledger_in, migrated, taken}
+use Rattle.provider_node.specs.Node.{CompactionLeaves}
+use Rattle.provider_node.specs.Step.{AnswersBy, OwnsDisk, Provider, StepLeaves}
 use Rattle.provider_node.specs.Histories.{AnyMoment, AreAcknowledged, CameFrom, IsAtStart, IsProviders, moments_of}
 
--- A start of a node, with what its disk told before: it was cut inside the opening of its ledger; or it began in a
--- world, these turns were done, and it was cut or ended in another.
+-- A start of a node, with what its disk told before: it was cut inside the opening of its ledger, or could not open it;
+-- or it began in a world, these turns were done, and it was cut or ended in another. A node that runs and has no opened
+-- ledger, since it could not be opened again or made anew, goes on serving: its next request opens one.
 pub data Start (N : Type 0) : Type 0 where
   Cut : (before : Option DiskState) → Start N
   Served : (before : Option DiskState) (first : World N) (turns : List (Turn N)) (kept : Table) (last : World N)
       → Start N
+  Unopened : (first : World N) (turns : List (Turn N)) (kept : Table) (last : World N) → Start N
 
 -- what the disk told before
 abbrev pub told_before : {N : Type 0} → Start N → Option DiskState
 told_before (Cut before) = before
 told_before (Served before first turns kept last) = before
+told_before (Unopened first turns kept last) = first.disk
+
+-- the requests that a node was asked in starts, in order
+abbrev pub asked_at : {N : Type 0} → Start N → List (Asked N)
+asked_at (Cut before) = []
+asked_at (Served before first turns kept last) = asked_in turns
+asked_at (Unopened first turns kept last) = asked_in turns
+
+abbrev pub asked_over : {N : Type 0} → List (Start N) → List (Asked N)
+asked_over [] = []
+asked_over (one ∷ earlier) = asked_over earlier ++ asked_at one
 
 -- the ledger was opened from what the disk told, and then the turns were done
 pub record IsServed {Setup R : Type 0} (rules : RecordRules R) (Answers : AnswersBy Setup R)
@@ -31,6 +45,22 @@ pub record IsServed {Setup R : Type 0} (rules : RecordRules R) (Answers : Answer
   pub opened : IfSome before (λ d. taken (ledger_in rules (image_of d)) ≡ Ok first.node.ledger.held)
   pub at : IsAtStart rules first
   pub tells : IsSome first.disk
+  pub run : Run (IsProviders rules Answers) first turns kept last
+
+-- Whatever a crash leaves of a disk stands for a ledger that is opened as it stands there, in the version that is
+-- written.
+abbrev pub StandsAsOpened : {R : Type 0} → RecordRules R → Option DiskState → Type 0
+StandsAsOpened {R} rules told =
+    (image : Image) → Leaves told image
+    → (held : Held R) × (ledger_in rules image ≡ Ok (Some held)) × (migrated held ≡ held)
+
+-- the ledger is not opened, the disk is the node's own and holds one, and then the turns were done
+pub record IsUnopened {Setup R : Type 0} (rules : RecordRules R) (Answers : AnswersBy Setup R)
+    (first : World (Provider Setup R)) (turns : List (Turn (Provider Setup R))) (kept : Table)
+    (last : World (Provider Setup R)) : Type 0 where
+  pub is_broken : first.node.ledger.broken ≡ true
+  pub own : OwnsDisk rules first.node first.disk
+  pub holds : StandsAsOpened rules first.disk
   pub run : Run (IsProviders rules Answers) first turns kept last
 
 -- from the image a ledger is opened that came from another one by events, in which these records were added
@@ -48,21 +78,34 @@ module _ {Setup R : Type 0} (Answers : AnswersBy Setup R) where
   AreAcknowledgedIn (Served before first turns kept last ∷ earlier) records =
       (latest : List R) × (former : List R) × AreAcknowledged Answers turns latest × AreAcknowledgedIn earlier former ×
       (records ≡ latest ++ former)
+  AreAcknowledgedIn (Unopened first turns kept last ∷ earlier) records =
+      (latest : List R) × (former : List R) × AreAcknowledged Answers turns latest × AreAcknowledgedIn earlier former ×
+      (records ≡ latest ++ former)
 
--- `IsMoment` says of the moments of these starts, at each of which a request was asked.
+-- `IsMoment` says of the moments of these starts, at each of which a request was asked or a compaction was begun.
 module _ {Setup R : Type 0} (rules : RecordRules R) (Answers : AnswersBy Setup R) (IsMoment : ℕ → Type 0) where
   -- how a start goes
   abbrev pub GoesAt : Start (Provider Setup R) → Type 0
   GoesAt (Cut before) = Unit {0}
   GoesAt (Served before first turns kept last) =
       IsServed rules Answers before first turns kept last × ((now : ℕ) → Contains (moments_of turns) now → IsMoment now)
+  GoesAt (Unopened first turns kept last) =
+      IsUnopened rules Answers first turns kept last × ((now : ℕ) → Contains (moments_of turns) now → IsMoment now)
 
-  -- What a crash may leave of a start: inside the opening; behind the turns, or inside the answer to one request more.
+  -- What may be left of a node that served: behind its turns; inside the answer to one request more; inside a
+  -- compaction between two requests, or behind it.
+  pub data LeftFromAt (last : World (Provider Setup R)) (image : Image) : Type 0 where
+    Behind : Leaves last.disk image → LeftFromAt last image
+    InAnswer : (request : Request) (now : ℕ) → IsMoment now
+        → StepLeaves rules Answers last.node last.disk request now image → LeftFromAt last image
+    InCompaction : (now : ℕ) → IsMoment now → CompactionLeaves rules last.node last.disk now image
+        → LeftFromAt last image
+
+  -- What a crash may leave of a start: inside the opening, or once it served.
   abbrev pub LeftByAt : Start (Provider Setup R) → Image → Type 0
   LeftByAt (Cut before) image = LeftByOpening rules before image
-  LeftByAt (Served before first turns kept last) image =
-      Leaves last.disk image ⊎ ((request : Request) × (now : ℕ) × IsMoment now × StepLeaves rules Answers last.node
-      last.disk request now image)
+  LeftByAt (Served before first turns kept last) image = LeftFromAt last image
+  LeftByAt (Unopened first turns kept last) image = LeftFromAt last image
 
   -- what may be left behind starts, the latest first: at first an image from which this ledger is opened
   abbrev pub LeftBehindAt : (start : Held R) → List (Start (Provider Setup R)) → Image → Type 0

@@ -15,6 +15,7 @@ impl<R: Role> Node for ProviderNode<R> {
     ghost use Rattle.provider_node.specs.Calls.{OpeningLeaves};
     ghost use Rattle.provider_node.specs.Node.{MayOpen, Restarts, CompactionOf, CompactionLeaves};
     ghost use Rattle.provider_node.specs.Step.{OwnsDisk, StepsOnDisk, StepLeaves};
+    ghost use Rattle.provider_node.specs.Owning.{own_may_open};
 
     ghost own = { OwnsDisk R.rules };
 
@@ -33,6 +34,8 @@ impl<R: Role> Node for ProviderNode<R> {
         CompactionOf R.rules old disk now result new later };
 
     ghost compaction_leaves = { CompactionLeaves R.rules };
+
+    ghost own_may_open = { λ node disk. own_may_open R.rules disk node.ledger };
 
     fn answer<D: Disk>(&mut self, request: &HttpRequest<'_>, now: u64, disk: &mut D) -> Answer {
         if !R::is_broken(&self.ledger) {

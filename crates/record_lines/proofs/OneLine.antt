@@ -171,6 +171,7 @@ asker_visible (Some asker) =
     (all_cons (text_piece (codes "asker.request") asker.request) [] (text_visible (codes "asker.request") refl asker.request) refl)
 
 turn_visible : (turn : Turn) → AllVisible (turn_pieces turn)
+unfolding turn_pieces
 turn_visible turn =
     let indexes = map (text_piece (codes "turn.index")) turn.indexes in
     all_cons (text_piece (codes "turn") turn.peer) (text_piece (codes "turn.name") turn.name ∷ indexes) (text_visible (codes "turn") refl turn.peer)

@@ -5,7 +5,7 @@ use Rattle.ledger_records.specs.declared.sp_record.Left.{Left}
 use Rattle.ledger_records.specs.declared.sp_record.SpRecord.TheVariants as sp
 use Rattle.record_lines.specs.Escapes.{escaped}
 use Rattle.record_lines.specs.Instants.{day_at, instant}
-use Rattle.record_lines.specs.Lines.{Asker, Attributes, MaybeText, Secret, Secrets, Turns, shown, sp_line}
+use Rattle.record_lines.specs.Lines.{Asker, Attributes, MaybeText, Secret, Secrets, Turns, turn_pieces, shown, sp_line}
 
 -- the first moment, the last of the first leap day, and the first moment that has no written form
 first_moment : instant 0 ≡ codes "1970-01-01T00:00:00.000Z"
@@ -48,6 +48,7 @@ asker = refl
 turns : shown (Turns (record { peer = codes "b"; name = codes "alice"; indexes = [] }
     ∷ record { peer = codes "c"; name = codes "alice"; indexes = codes "_1" ∷ codes "_2" ∷ [] } ∷ []))
     ≡ codes " turn=b turn.name=alice turn=c turn.name=alice turn.index=_1 turn.index=_2"
+unfolding turn_pieces
 turns = refl
 
 -- a whole line

@@ -67,7 +67,7 @@ asker_pieces (Some asker) =
     text_piece (codes "asker.peer") asker.peer ∷ text_piece (codes "asker.request") asker.request ∷ []
 
 -- a provider that is asked, the name of the user, and each index
-abbrev pub turn_pieces : Turn → List (List ℕ)
+unfoldable pub turn_pieces : Turn → List (List ℕ)
 turn_pieces turn =
     text_piece (codes "turn") turn.peer ∷ text_piece (codes "turn.name") turn.name
     ∷ map (text_piece (codes "turn.index")) turn.indexes

@@ -17,12 +17,14 @@ fn put_texts(name: &[u8], texts: &Texts, line: &mut Blob) -> Result<(), NoMemory
 }
 
 /// Puts a turn: the provider, the name of the user, and each index.
+#[tactic(auto, unfolding(crate::specs::Lines::turn_pieces))]
 fn put_turn(turn: &Turn, line: &mut Blob) -> Result<(), NoMemory>
     ensures { OnOk result (line.new ≡ line.old ++ spaced (turn_pieces turn.now)) }
 {
     put_text(b"turn", turn.peer.as_str().as_bytes(), line)?;
     put_text(b"turn.name", turn.name.as_str().as_bytes(), line)?;
-    put_texts(b"turn.index", &turn.indexes, line)
+    put_texts(b"turn.index", &turn.indexes, line)?;
+    Ok(())
 }
 
 /// Puts turns.
@@ -42,7 +44,8 @@ pub(crate) fn put_asker(asker: &Option<Asker>, line: &mut Blob) -> Result<(), No
     match asker {
         Some(asker) => {
             put_text(b"asker.peer", asker.peer.as_str().as_bytes(), line)?;
-            put_text(b"asker.request", asker.request.as_str().as_bytes(), line)
+            put_text(b"asker.request", asker.request.as_str().as_bytes(), line)?;
+            Ok(())
         }
         None => Ok(()),
     }

@@ -1,1 +1,2 @@
 mod Usable
+mod Headlines

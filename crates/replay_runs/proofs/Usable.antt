@@ -1,17 +1,14 @@
 -- The deployment's providers can be started: their texts hold characters that a document may hold.
-use Rattle.std.specs.Prelude.{◌≡◌, ℕ, ◌≤◌, List, [], ◌∷◌, codes, true, length}
+use Rattle.std.specs.Prelude.{◌≡◌, codes}
 use Rattle.std.proofs.Common.{refl, sym, subst, lit≤}
-use Rattle.std.specs.List.{AllByRecursion, list_all}
-use Rattle.std.specs.Str.{encode_utf8_all}
 use lib.Utf8.{encode}
-use Rattle.xml_spec.specs.Characters.{IsText, is_char}
-use Rattle.peer_keys.specs.Peers.{differ}
+use Rattle.xml_spec.specs.Characters.{IsText}
 use Rattle.idp_rules.specs.Config as idp
 use Rattle.idp_rules.specs.declared.config.IdpConfig.{IdpConfig}
 use Rattle.sp_rules.specs.declared.config.SpConfig.{SpConfig}
 use Rattle.sp_server.specs.Config as sp
 use Rattle.idp_setup.proofs.Spelling.{users_are_texts}
-use Rattle.replay_runs.specs.Deployed.{IsIdpConfig, idp_config, peers, sp_config, users_text}
+use Rattle.replay_runs.specs.Deployed.{IsIdpConfig, sp_config, users_text}
 
 sp_entity : IsText (codes "urn:example:sp")
 unfolding encode

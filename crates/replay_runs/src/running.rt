@@ -1,6 +1,6 @@
 // Schedules are replayed over the deployment.
 
-ghost use Rattle.std.specs.Prelude.{◌≡◌, ◌≤◌, [], false, Some, IfOk, Err};
+ghost use Rattle.std.specs.Prelude.{◌≡◌, ◌≤◌, List, [], false, Some, IfOk, Err};
 ghost use Rattle.crash_disk.specs.Memory.{state_of};
 ghost use Rattle.saml_outside.specs.Counts.{Rose};
 ghost use Rattle.record_ledger.specs.Ledger.{ledger_in, taken};
@@ -8,16 +8,19 @@ ghost use Rattle.provider_node.specs.Step.{OwnsDisk};
 ghost use Rattle.request_ledger.specs.Record.{request_rules};
 ghost use Rattle.idp_ledger.specs.Record.{idp_rules};
 ghost use Rattle.replay_runs.specs.Deployed.{service_provider, IsIdpConfig};
-ghost use Rattle.replay_runs.specs.Runs.{AreStarted, Goes, IsStarted};
+ghost use Rattle.provider_node.specs.Starts.{Start};
+ghost use Rattle.idp_server.specs.Step as idp;
+ghost use Rattle.sp_server.specs.Step as sp;
+ghost use Rattle.replay_runs.specs.Runs.{AreStarted, Carries, Goes, IsStarted};
 
 use crate::deployed::{identity_provider, service_provider};
 use crash_disk::MemDisk;
-use idp_server::IdpNode;
+use idp_server::{IdpNode, IdpRole};
 use owned_values::NoMemory;
 use saml_outside::Sink;
 use schedule_replay::{ReplayFault, Tally, replay};
 use schedules::Schedule;
-use sp_server::SpNode;
+use sp_server::{SpNode, SpRole};
 use std::alloc::Global;
 
 /// Lets no call of a disk fail or stop it, but by a schedule.
@@ -89,10 +92,17 @@ pub fn replay_deployed<K: Sink>(
     quiet: bool,
     out: &mut K,
 ) -> Result<Tally, ReplayFault>
-    ensures goes { Goes schedule.now quiet result (K.taken out.old) (K.taken out.new) }
+    // It goes so, with these starts of the two providers; and the whole sentence holds of them.
+    ensures goes { (sp_starts : List (Start sp.Provider)) × (idp_starts : List (Start idp.Provider))
+        × Goes schedule.now quiet sp_starts idp_starts result (K.taken out.old) (K.taken out.new)
+        × Carries sp_starts idp_starts }
     ensures write_fault { result ≡ Err ReplayFault.WriteFault → Rose (K.faults_of out.old) (K.faults_of out.new) }
     ensures never_falls { K.faults_of out.old ≤ K.faults_of out.new }
 {
+    replay_starts::laws::a_replay_is_starts::<SpRole, IdpRole>();
+    request_ledger::laws::images_hold_records();
+    idp_ledger::laws::images_hold_records();
+    both_providers::the_headline_holds_of_both();
     let mut sp_disk = MemDisk::new(alloc);
     let mut idp_disk = MemDisk::new(alloc);
     let (mut sp, mut idp) = match start_both(alloc, &mut sp_disk, &mut idp_disk) {

@@ -61,7 +61,7 @@ module _ (files : List File) (file bytes : List ℕ) (steps : List Step) (held :
       → EndsAfter ran (OfFile (OfSchedule file) (Some files) file MAX_SCHEDULE_LENGTH) old new status
       → (status ≡ statuses.ReadFault → ⊥) → (status ≡ statuses.WriteFault → ⊥) → IsDone status
   after Unserved did old new status e no_read no_write = ends old new status e no_read no_write
-  after (RanReplay done quiet result) did old new status e no_read no_write = replayed result status e.0 no_write
+  after (RanReplay done quiet sp_starts idp_starts result) did old new status e no_read no_write = replayed result status e.0 no_write
   after (RanSp turns result) did old new status e no_read no_write = absurd did
   after (RanIdp turns result) did old new status e no_read no_write = absurd did
 

@@ -48,7 +48,7 @@ weaker_after (RanSp turns (Ok ended)) P Q old new status f h = (h.0, weaker P Q 
 weaker_after (RanSp turns (Err fault)) P Q old new status f h = h
 weaker_after (RanIdp turns (Ok ended)) P Q old new status f h = (h.0, weaker P Q old new status f h.1)
 weaker_after (RanIdp turns (Err fault)) P Q old new status f h = h
-weaker_after (RanReplay steps quiet result) P Q old new status f h = h
+weaker_after (RanReplay steps quiet sp_starts idp_starts result) P Q old new status f h = h
 
 -- a command of the words is what the program does
 pub done : (left : ℕ → Image → Type 0) (words : List (List ℕ)) (told : Option (List File)) (command : Command) → command_of words ≡ Some command →

@@ -8,6 +8,7 @@ use Rattle.schedules.specs.declared.step.Step.{Step}
 use Rattle.schedule_replay.specs.declared.fault.ReplayFault.{ReplayFault}
 use Rattle.schedule_replay.specs.declared.fault.ReplayFault.TheVariants as faults
 use Rattle.schedule_replay.specs.declared.tally.Tally.{Tally}
+use Rattle.replay_runs.specs.Runs.{Carries}
 use Rattle.saml_commands.specs.declared.status.Status.{Status}
 use Rattle.saml_commands.specs.declared.status.Status.TheVariants as statuses
 use Rattle.saml_commands.specs.Answers.{Answer, BadFile}
@@ -27,20 +28,22 @@ OfSchedule file bytes answer = MatchResult (schedule bytes) (λ steps. ⊥) (λ 
 abbrev pub IsSchedule : Option (List File) → List ℕ → List Step → Type 0
 IsSchedule told file steps = (bytes : List ℕ) × Reads told file MAX_SCHEDULE_LENGTH reads.Whole bytes × (schedule bytes ≡ Ok steps)
 
--- these steps were replayed, or nothing was
+-- these steps were replayed, or nothing was; over what was replayed the whole sentence is carried
 abbrev pub DidReplay : List Step → Bool → Ran → Type 0
 DidReplay steps quiet Unserved = Unit {0}
-DidReplay steps quiet (RanReplay done silent result) = (done ≡ steps) × (silent ≡ quiet)
+DidReplay steps quiet (RanReplay done silent sp_starts idp_starts result) = (done ≡ steps) × (silent ≡ quiet) × Carries sp_starts idp_starts
 DidReplay steps quiet ran = ⊥
 
 -- the schedule of these bytes was replayed, or nothing was
 abbrev pub DidReplayText : List ℕ → Ran → Type 0
 DidReplayText bytes Unserved = Unit {0}
-DidReplayText bytes (RanReplay steps silent result) = (schedule bytes ≡ Ok steps) × (silent ≡ false)
+DidReplayText bytes (RanReplay steps silent sp_starts idp_starts result) =
+    (schedule bytes ≡ Ok steps) × (silent ≡ false) × Carries sp_starts idp_starts
 DidReplayText bytes ran = ⊥
 
 -- the schedule in this file was replayed, or nothing was
 abbrev pub DidReplayFile : Option (List File) → List ℕ → Ran → Type 0
 DidReplayFile told file Unserved = Unit {0}
-DidReplayFile told file (RanReplay steps silent result) = IsSchedule told file steps × (silent ≡ false)
+DidReplayFile told file (RanReplay steps silent sp_starts idp_starts result) =
+    IsSchedule told file steps × (silent ≡ false) × Carries sp_starts idp_starts
 DidReplayFile told file ran = ⊥

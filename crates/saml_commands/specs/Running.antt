@@ -19,6 +19,7 @@ use Rattle.schedules.specs.Made.{made}
 use Rattle.schedules.specs.declared.step.Step.{Step}
 use Rattle.schedules.specs.declared.make.TheConstants.{MOST_LOGINS}
 use Rattle.schedules.specs.declared.read.TheConstants.{MAX_SCHEDULE_LENGTH}
+use Rattle.replay_runs.specs.Runs as replay
 use Rattle.replay_runs.specs.Runs.{Goes}
 use Rattle.saml_commands.specs.declared.status.Status.{Status}
 use Rattle.saml_commands.specs.declared.status.Status.TheVariants as statuses
@@ -113,8 +114,9 @@ DoesCommand left told (Sp config events) before (RanSp turns result) after = sp.
 DoesCommand left told (Sp config events) before ran after = ⊥
 DoesCommand left told (Idp config events) before (RanIdp turns result) after = idp.Runs left told config events before turns result after
 DoesCommand left told (Idp config events) before ran after = ⊥
-DoesCommand left told (Replay file) before (RanReplay steps quiet result) after = IsSchedule told file steps × (quiet ≡ false) × (after ≡ before)
-DoesCommand left told (Make logins start) before (RanReplay steps quiet result) after =
+DoesCommand left told (Replay file) before (RanReplay steps quiet sp_starts idp_starts result) after =
+    IsSchedule told file steps × (quiet ≡ false) × (after ≡ before)
+DoesCommand left told (Make logins start) before (RanReplay steps quiet sp_starts idp_starts result) after =
     (steps ≡ made logins start) × (quiet ≡ true) × (after ≡ before)
 DoesCommand left told other before ran after = (ran ≡ Unserved) × (after ≡ before)
 
@@ -128,10 +130,13 @@ Does left words told before ran after =
 -- identity provider ended them, for good. Where it ran an identity provider, each Assertion was issued to a user with a password or a
 -- session, each signed element is one of a record that was durable before it was sent, and sessions were ended exactly where their
 -- users left them or a peer ended them, for good. What an answer of either acknowledged is from then on, also inside later requests, in
--- every image that a crash might leave.
+-- every image that a crash might leave. Where it replayed a schedule, over both providers: the whole sentence that joins them.
 abbrev pub CommandCarries : (left : ℕ → Image → Type 0) → Option (List File) → Command → Outside → Ran → Outside → Type 0
 CommandCarries left told (Sp config events) before (RanSp turns result) after = sp_headline.Headline left told config before turns after
 CommandCarries left told (Idp config events) before (RanIdp turns result) after = idp_headline.Headline left told config before turns after
+CommandCarries left told (Replay file) before (RanReplay steps quiet sp_starts idp_starts result) after = replay.Carries sp_starts idp_starts
+CommandCarries left told (Make logins start) before (RanReplay steps quiet sp_starts idp_starts result) after =
+    replay.Carries sp_starts idp_starts
 CommandCarries left told command before ran after = Unit {0}
 
 abbrev pub Carries : (left : ℕ → Image → Type 0) → List (List ℕ) → Option (List File) → Outside → Ran → Outside → Type 0
@@ -182,7 +187,8 @@ EndsAfter (RanSp turns (Ok ended)) meaning old new status = (status ≢ statuses
 EndsAfter (RanSp turns (Err fault)) meaning old new status = (status ≡ status_of_fault fault) × Prints old new []
 EndsAfter (RanIdp turns (Ok ended)) meaning old new status = (status ≢ statuses.ReadFault) × EndsWith meaning old new status
 EndsAfter (RanIdp turns (Err fault)) meaning old new status = (status ≡ status_of_fault fault) × Prints old new []
-EndsAfter (RanReplay steps quiet result) meaning old new status = (status ≡ status_of_replay result) × Goes steps quiet result old new
+EndsAfter (RanReplay steps quiet sp_starts idp_starts result) meaning old new status =
+    (status ≡ status_of_replay result) × Goes steps quiet sp_starts idp_starts result old new
 
 -- the command serves
 abbrev pub DoesServe : Option Command → Type 0

@@ -9,6 +9,7 @@ use Rattle.idp_runs.specs.Runs as idp
 use Rattle.idp_server.specs.Step as idp_steps
 use Rattle.sp_runs.specs.Runs as sp
 use Rattle.sp_server.specs.Step as sp_steps
+use Rattle.provider_node.specs.Starts.{Start}
 use Rattle.provider_run.specs.declared.ended.Ended.{Ended}
 use Rattle.provider_run.specs.declared.ended.Ended.TheVariants as ends
 use Rattle.provider_run.specs.declared.ended.RunFault.{RunFault}
@@ -21,19 +22,21 @@ use Rattle.saml_commands.specs.declared.status.Status.TheVariants as statuses
 use Rattle.saml_commands.specs.Answers.{Answer, Printed, BadFile, Foreign}
 
 -- What the program did beside its answer: nothing was served, or a service provider or an identity provider was run, with these
--- turns, and came to this; or a schedule of these steps was replayed, and came to that.
+-- turns, and came to this; or a schedule of these steps was replayed over two providers, which are these starts of either, and came to
+-- that.
 pub data Ran : Type 0 where
   Unserved : Ran
   RanSp : (turns : List (Turn sp_steps.Provider)) (result : Result Ended RunFault) → Ran
   RanIdp : (turns : List (Turn idp_steps.Provider)) (result : Result Ended RunFault) → Ran
-  RanReplay : (steps : List Step) (quiet : Bool) (result : Result Tally ReplayFault) → Ran
+  RanReplay : (steps : List Step) (quiet : Bool) (sp_starts : List (Start sp_steps.Provider)) (idp_starts : List (Start idp_steps.Provider))
+      (result : Result Tally ReplayFault) → Ran
 
 -- What a crash at a moment of that may leave of the disk: what it might leave before, or what one inside the run of the provider may.
 abbrev pub RanLeaves : Option DiskState → Ran → Image → Type 0
 RanLeaves disk Unserved image = Leaves disk image
 RanLeaves disk (RanSp turns result) image = sp.RunLeaves disk turns image
 RanLeaves disk (RanIdp turns result) image = idp.RunLeaves disk turns image
-RanLeaves disk (RanReplay steps quiet result) image = Leaves disk image
+RanLeaves disk (RanReplay steps quiet sp_starts idp_starts result) image = Leaves disk image
 
 -- why serving ended: the link gave Stop, or the budget was used up
 abbrev pub why_ended : Bool → List ℕ
@@ -57,7 +60,7 @@ OfRun (RanSp turns (Ok ended)) answer = answer ≡ answer_of ended
 OfRun (RanSp turns (Err fault)) answer = ⊥
 OfRun (RanIdp turns (Ok ended)) answer = answer ≡ answer_of ended
 OfRun (RanIdp turns (Err fault)) answer = ⊥
-OfRun (RanReplay steps quiet result) answer = ⊥
+OfRun (RanReplay steps quiet sp_starts idp_starts result) answer = ⊥
 
 -- the status of such a run
 abbrev pub status_of_fault : RunFault → Status

@@ -27,7 +27,9 @@
 //! form opens one, each of a login that was signed, and no two of one request; with `idp` each Assertion is issued to a
 //! user with a password or a session, and each signed element is one of a record that was durable before it was sent;
 //! with either, where the disk tells, each image that a crash might leave since a point of the service, also inside
-//! later requests, has in its history the records for which the answers up to that point stand.
+//! later requests, has in its history the records for which the answers up to that point stand. With `replay` and
+//! `make` the whole sentence that joins both providers holds of what was replayed, restarts, stops and failures of the
+//! disks and compactions included (`Carries` of replay_runs).
 #![tactic(auto)]
 
 mod answer;

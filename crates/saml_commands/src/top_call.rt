@@ -272,7 +272,8 @@ pub fn run<L: Link, D: Disk, C: Clock, F: Files, K: Sink>(
 ) -> Status
     // What was done is what the words ask for: a service provider opened sessions exactly where a posted form opens one, each of a
     // login that was signed, and no two of one request; an identity provider issued each Assertion to a user with a password or a
-    // session, and signed nothing but what its durable records stand for. From each point of either's service on, also inside later
+    // session, and signed nothing but what its durable records stand for. Of a schedule that was replayed the whole sentence holds
+    // that joins both providers. From each point of either's service on, also inside later
     // requests, each image that a crash might leave has in its history the records for which the answers up to that point stand, where
     // the disk tells. What was answered is what the words ask for, and a crash at any moment leaves of the disk what one inside the
     // opening of a ledger or inside an answer may leave.

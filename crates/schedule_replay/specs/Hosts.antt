@@ -102,10 +102,12 @@ module _ {N : Type 0} (rules : Rules N) where
     pub does : Does (IsAnswered rules.own rules.step rules.leaves) before.kept (world_of now before) turn after.kept (world_of now after)
     pub leaves : Leaving before after (MightLeave rules.leaves (told before) (turn ∷ []))
 
-  -- A restart: the node opens what its disk holds, and its connections are gone.
+  -- A restart: the node opens what its disk holds, and its connections are gone. The disk is its own then, also where it could not
+  -- open it.
   pub record Restarts (before : Host N) (result : Result (Unit {0}) OpenFault) (after : Host N) : Type 0 where
     pub does : rules.reopens before.node (told before) before.disk.faults after.disk.faults result after.node (told after)
     pub leaves : Leaving before after (rules.reopening_leaves before.node (told before))
+    pub owns : rules.own after.node (told after)
     pub faults : CausesFaults result before.disk.faults after.disk.faults
     pub gone : after.kept ≡ map.empty
 
@@ -113,6 +115,7 @@ module _ {N : Type 0} (rules : Rules N) where
   pub record Compacts (now : ℕ) (before : Host N) (result : Result (Unit {0}) OpenFault) (after : Host N) : Type 0 where
     pub does : rules.compacts before.node (told before) now before.disk.faults after.disk.faults result after.node (told after)
     pub leaves : Leaving before after (rules.compaction_leaves before.node (told before) now)
+    pub owns : rules.own after.node (told after)
     pub faults : CausesFaults result before.disk.faults after.disk.faults
     pub kept : after.kept ≡ before.kept
 

@@ -178,7 +178,6 @@ impl<N: Node> HeldHost<'_, '_, N> {
     /// Starts the node from what its disk holds; how that ended, in a word.
     fn restart(&mut self, alloc: Global) -> Result<&'static str, NoMemory>
         requires own { N.own self.old.node.now (Some (state_of self.old.disk.now)) }
-        requires opens { (node : N) (disk : Option DiskState) → N.own node disk → N.may_open disk }
         ensures restarts { IfOk result
             (λ shown. (outcome : Result (Unit {0}) OpenFault) × (outcome ≢ Err OpenFault.NoMemory)
             × (shown.now ≡ result_words (codes "restart") outcome) × Restarts
@@ -200,7 +199,6 @@ impl<N: Node> HeldHost<'_, '_, N> {
     /// Starts a disk again that stopped, and then the node.
     fn recover(&mut self, alloc: Global) -> Result<(), NoMemory>
         requires own { N.own self.old.node.now (Some (state_of self.old.disk.now)) }
-        requires opens { (node : N) (disk : Option DiskState) → N.own node disk → N.may_open disk }
         ensures recovers { OnOk result
             (Recovers (rules N.own N.step N.leaves N.reopens N.reopening_leaves N.compacts N.compaction_leaves)
             (host_in self.old) (host_in self.new)) }
@@ -221,7 +219,6 @@ impl<N: Node> HeldHost<'_, '_, N> {
         now: u64,
     ) -> Result<Option<Option<Reply>>, NoMemory>
         requires own { N.own self.old.node.now (Some (state_of self.old.disk.now)) }
-        requires opens { (node : N) (disk : Option DiskState) → N.own node disk → N.may_open disk }
         ensures brings { IfOk result
             (λ reply. Brings (rules N.own N.step N.leaves N.reopens N.reopening_leaves N.compacts N.compaction_leaves)
             now conn piece.now (host_in self.old) (brought_view reply) (host_in self.new)) }
@@ -239,7 +236,6 @@ impl<N: Node> HeldHost<'_, '_, N> {
     /// Starts the node, as a schedule asks for; how that ended, none where the disk stopped in it.
     pub(crate) fn start_again(&mut self, alloc: Global) -> Result<Option<&'static str>, NoMemory>
         requires own { N.own self.old.node.now (Some (state_of self.old.disk.now)) }
-        requires opens { (node : N) (disk : Option DiskState) → N.own node disk → N.may_open disk }
         ensures ends { IfOk result (λ shown. (outcome : Option (Result (Unit {0}) OpenFault))
             × (text_view shown ≡ option_map (result_words (codes "restart")) outcome) × RestartEnds
             (rules N.own N.step N.leaves N.reopens N.reopening_leaves N.compacts N.compaction_leaves)
@@ -281,7 +277,6 @@ impl<N: Node> HeldHost<'_, '_, N> {
         now: u64,
     ) -> Result<Option<&'static str>, NoMemory>
         requires own { N.own self.old.node.now (Some (state_of self.old.disk.now)) }
-        requires opens { (node : N) (disk : Option DiskState) → N.own node disk → N.may_open disk }
         ensures ends { IfOk result (λ shown. (outcome : Option (Result (Unit {0}) OpenFault))
             × (text_view shown ≡ option_map (result_words (codes "compact")) outcome)
             × CompactionEnds (rules N.own N.step N.leaves N.reopens N.reopening_leaves N.compacts N.compaction_leaves)

@@ -18,8 +18,9 @@
 //! A contract sees a deployment (`specs/Deployments.antt`): the clock, each node with its disk and its connections
 //! (`specs/Hosts.antt`), what each agent keeps, and what was counted. `Does` of `specs/Steps.antt` says what each step of
 //! the grammar does and prints, in the words of the nodes' own contracts and of serve_loop's turns; `Replays` is the run
-//! of the first so many steps, and `Ends` of `specs/Runs.antt` says how [`replay`] ended and what it printed. Nothing is
-//! assumed of the nodes but their contract, and that a disk of theirs can be opened again whatever a crash left.
+//! of the first so many steps, and `Ends` of `specs/Runs.antt` says how [`replay`] ended and what it printed;
+//! `specs/Asked.antt` lists the requests that the nodes were asked in a run. Nothing is assumed of the nodes but their
+//! contract.
 //!
 //! [`replay`] answers [`ReplayFault::WriteFault`] only where the sink's count of faults rose. [`ReplayFault::NoMemory`]
 //! may come in place of any answer; it comes where a disk found no memory, before the lines of that step are printed.
@@ -47,4 +48,5 @@ mod words;
 
 pub use fault::ReplayFault;
 pub use running::replay;
+pub use sending::Sending;
 pub use tally::Tally;

@@ -66,8 +66,6 @@ impl<S: Node, P: Node> Stage<'_, '_, '_, '_, S, P> {
             (rules S.own S.step S.leaves S.reopens S.reopening_leaves S.compacts S.compaction_leaves)
             (rules P.own P.step P.leaves P.reopens P.reopening_leaves P.compacts P.compaction_leaves)
             (stage_in self.old) }
-        requires sp_opens { (node : S) (disk : Option DiskState) → S.own node disk → S.may_open disk }
-        requires idp_opens { (node : P) (disk : Option DiskState) → P.own node disk → P.may_open disk }
         ensures ok { OnOk result
             ((after : Deployment _ _) × Does
             (rules S.own S.step S.leaves S.reopens S.reopening_leaves S.compacts S.compaction_leaves)
@@ -105,8 +103,6 @@ impl<S: Node, P: Node> Stage<'_, '_, '_, '_, S, P> {
             (rules S.own S.step S.leaves S.reopens S.reopening_leaves S.compacts S.compaction_leaves)
             (rules P.own P.step P.leaves P.reopens P.reopening_leaves P.compacts P.compaction_leaves)
             (stage_in self.old) }
-        requires sp_opens { (node : S) (disk : Option DiskState) → S.own node disk → S.may_open disk }
-        requires idp_opens { (node : P) (disk : Option DiskState) → P.own node disk → P.may_open disk }
         requires few { length steps.now < 2 ^ 63 }
         ensures ok { OnOk result
             ((text : List ℕ) × Replays
@@ -150,8 +146,6 @@ impl<S: Node, P: Node> Stage<'_, '_, '_, '_, S, P> {
             (rules S.own S.step S.leaves S.reopens S.reopening_leaves S.compacts S.compaction_leaves)
             (rules P.own P.step P.leaves P.reopens P.reopening_leaves P.compacts P.compaction_leaves)
             (stage_in self.old) }
-        requires sp_opens { (node : S) (disk : Option DiskState) → S.own node disk → S.may_open disk }
-        requires idp_opens { (node : P) (disk : Option DiskState) → P.own node disk → P.may_open disk }
         requires few { length steps.now < 2 ^ 63 }
         ensures ends { Ends (rules S.own S.step S.leaves S.reopens S.reopening_leaves S.compacts S.compaction_leaves)
             (rules P.own P.step P.leaves P.reopens P.reopening_leaves P.compacts P.compaction_leaves) steps.now quiet
@@ -197,9 +191,6 @@ pub fn replay<S: Node, P: Node, K: Sink>(
 ) -> Result<Tally, ReplayFault>
     requires sp_own { S.own sp.old (Some (state_of sp_disk.old)) }
     requires idp_own { P.own idp.old (Some (state_of idp_disk.old)) }
-    // What is a node's own may be opened again, whatever a crash left.
-    requires sp_opens { (node : S) (disk : Option DiskState) → S.own node disk → S.may_open disk }
-    requires idp_opens { (node : P) (disk : Option DiskState) → P.own node disk → P.may_open disk }
     ensures ends { Ends (rules S.own S.step S.leaves S.reopens S.reopening_leaves S.compacts S.compaction_leaves)
         (rules P.own P.step P.leaves P.reopens P.reopening_leaves P.compacts P.compaction_leaves) schedule.now quiet
         (beginning (alone sp.old sp_disk.old) (alone idp.old idp_disk.old)) result

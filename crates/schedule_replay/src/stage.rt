@@ -79,8 +79,6 @@ impl<S: Node, P: Node> Stage<'_, '_, '_, '_, S, P> {
             (rules S.own S.step S.leaves S.reopens S.reopening_leaves S.compacts S.compaction_leaves)
             (rules P.own P.step P.leaves P.reopens P.reopening_leaves P.compacts P.compaction_leaves)
             (stage_in self.old) }
-        requires sp_opens { (node : S) (disk : Option DiskState) → S.own node disk → S.may_open disk }
-        requires idp_opens { (node : P) (disk : Option DiskState) → P.own node disk → P.may_open disk }
         ensures brings { IfOk result
             (λ reply. OnSite site
             (λ old new. Brings
@@ -144,8 +142,6 @@ impl<S: Node, P: Node> Stage<'_, '_, '_, '_, S, P> {
             (rules S.own S.step S.leaves S.reopens S.reopening_leaves S.compacts S.compaction_leaves)
             (rules P.own P.step P.leaves P.reopens P.reopening_leaves P.compacts P.compaction_leaves)
             (stage_in self.old) }
-        requires sp_opens { (node : S) (disk : Option DiskState) → S.own node disk → S.may_open disk }
-        requires idp_opens { (node : P) (disk : Option DiskState) → P.own node disk → P.may_open disk }
         ensures ok { OnOk result
             (Arrives (rules S.own S.step S.leaves S.reopens S.reopening_leaves S.compacts S.compaction_leaves)
             (rules P.own P.step P.leaves P.reopens P.reopening_leaves P.compacts P.compaction_leaves) number
@@ -175,8 +171,6 @@ impl<S: Node, P: Node> Stage<'_, '_, '_, '_, S, P> {
             (rules S.own S.step S.leaves S.reopens S.reopening_leaves S.compacts S.compaction_leaves)
             (rules P.own P.step P.leaves P.reopens P.reopening_leaves P.compacts P.compaction_leaves)
             (stage_in self.old) }
-        requires sp_opens { (node : S) (disk : Option DiskState) → S.own node disk → S.may_open disk }
-        requires idp_opens { (node : P) (disk : Option DiskState) → P.own node disk → P.may_open disk }
         ensures ok { OnOk result
             (ArrivesAt (rules S.own S.step S.leaves S.reopens S.reopening_leaves S.compacts S.compaction_leaves)
             (rules P.own P.step P.leaves P.reopens P.reopening_leaves P.compacts P.compaction_leaves) number at size
@@ -252,8 +246,6 @@ impl<S: Node, P: Node> Stage<'_, '_, '_, '_, S, P> {
             (rules S.own S.step S.leaves S.reopens S.reopening_leaves S.compacts S.compaction_leaves)
             (rules P.own P.step P.leaves P.reopens P.reopening_leaves P.compacts P.compaction_leaves)
             (stage_in self.old) }
-        requires sp_opens { (node : S) (disk : Option DiskState) → S.own node disk → S.may_open disk }
-        requires idp_opens { (node : P) (disk : Option DiskState) → P.own node disk → P.may_open disk }
         ensures ok { OnOk result
             ((rounds : ℕ) × (max (length_of (sending_view first.entry))
             (length_of (sending_view second.entry)) ≤ rounds * size)
@@ -289,8 +281,6 @@ impl<S: Node, P: Node> Stage<'_, '_, '_, '_, S, P> {
             (rules S.own S.step S.leaves S.reopens S.reopening_leaves S.compacts S.compaction_leaves)
             (rules P.own P.step P.leaves P.reopens P.reopening_leaves P.compacts P.compaction_leaves)
             (stage_in self.old) }
-        requires sp_opens { (node : S) (disk : Option DiskState) → S.own node disk → S.may_open disk }
-        requires idp_opens { (node : P) (disk : Option DiskState) → P.own node disk → P.may_open disk }
         ensures ok { OnOk result
             (Exchanges (rules S.own S.step S.leaves S.reopens S.reopening_leaves S.compacts S.compaction_leaves)
             (rules P.own P.step P.leaves P.reopens P.reopening_leaves P.compacts P.compaction_leaves) number size
@@ -330,8 +320,6 @@ impl<S: Node, P: Node> Stage<'_, '_, '_, '_, S, P> {
             (rules S.own S.step S.leaves S.reopens S.reopening_leaves S.compacts S.compaction_leaves)
             (rules P.own P.step P.leaves P.reopens P.reopening_leaves P.compacts P.compaction_leaves)
             (stage_in self.old) }
-        requires sp_opens { (node : S) (disk : Option DiskState) → S.own node disk → S.may_open disk }
-        requires idp_opens { (node : P) (disk : Option DiskState) → P.own node disk → P.may_open disk }
         ensures ends { IfOk result (λ shown. (outcome : Option (Result (Unit {0}) OpenFault))
             × (text_view shown ≡ option_map (result_words (codes "restart")) outcome)
             × OnSite site (λ old new. RestartEnds
@@ -357,8 +345,6 @@ impl<S: Node, P: Node> Stage<'_, '_, '_, '_, S, P> {
             (rules S.own S.step S.leaves S.reopens S.reopening_leaves S.compacts S.compaction_leaves)
             (rules P.own P.step P.leaves P.reopens P.reopening_leaves P.compacts P.compaction_leaves)
             (stage_in self.old) }
-        requires sp_opens { (node : S) (disk : Option DiskState) → S.own node disk → S.may_open disk }
-        requires idp_opens { (node : P) (disk : Option DiskState) → P.own node disk → P.may_open disk }
         ensures ok { OnOk result
             (RestartsAt (rules S.own S.step S.leaves S.reopens S.reopening_leaves S.compacts S.compaction_leaves)
             (rules P.own P.step P.leaves P.reopens P.reopening_leaves P.compacts P.compaction_leaves) number site
@@ -380,8 +366,6 @@ impl<S: Node, P: Node> Stage<'_, '_, '_, '_, S, P> {
             (rules S.own S.step S.leaves S.reopens S.reopening_leaves S.compacts S.compaction_leaves)
             (rules P.own P.step P.leaves P.reopens P.reopening_leaves P.compacts P.compaction_leaves)
             (stage_in self.old) }
-        requires sp_opens { (node : S) (disk : Option DiskState) → S.own node disk → S.may_open disk }
-        requires idp_opens { (node : P) (disk : Option DiskState) → P.own node disk → P.may_open disk }
         ensures ends { IfOk result (λ shown. (outcome : Option (Result (Unit {0}) OpenFault))
             × (text_view shown ≡ option_map (result_words (codes "compact")) outcome)
             × OnSite site (λ old new. CompactionEnds
@@ -408,8 +392,6 @@ impl<S: Node, P: Node> Stage<'_, '_, '_, '_, S, P> {
             (rules S.own S.step S.leaves S.reopens S.reopening_leaves S.compacts S.compaction_leaves)
             (rules P.own P.step P.leaves P.reopens P.reopening_leaves P.compacts P.compaction_leaves)
             (stage_in self.old) }
-        requires sp_opens { (node : S) (disk : Option DiskState) → S.own node disk → S.may_open disk }
-        requires idp_opens { (node : P) (disk : Option DiskState) → P.own node disk → P.may_open disk }
         ensures ok { OnOk result
             (CompactsAt (rules S.own S.step S.leaves S.reopens S.reopening_leaves S.compacts S.compaction_leaves)
             (rules P.own P.step P.leaves P.reopens P.reopening_leaves P.compacts P.compaction_leaves) number site

@@ -66,8 +66,6 @@ impl<S: Node, P: Node> Stage<'_, '_, '_, '_, S, P> {
             (rules S.own S.step S.leaves S.reopens S.reopening_leaves S.compacts S.compaction_leaves)
             (rules P.own P.step P.leaves P.reopens P.reopening_leaves P.compacts P.compaction_leaves)
             (stage_in self.old) }
-        requires sp_opens { (node : S) (disk : Option DiskState) → S.own node disk → S.may_open disk }
-        requires idp_opens { (node : P) (disk : Option DiskState) → P.own node disk → P.may_open disk }
         ensures ok { OnOk result
             (spec.Requests (rules S.own S.step S.leaves S.reopens S.reopening_leaves S.compacts S.compaction_leaves)
             (rules P.own P.step P.leaves P.reopens P.reopening_leaves P.compacts P.compaction_leaves) number
@@ -96,8 +94,6 @@ impl<S: Node, P: Node> Stage<'_, '_, '_, '_, S, P> {
             (rules S.own S.step S.leaves S.reopens S.reopening_leaves S.compacts S.compaction_leaves)
             (rules P.own P.step P.leaves P.reopens P.reopening_leaves P.compacts P.compaction_leaves)
             (stage_in self.old) }
-        requires sp_opens { (node : S) (disk : Option DiskState) → S.own node disk → S.may_open disk }
-        requires idp_opens { (node : P) (disk : Option DiskState) → P.own node disk → P.may_open disk }
         ensures ok { OnOk result
             (spec.RequestsTwo
             (rules S.own S.step S.leaves S.reopens S.reopening_leaves S.compacts S.compaction_leaves)
@@ -126,8 +122,6 @@ impl<S: Node, P: Node> Stage<'_, '_, '_, '_, S, P> {
             (rules S.own S.step S.leaves S.reopens S.reopening_leaves S.compacts S.compaction_leaves)
             (rules P.own P.step P.leaves P.reopens P.reopening_leaves P.compacts P.compaction_leaves)
             (stage_in self.old) }
-        requires sp_opens { (node : S) (disk : Option DiskState) → S.own node disk → S.may_open disk }
-        requires idp_opens { (node : P) (disk : Option DiskState) → P.own node disk → P.may_open disk }
         ensures ok { OnOk result
             (spec.Does (rules S.own S.step S.leaves S.reopens S.reopening_leaves S.compacts S.compaction_leaves)
             (rules P.own P.step P.leaves P.reopens P.reopening_leaves P.compacts P.compaction_leaves) number
@@ -150,8 +144,6 @@ impl<S: Node, P: Node> Stage<'_, '_, '_, '_, S, P> {
             (rules P.own P.step P.leaves P.reopens P.reopening_leaves P.compacts P.compaction_leaves)
             (stage_in self.old) }
         requires sends { spec.IsRequest step.now }
-        requires sp_opens { (node : S) (disk : Option DiskState) → S.own node disk → S.may_open disk }
-        requires idp_opens { (node : P) (disk : Option DiskState) → P.own node disk → P.may_open disk }
         ensures ok { OnOk result
             (spec.Does (rules S.own S.step S.leaves S.reopens S.reopening_leaves S.compacts S.compaction_leaves)
             (rules P.own P.step P.leaves P.reopens P.reopening_leaves P.compacts P.compaction_leaves) number step.now
@@ -249,8 +241,6 @@ impl<S: Node, P: Node> Stage<'_, '_, '_, '_, S, P> {
             (rules S.own S.step S.leaves S.reopens S.reopening_leaves S.compacts S.compaction_leaves)
             (rules P.own P.step P.leaves P.reopens P.reopening_leaves P.compacts P.compaction_leaves)
             (stage_in self.old) }
-        requires sp_opens { (node : S) (disk : Option DiskState) → S.own node disk → S.may_open disk }
-        requires idp_opens { (node : P) (disk : Option DiskState) → P.own node disk → P.may_open disk }
         ensures ok { OnOk result
             (spec.Does (rules S.own S.step S.leaves S.reopens S.reopening_leaves S.compacts S.compaction_leaves)
             (rules P.own P.step P.leaves P.reopens P.reopening_leaves P.compacts P.compaction_leaves) number step.now

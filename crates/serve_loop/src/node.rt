@@ -70,4 +70,7 @@ pub trait Node {
         ensures own { own self.new (D.told disk.new) }
         ensures moments { LeavesOnly D.moment D.left_since disk.old disk.new (compaction_leaves self.old (D.told disk.old) now) }
         ensures faults { CausesFaults result (D.faults_of disk.old) (D.faults_of disk.new) };
+
+    /// Whatever a crash may leave on a disk that is a node's own, a node can be opened from.
+    ghost own_may_open: { (node : Self) (disk : Option DiskState) → own node disk → may_open disk };
 }

@@ -35,6 +35,8 @@ impl Node for Echo {
 
     ghost compaction_leaves = { λ _ disk _. Leaves disk };
 
+    ghost own_may_open = { λ _ _ _. tt };
+
     fn answer<D: Disk>(&mut self, request: &HttpRequest<'_>, now: u64, disk: &mut D) -> Answer {
         let _ = disk;
         self.last = now;

@@ -4,4 +4,8 @@ use Rattle.saml_commands.proofs.replay.replay_steps.Goals as goal
 
 pub returns-clause-goes : goal.returns-clause-goes
 returns-clause-goes g c =
-    (RanReplay c.args.schedule.now c.args.quiet c.replay_deployed.result, (refl, refl), (c.status_of.ensures, c.replay_deployed.ensures.goes))
+    let (sp_starts, idp_starts, goes, carries) = c.replay_deployed.ensures.goes in (
+      RanReplay c.args.schedule.now c.args.quiet sp_starts idp_starts c.replay_deployed.result,
+      (refl, refl, carries),
+      (c.status_of.ensures, goes),
+    )

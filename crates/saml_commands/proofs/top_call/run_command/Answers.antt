@@ -3,7 +3,7 @@ use Rattle.crash_disk.specs.Moments.{Leaves}
 use Rattle.crash_disk.specs.Steps.{started}
 use Rattle.saml_commands.specs.Serving.{Unserved}
 use Rattle.saml_commands.proofs.Completing.{completes, made_whole}
-use Rattle.saml_commands.proofs.Replaying.{does_make, does_replay, file_leaves, replay_leaves}
+use Rattle.saml_commands.proofs.Replaying.{carries_make, carries_replay, file_leaves, replay_leaves}
 use Rattle.saml_commands.proofs.top_call.run_command.Goals as goal
 
 pub returns-in-Canon-clause-ends : goal.returns-in-Canon-clause-ends
@@ -31,16 +31,18 @@ returns-in-Replay-clause-ends g c =
     let told = g.D.Disk.told c.args.disk.now in
     let leaves = started g.D.Disk.moment g.D.Disk.left_since c.args.disk.now (Leaves told) (g.met.D.Disk.only_now c.args.disk.now) in
     let (ran, did, ends) = c.run_replay.ensures.ends in
+    let both = carries_replay (g.D.Disk.left_since c.args.disk.now) (g.F.Files.holds c.args.files.now) c.in-Replay.file.now _ ran did in
     rw c.in-Replay.is
-    (ran, does_replay (g.D.Disk.left_since c.args.disk.now) (g.F.Files.holds c.args.files.now) c.in-Replay.file.now _ ran did, tt, ends, file_leaves g.D.Disk.moment g.D.Disk.left_since told c.args.disk.now _ _ ran did leaves)
+    (ran, both.0, both.1, ends, file_leaves g.D.Disk.moment g.D.Disk.left_since told c.args.disk.now _ _ ran did leaves)
 
 pub returns-in-Make-clause-ends : goal.returns-in-Make-clause-ends
 returns-in-Make-clause-ends g c =
     let told = g.D.Disk.told c.args.disk.now in
     let leaves = started g.D.Disk.moment g.D.Disk.left_since c.args.disk.now (Leaves told) (g.met.D.Disk.only_now c.args.disk.now) in
     let (ran, did, ends) = c.run_make.ensures.ends in
+    let both = carries_make (g.D.Disk.left_since c.args.disk.now) (g.F.Files.holds c.args.files.now) c.in-Make.logins c.in-Make.start _ ran did in
     rw c.in-Make.is
-    (ran, does_make (g.D.Disk.left_since c.args.disk.now) (g.F.Files.holds c.args.files.now) c.in-Make.logins c.in-Make.start _ ran did, tt, ends, replay_leaves g.D.Disk.moment g.D.Disk.left_since told c.args.disk.now _ _ ran did leaves)
+    (ran, both.0, both.1, ends, replay_leaves g.D.Disk.moment g.D.Disk.left_since told c.args.disk.now _ _ ran did leaves)
 
 pub returns-in-Replay-clause-complete : goal.returns-in-Replay-clause-complete
 returns-in-Replay-clause-complete g c =

@@ -1,0 +1,4 @@
+mod Worlds
+mod Standing
+mod Going
+mod Replaying

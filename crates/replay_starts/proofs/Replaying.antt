@@ -1,0 +1,404 @@
+-- The starts of two providers in a replay, step by step.
+use Rattle.std.specs.Prelude.{ℕ, ◌*◌, zero, suc, Option, None, Some}
+use Rattle.std.specs.FinMap as finite
+use Rattle.std.proofs.Common.{◌≡◌, List, [], ◌∷◌, ◌++◌, refl, sym, ap, subst, ◌∙◌, append_assoc}
+use Rattle.std.proofs.lemmas.List.{append-nil}
+use Rattle.conn_table.specs.Table.{Table}
+use Rattle.post_agent.specs.declared.site.Site.{Site}
+use Rattle.post_agent.specs.declared.site.Site.TheVariants.{Sp, Idp}
+use Rattle.serve_loop.specs.Turns.{Asked, Taken}
+use Rattle.record_ledger.specs.Laws.{ImagesHoldRecords}
+use Rattle.record_ledger.specs.Ledger.{Held}
+use Rattle.record_ledger.specs.Rules.{RecordRules}
+use Rattle.provider_node.specs.Step.{AnswersBy, Provider}
+use Rattle.schedules.specs.declared.step.Step.{Step}
+use Rattle.schedules.specs.declared.step.Step.TheVariants as steps
+use Rattle.schedule_replay.specs.declared.sending.Sending.{Sending}
+use Rattle.schedule_replay.specs.Asked.{BothAsked, asked_arriving, asked_by_piece, asked_doing, asked_exchanging, asked_if_any, asked_in_rounds, asked_on, asked_replaying, none_asked, then_asked}
+use Rattle.schedule_replay.specs.Deployments.{Arrives, ArrivesAt, ArrivesIfAny, CompactsAt, Deployment, Exchanges, Hears, OnSite, RestartsAt, Rounds, Starts, piece_at, shows, unconnected}
+use Rattle.schedule_replay.specs.Hosts.{Brings, CompactionEnds, Host, Outcome, RestartEnds, Rules, Sent, Serves, Silent, Stopped}
+use Rattle.schedule_replay.specs.Steps.{Does, Replays, Requests, RequestsTwo, armed, saying_none}
+use Rattle.replay_starts.specs.Providers.{provider_rules}
+use Rattle.replay_starts.specs.Replayed.{AReplayIsStarts}
+use Rattle.replay_starts.proofs.Going.{SoFar, asked_as, begun, brought, compaction_ended, left_behind, restart_ended, served, unconnected_at}
+use Rattle.replay_starts.proofs.Worlds.{still}
+
+-- ---- lists of requests
+
+module _ {S P : Type 0} where
+  nothing_more : (a : BothAsked S P) → then_asked a none_asked ≡ a
+  nothing_more a = λ i. record { sp = append-nil a.sp i; idp = append-nil a.idp i }
+
+  joined : (a b c : BothAsked S P) → then_asked (then_asked a b) c ≡ then_asked a (then_asked b c)
+  joined a b c = λ i. record { sp = append_assoc a.sp b.sp c.sp i; idp = append_assoc a.idp b.idp c.idp i }
+
+-- ---- parts of a deployment that stay
+
+module _ {S P : Type 0} where
+  silent_none : (number : ℕ) (request : Option Sending) (world : Deployment S P)
+      → ((saying_none number request world).sp ≡ world.sp) × ((saying_none number request world).idp ≡ world.idp)
+  silent_none number None world = (refl, refl)
+  silent_none number (Some request) world = (refl, refl)
+
+  heard : (number : ℕ) (sending : Sending) (outcome : Outcome) (before after : Deployment S P)
+      → Hears number sending outcome before after → (after.sp ≡ before.sp) × (after.idp ≡ before.idp)
+  heard number sending Silent before after same =
+      (ap (λ (w : Deployment S P). w.sp) same, ap (λ (w : Deployment S P). w.idp) same)
+  heard number sending (Sent path bytes) before after (seen, comes, same) =
+      (ap (λ (w : Deployment S P). w.sp) same, ap (λ (w : Deployment S P). w.idp) same)
+  heard number sending Stopped before after same =
+      (ap (λ (w : Deployment S P). w.sp) same, ap (λ (w : Deployment S P). w.idp) same)
+
+  shown_same : (number : ℕ) (site : Site) (words : Option (List ℕ)) (world : Deployment S P)
+      → ((shows number site words world).sp ≡ world.sp) × ((shows number site words world).idp ≡ world.idp)
+  shown_same number site None world = (refl, refl)
+  shown_same number site (Some words) world = (refl, refl)
+
+module _ {S A P B : Type 0} (sp_rules : RecordRules A) (SpAnswers : AnswersBy S A) (idp_rules : RecordRules B)
+    (IdpAnswers : AnswersBy P B) (sp_hold : ImagesHoldRecords sp_rules) (idp_hold : ImagesHoldRecords idp_rules)
+    (sp_start : Held A) (idp_start : Held B) where
+  abbrev World : Type 0
+  World = Deployment (Provider S A) (Provider P B)
+
+  abbrev Requested : Type 0
+  Requested = BothAsked (Provider S A) (Provider P B)
+
+  abbrev sp : Rules (Provider S A)
+  sp = provider_rules sp_rules SpAnswers
+
+  abbrev idp : Rules (Provider P B)
+  idp = provider_rules idp_rules IdpAnswers
+
+  abbrev SpSoFar : Host (Provider S A) → Table → List (Asked (Provider S A)) → Type 0
+  SpSoFar host kept asked = SoFar sp_rules SpAnswers sp_start (still host) kept asked
+
+  abbrev IdpSoFar : Host (Provider P B) → Table → List (Asked (Provider P B)) → Type 0
+  IdpSoFar host kept asked = SoFar idp_rules IdpAnswers idp_start (still host) kept asked
+
+  -- starts of both up to here, with the connections that are kept, or with others, which are let go
+  record Connected (world : World) (asked : Requested) : Type 0 where
+    at_sp : SpSoFar world.sp world.sp.kept asked.sp
+    at_idp : IdpSoFar world.idp world.idp.kept asked.idp
+
+  record Loose (world : World) (asked : Requested) : Type 0 where
+    sp_kept : Table
+    idp_kept : Table
+    at_sp : SpSoFar world.sp sp_kept asked.sp
+    at_idp : IdpSoFar world.idp idp_kept asked.idp
+
+  loosened : (world : World) (asked : Requested) → Connected world asked → Loose world asked
+  loosened world asked c =
+      record { sp_kept = world.sp.kept; idp_kept = world.idp.kept; at_sp = c.at_sp; at_idp = c.at_idp }
+
+  moved : (before after : World) (asked : Requested) → (after.sp ≡ before.sp) × (after.idp ≡ before.idp)
+      → Connected before asked → Connected after asked
+  moved before after asked same c = record {
+    at_sp = subst (λ (h : Host (Provider S A)). SpSoFar h h.kept asked.sp) (sym same.0) c.at_sp;
+    at_idp = subst (λ (h : Host (Provider P B)). IdpSoFar h h.kept asked.idp) (sym same.1) c.at_idp;
+  }
+
+  slid : (before after : World) (asked : Requested) → (after.sp ≡ before.sp) × (after.idp ≡ before.idp)
+      → Loose before asked → Loose after asked
+  slid before after asked same c = record {
+    sp_kept = c.sp_kept;
+    idp_kept = c.idp_kept;
+    at_sp = subst (λ (h : Host (Provider S A)). SpSoFar h c.sp_kept asked.sp) (sym same.0) c.at_sp;
+    at_idp = subst (λ (h : Host (Provider P B)). IdpSoFar h c.idp_kept asked.idp) (sym same.1) c.at_idp;
+  }
+
+  -- nothing more was asked
+  unasked : (world : World) (asked : Requested) → Loose world asked → Loose world (then_asked asked none_asked)
+  unasked world asked c = subst (Loose world) (sym (nothing_more asked)) c
+
+  -- ---- a piece
+
+  brought_on : (site : Site) (clock conn : ℕ) (piece : List ℕ) (outcome : Outcome) (before after : World)
+      (asked : Requested)
+      → (brings : OnSite site (λ old new. Brings sp clock conn piece old outcome new)
+      (λ old new. Brings idp clock conn piece old outcome new) before after)
+      → Connected before asked
+      → Connected after (then_asked asked (asked_on sp idp site clock conn piece outcome before after brings))
+  brought_on Sp clock conn piece outcome before after asked brings c = record {
+    at_sp =
+        brought sp_rules SpAnswers sp_start sp_hold clock conn piece before.sp after.sp outcome asked.sp brings.0
+        c.at_sp;
+    at_idp =
+        subst (λ (h : Host (Provider P B)). IdpSoFar h h.kept (asked.idp ++ []))
+        (sym (ap (λ (w : World). w.idp) brings.1))
+        (asked_as idp_rules IdpAnswers idp_start (still before.idp) before.idp.kept asked.idp (asked.idp ++ [])
+        (sym (append-nil asked.idp)) c.at_idp);
+  }
+  brought_on Idp clock conn piece outcome before after asked brings c = record {
+    at_sp =
+        subst (λ (h : Host (Provider S A)). SpSoFar h h.kept (asked.sp ++ []))
+        (sym (ap (λ (w : World). w.sp) brings.1))
+        (asked_as sp_rules SpAnswers sp_start (still before.sp) before.sp.kept asked.sp (asked.sp ++ [])
+        (sym (append-nil asked.sp)) c.at_sp);
+    at_idp =
+        brought idp_rules IdpAnswers idp_start idp_hold clock conn piece before.idp after.idp outcome asked.idp
+        brings.0 c.at_idp;
+  }
+
+  arrived : (number : ℕ) (sending : Sending) (piece : List ℕ) (before after : World) (asked : Requested)
+      → (arrives : Arrives sp idp number sending piece before after) → Connected before asked
+      → Connected after (then_asked asked (asked_arriving sp idp number sending piece before after arrives))
+  arrived number sending piece before after asked arrives c =
+      moved arrives.behind after _ (heard number sending arrives.outcome arrives.behind after arrives.hears)
+      (brought_on sending.request.site before.clock sending.conn piece arrives.outcome before arrives.behind asked
+      arrives.brings c)
+
+  still_same : (before after : World) (asked : Requested) → after ≡ before → Connected before asked
+      → Connected after (then_asked asked none_asked)
+  still_same before after asked same c =
+      subst (λ (w : World). Connected w (then_asked asked none_asked)) (sym same)
+      (subst (Connected before) (sym (nothing_more asked)) c)
+
+  arrived_if_any : (number : ℕ) (sending : Sending) (piece : List ℕ) (before after : World) (asked : Requested)
+      → (arrives : ArrivesIfAny sp idp number sending piece before after) → Connected before asked
+      → Connected after (then_asked asked (asked_if_any sp idp number sending piece before after arrives))
+  arrived_if_any number sending [] before after asked arrives c = still_same before after asked arrives c
+  arrived_if_any number sending (byte ∷ piece) before after asked arrives c =
+      arrived number sending (byte ∷ piece) before after asked arrives c
+
+  arrived_at : (number at size : ℕ) (sending : Option Sending) (before after : World) (asked : Requested)
+      → (arrives : ArrivesAt sp idp number at size sending before after) → Connected before asked
+      → Connected after (then_asked asked (asked_by_piece sp idp number at size sending before after arrives))
+  arrived_at number at size None before after asked arrives c = still_same before after asked arrives c
+  arrived_at number at size (Some sending) before after asked arrives c =
+      arrived_if_any number sending (piece_at at size sending.request.bytes) before after asked arrives c
+
+  -- ---- requests
+
+  rounds_went : (number size : ℕ) (first second : Option Sending) (rounds : ℕ) (before after : World)
+      (asked : Requested) → (went : Rounds sp idp number size first second rounds before after)
+      → Connected before asked
+      → Connected after
+      (then_asked asked (asked_in_rounds sp idp number size first second rounds before after went))
+  rounds_went number size first second zero before after asked same c = still_same before after asked same c
+  rounds_went number size first second (suc rounds) before after asked (old, between, earlier, one, other) c =
+      let were = asked_in_rounds sp idp number size first second rounds before old earlier in
+      let by_one = asked_by_piece sp idp number (rounds * size) size first old between one in
+      let by_other = asked_by_piece sp idp number (rounds * size) size second between after other in
+      let now = arrived_at number (rounds * size) size second between after
+      (then_asked (then_asked asked were) by_one) other
+      (arrived_at number (rounds * size) size first old between (then_asked asked were) one
+      (rounds_went number size first second rounds before old asked earlier c)) in
+      subst (Connected after) (joined (then_asked asked were) by_one by_other ∙ joined asked were _) now
+
+  started_on : (site : Site) (conn clock : ℕ) (before after : World) (asked : Requested)
+      → OnSite site (λ old new. Serves sp clock (Taken conn) old new)
+      (λ old new. Serves idp clock (Taken conn) old new) before after
+      → Connected before asked → Connected after asked
+  started_on Sp conn clock before after asked serves c = record {
+    at_sp =
+        asked_as sp_rules SpAnswers sp_start (still after.sp) after.sp.kept (asked.sp ++ []) asked.sp
+        (append-nil asked.sp)
+        (served sp_rules SpAnswers sp_start clock (Taken conn) before.sp after.sp asked.sp serves.0 c.at_sp);
+    at_idp =
+        subst (λ (h : Host (Provider P B)). IdpSoFar h h.kept asked.idp) (sym (ap (λ (w : World). w.idp) serves.1))
+        c.at_idp;
+  }
+  started_on Idp conn clock before after asked serves c = record {
+    at_sp =
+        subst (λ (h : Host (Provider S A)). SpSoFar h h.kept asked.sp) (sym (ap (λ (w : World). w.sp) serves.1))
+        c.at_sp;
+    at_idp =
+        asked_as idp_rules IdpAnswers idp_start (still after.idp) after.idp.kept (asked.idp ++ []) asked.idp
+        (append-nil asked.idp)
+        (served idp_rules IdpAnswers idp_start clock (Taken conn) before.idp after.idp asked.idp serves.0 c.at_idp);
+  }
+
+  started : (sending : Option Sending) (before after : World) (asked : Requested)
+      → Starts sp idp sending before after → Connected before asked → Connected after asked
+  started None before after asked same c = subst (λ (w : World). Connected w asked) (sym same) c
+  started (Some sending) before after asked starts c =
+      started_on sending.request.site sending.conn before.clock before after asked starts c
+
+  exchanged : (number size : ℕ) (first second : Option Sending) (before after : World) (asked : Requested)
+      → (exchanges : Exchanges sp idp number size first second before after) → Loose before asked
+      → Loose after (then_asked asked (asked_exchanging sp idp number size first second before after exchanges))
+  exchanged number size first second before after asked e c =
+      let fresh : Connected (unconnected before) asked = record {
+        at_sp = unconnected_at sp_rules SpAnswers sp_start before.sp c.sp_kept asked.sp c.at_sp;
+        at_idp = unconnected_at idp_rules IdpAnswers idp_start before.idp c.idp_kept asked.idp c.at_idp;
+      } in
+      let one = started first (unconnected before) e.one asked e.starts fresh in
+      let both = started second e.one e.both asked e.starts_other one in
+      loosened after _ (rounds_went number size first second e.rounds e.both after asked e.arrive both)
+
+  requested : (number : ℕ) (request : Option Sending) (before after : World) (asked : Requested)
+      → (requests : Requests sp idp number request before after) → Loose before asked
+      → Loose after (then_asked asked (asked_exchanging sp idp number _ _ _ _ after requests))
+  requested number request before after asked requests c =
+      exchanged number _ request None (saying_none number request before) after asked requests
+      (slid before (saying_none number request before) asked (silent_none number request before) c)
+
+  requested_two : (number size : ℕ) (first second : Option Sending) (before after : World) (asked : Requested)
+      → (requests : RequestsTwo sp idp number size first second before after) → Loose before asked
+      → Loose after (then_asked asked (asked_exchanging sp idp number _ _ _ _ after requests))
+  requested_two number size first second before after asked requests c =
+      let one = saying_none number first before in
+      let both = saying_none number second one in
+      exchanged number _ first second both after asked requests
+      (slid one both asked (silent_none number second one)
+      (slid before one asked (silent_none number first before) c))
+
+  -- ---- restarts and compactions
+
+  restart_on : (site : Site) (shown : _) (before after : World) (asked : Requested)
+      → OnSite site (λ old new. RestartEnds sp old shown new) (λ old new. RestartEnds idp old shown new) before after
+      → Loose before asked → Loose after asked
+  restart_on Sp shown before after asked ends c = record {
+    sp_kept = finite.empty;
+    idp_kept = c.idp_kept;
+    at_sp =
+        restart_ended sp_rules SpAnswers sp_start sp_hold before.sp after.sp shown c.sp_kept asked.sp ends.0 c.at_sp;
+    at_idp =
+        subst (λ (h : Host (Provider P B)). IdpSoFar h c.idp_kept asked.idp) (sym (ap (λ (w : World). w.idp) ends.1))
+        c.at_idp;
+  }
+  restart_on Idp shown before after asked ends c = record {
+    sp_kept = c.sp_kept;
+    idp_kept = finite.empty;
+    at_sp =
+        subst (λ (h : Host (Provider S A)). SpSoFar h c.sp_kept asked.sp) (sym (ap (λ (w : World). w.sp) ends.1))
+        c.at_sp;
+    at_idp =
+        restart_ended idp_rules IdpAnswers idp_start idp_hold before.idp after.idp shown c.idp_kept asked.idp ends.0
+        c.at_idp;
+  }
+
+  restarted_at : (number : ℕ) (site : Site) (before after : World) (asked : Requested)
+      → RestartsAt sp idp number site before after → Loose before asked → Loose after asked
+  restarted_at number site before after asked r c =
+      subst (λ (w : World). Loose w asked) (sym r.shows)
+      (slid r.behind _ asked (shown_same number site _ _) (restart_on site r.shown before r.behind asked r.ends c))
+
+  compaction_on : (site : Site) (now : ℕ) (shown : _) (before after : World) (asked : Requested)
+      → OnSite site (λ old new. CompactionEnds sp now old shown new) (λ old new. CompactionEnds idp now old shown new)
+      before after
+      → Loose before asked → Loose after asked
+  compaction_on Sp now shown before after asked ends c = record {
+    sp_kept = finite.empty;
+    idp_kept = c.idp_kept;
+    at_sp =
+        compaction_ended sp_rules SpAnswers sp_start sp_hold now before.sp after.sp shown c.sp_kept asked.sp ends.0
+        c.at_sp;
+    at_idp =
+        subst (λ (h : Host (Provider P B)). IdpSoFar h c.idp_kept asked.idp) (sym (ap (λ (w : World). w.idp) ends.1))
+        c.at_idp;
+  }
+  compaction_on Idp now shown before after asked ends c = record {
+    sp_kept = c.sp_kept;
+    idp_kept = finite.empty;
+    at_sp =
+        subst (λ (h : Host (Provider S A)). SpSoFar h c.sp_kept asked.sp) (sym (ap (λ (w : World). w.sp) ends.1))
+        c.at_sp;
+    at_idp =
+        compaction_ended idp_rules IdpAnswers idp_start idp_hold now before.idp after.idp shown c.idp_kept asked.idp
+        ends.0 c.at_idp;
+  }
+
+  compacted_at : (number : ℕ) (site : Site) (before after : World) (asked : Requested)
+      → CompactsAt sp idp number site before after → Loose before asked → Loose after asked
+  compacted_at number site before after asked r c =
+      subst (λ (w : World). Loose w asked) (sym r.shows)
+      (slid r.behind _ asked (shown_same number site _ _) (compaction_on site _ r.shown before r.behind asked r.ends c))
+
+  -- a disk that is to fail or to stop is as it was
+  armed_at : (number : ℕ) (site : Site) (arm : Host (Provider S A) → Host (Provider S A))
+      (other : Host (Provider P B) → Host (Provider P B)) (before : World) (asked : Requested)
+      → (still (arm before.sp) ≡ still before.sp) → (still (other before.idp) ≡ still before.idp)
+      → Loose before asked → Loose (armed number site arm other before) asked
+  armed_at number Sp arm other before asked same_sp same_idp c = record {
+    sp_kept = c.sp_kept;
+    idp_kept = c.idp_kept;
+    at_sp = subst (λ w. SoFar sp_rules SpAnswers sp_start w c.sp_kept asked.sp) (sym same_sp) c.at_sp;
+    at_idp = c.at_idp;
+  }
+  armed_at number Idp arm other before asked same_sp same_idp c = record {
+    sp_kept = c.sp_kept;
+    idp_kept = c.idp_kept;
+    at_sp = c.at_sp;
+    at_idp = subst (λ w. SoFar idp_rules IdpAnswers idp_start w c.idp_kept asked.idp) (sym same_idp) c.at_idp;
+  }
+
+  -- ---- steps
+
+  same_nodes : (before after middle : World) (asked : Requested) → after ≡ middle
+      → (middle.sp ≡ before.sp) × (middle.idp ≡ before.idp) → Loose before asked
+      → Loose after (then_asked asked none_asked)
+  same_nodes before after middle asked same nodes c =
+      unasked after asked
+      (subst (λ (w : World). Loose w asked) (sym same) (slid before middle asked nodes c))
+
+  step_done : (number : ℕ) (step : Step) (before after : World) (asked : Requested)
+      → (does : Does sp idp number step before after) → Loose before asked
+      → Loose after (then_asked asked (asked_doing sp idp number step before after does))
+  step_done number (steps.Now moment) before after asked does c =
+      same_nodes before after _ asked does (refl, refl) c
+  step_done number (steps.Visit agent path) before after asked does c =
+      requested number _ before after asked does c
+  step_done number (steps.Submit agent) before after asked does c = requested number _ before after asked does c
+  step_done number (steps.Lose agent) before after asked does c = requested number _ before after asked does c
+  step_done number (steps.Login agent user password) before after asked does c =
+      requested number _ before after asked does c
+  step_done number (steps.Follow agent) before after asked does c = requested number _ before after asked does c
+  step_done number (steps.Leave agent site) before after asked does c = requested number _ before after asked does c
+  step_done number (steps.Pair first second size) before after asked does c =
+      requested_two number size _ _ before after asked does c
+  step_done number (steps.Fresh agent) before after asked does c =
+      same_nodes before after _ asked does.1 (refl, refl) c
+  step_done number (steps.Restart site) before after asked does c =
+      unasked after asked (restarted_at number site before after asked does c)
+  step_done number (steps.Crash site call pick) before after asked does c =
+      unasked after asked
+      (subst (λ (w : World). Loose w asked) (sym does) (armed_at number site _ _ before asked refl refl c))
+  step_done number (steps.Fail site call) before after asked does c =
+      unasked after asked
+      (subst (λ (w : World). Loose w asked) (sym does) (armed_at number site _ _ before asked refl refl c))
+  step_done number (steps.Compact site) before after asked does c =
+      unasked after asked (compacted_at number site before after asked does c)
+
+  replayed : (done : ℕ) (all : List Step) (first : World) (text : List ℕ) (now : World)
+      → (replays : Replays sp idp done all first text now) → Loose first none_asked
+      → Loose now (asked_replaying sp idp done all first text now replays)
+  replayed zero all first text now none c = subst (λ (w : World). Loose w none_asked) (sym none.1) c
+  replayed (suc done) all first text now (step, before, after, earlier, were, is, did, fed, same, printed) c =
+      let asked = asked_replaying sp idp done all first earlier before were in
+      let then = then_asked asked (asked_doing sp idp (suc done) step before after did) in
+      subst (λ (w : World). Loose w then) (sym same)
+      (slid after (record after { lines = [] }) then (refl, refl)
+      (step_done (suc done) step before after asked did (replayed done all first earlier before were c)))
+
+-- ---- the law
+
+module _ {S A P B : Type 0} (sp_rules : RecordRules A) (SpAnswers : AnswersBy S A) (idp_rules : RecordRules B)
+    (IdpAnswers : AnswersBy P B) where
+  pub a_replay_is_starts : AReplayIsStarts sp_rules SpAnswers idp_rules IdpAnswers
+  a_replay_is_starts sp_hold idp_hold steps first sp_image idp_image sp_started idp_started ran =
+      let sp_start = first.sp.node.ledger.held in
+      let idp_start = first.idp.node.ledger.held in
+      let done = replayed sp_rules SpAnswers idp_rules IdpAnswers sp_hold idp_hold sp_start idp_start ran.done steps
+      first ran.text ran.last ran.replays
+      (record {
+        sp_kept = finite.empty;
+        idp_kept = finite.empty;
+        at_sp = begun sp_rules SpAnswers sp_hold sp_image first.sp sp_started;
+        at_idp = begun idp_rules IdpAnswers idp_hold idp_image first.idp idp_started;
+      }) in (
+        done.at_sp.starts,
+        done.at_idp.starts,
+        record {
+          sp = record {
+            are = done.at_sp.are;
+            requests = done.at_sp.requests;
+            left = left_behind sp_rules SpAnswers sp_start (still ran.last.sp) done.sp_kept _ done.at_sp;
+          };
+          idp = record {
+            are = done.at_idp.are;
+            requests = done.at_idp.requests;
+            left = left_behind idp_rules IdpAnswers idp_start (still ran.last.idp) done.idp_kept _ done.at_idp;
+          };
+        },
+      )

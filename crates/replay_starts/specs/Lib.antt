@@ -1,0 +1,2 @@
+pub mod Providers
+pub mod Replayed

@@ -1,0 +1,107 @@
+-- The requests that two nodes were asked in a run of a schedule, in order: each that an agent's bytes completed, with its moment, the
+-- node as it came, and what the node answered, and no other. Where a disk stopped in it, what was answered was not sent.
+use Rattle.std.specs.Prelude.{ℕ, ◌*◌, zero, suc, Bool, List, [], ◌∷◌, ◌++◌, Option, None, Some, Result, Ok, Err}
+use Rattle.post_agent.specs.declared.site.Site.{Site}
+use Rattle.post_agent.specs.declared.site.Site.TheVariants.{Sp, Idp}
+use Rattle.serve_loop.specs.Turns.{Asked, asked_by}
+use Rattle.schedules.specs.declared.step.Step.{Step}
+use Rattle.schedules.specs.declared.step.Step.TheVariants as steps
+use Rattle.schedule_replay.specs.declared.fault.ReplayFault.{ReplayFault}
+use Rattle.schedule_replay.specs.declared.fault.ReplayFault.TheVariants as faults
+use Rattle.schedule_replay.specs.declared.sending.Sending.{Sending}
+use Rattle.schedule_replay.specs.declared.tally.Tally.{Tally}
+use Rattle.schedule_replay.specs.Deployments.{Deployment, Arrives, ArrivesAt, ArrivesIfAny, Exchanges, OnSite, Rounds, piece_at}
+use Rattle.schedule_replay.specs.Hosts.{Outcome, Rules, Brings}
+use Rattle.schedule_replay.specs.Runs.{Ends}
+use Rattle.schedule_replay.specs.Steps.{Does, Replays}
+
+-- those that the one node was asked, and those that the other was
+pub record BothAsked (S P : Type 0) : Type 0 where
+  pub sp : List (Asked S)
+  pub idp : List (Asked P)
+
+abbrev pub none_asked : {S P : Type 0} → BothAsked S P
+none_asked = record { sp = []; idp = [] }
+
+abbrev pub then_asked : {S P : Type 0} → BothAsked S P → BothAsked S P → BothAsked S P
+then_asked earlier later = record { sp = earlier.sp ++ later.sp; idp = earlier.idp ++ later.idp }
+
+module _ {S P : Type 0} (sp : Rules S) (idp : Rules P) where
+  -- a piece came to its node, and may have completed a request
+  abbrev pub asked_on : (site : Site) (clock conn : ℕ) (piece : List ℕ) (outcome : Outcome) (before after : Deployment S P)
+      → OnSite site (λ old new. Brings sp clock conn piece old outcome new) (λ old new. Brings idp clock conn piece old outcome new) before after
+      → BothAsked S P
+  asked_on Sp clock conn piece outcome before after brings = record { sp = asked_by brings.0.turn; idp = [] }
+  asked_on Idp clock conn piece outcome before after brings = record { sp = []; idp = asked_by brings.0.turn }
+
+  abbrev pub asked_arriving : (number : ℕ) (sending : Sending) (piece : List ℕ) (before after : Deployment S P)
+      → Arrives sp idp number sending piece before after → BothAsked S P
+  asked_arriving number sending piece before after arrives =
+      asked_on sending.request.site before.clock sending.conn piece arrives.outcome before arrives.behind arrives.brings
+
+  abbrev pub asked_if_any : (number : ℕ) (sending : Sending) (piece : List ℕ) (before after : Deployment S P)
+      → ArrivesIfAny sp idp number sending piece before after → BothAsked S P
+  asked_if_any number sending [] before after same = none_asked
+  asked_if_any number sending (byte ∷ piece) before after arrives = asked_arriving number sending (byte ∷ piece) before after arrives
+
+  abbrev pub asked_by_piece : (number at size : ℕ) (sending : Option Sending) (before after : Deployment S P)
+      → ArrivesAt sp idp number at size sending before after → BothAsked S P
+  asked_by_piece number at size None before after same = none_asked
+  asked_by_piece number at size (Some sending) before after arrives =
+      asked_if_any number sending (piece_at at size sending.request.bytes) before after arrives
+
+  -- by the rounds of one or two requests
+  abbrev pub asked_in_rounds : (number size : ℕ) (first second : Option Sending) (rounds : ℕ) (before after : Deployment S P)
+      → Rounds sp idp number size first second rounds before after → BothAsked S P
+  asked_in_rounds number size first second zero before after same = none_asked
+  asked_in_rounds number size first second (suc rounds) before after (old, between, earlier, one, other) =
+      then_asked (asked_in_rounds number size first second rounds before old earlier)
+      (then_asked (asked_by_piece number (rounds * size) size first old between one)
+      (asked_by_piece number (rounds * size) size second between after other))
+
+  abbrev pub asked_exchanging : (number size : ℕ) (first second : Option Sending) (before after : Deployment S P)
+      → Exchanges sp idp number size first second before after → BothAsked S P
+  asked_exchanging number size first second before after exchanges =
+      asked_in_rounds number size first second exchanges.rounds exchanges.both after exchanges.arrive
+
+  -- by a step: one in which agents send requests
+  abbrev pub asked_doing : (number : ℕ) (step : Step) (before after : Deployment S P) → Does sp idp number step before after → BothAsked S P
+  asked_doing number (steps.Now moment) before after does = none_asked
+  asked_doing number (steps.Visit agent path) before after does = asked_exchanging number _ _ _ _ after does
+  asked_doing number (steps.Submit agent) before after does = asked_exchanging number _ _ _ _ after does
+  asked_doing number (steps.Lose agent) before after does = asked_exchanging number _ _ _ _ after does
+  asked_doing number (steps.Login agent user password) before after does = asked_exchanging number _ _ _ _ after does
+  asked_doing number (steps.Follow agent) before after does = asked_exchanging number _ _ _ _ after does
+  asked_doing number (steps.Leave agent site) before after does = asked_exchanging number _ _ _ _ after does
+  asked_doing number (steps.Pair first second size) before after does = asked_exchanging number _ _ _ _ after does
+  asked_doing number (steps.Fresh agent) before after does = none_asked
+  asked_doing number (steps.Restart site) before after does = none_asked
+  asked_doing number (steps.Crash site call pick) before after does = none_asked
+  asked_doing number (steps.Fail site call) before after does = none_asked
+  asked_doing number (steps.Compact site) before after does = none_asked
+
+  -- by the first so many steps
+  abbrev pub asked_replaying : (done : ℕ) (all : List Step) (first : Deployment S P) (text : List ℕ) (now : Deployment S P)
+      → Replays sp idp done all first text now → BothAsked S P
+  asked_replaying zero all first text now none = none_asked
+  asked_replaying (suc done) all first text now (step, before, after, earlier, were, is, did, fed, same, printed) =
+      then_asked (asked_replaying done all first earlier before were) (asked_doing (suc done) step before after did)
+
+  -- What is known of a run however it ended: the steps that were done to their end.
+  pub record Ran (steps : List Step) (first : Deployment S P) : Type 0 where
+    pub done : ℕ
+    pub text : List ℕ
+    pub last : Deployment S P
+    pub replays : Replays sp idp done steps first text last
+
+  abbrev pub ran_by : (steps : List Step) (quiet : Bool) (first : Deployment S P) (result : Result Tally ReplayFault)
+      (left : Deployment S P → Type 0) (before after : Option (List ℕ)) → Ends sp idp steps quiet first result left before after → Ran steps first
+  ran_by steps quiet first (Ok tally) left before after ends =
+      record { done = _; text = ends.0; last = ends.1; replays = ends.2 }
+  ran_by steps quiet first (Err faults.WriteFault) left before after ends =
+      record { done = ends.0; text = ends.1; last = ends.2; replays = ends.4 }
+  ran_by steps quiet first (Err faults.NoMemory) left before after ends =
+      record { done = ends.0; text = ends.1; last = ends.2; replays = ends.3 }
+
+  abbrev pub asked_in_run : (steps : List Step) (first : Deployment S P) → Ran steps first → BothAsked S P
+  asked_in_run steps first ran = asked_replaying ran.done steps first ran.text ran.last ran.replays
