@@ -27,6 +27,7 @@ use Rattle.idp_ledger.specs.Laws.{CompactionsChangeNoAnswer}
 use Rattle.idp_ledger.proofs.LawWords.{Each}
 use Rattle.idp_ledger.proofs.KeptMarks.{Marked, AreClosed}
 use Rattle.idp_ledger.proofs.KeptIssues.{issues_alike, peers_alike}
+use Rattle.idp_ledger.proofs.KeptParts.{parts_alike}
 use Rattle.idp_ledger.proofs.KeptRounds.{round_seen, rounds_alike}
 use Rattle.idp_ledger.proofs.KeptRows.{pending_seen, session_seen, left_seen, pendings_alike, sessions_alike, lefts_alike}
 
@@ -233,6 +234,7 @@ compactions_change_no_answer now later old new are made first = record {
   ending = ending_same now later old new are made first;
   partial = partial_same now later old new are made first;
   last_peer = peer_same now later old new are made first;
+  parts = λ cookies live. parts_alike now old.header.horizon later new.header.horizon old.records new.records cookies are made.records live;
   waiting = waiting_same now later old new are made first;
   round = round_same now later old new are made first;
   turn = turn_same now later old new are made first;

@@ -327,3 +327,8 @@ peers_alike marks are linked =
     each_weaker (λ (row : SessionRow). KeepsAll (is_of row.cookie) marks)
     (λ (row : SessionRow). last_peer (issued_rows (kept marks)) row.cookie ≡ last_peer (issued_rows (all marks)) row.cookie)
     (λ row keeps. ap peer_of (last_same row.cookie marks keeps)) (session_rows (kept marks)) (each_session_keeps [] marks none_numbered are linked)
+
+-- all that was issued in a session that is kept is kept
+pub sessions_keep : (marks : List Marked) → AreRecords (all marks) → AreClosed marks
+    → Each (λ (row : SessionRow). KeepsAll (is_of row.cookie) marks) (session_rows (kept marks))
+sessions_keep marks are linked = each_session_keeps [] marks none_numbered are linked

@@ -109,7 +109,7 @@ other_record row r later q here (inr asked) = inr (asked_later r later q asked)
 
 -- ---- the answers fit the round
 
-FitsOne : RoundRow → IdpRecord → Type 0
+unfoldable pub FitsOne : RoundRow → IdpRecord → Type 0
 FitsOne row (kinds.Pending r) = Unit {0}
 FitsOne row (kinds.Issued r) = Unit {0}
 FitsOne row (kinds.Ended r) = Unit {0}
@@ -119,7 +119,7 @@ FitsOne row (kinds.Spoke r) = Unit {0}
 FitsOne row (kinds.Round r) = Unit {0}
 FitsOne row (kinds.Told r) = fits_where_waiting r row ≡ true
 
-FitsAll : RoundRow → List IdpRecord → Type 0
+unfoldable pub FitsAll : RoundRow → List IdpRecord → Type 0
 FitsAll row [] = Unit {0}
 FitsAll row (r ∷ later) = FitsOne row r × FitsAll (round_after row r) later
 
@@ -142,14 +142,14 @@ fits_one before (kinds.Told r) k row is there =
     all_at (fits_where_waiting r) (round_rows before) k row
     (and_parts (list_any (waits_for r.request) (round_rows before)) (list_all (fits_where_waiting r) (round_rows before)) (parts before (kinds.Told r) is).free).1 there
 
-fits_all : (before later : List IdpRecord) → AreRecordsAfter before later → (k : ℕ) (row : RoundRow) → slice_get (round_rows before) k ≡ Some row → FitsAll row later
+pub fits_all : (before later : List IdpRecord) → AreRecordsAfter before later → (k : ℕ) (row : RoundRow) → slice_get (round_rows before) k ≡ Some row → FitsAll row later
 unfolding FitsAll
 fits_all before [] are k row there = tt
 fits_all before (r ∷ later) are k row there =
     (fits_one before r k row are.0 there, fits_all (before ++ r ∷ []) later are.1 k (round_after row r) (after_there before r k row there))
 
 -- an answer without a next request, which fits, is the last one
-last_answer : (t : Told) (row : RoundRow) → waits_for t.request row ≡ true → t.next ≡ None → fits_where_waiting t row ≡ true → is_done (after_answer t.confirmed t.next row) ≡ true
+pub last_answer : (t : Told) (row : RoundRow) → waits_for t.request row ≡ true → t.next ≡ None → fits_where_waiting t row ≡ true → is_done (after_answer t.confirmed t.next row) ≡ true
 last_answer t row waits none fits =
     let fit : has_its_next (is_turn_left row) t.first None ≡ true =
     sym (ap (λ b. not b || has_its_next (is_turn_left row) t.first t.next) waits ∙ ap (has_its_next (is_turn_left row) t.first) none) ∙ fits in
@@ -224,7 +224,7 @@ holder_of r later q (inr asked) =
     holder_later (kinds.Round r) later q
     (record { place = asked.place; row = kinds.Told asked.told; there = asked.there; has = ap (is_next_request q) asked.next ∙ text_itself q; free = asked.free })
 
-new_round : (before : List IdpRecord) (r : Round) → slice_get (round_rows (before ++ kinds.Round r ∷ [])) (length (round_rows before)) ≡ Some (round_row r)
+pub new_round : (before : List IdpRecord) (r : Round) → slice_get (round_rows (before ++ kinds.Round r ∷ [])) (length (round_rows before)) ≡ Some (round_row r)
 new_round before r =
     let rows = map (λ row. round_after row (kinds.Round r)) (round_rows before) in
     ap (λ all. slice_get all (length (round_rows before))) (round_rows-push before (kinds.Round r))

@@ -8,7 +8,8 @@ use Rattle.round_rows.specs.declared.row.RoundRow.{RoundRow}
 use Rattle.idp_ledger.specs.declared.row.PendingRow.{PendingRow}
 use Rattle.idp_ledger.specs.declared.row.SessionRow.{SessionRow}
 use Rattle.record_ledger.specs.Laws as any
-use Rattle.idp_ledger.specs.Finding.{pending_found, session_found, ending, is_partial, last_peer, is_waiting_now, round_found, turn_found}
+use Rattle.idp_ledger.specs.Drafts.{AreLive}
+use Rattle.idp_ledger.specs.Finding.{pending_found, session_found, ending, is_partial, last_peer, is_waiting_now, parts_of, round_found, turn_found}
 use Rattle.idp_ledger.specs.RoundsOf.{round_row, round_behind, round_rows, answers, confirmed_all, is_confirmed}
 use Rattle.idp_ledger.specs.RowsOf.{IdpRows, rows_of, session_rows, ended_if, ends}
 use Rattle.idp_ledger.specs.Record.{AreRecords, idp_rules}
@@ -19,13 +20,15 @@ use Rattle.record_ledger.specs.Runs.{Event, Leads, added, CompactsAt, EndsBehind
 
 -- At a moment the two rows with their horizons answer all that is asked of them alike: which login is pending, which session
 -- lives, which sessions an answered logout ends and whether it is partial, to which peer the last assertion in a live session
--- went, which logout waits, and which round waits for a request, also by whose turn has come.
+-- went, what live sessions were used for, which logout waits, and which round waits for a request, also by whose turn has come.
 pub record AnswerAlike (now : ℕ) (one other : Held) : Type 0 where
   pub pending : (pending : List ℕ) → pending_found (rows_of one.records).pendings pending now one.header.horizon ≡ pending_found (rows_of other.records).pendings pending now other.header.horizon
   pub session : (cookie : List ℕ) → session_found (rows_of one.records).sessions cookie now one.header.horizon ≡ session_found (rows_of other.records).sessions cookie now other.header.horizon
   pub ending : (peer name : List ℕ) (indexes : List (List ℕ)) → ending now one.header.horizon peer name indexes (rows_of one.records) ≡ ending now other.header.horizon peer name indexes (rows_of other.records)
   pub partial : (peer name : List ℕ) (indexes : List (List ℕ)) → is_partial now one.header.horizon peer name indexes (rows_of one.records) ≡ is_partial now other.header.horizon peer name indexes (rows_of other.records)
   pub last_peer : (cookie : List ℕ) → IsSome (session_found (rows_of one.records).sessions cookie now one.header.horizon) → last_peer (rows_of one.records).issues cookie ≡ last_peer (rows_of other.records).issues cookie
+  pub parts : (cookies : List (List ℕ)) → AreLive (rows_of one.records).sessions cookies now one.header.horizon
+      → parts_of cookies (rows_of one.records).issues ≡ parts_of cookies (rows_of other.records).issues
   pub waiting : (request : List ℕ) → is_waiting_now (rows_of one.records).lefts request now one.header.horizon ≡ is_waiting_now (rows_of other.records).lefts request now other.header.horizon
   pub round : (request : List ℕ) → round_found (rows_of one.records).rounds request now one.header.horizon ≡ round_found (rows_of other.records).rounds request now other.header.horizon
   pub turn : (request peer : List ℕ) → turn_found (rows_of one.records).rounds request peer now one.header.horizon ≡ turn_found (rows_of other.records).rounds request peer now other.header.horizon

@@ -12,5 +12,6 @@ pub mod Drafts
 pub mod Calls
 pub mod Compacting
 pub mod Linking
+pub mod Turns
 pub mod Laws
 pub mod Examples

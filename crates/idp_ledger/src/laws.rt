@@ -1,5 +1,6 @@
 //! Laws of a ledger, each the contract of a function that does nothing.
 ghost use Rattle.idp_ledger.specs.Laws.{ImagesHoldRecords, KeptAreRecords, CompactionsChangeNoAnswer, EachIssueHasItsCause, EachRoundHasItsRecord, RoundsAreCounted, SessionsStay};
+ghost use Rattle.idp_ledger.specs.Turns.{RoundsAskInTurn};
 
 /// What an image stands for has records of the ledger, each behind those before it.
 pub fn images_hold_records()
@@ -35,4 +36,10 @@ pub fn each_round_has_its_record()
 /// A row counts the answers to its round, and says whether all providers confirmed.
 pub fn rounds_are_counted()
     ensures { RoundsAreCounted }
+{}
+
+/// The providers of a round are asked in turn, each once: the answer at each place is one to the request at that place, and a
+/// request more follows it exactly where a turn is left.
+pub fn rounds_ask_in_turn()
+    ensures { RoundsAskInTurn }
 {}

@@ -140,7 +140,7 @@ impl IdpLedger {
     }
 
     /// The same, where the turn of this provider has come.
-    fn turn(&self, request: &str, peer: &str, now: u64) -> Option<&RoundRow>
+    pub fn turn(&self, request: &str, peer: &str, now: u64) -> Option<&RoundRow>
         ensures found { option_copied result ≡ turn_found (rows_in self.now).rounds request.now peer.now now self.now.held.header.horizon }
         ensures only { IfSome result (λ row. IsRoundOf (rows_in self.now).rounds request.now (Some row.now)) }
     {

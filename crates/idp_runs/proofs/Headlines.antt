@@ -11,9 +11,11 @@ use Rattle.provider_run.specs.Runs.{BadSetUp, NotSetUp, NotOpened, Deaf, Serving
 use Rattle.provider_node.proofs.Added.{new_is_of_the_request}
 use Rattle.idp_ledger.specs.Laws.{ImagesHoldRecords}
 use Rattle.idp_ledger.specs.Record.{idp_rules}
+use Rattle.idp_ledger.specs.Turns.{RoundsAskInTurn}
 use Rattle.idp_server.specs.Histories.{IsProviders, SessionsStayEndedInAService, WhatIsAcknowledgedIsKept}
 use Rattle.idp_server.specs.Issues.{AnswersHaveUsers, WhatIsAnsweredIsRecorded}
 use Rattle.idp_server.specs.Logouts.{AnswersEndExactly, ServicesEndExactly, WhatIsAnsweredToALogoutIsRecorded, WhereverAPeerEnds, WhereverAUserLeaves}
+use Rattle.idp_server.specs.Outcomes.{RoundsBeginWithTheFirst, RoundsEndAsConfirmed}
 use Rattle.idp_server.specs.Signed.{EachSignedElementIsOfARecord}
 use Rattle.idp_server.specs.Step.{Provider, Answers, Steps, StepsOnDisk}
 use Rattle.idp_runs.specs.Headline.{ARunCarriesTheHeadline, EachGoesExactly, EndsExactly, GoesExactly, IssuesOnlyToUsers, ServedNothing, ServedSo}
@@ -31,6 +33,9 @@ pub record Laws : Type 0 where
   pub services : ServicesEndExactly
   pub wherever_left : WhereverAUserLeaves
   pub wherever_ended : WhereverAPeerEnds
+  pub begins : RoundsBeginWithTheFirst
+  pub rounds : RoundsEndAsConfirmed
+  pub once : RoundsAskInTurn
   pub hold : ImagesHoldRecords
   pub kept : WhatIsAcknowledgedIsKept
   pub ended : SessionsStayEndedInAService
@@ -87,6 +92,11 @@ module _ (laws : Laws) (asked : Asked Provider) where
     steps = stepped asked;
     issues = issues;
     ends = λ before after asks. ends_exactly before after;
+    rounds = record {
+      begins = λ held bytes r answers. laws.begins asked.node.setup held asked.request asked.now bytes r answers;
+      goes_on = λ held bytes r are answers. laws.rounds asked.node.setup held asked.request asked.now bytes r are answers;
+      once = laws.once;
+    };
     starved = λ before after asks are whole is.
         laws.starved asked.node after.node asked.disk asked.request asked.now before.disk_faults after.disk_faults are
         whole

@@ -1,6 +1,7 @@
 -- What a run of an identity provider comes to: each Assertion is issued to a user with a password or a session, each
 -- signed element is one of a record that is durable before it is sent; sessions are ended exactly where their users
--- leave them or a peer ends them, and one that is ended never lives again.
+-- leave them or a peer ends them, and one that is ended never lives again; a logout that asks all others asks each in its
+-- turn, and says Success exactly where each confirmed.
 use Rattle.std.specs.Prelude.{◌≡◌, ◌⊎◌, ℕ, true, false, List, [], ◌∷◌, Contains, Option, IsSome, Some, Ok, Result}
 use Rattle.std.specs.List.{AllByRecursion}
 use Rattle.saml_outside.specs.Files.{File}
@@ -12,6 +13,8 @@ use Rattle.http_wire.specs.declared.answer.Answer.TheVariants.{Fixed, Full}
 use Rattle.ledger_records.specs.declared.idp_record.IdpRecord.{IdpRecord}
 use Rattle.ledger_records.specs.declared.idp_record.IdpRecord.TheVariants as kinds
 use Rattle.ledger_records.specs.declared.idp_record.Issued.{Issued}
+use Rattle.ledger_records.specs.declared.idp_round.Round.{Round}
+use Rattle.ledger_records.specs.declared.idp_round.Told.{Told}
 use Rattle.serve_loop.specs.Turns.{Asked, Asks, Run, Turn, asked_by}
 use Rattle.serve_loop.specs.Worlds.{World}
 use Rattle.provider_run.specs.Runs.{Outside, world_of}
@@ -32,13 +35,16 @@ use Rattle.provider_node.specs.Points.{points}
 use Rattle.provider_node.specs.Starts.{IsServed}
 use Rattle.idp_ledger.specs.Laws.{AnswerAlike}
 use Rattle.idp_ledger.specs.Record.{AreRecords, idp_rules}
+use Rattle.idp_ledger.specs.Turns.{RoundsAskInTurn}
 use Rattle.idp_server.specs.Histories.{AreKept, IsEnded, IsProviders, StayEnded}
 use Rattle.idp_server.specs.Issues.{IsOfUser, IsRecorded}
-use Rattle.idp_server.specs.Logouts.{Ends, EndsOver, IsOfLogoutIfEnding, LeavesOver}
+use Rattle.idp_server.specs.Logouts.{Ends, EndsOver, IsOfLogoutIfEnding, LeavesOver, ending_record, leaving_record}
+use Rattle.idp_server.specs.Messages.{AsksFirst}
+use Rattle.idp_server.specs.Outcomes.{IsOutcome}
 use Rattle.idp_server.specs.Routes.{Login, Logout, SignOn, SingleLogout, To, route}
 use Rattle.idp_server.specs.Signed.{Carries}
 use Rattle.idp_server.specs.Staying.{SessionsStay, WhatWasBegunIsAsLeft}
-use Rattle.idp_server.specs.Step.{Provider, Answers, HasPlace, Serves, StepLeaves, StepsOnDisk, ended_by, ending_by, left_by}
+use Rattle.idp_server.specs.Step.{Provider, Answers, HasPlace, Serves, StepLeaves, StepsOnDisk, ending_by}
 use Rattle.idp_runs.specs.Runs.{Begins, Runs}
 
 -- ---- one request, which the provider was asked in one world, and which left another behind
@@ -76,17 +82,31 @@ pub record EndsExactly (asked : Asked Provider) (before after : World Provider) 
       → Serves found asked.request asked.now (Rose before.disk_faults after.disk_faults) asked.answer asked.node
       after.node
       → LeavesOver found asked.request asked.now row
-      → HasPlace found (left_by asked.node.setup.id_key found asked.now row.cookie)
+      → HasPlace found (leaving_record asked.node.setup found asked.now row.cookie)
       → ¬ (Rose before.disk_faults after.disk_faults)
       → (asked.answer ≡ Fixed NO_MEMORY) ⊎ IsEnded after.node.ledger.held row.cookie
   pub wherever_ended : (found : Held) (message : LogoutRequest) (peer : LogoutPeer) (cookie : List ℕ)
       → Serves found asked.request asked.now (Rose before.disk_faults after.disk_faults) asked.answer asked.node
       after.node
-      → EndsOver asked.node.setup asked.request asked.now message peer
+      → (over : EndsOver asked.node.setup asked.request asked.now message peer)
       → is_among cookie (ending_by found asked.now peer.peer.entity message) ≡ true
-      → HasPlace found (ended_by asked.node.setup.id_key found asked.now peer.peer.entity message)
+      → HasPlace found (ending_record asked.node.setup found asked.now peer message over.relay)
       → ¬ (Rose before.disk_faults after.disk_faults)
       → (asked.answer ≡ Fixed NO_MEMORY) ⊎ IsEnded after.node.ledger.held cookie
+
+-- A logout that asks all others: the answer that begins a round asks the provider of the first turn, and each that stands
+-- for the answer of a provider the one of the next turn; where no turn is left it ends the round, with Success exactly
+-- where none was skipped, as many providers answered as there are turns, and each confirmed. No other answer says how the
+-- logout ended. And in the records of any ledger the answers of a round are to its requests, in order, of which there is
+-- one for each turn: none is asked twice.
+pub record AsksInTurn (asked : Asked Provider) : Type 0 where
+  pub begins : (held : Held) (bytes : List ℕ) (r : Round)
+      → Answers asked.node.setup held asked.request asked.now (Full bytes) (Some (kinds.Round r))
+      → AsksFirst asked.node.setup r asked.now bytes
+  pub goes_on : (held : Held) (bytes : List ℕ) (r : Told) → AreRecords held.records
+      → Answers asked.node.setup held asked.request asked.now (Full bytes) (Some (kinds.Told r))
+      → IsOutcome asked.node.setup held r asked.now bytes
+  pub once : RoundsAskInTurn
 
 -- Each record that stands in an image which a crash inside the answer may leave, or one behind it, be it behind page
 -- 50, and stood nowhere before is one that the request adds over some ledger with some answer, so that it is of it what
@@ -115,6 +135,7 @@ pub record GoesExactly (asked : Asked Provider) : Type 0 where
   pub issues : (before after : World Provider) → Asks IsProviders asked before after
       → IssuesOnlyToUsers asked before after
   pub ends : (before after : World Provider) → Asks IsProviders asked before after → EndsExactly asked before after
+  pub rounds : AsksInTurn asked
   pub added : (before after : World Provider) → Asks IsProviders asked before after → AddsOnlyItsOwn asked
   pub starved : (before after : World Provider) → Asks IsProviders asked before after → KeepsWhatIsVisible asked after
 

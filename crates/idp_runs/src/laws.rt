@@ -9,16 +9,19 @@ use idp_ledger::Disk;
 /// ends sessions exactly where their users leave them, by a POST with their cookie, or where a peer asks for it by a
 /// LogoutRequest that is accepted; and one that is ended is live at no later request, and in no ledger that a crash
 /// may leave since. From each point of the run on, also inside later requests, what was acknowledged by then is in
-/// the history of each ledger that a crash might leave, and each session whose answer went out is as it was left.
+/// the history of each ledger that a crash might leave, and each session whose answer went out is as it was left. A logout
+/// that asks all others asks each in its turn, and says Success exactly where each confirmed.
 pub fn a_run_carries_the_headline<D: Disk>()
     ensures { (disk : D) → ARunCarriesTheHeadline (D.left_since disk) }
 {
     idp_ledger::laws::images_hold_records();
+    idp_ledger::laws::rounds_ask_in_turn();
     idp_server::laws::each_issue_has_a_password_or_a_session();
     idp_server::laws::each_signed_element_is_of_a_record();
     idp_server::laws::what_is_answered_is_recorded();
     idp_server::laws::what_is_answered_to_a_logout_is_recorded();
     idp_server::laws::a_session_is_ended_exactly();
+    idp_server::laws::a_round_ends_as_confirmed();
     idp_server::laws::what_is_acknowledged_is_kept();
     idp_server::laws::sessions_stay_ended_in_a_service();
     idp_server::laws::sessions_stay_in_a_service();

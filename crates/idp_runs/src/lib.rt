@@ -20,7 +20,8 @@
 //! its headline (`runs`, by `Runs` and `Headline`): at each request an Assertion is issued to a user with a password or
 //! a session alone, each signed element is one that its record stands for, the record is durable before the answer is
 //! sent, and sessions are ended exactly where their users leave them or a peer ends them; and where the disk tells,
-//! what was acknowledged is kept, and a session that was ended is live at no later request and behind the run; and each
+//! what was acknowledged is kept, and a session that was ended is live at no later request and behind the run; a logout
+//! that asks all others asks each in its turn and once, and says Success exactly where each confirmed (`AsksInTurn`); and each
 //! image that a crash might leave since a point of the run, also inside later requests, has in its history the records
 //! for which the answers up to that point stand (`AreKeptSince`). A run that served is a start, over which the laws of
 //! starts go (`laws::a_run_is_a_start`), and from each image that a crash may leave a later start goes on

@@ -11,7 +11,7 @@ use Rattle.idp_ledger.specs.Laws.{AnswerAlike, CompactionsChangeNoAnswer}
 use Rattle.idp_server.specs.Step.{session_for}
 
 alike_self : (now : ℕ) (held : Held) → AnswerAlike now held held
-alike_self now held = record { pending = λ id. refl; session = λ cookie. refl; ending = λ peer name indexes. refl; partial = λ peer name indexes. refl; last_peer = λ cookie live. refl; waiting = λ request. refl }
+alike_self now held = record { pending = λ id. refl; session = λ cookie. refl; ending = λ peer name indexes. refl; partial = λ peer name indexes. refl; last_peer = λ cookie live. refl; parts = λ cookies live. refl; waiting = λ request. refl; round = λ request. refl; turn = λ request peer. refl }
 
 pub alike : CompactionsChangeNoAnswer → (now : ℕ) (old new : Held) → AreRecords old.records → Compacts now old new → AnswerAlike now new old
 alike law now old new are (inl same) = subst (λ (h : Held). AnswerAlike now h old) (sym same.1) (alike_self now old)

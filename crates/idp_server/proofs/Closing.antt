@@ -1,13 +1,16 @@
 -- Wherever sessions are ended.
 use Rattle.std.specs.Prelude.{codes, slice_get}
-use Rattle.std.proofs.Common.{◌≡◌, inl, inr, ℕ, Bool, true, false, ◌&&◌, ◌||◌, not, if◌then◌else◌, List, [], ◌∷◌, map, Option, None, Some, sym, subst, refl, ap, ◌∙◌}
+use Rattle.std.proofs.Common.{◌≡◌, ◌⊎◌, ◌++◌, inl, inr, ℕ, Bool, true, false, ◌&&◌, ◌||◌, not, if◌then◌else◌, List, [], ◌∷◌, map, Option, None, Some, sym, subst, refl, ap, ◌∙◌}
 use Rattle.std.specs.List.{filter, list_any}
 use Rattle.std.specs.Option.{option_and_then}
 use Rattle.std.specs.Str.{bytes_eq}
 use Rattle.http_wire.specs.Cookies.{cookie_value}
+use Rattle.std.proofs.lemmas.Bool.{false≢true, or_cases}
 use Rattle.http_wire.specs.declared.answer.Answer.{Answer}
+use Rattle.http_wire.specs.declared.answer.Answer.TheVariants.{Full}
 use Rattle.http_wire.specs.Requests.{Request}
 use Rattle.ledger_records.specs.declared.idp_record.IdpRecord.{IdpRecord}
+use Rattle.ledger_records.specs.declared.idp_record.IdpRecord.TheVariants as kinds
 use Rattle.logout_profile.specs.declared.logout.Logout.{Logout as Message}
 use Rattle.logout_profile.specs.declared.logout.Logout.TheVariants as messages
 use Rattle.logout_profile.specs.Verdict.{IsAccepted, IsRefused}
@@ -18,16 +21,20 @@ use Rattle.verdict_codes.specs.declared.codes.Verdict.{Verdict}
 use Rattle.idp_ledger.specs.declared.row.SessionRow.{SessionRow}
 use Rattle.idp_ledger.specs.Finding.{is_empty, is_ending, session_found, visible}
 use Rattle.idp_ledger.specs.Ledger.{Held, held_with}
-use Rattle.idp_ledger.specs.RowsOf.{is_among, issued_rows, session_rows}
+use Rattle.idp_ledger.specs.RowsOf.{IdpRows, ended_where, ends, is_among, issued_rows, rows_after, rows_of, session_rows}
+use Rattle.idp_ledger.specs.Record.{is_unended}
 use Rattle.record_ledger.proofs.Words.{other_way, same_text, text_itself}
 use Rattle.idp_ledger.proofs.RowLaws.{rows_of-push}
 use Rattle.idp_ledger.proofs.RowTexts.{any_there}
 use Rattle.idp_rules.specs.declared.config.IdpConfig.{IdpConfig}
 use Rattle.provider_node.specs.Step as shared
 use Rattle.idp_server.specs.Histories.{IsEnded}
-use Rattle.idp_server.specs.Logouts.{EndsOver, LeavesOver, WhereverAPeerEnds, WhereverAUserLeaves}
+use Rattle.logout_turns.specs.declared.part.Asker.{Asker}
+use Rattle.idp_server.specs.Logouts.{AnswersEndExactly, EndsOver, IsOfLogoutIfEnding, LeavesOver, SessionsEndBeforeTheAnswer, WhatIsAnsweredToALogoutIsRecorded, WhereverAPeerEnds, WhereverAUserLeaves, ending_record, leaving_record}
+use Rattle.idp_server.specs.Replies.{OfPeer, OfUser}
+use Rattle.idp_server.specs.Rounds.{asks_others, round_by}
 use Rattle.idp_server.specs.Step as steps
-use Rattle.idp_server.specs.Step.{Answers, AsksToEnd, HasPlace, RepliesTo, ended_by, ending_by, left_by, session_for}
+use Rattle.idp_server.specs.Step.{Answers, AsksToEnd, HasPlace, RepliesTo, asker_of, ended_by, ending_by, left_by, session_for}
 use Rattle.idp_server.proofs.Issues.{followed, found_at}
 use Rattle.idp_server.proofs.StayingEnded.{cookies_stay, ended_all, ended_with}
 
@@ -36,18 +43,55 @@ same_record adds one other first second = let same : Some one ≡ Some other = s
 
 -- ---- a user who leaves
 
+-- the session of a row that lives is there
+there_is : (held : Held) (now : ℕ) (request : Request) (row : SessionRow) → session_for held now request ≡ Some row
+    → list_any (λ (s : SessionRow). bytes_eq s.cookie row.cookie) (session_rows held.records) ≡ true
+there_is held now request row live =
+    let rows = session_rows held.records in
+    let cookie = followed (λ cookie. session_found rows cookie now held.header.horizon) (option_and_then (λ header. cookie_value header (codes "idp_sid")) request.cookie) row live in
+    let found = found_at (λ (s : SessionRow). bytes_eq s.cookie cookie.0 && not s.ended && visible s.until now held.header.horizon) rows row cookie.2 in
+    any_there (λ (s : SessionRow). bytes_eq s.cookie row.cookie) rows found.0 row found.1 (text_itself row.cookie)
+
+-- it is ended behind a record that ends its cookie, and behind one that lists it
 left_ends : (key : List ℕ) (held : Held) (now : ℕ) (request : Request) (row : SessionRow) → session_for held now request ≡ Some row → IsEnded (held_with (left_by key held now row.cookie) held) row.cookie
 left_ends key held now request row live =
     let rows = session_rows held.records in
     let f : SessionRow → Bool = λ o. bytes_eq row.cookie o.cookie in
-    let cookie = followed (λ cookie. session_found rows cookie now held.header.horizon) (option_and_then (λ header. cookie_value header (codes "idp_sid")) request.cookie) row live in
-    let found = found_at (λ (s : SessionRow). bytes_eq s.cookie cookie.0 && not s.ended && visible s.until now held.header.horizon) rows row cookie.2 in
     ended_with held (left_by key held now row.cookie) row.cookie _ (rows_of-push held.records (left_by key held now row.cookie))
-    (cookies_stay f rows row.cookie ∙ any_there (λ (s : SessionRow). bytes_eq s.cookie row.cookie) rows found.0 row found.1 (text_itself row.cookie))
+    (cookies_stay f rows row.cookie ∙ there_is held now request row live)
     (ended_all f rows row.cookie (λ o same. other_way o.cookie row.cookie same))
 
+pub round_ends : (setup : IdpConfig) (held : Held) (now : ℕ) (asker : Option Asker) (cookies : List (List ℕ)) (cookie : List ℕ)
+    → list_any (λ (s : SessionRow). bytes_eq s.cookie cookie) (session_rows held.records) ≡ true → is_among cookie cookies ≡ true
+    → IsEnded (held_with (round_by setup held now asker cookies) held) cookie
+round_ends setup held now asker cookies cookie there among =
+    let rows = session_rows held.records in
+    let f : SessionRow → Bool = λ o. is_among o.cookie cookies in
+    ended_with held (round_by setup held now asker cookies) cookie _ (rows_of-push held.records (round_by setup held now asker cookies))
+    (cookies_stay f rows cookie ∙ there)
+    (ended_all f rows cookie (λ o same. subst (λ (t : List ℕ). is_among t cookies ≡ true) (sym (same_text o.cookie cookie same)) among))
+
+itself_among : (cookie : List ℕ) → is_among cookie (cookie ∷ []) ≡ true
+itself_among cookie = ap (λ (b : Bool). b || false) (text_itself cookie)
+
+leaving_ends : (setup : IdpConfig) (held : Held) (now : ℕ) (request : Request) (row : SessionRow) → session_for held now request ≡ Some row
+    → IsEnded (held_with (leaving_record setup held now row.cookie) held) row.cookie
+leaving_ends setup held now request row live = by_others (asks_others setup held None (row.cookie ∷ []))
+  where
+    by_others : (b : Bool) → IsEnded (held_with (if b then round_by setup held now None (row.cookie ∷ []) else left_by setup.id_key held now row.cookie) held) row.cookie
+    by_others true = round_ends setup held now None (row.cookie ∷ []) row.cookie (there_is held now request row live) (itself_among row.cookie)
+    by_others false = left_ends setup.id_key held now request row live
+
+chosen_where : (b : Bool) (one other : IdpRecord) → b ≡ true → (if b then one else other) ≡ one
+chosen_where true one other is = refl
+chosen_where false one other is = absurd (cc)
+
+other_where : (b : Bool) (one other : IdpRecord) → b ≡ false → (if b then one else other) ≡ other
+other_where true one other is = absurd (cc)
+other_where false one other is = refl
+
 left_added : (setup : IdpConfig) (held : Held) (request : Request) (now : ℕ) (answer : Answer) (adds : Option IdpRecord) (row : SessionRow) → LeavesOver held request now row
-    → Answers setup held request now answer adds → adds ≡ Some (left_by setup.id_key held now row.cookie)
+    → Answers setup held request now answer adds → adds ≡ Some (leaving_record setup held now row.cookie)
 left_added setup held request now answer adds row over (steps.ByStatus status to is none) = absurd (let e = sym over.posted ∙ to in cc)
 left_added setup held request now answer adds row over (steps.ByMetadata to is none) = absurd (let e = sym over.posted ∙ to in cc)
 left_added setup held request now answer adds row over (steps.ByVerdict verdict to refused is none) = absurd (let e = sym over.posted ∙ to in cc)
@@ -59,18 +103,26 @@ left_added setup held request now answer adds row over (steps.ByNoPending t to p
 left_added setup held request now answer adds row over (steps.ByPassword t other peer to posted pends refused is none) = absurd (let e = sym over.posted ∙ to in cc)
 left_added setup held request now answer adds row over (steps.ByLogin t other peer user r bytes to posted pends accepted drafted adding answers full) = absurd (let e = sym over.posted ∙ to in cc)
 left_added setup held request now answer adds row over (steps.ByNoSession to none is nothing) = absurd (let e = sym none ∙ over.live in cc)
-left_added setup held request now answer adds row over (steps.ByLeaving other r bytes to live drafted adding answers full) =
+left_added setup held request now answer adds row over (steps.ByLeaving other r bytes to live alone drafted adding answers full) =
     let some : Some other ≡ Some row = sym live ∙ over.live in
     let same : other ≡ row = cc in
-    adding ∙ ap Some (sym drafted) ∙ ap (λ (s : SessionRow). Some (left_by setup.id_key held now s.cookie)) same
+    let chosen = other_where (asks_others setup held None (other.cookie ∷ [])) (round_by setup held now None (other.cookie ∷ [])) (left_by setup.id_key held now other.cookie) alone in
+    adding ∙ ap Some (sym drafted) ∙ ap Some (sym chosen) ∙ ap (λ (s : SessionRow). Some (leaving_record setup held now s.cookie)) same
+left_added setup held request now answer adds row over (steps.ByLeavingAll other r bytes to live asks drafted adding first full) =
+    let some : Some other ≡ Some row = sym live ∙ over.live in
+    let same : other ≡ row = cc in
+    let chosen = chosen_where (asks_others setup held None (other.cookie ∷ [])) (round_by setup held now None (other.cookie ∷ [])) (left_by setup.id_key held now other.cookie) asks in
+    adding ∙ ap Some (sym drafted) ∙ ap Some (sym chosen) ∙ ap (λ (s : SessionRow). Some (leaving_record setup held now s.cookie)) same
 left_added setup held request now answer adds row over (steps.ByLogoutVerdict verdict to refused is none) = absurd (let e = sym over.posted ∙ to in cc)
 left_added setup held request now answer adds row over (steps.ByNothingToEnd asked peer relay to asks nothing is none) = absurd (let e = sym over.posted ∙ to in cc)
-left_added setup held request now answer adds row over (steps.ByEnding asked peer relay r bytes to asks some drafted adding answers full) = absurd (let e = sym over.posted ∙ to in cc)
-left_added setup held request now answer adds row over (steps.ByUnknownLogout response to replies unknown is none) = absurd (let e = sym over.posted ∙ to in cc)
-left_added setup held request now answer adds row over (steps.ByConfirming response to replies waits adding full) = absurd (let e = sym over.posted ∙ to in cc)
+left_added setup held request now answer adds row over (steps.ByEnding asked peer relay r bytes to asks some alone drafted adding answers full) = absurd (let e = sym over.posted ∙ to in cc)
+left_added setup held request now answer adds row over (steps.ByEndingAll asked peer relay r bytes to asks some others drafted adding first full) = absurd (let e = sym over.posted ∙ to in cc)
+left_added setup held request now answer adds row over (steps.ByTold response peer other r bytes to replies waits drafted adding answers full) = absurd (let e = sym over.posted ∙ to in cc)
+left_added setup held request now answer adds row over (steps.ByUnknownLogout response peer to replies no_round unknown is none) = absurd (let e = sym over.posted ∙ to in cc)
+left_added setup held request now answer adds row over (steps.ByConfirming response peer to replies no_round waits adding full) = absurd (let e = sym over.posted ∙ to in cc)
 
 left_is : (setup : IdpConfig) (held : Held) (request : Request) (now : ℕ) (answer : Answer) (wanted : IdpRecord) (row : SessionRow) → LeavesOver held request now row
-    → Answers setup held request now answer (Some wanted) → left_by setup.id_key held now row.cookie ≡ wanted
+    → Answers setup held request now answer (Some wanted) → leaving_record setup held now row.cookie ≡ wanted
 left_is setup held request now answer wanted row over answers =
     same_record (Some wanted) _ wanted (left_added setup held request now answer (Some wanted) row over answers) refl
 
@@ -80,7 +132,7 @@ wherever_left found request now faults later answer old new row over room calm (
 wherever_left found request now faults later answer old new row over room calm (shared.Recorded r answers place whole) =
     let same = left_is old.setup found request now answer r row over answers in
     inr (subst (λ (h : Held). IsEnded h row.cookie) (sym whole.is)
-    (subst (λ (x : IdpRecord). IsEnded (held_with x found) row.cookie) same (left_ends old.setup.id_key found now request row over.live)))
+    (subst (λ (x : IdpRecord). IsEnded (held_with x found) row.cookie) same (leaving_ends old.setup found now request row over.live)))
 wherever_left found request now faults later answer old new row over room calm (shared.RecordedAfterCompaction held r space answers place whole) =
     absurd (space.none (subst (HasPlace found) (left_is old.setup found request now space.other space.wanted row over space.wants) room))
 wherever_left found request now faults later answer old new row over room calm (shared.NoPlace held r another space answers still is whole) =
@@ -116,6 +168,11 @@ filtered_there : (test : SessionRow → Bool) (rows : List SessionRow) (cookie :
 filtered_there test [] cookie is = absurd (let clash : false ≡ true = is in cc)
 filtered_there test (row ∷ rows) cookie is = kept_there (test row) row (filter test rows) cookie _ (filtered_there test rows cookie) is
 
+ending_there : (held : Held) (now : ℕ) (peer : List ℕ) (asked : LogoutRequest) (cookie : List ℕ) → is_among cookie (ending_by held now peer asked) ≡ true
+    → list_any (λ (s : SessionRow). bytes_eq s.cookie cookie) (session_rows held.records) ≡ true
+ending_there held now peer asked cookie among =
+    filtered_there (is_ending now held.header.horizon peer asked.name asked.indexes (issued_rows held.records)) (session_rows held.records) cookie among
+
 ended_ends : (key : List ℕ) (held : Held) (now : ℕ) (peer : List ℕ) (asked : LogoutRequest) (cookie : List ℕ) → is_among cookie (ending_by held now peer asked) ≡ true
     → IsEnded (held_with (ended_by key held now peer asked) held) cookie
 ended_ends key held now peer asked cookie among =
@@ -123,17 +180,92 @@ ended_ends key held now peer asked cookie among =
     let cookies = ending_by held now peer asked in
     let f : SessionRow → Bool = λ o. is_among o.cookie cookies in
     ended_with held (ended_by key held now peer asked) cookie _ (rows_of-push held.records (ended_by key held now peer asked))
-    (cookies_stay f rows cookie ∙ filtered_there (is_ending now held.header.horizon peer asked.name asked.indexes (issued_rows held.records)) rows cookie among)
+    (cookies_stay f rows cookie ∙ ending_there held now peer asked cookie among)
     (ended_all f rows cookie (λ o same. subst (λ (t : List ℕ). is_among t cookies ≡ true) (sym (same_text o.cookie cookie same)) among))
+
+ending_ends : (setup : IdpConfig) (held : Held) (now : ℕ) (peer : LogoutPeer) (asked : LogoutRequest) (relay : Option (List ℕ)) (cookie : List ℕ)
+    → is_among cookie (ending_by held now peer.peer.entity asked) ≡ true → IsEnded (held_with (ending_record setup held now peer asked relay) held) cookie
+ending_ends setup held now peer asked relay cookie among =
+    by_others (asks_others setup held (Some (asker_of peer asked relay)) (ending_by held now peer.peer.entity asked))
+  where
+    by_others : (b : Bool)
+        → IsEnded (held_with (if b then round_by setup held now (Some (asker_of peer asked relay)) (ending_by held now peer.peer.entity asked)
+        else ended_by setup.id_key held now peer.peer.entity asked) held) cookie
+    by_others true =
+        round_ends setup held now (Some (asker_of peer asked relay)) (ending_by held now peer.peer.entity asked) cookie (ending_there held now peer.peer.entity asked cookie among) among
+    by_others false = ended_ends setup.id_key held now peer.peer.entity asked cookie among
+
+-- ---- what a record ends that is added
+
+only_one : (one cookie : List ℕ) → is_among cookie (one ∷ []) ≡ true → one ≡ cookie
+only_one one cookie among = elim (or_cases (bytes_eq one cookie) false among) [
+  | inl here ↦ same_text one cookie here
+  | inr none ↦ absurd (false≢true none)
+]
+
+listed_ends : (held : Held) (r : IdpRecord) (cookies : List (List ℕ)) (cookie : List ℕ)
+    → (rows_of (held.records ++ r ∷ [])).sessions ≡ ended_where (λ (o : SessionRow). is_among o.cookie cookies) (session_rows held.records)
+    → list_any (λ (s : SessionRow). bytes_eq s.cookie cookie) (session_rows held.records) ≡ true → is_among cookie cookies ≡ true → IsEnded (held_with r held) cookie
+listed_ends held r cookies cookie is there among =
+    let rows = session_rows held.records in
+    let f : SessionRow → Bool = λ o. is_among o.cookie cookies in
+    record {
+      there = ap (λ (x : List SessionRow). list_any (λ (s : SessionRow). bytes_eq s.cookie cookie) x) is ∙ cookies_stay f rows cookie ∙ there;
+      ended = ap (λ (x : List SessionRow). is_unended x cookie) is
+          ∙ ended_all f rows cookie (λ o same. subst (λ (t : List ℕ). is_among t cookies ≡ true) (sym (same_text o.cookie cookie same)) among);
+    }
+
+sessions_push : (held : Held) (r : IdpRecord) → (rows_of (held.records ++ r ∷ [])).sessions ≡ (rows_after (rows_of held.records) r).sessions
+sessions_push held r = ap (λ (x : IdpRows). x.sessions) (rows_of-push held.records r)
+
+pub ends_behind : (setup : IdpConfig) (held : Held) (request : Request) (now : ℕ) (r : IdpRecord) (cookie : List ℕ) → IsOfLogoutIfEnding setup held request now r → ends cookie r ≡ true
+    → IsEnded (held_with r held) cookie
+ends_behind setup held request now (kinds.Pending r) cookie of ending = absurd (false≢true ending)
+ends_behind setup held request now (kinds.Issued r) cookie of ending = absurd (false≢true ending)
+ends_behind setup held request now (kinds.Ended r) cookie of ending =
+    let among = subst (λ (cs : List (List ℕ)). is_among cookie cs ≡ true) of.cookies_are ending in
+    listed_ends held (kinds.Ended r) r.cookies cookie (sessions_push held (kinds.Ended r)) (ending_there held now of.peer.peer.entity of.asked cookie among) ending
+ends_behind setup held request now (kinds.Left r) cookie of ending =
+    let rows = session_rows held.records in
+    let f : SessionRow → Bool = λ o. bytes_eq r.cookie o.cookie in
+    let same = same_text r.cookie cookie ending in
+    let own = subst (λ (c : List ℕ). bytes_eq of.row.cookie c ≡ true) (of.named ∙ same) (text_itself of.row.cookie) in
+    ended_with held (kinds.Left r) cookie _ (rows_of-push held.records (kinds.Left r))
+    (cookies_stay f rows cookie ∙ any_there (λ (s : SessionRow). bytes_eq s.cookie cookie) rows of.place of.row of.there own)
+    (ended_all f rows cookie (λ o here. subst (λ (c : List ℕ). bytes_eq c o.cookie ≡ true) (sym same) (other_way o.cookie cookie here)))
+ends_behind setup held request now (kinds.Confirmed r) cookie of ending = absurd (false≢true ending)
+ends_behind setup held request now (kinds.Spoke r) cookie of ending = absurd (false≢true ending)
+ends_behind setup held request now (kinds.Round r) cookie of ending =
+    listed_ends held (kinds.Round r) r.cookies cookie (sessions_push held (kinds.Round r)) (there of.of) ending
+  where
+    there : OfUser held request now r.cookies r.asker ⊎ OfPeer setup held request now r.cookies r.asker
+        → list_any (λ (s : SessionRow). bytes_eq s.cookie cookie) (session_rows held.records) ≡ true
+    there (inl u) =
+        let same = only_one u.row.cookie cookie (subst (λ (cs : List (List ℕ)). is_among cookie cs ≡ true) u.cookies_are ending) in
+        subst (λ (c : List ℕ). list_any (λ (s : SessionRow). bytes_eq s.cookie c) (session_rows held.records) ≡ true) same (there_is held now request u.row u.live)
+    there (inr p) = ending_there held now p.peer.peer.entity p.asked cookie (subst (λ (cs : List (List ℕ)). is_among cookie cs ≡ true) p.cookies_are ending)
+ends_behind setup held request now (kinds.Told r) cookie of ending = absurd (false≢true ending)
+
+pub sessions_end_before : AnswersEndExactly → WhatIsAnsweredToALogoutIsRecorded → SessionsEndBeforeTheAnswer
+sessions_end_before only recorded old new disk later request now before after bytes does own routed =
+    let is = recorded old new disk later request now before after bytes does own routed in
+    record {
+      held = is.held;
+      r = is.r;
+      stands = is.stands;
+      kept = is.kept;
+      ended = λ cookie ending. ends_behind old.setup is.held request now is.r cookie (only old.setup is.held request now (Full bytes) is.r is.stands) ending;
+    }
 
 some_among : (cookie : List ℕ) (cookies : List (List ℕ)) → is_among cookie cookies ≡ true → is_empty cookies ≡ true → ⊥
 some_among cookie [] among none = let clash : false ≡ true = among in cc
 some_among cookie (first ∷ cookies) among none = let clash : false ≡ true = none in cc
 
--- one request of one peer
-record AreSame (one other : LogoutRequest) (peer another : LogoutPeer) : Type 0 where
+-- one request of one peer, with one relay
+record AreSame (one other : LogoutRequest) (peer another : LogoutPeer) (relay more : Option (List ℕ)) : Type 0 where
   asked : one ≡ other
   peers : peer ≡ another
+  relays : relay ≡ more
 
 abbrev asked_in : Message → Option LogoutRequest
 asked_in (messages.Ask request place relay) = Some request
@@ -143,27 +275,39 @@ abbrev place_in : Message → Option ℕ
 place_in (messages.Ask request place relay) = Some place
 place_in (messages.Reply response place) = None
 
+abbrev relay_in : Message → Option (Option (List ℕ))
+relay_in (messages.Ask request place relay) = Some relay
+relay_in (messages.Reply response place) = None
+
 module _ (law : IsOneLogout) where
   one_asks : (setup : IdpConfig) (request : Request) (now : ℕ) (one other : LogoutRequest) (peer another : LogoutPeer) (relay more : Option (List ℕ))
-      → AsksToEnd setup request now one peer relay → AsksToEnd setup request now other another more → AreSame one other peer another
+      → AsksToEnd setup request now one peer relay → AsksToEnd setup request now other another more → AreSame one other peer another relay more
   one_asks setup request now one other peer another relay more first second =
       let same = law.once _ _ _ _ now request.body _ _ first.obeyed second.obeyed in
       let asked : Some one ≡ Some other = ap asked_in same in
       let placed : Some first.place ≡ Some second.place = ap place_in same in
       let place : first.place ≡ second.place = cc in
       let both : Some peer ≡ Some another = sym first.there ∙ ap (λ (p : ℕ). slice_get setup.peers p) place ∙ second.there in
-      record { asked = cc; peers = cc }
+      let relays : Some relay ≡ Some more = ap relay_in same in
+      record { asked = cc; peers = cc; relays = cc }
 
   no_reply : (setup : IdpConfig) (request : Request) (now : ℕ) (asked : LogoutRequest) (peer : LogoutPeer) (relay : Option (List ℕ)) (response : LogoutResponse)
-      → AsksToEnd setup request now asked peer relay → RepliesTo setup request now response → ⊥
-  no_reply setup request now asked peer relay response asks replies =
+      (who : LogoutPeer) → AsksToEnd setup request now asked peer relay → RepliesTo setup request now response who → ⊥
+  no_reply setup request now asked peer relay response who asks replies =
       let same = law.once _ _ _ _ now request.body _ _ asks.obeyed replies.obeyed in
       let clash : Some asked ≡ None = ap asked_in same in
       cc
 
+  one_record : (setup : IdpConfig) (held : Held) (now : ℕ) (one other : LogoutRequest) (peer another : LogoutPeer) (relay more : Option (List ℕ)) → AreSame one other peer another relay more
+      → Some (ending_record setup held now peer one relay) ≡ Some (ending_record setup held now another other more)
+  one_record setup held now one other peer another relay more same =
+      ap (λ (p : LogoutPeer). Some (ending_record setup held now p one relay)) same.peers
+      ∙ ap (λ (x : LogoutRequest). Some (ending_record setup held now another x relay)) same.asked
+      ∙ ap (λ (r : Option (List ℕ)). Some (ending_record setup held now another other r)) same.relays
+
   ended_added : (setup : IdpConfig) (held : Held) (request : Request) (now : ℕ) (answer : Answer) (adds : Option IdpRecord) (asked : LogoutRequest) (peer : LogoutPeer) (cookie : List ℕ)
-      → EndsOver setup request now asked peer → is_among cookie (ending_by held now peer.peer.entity asked) ≡ true → Answers setup held request now answer adds
-      → adds ≡ Some (ended_by setup.id_key held now peer.peer.entity asked)
+      → (over : EndsOver setup request now asked peer) → is_among cookie (ending_by held now peer.peer.entity asked) ≡ true → Answers setup held request now answer adds
+      → adds ≡ Some (ending_record setup held now peer asked over.relay)
   ended_added setup held request now answer adds asked peer cookie over among (steps.ByStatus status to is none) = absurd (let e = sym over.posted ∙ to in cc)
   ended_added setup held request now answer adds asked peer cookie over among (steps.ByMetadata to is none) = absurd (let e = sym over.posted ∙ to in cc)
   ended_added setup held request now answer adds asked peer cookie over among (steps.ByVerdict verdict to refused is none) = absurd (let e = sym over.posted ∙ to in cc)
@@ -177,7 +321,8 @@ module _ (law : IsOneLogout) where
   ended_added setup held request now answer adds asked peer cookie over among (steps.ByLogin t row p user r bytes to posted pends accepted drafted adding answers full) =
       absurd (let e = sym over.posted ∙ to in cc)
   ended_added setup held request now answer adds asked peer cookie over among (steps.ByNoSession to none is nothing) = absurd (let e = sym over.posted ∙ to in cc)
-  ended_added setup held request now answer adds asked peer cookie over among (steps.ByLeaving row r bytes to live drafted adding answers full) = absurd (let e = sym over.posted ∙ to in cc)
+  ended_added setup held request now answer adds asked peer cookie over among (steps.ByLeaving row r bytes to live alone drafted adding answers full) = absurd (let e = sym over.posted ∙ to in cc)
+  ended_added setup held request now answer adds asked peer cookie over among (steps.ByLeavingAll row r bytes to live others drafted adding first full) = absurd (let e = sym over.posted ∙ to in cc)
   ended_added setup held request now answer adds asked peer cookie over among (steps.ByLogoutVerdict verdict to refused is none) =
       absurd (law.obeyed _ _ _ _ now request.body _ verdict over.asks.obeyed refused)
   ended_added setup held request now answer adds asked peer cookie over among (steps.ByNothingToEnd other another more to asks nothing is none) =
@@ -185,18 +330,26 @@ module _ (law : IsOneLogout) where
       absurd (some_among cookie (ending_by held now peer.peer.entity asked) among
       (subst (λ (p : LogoutPeer). is_empty (ending_by held now p.peer.entity asked) ≡ true) same.peers
       (subst (λ (x : LogoutRequest). is_empty (ending_by held now another.peer.entity x) ≡ true) same.asked nothing)))
-  ended_added setup held request now answer adds asked peer cookie over among (steps.ByEnding other another more r bytes to asks some drafted adding answers full) =
+  ended_added setup held request now answer adds asked peer cookie over among (steps.ByEnding other another more r bytes to asks some alone drafted adding answers full) =
       let same = one_asks setup request now other asked another peer more over.relay asks over.asks in
-      adding ∙ ap Some (sym drafted) ∙ ap (λ (p : LogoutPeer). Some (ended_by setup.id_key held now p.peer.entity other)) same.peers
-      ∙ ap (λ (x : LogoutRequest). Some (ended_by setup.id_key held now peer.peer.entity x)) same.asked
-  ended_added setup held request now answer adds asked peer cookie over among (steps.ByUnknownLogout response to replies unknown is none) =
-      absurd (no_reply setup request now asked peer over.relay response over.asks replies)
-  ended_added setup held request now answer adds asked peer cookie over among (steps.ByConfirming response to replies waits adding full) =
-      absurd (no_reply setup request now asked peer over.relay response over.asks replies)
+      let chosen = other_where (asks_others setup held (Some (asker_of another other more)) (ending_by held now another.peer.entity other))
+      (round_by setup held now (Some (asker_of another other more)) (ending_by held now another.peer.entity other)) (ended_by setup.id_key held now another.peer.entity other) alone in
+      adding ∙ ap Some (sym drafted) ∙ ap Some (sym chosen) ∙ one_record setup held now other asked another peer more over.relay same
+  ended_added setup held request now answer adds asked peer cookie over among (steps.ByEndingAll other another more r bytes to asks some others drafted adding first full) =
+      let same = one_asks setup request now other asked another peer more over.relay asks over.asks in
+      let chosen = chosen_where (asks_others setup held (Some (asker_of another other more)) (ending_by held now another.peer.entity other))
+      (round_by setup held now (Some (asker_of another other more)) (ending_by held now another.peer.entity other)) (ended_by setup.id_key held now another.peer.entity other) others in
+      adding ∙ ap Some (sym drafted) ∙ ap Some (sym chosen) ∙ one_record setup held now other asked another peer more over.relay same
+  ended_added setup held request now answer adds asked peer cookie over among (steps.ByTold response who row r bytes to replies waits drafted adding answers full) =
+      absurd (no_reply setup request now asked peer over.relay response who over.asks replies)
+  ended_added setup held request now answer adds asked peer cookie over among (steps.ByUnknownLogout response who to replies no_round unknown is none) =
+      absurd (no_reply setup request now asked peer over.relay response who over.asks replies)
+  ended_added setup held request now answer adds asked peer cookie over among (steps.ByConfirming response who to replies no_round waits adding full) =
+      absurd (no_reply setup request now asked peer over.relay response who over.asks replies)
 
   ended_is : (setup : IdpConfig) (held : Held) (request : Request) (now : ℕ) (answer : Answer) (wanted : IdpRecord) (asked : LogoutRequest) (peer : LogoutPeer) (cookie : List ℕ)
-      → EndsOver setup request now asked peer → is_among cookie (ending_by held now peer.peer.entity asked) ≡ true → Answers setup held request now answer (Some wanted)
-      → ended_by setup.id_key held now peer.peer.entity asked ≡ wanted
+      → (over : EndsOver setup request now asked peer) → is_among cookie (ending_by held now peer.peer.entity asked) ≡ true → Answers setup held request now answer (Some wanted)
+      → ending_record setup held now peer asked over.relay ≡ wanted
   ended_is setup held request now answer wanted asked peer cookie over among answers =
       same_record (Some wanted) _ wanted (ended_added setup held request now answer (Some wanted) asked peer cookie over among answers) refl
 
@@ -206,7 +359,7 @@ module _ (law : IsOneLogout) where
   wherever_ended found request now faults later answer old new asked peer cookie over among room calm (shared.Recorded r answers place whole) =
       let same = ended_is old.setup found request now answer r asked peer cookie over among answers in
       inr (subst (λ (h : Held). IsEnded h cookie) (sym whole.is)
-      (subst (λ (x : IdpRecord). IsEnded (held_with x found) cookie) same (ended_ends old.setup.id_key found now peer.peer.entity asked cookie among)))
+      (subst (λ (x : IdpRecord). IsEnded (held_with x found) cookie) same (ending_ends old.setup found now peer asked over.relay cookie among)))
   wherever_ended found request now faults later answer old new asked peer cookie over among room calm (shared.RecordedAfterCompaction held r space answers place whole) =
       absurd (space.none (subst (HasPlace found) (ended_is old.setup found request now space.other space.wanted asked peer cookie over among space.wants) room))
   wherever_ended found request now faults later answer old new asked peer cookie over among room calm (shared.NoPlace held r another space answers still is whole) =

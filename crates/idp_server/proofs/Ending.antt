@@ -15,6 +15,7 @@ use Rattle.idp_rules.specs.Config.{logout}
 use Rattle.idp_rules.specs.declared.config.IdpConfig.{IdpConfig}
 use Rattle.idp_server.specs.Routes.{SingleLogout, To, route}
 use Rattle.idp_server.specs.Step.{Answers, AsksToEnd, ByNothingToEnd, ByUnknownLogout, IsObeyed, IsPeer, RepliesTo, ending_by, is_awaited}
+use Rattle.idp_server.specs.Rounds.{round_waiting}
 use Rattle.idp_server.proofs.Peers.{place_names}
 
 -- ---- the peer of a request
@@ -44,6 +45,7 @@ nothing_ends setup held request now asked place name relay peer to obeyed there 
     ByNothingToEnd asked peer relay to (record { place = place; there = there; obeyed = obeyed })
     (subst (λ (n : List ℕ). is_empty (ending_by held now n asked) ≡ true) name_is none) refl refl
 
-pub nothing_waits : (setup : IdpConfig) (held : Held) (request : Request) (now : ℕ) (response : LogoutResponse) → route request ≡ To SingleLogout → RepliesTo setup request now response
+pub nothing_waits : (setup : IdpConfig) (held : Held) (request : Request) (now : ℕ) (response : LogoutResponse) (peer : LogoutPeer) → route request ≡ To SingleLogout
+    → RepliesTo setup request now response peer → round_waiting setup held now response.request peer.peer.entity ≡ None
     → is_awaited held now response.request ≡ false → Answers setup held request now (Fixed 34) None
-nothing_waits setup held request now response to replies none = ByUnknownLogout response to replies none refl refl
+nothing_waits setup held request now response peer to replies no_round none = ByUnknownLogout response peer to replies no_round none refl refl

@@ -143,12 +143,15 @@ answer_has_user setup held request now answer adds r some (steps.ByLogin t row p
       attributes_are = sym (ap (λ (i : Issued). i.attributes) same);
     })
 answer_has_user setup held request now answer adds r some (steps.ByNoSession to none_live is none) = absurd (cc)
-answer_has_user setup held request now answer adds r some (steps.ByLeaving row left bytes to live drafted adding answers full) = absurd (cc)
+answer_has_user setup held request now answer adds r some (steps.ByLeaving row left bytes to live alone drafted adding answers full) = absurd (cc)
+answer_has_user setup held request now answer adds r some (steps.ByLeavingAll row begun bytes to live asks drafted adding first full) = absurd (cc)
 answer_has_user setup held request now answer adds r some (steps.ByLogoutVerdict verdict to refused is none) = absurd (cc)
 answer_has_user setup held request now answer adds r some (steps.ByNothingToEnd asked peer relay to asks nothing is none) = absurd (cc)
-answer_has_user setup held request now answer adds r some (steps.ByEnding asked peer relay ended bytes to asks some_end drafted adding answers full) = absurd (cc)
-answer_has_user setup held request now answer adds r some (steps.ByUnknownLogout response to replies unknown is none) = absurd (cc)
-answer_has_user setup held request now answer adds r some (steps.ByConfirming response to replies waits adding full) = absurd (cc)
+answer_has_user setup held request now answer adds r some (steps.ByEnding asked peer relay ended bytes to asks some_end alone drafted adding answers full) = absurd (cc)
+answer_has_user setup held request now answer adds r some (steps.ByEndingAll asked peer relay begun bytes to asks some_end others drafted adding first full) = absurd (cc)
+answer_has_user setup held request now answer adds r some (steps.ByTold response peer row told bytes to replies waits drafted adding answers full) = absurd (cc)
+answer_has_user setup held request now answer adds r some (steps.ByUnknownLogout response peer to replies no_round unknown is none) = absurd (cc)
+answer_has_user setup held request now answer adds r some (steps.ByConfirming response peer to replies no_round waits adding full) = absurd (cc)
 
 pub answers_have_users : AnswersHaveUsers
 answers_have_users setup held request now answer r answers = answer_has_user setup held request now answer (Some (kinds.Issued r)) r refl answers
@@ -161,6 +164,8 @@ if_issued setup held request now answer (kinds.Ended r) answers = tt
 if_issued setup held request now answer (kinds.Left r) answers = tt
 if_issued setup held request now answer (kinds.Confirmed r) answers = tt
 if_issued setup held request now answer (kinds.Spoke r) answers = tt
+if_issued setup held request now answer (kinds.Round r) answers = tt
+if_issued setup held request now answer (kinds.Told r) answers = tt
 
 pub services_have_users : ServicesHaveUsers
 services_have_users found request now before after answer old new (shared.Plain answers whole) unbroken = Nothing whole.is
@@ -192,12 +197,15 @@ none_plain setup held request now bytes adds empty routed (steps.ByNoPending t t
 none_plain setup held request now bytes adds empty routed (steps.ByPassword t row peer to posted pending refused is none) = cc
 none_plain setup held request now bytes adds empty routed (steps.ByLogin t row peer user other sent to posted pending accepted drafted adding answers full) = let clash = sym empty ∙ adding in cc
 none_plain setup held request now bytes adds empty routed (steps.ByNoSession to none_live is none) = cc
-none_plain setup held request now bytes adds empty routed (steps.ByLeaving row left sent to live drafted adding answers full) = let clash = sym empty ∙ adding in cc
+none_plain setup held request now bytes adds empty routed (steps.ByLeaving row left sent to live alone drafted adding answers full) = let clash = sym empty ∙ adding in cc
+none_plain setup held request now bytes adds empty routed (steps.ByLeavingAll row begun sent to live asks drafted adding first full) = let clash = sym empty ∙ adding in cc
 none_plain setup held request now bytes adds empty routed (steps.ByLogoutVerdict verdict to refused is none) = cc
 none_plain setup held request now bytes adds empty routed (steps.ByNothingToEnd asked peer relay to asks nothing is none) = cc
-none_plain setup held request now bytes adds empty routed (steps.ByEnding asked peer relay ended sent to asks some drafted adding answers full) = let clash = sym empty ∙ adding in cc
-none_plain setup held request now bytes adds empty routed (steps.ByUnknownLogout response to replies unknown is none) = cc
-none_plain setup held request now bytes adds empty routed (steps.ByConfirming response to replies waits adding full) = let clash = sym empty ∙ adding in cc
+none_plain setup held request now bytes adds empty routed (steps.ByEnding asked peer relay ended sent to asks some alone drafted adding answers full) = let clash = sym empty ∙ adding in cc
+none_plain setup held request now bytes adds empty routed (steps.ByEndingAll asked peer relay begun sent to asks some others drafted adding first full) = let clash = sym empty ∙ adding in cc
+none_plain setup held request now bytes adds empty routed (steps.ByTold response peer row told sent to replies waits drafted adding answers full) = let clash = sym empty ∙ adding in cc
+none_plain setup held request now bytes adds empty routed (steps.ByUnknownLogout response peer to replies no_round unknown is none) = cc
+none_plain setup held request now bytes adds empty routed (steps.ByConfirming response peer to replies no_round waits adding full) = let clash = sym empty ∙ adding in cc
 
 -- a whole ledger is what each image of its own disk stands for
 kept : (old new : Provider) (held : Held) (later : Option DiskState) → IsWhole old new held → OwnsDisk new later → LeavesLedger later held

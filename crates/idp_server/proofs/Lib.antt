@@ -1,4 +1,5 @@
 pub mod Alike
+pub mod Asking
 pub mod Closing
 pub mod Ending
 pub mod Histories
@@ -11,11 +12,16 @@ pub mod StayingEnded
 pub mod Fields
 mod Made
 mod Pages
+pub mod Requests
 pub mod Peers
 pub mod Roles
 pub mod Replies
 pub mod Shown
+pub mod Telling
 mod Signed
+mod Outcomes
+pub mod TurnRows
+pub mod TurnTexts
 mod Starts
 mod Starving
 mod Staying

@@ -1,6 +1,6 @@
 -- For what a session is ended.
 use Rattle.std.specs.Prelude.{codes}
-use Rattle.std.proofs.Common.{◌≡◌, ◌⊎◌, inl, inr, ℕ, true, false, not, ◌&&◌, Option, None, Some, refl, sym, subst, ap, ◌∙◌}
+use Rattle.std.proofs.Common.{◌≡◌, ◌⊎◌, inl, inr, ℕ, true, false, not, ◌&&◌, Bool, List, [], ◌∷◌, Option, None, Some, refl, sym, subst, ap, ◌∙◌}
 use Rattle.std.specs.Option.{option_and_then}
 use Rattle.std.specs.Str.{bytes_eq}
 use Rattle.std.proofs.lemmas.Bool.{and_parts}
@@ -11,20 +11,25 @@ use Rattle.http_wire.specs.Requests.{Request}
 use Rattle.http_wire.specs.Cookies.{cookie_value}
 use Rattle.ledger_records.specs.declared.idp_record.Ended.{Ended}
 use Rattle.ledger_records.specs.declared.idp_record.Left.{Left}
+use Rattle.ledger_records.specs.declared.idp_round.Round.{Round}
+use Rattle.ledger_records.specs.declared.idp_round.Told.{Told}
 use Rattle.ledger_records.specs.declared.idp_record.IdpRecord.{IdpRecord}
 use Rattle.ledger_records.specs.declared.idp_record.IdpRecord.TheVariants as kinds
 use Rattle.idp_ledger.specs.declared.row.SessionRow.{SessionRow}
 use Rattle.idp_ledger.specs.Finding.{is_empty, session_found, visible}
 use Rattle.idp_ledger.specs.RowsOf.{rows_of}
 use Rattle.idp_ledger.specs.Compacting.{Compacts}
-use Rattle.idp_ledger.specs.Drafts.{confirmed, pending, spoke}
+use Rattle.idp_ledger.specs.Drafts.{confirmed, pending, spoke, told}
+use Rattle.idp_ledger.specs.Draft.{told_in}
 use Rattle.idp_ledger.specs.Ledger.{Held, next_number}
 use Rattle.idp_rules.specs.declared.config.IdpConfig.{IdpConfig}
 use Rattle.provider_node.specs.Step as shared
 use Rattle.idp_server.specs.Routes.{Logout, Metadata, SingleLogout, To, route}
 use Rattle.idp_server.specs.Step as steps
-use Rattle.idp_server.specs.Step.{Answers, ask_of, ended_by, left_by, session_for}
-use Rattle.idp_server.specs.Logouts.{AnswersEndExactly, Anew, IsOfLogoutIfEnding, IsOfPeerThatAsks, IsOfPeerThatReplies, IsOfUserWhoLeaves, More, Nothing, ServicesEndExactly, WhatIsAnsweredToALogoutIsRecorded}
+use Rattle.idp_server.specs.Step.{Answers, ask_of, asker_of, ended_by, ending_by, is_in_part, left_by, session_for}
+use Rattle.round_rows.specs.Rounds.{is_turn_left}
+use Rattle.idp_server.specs.Rounds.{round_by}
+use Rattle.idp_server.specs.Logouts.{AnswersEndExactly, Anew, AsksAllOthers, IsOfLogoutIfEnding, IsOfPeerThatAsks, IsOfProviderInTurn, IsOfPeerThatReplies, IsOfUserWhoLeaves, More, Nothing, ServicesEndExactly, WhatIsAnsweredToALogoutIsRecorded}
 use Rattle.idp_server.proofs.Issues.{followed, found_at, off, step_recorded}
 
 -- ---- the record of a kind
@@ -36,6 +41,8 @@ left_in (kinds.Ended r) = None
 left_in (kinds.Left r) = Some r
 left_in (kinds.Confirmed r) = None
 left_in (kinds.Spoke r) = None
+left_in (kinds.Round r) = None
+left_in (kinds.Told r) = None
 
 abbrev ended_in : IdpRecord → Option Ended
 ended_in (kinds.Pending r) = None
@@ -44,9 +51,41 @@ ended_in (kinds.Ended r) = Some r
 ended_in (kinds.Left r) = None
 ended_in (kinds.Confirmed r) = None
 ended_in (kinds.Spoke r) = None
+ended_in (kinds.Round r) = None
+ended_in (kinds.Told r) = None
+
+abbrev pub round_in : IdpRecord → Option Round
+round_in (kinds.Pending r) = None
+round_in (kinds.Issued r) = None
+round_in (kinds.Ended r) = None
+round_in (kinds.Left r) = None
+round_in (kinds.Confirmed r) = None
+round_in (kinds.Spoke r) = None
+round_in (kinds.Round r) = Some r
+round_in (kinds.Told r) = None
 
 pub the_left : (r : Left) (x : IdpRecord) (made : Left) → x ≡ kinds.Left r → left_in x ≡ Some made → made ≡ r
 the_left r x made is has = let both : Some made ≡ Some r = sym has ∙ ap left_in is in cc
+
+pub the_round : (r : Round) (x : IdpRecord) (made : Round) → x ≡ kinds.Round r → round_in x ≡ Some made → made ≡ r
+the_round r x made is has = let both : Some made ≡ Some r = sym has ∙ ap round_in is in cc
+
+pub the_told : (r : Told) (x : IdpRecord) (made : Told) → x ≡ kinds.Told r → told_in x ≡ Some made → made ≡ r
+the_told r x made is has = let both : Some made ≡ Some r = sym has ∙ ap told_in is in cc
+
+-- the fields of the record of an answer
+pub record HasAnswer (now : ℕ) (request : List ℕ) (confirms : Bool) (r : Told) : Type 0 where
+  pub moment_is : r.moment ≡ now
+  pub request_is : r.request ≡ request
+  pub confirms_is : r.confirmed ≡ confirms
+
+pub has_answer : (key : List ℕ) (next now : ℕ) (request : List ℕ) (confirms left : Bool) (r : Told) → told key next now request confirms left ≡ kinds.Told r → HasAnswer now request confirms r
+has_answer key next now request confirms true r is =
+    let same = the_told r (told key next now request confirms true) _ is refl in
+    record { moment_is = sym (ap (λ (t : Told). t.moment) same); request_is = sym (ap (λ (t : Told). t.request) same); confirms_is = sym (ap (λ (t : Told). t.confirmed) same) }
+has_answer key next now request confirms false r is =
+    let same = the_told r (told key next now request confirms false) _ is refl in
+    record { moment_is = sym (ap (λ (t : Told). t.moment) same); request_is = sym (ap (λ (t : Told). t.request) same); confirms_is = sym (ap (λ (t : Told). t.confirmed) same) }
 
 pub the_ended : (r : Ended) (x : IdpRecord) (made : Ended) → x ≡ kinds.Ended r → ended_in x ≡ Some made → made ≡ r
 the_ended r x made is has = let both : Some made ≡ Some r = sym has ∙ ap ended_in is in cc
@@ -96,12 +135,22 @@ ends_so setup held request now answer adds r some (steps.ByLogin t row peer user
     let same : kinds.Issued other ≡ r = (let e = sym adding ∙ some in cc) in
     subst (IsOfLogoutIfEnding setup held request now) same tt
 ends_so setup held request now answer adds r some (steps.ByNoSession to none_live is none) = absurd (let e = sym some ∙ none in cc)
-ends_so setup held request now answer adds r some (steps.ByLeaving row left bytes to live drafted adding answers full) =
+ends_so setup held request now answer adds r some (steps.ByLeaving row left bytes to live alone drafted adding answers full) =
     let same : kinds.Left left ≡ r = (let e = sym adding ∙ some in cc) in
     subst (IsOfLogoutIfEnding setup held request now) same (of_user setup held request now row left to live drafted)
+ends_so setup held request now answer adds r some (steps.ByLeavingAll row begun bytes to live asks drafted adding first full) =
+    let same : kinds.Round begun ≡ r = (let e = sym adding ∙ some in cc) in
+    let made = the_round begun (round_by setup held now None (row.cookie ∷ [])) _ drafted refl in
+    let of : AsksAllOthers setup held request now begun = subst (AsksAllOthers setup held request now) made (record {
+      of = inl (record { to = to; row = row; live = live; cookies_are = refl; asker_is = refl });
+      asks = asks;
+      turns_are = refl;
+      skips = refl;
+    }) in
+    subst (IsOfLogoutIfEnding setup held request now) same of
 ends_so setup held request now answer adds r some (steps.ByLogoutVerdict verdict to refused is none) = absurd (let e = sym some ∙ none in cc)
 ends_so setup held request now answer adds r some (steps.ByNothingToEnd asked peer relay to asks nothing is none) = absurd (let e = sym some ∙ none in cc)
-ends_so setup held request now answer adds r some (steps.ByEnding asked peer relay ended bytes to asks some_end drafted adding answers full) =
+ends_so setup held request now answer adds r some (steps.ByEnding asked peer relay ended bytes to asks some_end alone drafted adding answers full) =
     let same : kinds.Ended ended ≡ r = (let e = sym adding ∙ some in cc) in
     let made = the_ended ended (ended_by setup.id_key held now peer.peer.entity asked) _ drafted refl in
     let of : IsOfPeerThatAsks setup held request now ended = record {
@@ -116,10 +165,27 @@ ends_so setup held request now answer adds r some (steps.ByEnding asked peer rel
       peer_is = sym (ap (λ (l : Ended). l.peer) made);
     } in
     subst (IsOfLogoutIfEnding setup held request now) same of
-ends_so setup held request now answer adds r some (steps.ByUnknownLogout response to replies unknown is none) = absurd (let e = sym some ∙ none in cc)
-ends_so setup held request now answer adds r some (steps.ByConfirming response to replies waits adding full) =
+ends_so setup held request now answer adds r some (steps.ByEndingAll asked peer relay begun bytes to asks some_end others drafted adding first full) =
+    let same : kinds.Round begun ≡ r = (let e = sym adding ∙ some in cc) in
+    let asker = Some (asker_of peer asked relay) in
+    let made = the_round begun (round_by setup held now asker (ending_by held now peer.peer.entity asked)) _ drafted refl in
+    let of : AsksAllOthers setup held request now begun = subst (AsksAllOthers setup held request now) made (record {
+      of = inr (record { to = to; asked = asked; peer = peer; relay = relay; asks = asks; cookies_are = refl; some = some_end; asker_is = refl });
+      asks = others;
+      turns_are = refl;
+      skips = refl;
+    }) in
+    subst (IsOfLogoutIfEnding setup held request now) same of
+ends_so setup held request now answer adds r some (steps.ByTold response peer row other bytes to replies waits drafted adding answers full) =
+    let same : kinds.Told other ≡ r = (let e = sym adding ∙ some in cc) in
+    let has = has_answer setup.id_key (next_number held) now response.request (not (is_in_part response.outcome)) (is_turn_left row) other drafted in
+    let of : IsOfProviderInTurn setup held request now other =
+    record { to = to; response = response; peer = peer; replies = replies; row = row; waits = waits; request_is = has.request_is; confirms = has.confirms_is } in
+    subst (IsOfLogoutIfEnding setup held request now) same of
+ends_so setup held request now answer adds r some (steps.ByUnknownLogout response peer to replies no_round unknown is none) = absurd (let e = sym some ∙ none in cc)
+ends_so setup held request now answer adds r some (steps.ByConfirming response peer to replies no_round waits adding full) =
     let of : IsOfPeerThatReplies setup held request now (record { moment = now; request = response.request }) =
-    record { to = to; response = response; replies = replies; request_is = refl; awaited = waits } in
+    record { to = to; response = response; peer = peer; replies = replies; request_is = refl; awaited = waits } in
     let same : confirmed now response.request ≡ r = (let e = sym adding ∙ some in cc) in
     subst (IsOfLogoutIfEnding setup held request now) same of
 

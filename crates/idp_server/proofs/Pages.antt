@@ -1,39 +1,32 @@
 -- There is a page for each reply that is asked for.
-use Rattle.std.specs.Prelude.{IfSome, IsSome, min}
-use Rattle.std.proofs.Common.{◌≡◌, ℕ, ◌≤◌, ◌+◌, true, List, [], ◌∷◌, Option, None, Some, arith, refl, subst}
-use Rattle.std.specs.List.{AllByRecursion}
+use Rattle.std.specs.Prelude.{IsSome, slice_get}
+use Rattle.std.proofs.Common.{◌≡◌, ℕ, ◌≤◌, List, [], ◌∷◌, Option, None, Some, refl, subst, sym, Bool}
 use Rattle.xml_spec.specs.Characters.{IsText}
-use Rattle.http_wire.specs.Answers.{answer}
 use Rattle.http_wire.specs.Requests.{Request}
 use Rattle.http_wire.specs.declared.answer.Answer.TheVariants.{Full}
-use Rattle.ledger_records.specs.declared.idp_record.Ended.{Ended}
 use Rattle.ledger_records.specs.declared.idp_record.Issued.{Issued}
-use Rattle.ledger_records.specs.declared.idp_record.Left.{Left}
-use Rattle.element_make.specs.Made.{written}
-use Rattle.sig_reference.specs.Signing.{signed}
-use Rattle.post_binding.specs.Pages.{auto_form}
-use Rattle.post_binding.specs.declared.posted.Field.TheVariants as fields
-use Rattle.peer_keys.specs.Peers.{place_of}
 use Rattle.ledger_records.specs.declared.idp_record.IdpRecord.{IdpRecord}
 use Rattle.peer_keys.specs.declared.peers.LogoutPeer.{LogoutPeer}
-use Rattle.protocol_messages.specs.Making.{logged_out, logout_request, request_end}
 use Rattle.idp_ledger.specs.declared.row.Ask.{Ask}
 use Rattle.idp_ledger.specs.Record.{LAST}
 use Rattle.idp_ledger.specs.Ledger.{Held}
 use Rattle.idp_ledger.specs.Draft.{first_id, second_id}
 use Rattle.idp_rules.specs.Config.{IsTextPeer}
 use Rattle.idp_rules.specs.declared.config.IdpConfig.{IdpConfig}
-use Rattle.logout_answers.specs.Answers.{BySending, ByEnding, end_answer}
+use Rattle.logout_answers.specs.Answers.{end_answer}
 use Rattle.idp_answers.specs.Answers.{IsNoPassiveAnswer, login_answer}
 use Rattle.idp_answers.specs.Stating.{EachLoginHasAnAnswer, EachRefusalHasAnAnswer}
 use Rattle.idp_server.specs.declared.reply.Reply.{Reply}
 use Rattle.idp_server.specs.declared.reply.Reply.TheVariants as replies
 use Rattle.idp_server.specs.Logins.{stated_by}
-use Rattle.idp_server.specs.Replies.{IsIssuable, IsPage, IsTold, Wants, record_for}
-use Rattle.idp_server.specs.Step.{IsAnswerFor, IsEndingAnswer, IsLeavingAnswer, IsPeer, ToNone, ToPeer}
+use Rattle.logout_turns.specs.declared.turns.Turn.{Turn}
+use Rattle.idp_server.specs.declared.reply.Follows.{Follows}
+use Rattle.idp_server.specs.declared.reply.Follows.TheVariants as follows
+use Rattle.idp_server.specs.Replies.{IsIssuable, IsPage, IsTold, IsToldPage, Tells, Wants, record_for}
+use Rattle.idp_server.specs.Step.{IsAnswerFor}
 use Rattle.idp_server.proofs.Replies.{issued_at_login, issued_in_session, has_refusal, placed_peer, request_of, response_of, shown_of}
-use Rattle.idp_server.proofs.Made.{asking_made, ended_status, replying_made}
-use Rattle.idp_server.proofs.Peers.{placed}
+use Rattle.idp_server.proofs.Requests.{ends_alike, some_end, some_request, some_response}
+use Rattle.idp_server.proofs.Telling.{first_turn_of, next_step_of}
 use Rattle.idp_server.proofs.Sessions.{all_at}
 
 -- an answer with the Assertion of an issued record, and one without
@@ -50,69 +43,6 @@ some_refusal law issuer message ask now name text request consumer at =
 some_id : (o : Option (List ℕ)) → IsSome o → (id : List ℕ) × (o ≡ Some id)
 some_id None is = absurd (cc)
 some_id (Some id) is = (id, refl)
-
--- an answer to a user who leaves
-request_to : (setup : IdpConfig) (r : Left) (user index : List ℕ) (now : ℕ) (peer : LogoutPeer) → IsPeer setup r.peer peer → IsText setup.entity → IsText r.request → IsText user → IsText index
-    → IsTold now → IsTold (request_end now) → (address : Option (List ℕ)) → peer.peer.logout ≡ address → IfSome address IsText → (bytes : List ℕ) × IsLeavingAnswer setup r user index now bytes
-request_to setup r user index now peer known name request user_text index_text at end None none text = (end_answer true, ToPeer peer known (ByEnding none refl))
-request_to setup r user index now peer known name request user_text index_text at end (Some address) given text =
-    let unsigned = logout_request r.request setup.entity address user (index ∷ []) at.text end.text in
-    let message = written (signed peer.key_out unsigned) in (
-      answer 200 None None (auto_form address fields.Request message None),
-      ToPeer peer known (BySending (record {
-        message = message;
-        request = record {
-          address = address;
-          given = given;
-          unsigned = unsigned;
-          made = record { instant = at.text; until = end.text; told = at.tells; ended = end.tells; is = refl };
-          signed = record {
-            well_made = asking_made r.request setup.entity address user (index ∷ []) at.text end.text request name text user_text (index_text, tt) at.may_stand end.may_stand;
-            is = refl;
-          };
-        };
-        is = refl;
-      })),
-    )
-
-some_leaving : (setup : IdpConfig) (r : Left) (user index : List ℕ) (now : ℕ) → IsText setup.entity → AllByRecursion IsTextPeer setup.peers → IsText r.request → IsText user → IsText index
-    → IsTold now → IsTold (request_end now) → (bytes : List ℕ) × IsLeavingAnswer setup r user index now bytes
-some_leaving setup r user index now name peers request user_text index_text at end = by_place (place_of r.peer setup.peers) refl
-  where
-    by_place : (o : Option ℕ) → place_of r.peer setup.peers ≡ o → (bytes : List ℕ) × IsLeavingAnswer setup r user index now bytes
-    by_place None none = (end_answer true, ToNone none refl)
-    by_place (Some place) is =
-        let peer = placed r.peer setup.peers place is in
-        request_to setup r user index now peer.0 (place, is, peer.1) name request user_text index_text at end peer.0.peer.logout refl
-        (all_at IsTextPeer setup.peers place peer.0 peers peer.1).logout
-
--- an answer to a peer that asked to end sessions
-response_to : (setup : IdpConfig) (r : Ended) (relay : Option (List ℕ)) (now : ℕ) (peer : LogoutPeer) → IsText setup.entity → IsText r.message → IsText r.request → IsTold now
-    → (address : Option (List ℕ)) → peer.peer.logout ≡ address → IfSome address IsText → (bytes : List ℕ) × IsEndingAnswer setup peer r relay now bytes
-response_to setup r relay now peer name message request at None none text = (end_answer r.partial, ByEnding none refl)
-response_to setup r relay now peer name message request at (Some address) given text =
-    let unsigned = logged_out r.message setup.entity address r.request (ended_status r.partial) at.text in
-    let sent = written (signed peer.key_out unsigned) in (
-      answer 200 None None (auto_form address fields.Response sent relay),
-      BySending (record {
-        message = sent;
-        response = record {
-          address = address;
-          given = given;
-          unsigned = unsigned;
-          made = record { instant = at.text; told = at.tells; is = refl };
-          signed = record {
-            well_made = replying_made r.message setup.entity address r.request at.text r.partial message name text request at.may_stand;
-            is = refl;
-          };
-        };
-        is = refl;
-      }),
-    )
-
--- the end of a request, as an Assertion's
-ends_alike : (now : ℕ) → min LAST (now + 300000) ≡ request_end now
-ends_alike now = omega arith
 
 -- the page of each reply
 pub some_page : EachLoginHasAnAnswer → EachRefusalHasAnAnswer → (setup : IdpConfig) (held : Held) (request : Request) (now : ℕ) (key : List ℕ) (reply : Reply) (r : IdpRecord) → IsText setup.entity → now ≤ LAST
@@ -141,11 +71,43 @@ some_page logins refusals setup held request now key (replies.Login id user attr
     )
 some_page logins refusals setup held request now key (replies.Leave cookie user index) r name moment w is =
     let has = request_of setup held request now key cookie user index r w is in
-    let some = some_leaving setup has.left user index now name w.peers has.request w.user_text w.index_text w.told.issued (subst IsTold (ends_alike now) w.told.until) in
+    let some = some_request setup has.left.peer has.left.request user (index ∷ []) now name w.peers has.request w.user_text (w.index_text, tt) w.told.issued (subst IsTold (ends_alike now) w.told.until) in
     (some.0, record { left = has.left; is = has.is; bytes = some.0; answers = some.1; full = refl })
 some_page logins refusals setup held request now key (replies.End asked peer other relay) r name moment w is =
     let has = response_of setup held request now key asked peer other relay r w is in
-    let some = response_to setup has.ended relay now w.peer name has.message (subst IsText has.same has.request) w.told w.peer.peer.logout refl
+    let some = some_response setup has.ended.message has.ended.request has.ended.partial relay now w.peer name has.message (subst IsText has.same has.request) w.told w.peer.peer.logout refl
     (all_at IsTextPeer setup.peers peer w.peer w.peers w.there).logout in
     (some.0, record { ended = has.ended; is = has.is; peer = w.peer; there = w.there; bytes = some.0; answers = some.1; full = refl })
 some_page logins refusals setup held request now key (replies.Confirm of partial) r name moment w is = (end_answer partial, refl)
+some_page logins refusals setup held request now key (replies.AskAll cookies asker plan) r name moment w is =
+    let has = first_turn_of setup held request now key cookies asker plan r w is in
+    let some = some_request setup has.turn.peer has.begun.request has.turn.name has.turn.indexes now name w.peers has.can.id_text has.can.name has.can.indexes w.told.issued
+    (subst IsTold (ends_alike now) w.told.until) in (
+      some.0,
+      record {
+        begun = has.begun;
+        is = has.is;
+        bytes = some.0;
+        asks = record {
+          turn = has.turn;
+          first = subst (λ (ts : List Turn). slice_get ts 0 ≡ Some has.turn) (sym has.turns_are) has.first;
+          asks = some.1;
+        };
+        full = refl;
+      },
+    )
+some_page logins refusals setup held request now key (replies.Told of peer confirms next) r name moment w is =
+    told_page_of setup held request now key of peer confirms next r name w is
+  where
+    told_page_of : (setup : IdpConfig) (held : Held) (request : Request) (now : ℕ) (key of peer : List ℕ) (confirms : Bool) (next : Follows) (r : IdpRecord) → IsText setup.entity
+        → Tells setup held request now of peer confirms next → record_for key held now (replies.Told of peer confirms next) ≡ Some r
+        → (bytes : List ℕ) × IsToldPage setup next r now (Full bytes)
+    told_page_of setup held request now key of peer confirms (follows.Turn turn) r name w is =
+        let has = next_step_of setup held request now key of peer confirms (follows.Turn turn) r w is in
+        let some = some_request setup turn.peer has.id turn.name turn.indexes now name w.peers has.can.id_text has.can.name has.can.indexes w.told.issued
+        (subst IsTold (ends_alike now) w.told.until) in
+        (some.0, record { id = has.id; named = has.named; bytes = some.0; asks = some.1; full = refl })
+    told_page_of setup held request now key of peer confirms (follows.End message asker partial) r name w is =
+        let has = next_step_of setup held request now key of peer confirms (follows.End message asker partial) r w is in
+        let some = some_end setup message asker partial now name has w.told.issued in
+        (some.0, record { bytes = some.0; ends = some.1; full = refl })

@@ -1,6 +1,6 @@
 -- The peer of a name.
 use Rattle.std.specs.Prelude.{slice_get}
-use Rattle.std.proofs.Common.{◌≡◌, ℕ, suc, Bool, true, false, cond, List, [], ◌∷◌, Option, None, Some, refl, sym, subst, ap, ◌∙◌}
+use Rattle.std.proofs.Common.{◌≡◌, ℕ, zero, suc, ◌<◌, length, arith, Bool, true, false, cond, List, [], ◌∷◌, Option, None, Some, refl, sym, subst, ap, ◌∙◌}
 use Rattle.std.specs.Option.{option_map}
 use Rattle.std.specs.Str.{bytes_eq}
 use Rattle.std.proofs.lemmas.Slice.Eq.{bytes_eq-Decides}
@@ -46,3 +46,9 @@ place_names entity (first ∷ peers) place peer is there =
         behind (Some p) found is =
             let at : suc p ≡ place = cc in
             later p found (subst (λ (q : ℕ). slice_get (first ∷ peers) q ≡ Some peer) (sym at) there)
+
+-- what stands at a place is inside
+pub there_inside : {X : Type 0} (xs : List X) (i : ℕ) (x : X) → slice_get xs i ≡ Some x → i < length xs
+there_inside [] i x is = absurd (cc)
+there_inside (y ∷ xs) zero x is = omega arith
+there_inside (y ∷ xs) (suc i) x is = omega (arith, there_inside xs i x is)

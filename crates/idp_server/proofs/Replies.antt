@@ -1,8 +1,8 @@
 -- What follows where a request asks for a reply.
 use Rattle.std.specs.Prelude.{IsSome, is_some, not, slice_get}
-use Rattle.std.proofs.Common.{◌≡◌, ◌≢◌, ℕ, zero, suc, ◌+◌, ◌≤◌, ◌<◌, Bool, true, false, if◌then◌else◌, List, [], ◌∷◌, ◌++◌, length, Option, None, Some, refl, sym, subst, ap, ◌∙◌, arith}
+use Rattle.std.proofs.Common.{◌≡◌, ℕ, ◌+◌, ◌≤◌, Bool, true, false, if◌then◌else◌, List, [], ◌∷◌, ◌++◌, Option, None, Some, refl, sym, subst, ap, ◌∙◌, arith}
 use Rattle.std.specs.List.{AllByRecursion, flat_map, list_all}
-use Rattle.std.specs.Option.{option_map}
+use Rattle.std.specs.Option.{is_none, option_map}
 use Rattle.owned_values.specs.declared.attributes.Attribute.{Attribute}
 use Rattle.xml_spec.specs.Characters.{IsText}
 use Rattle.xml_spec.proofs.Tests.{and_true}
@@ -14,10 +14,6 @@ use Rattle.ledger_records.specs.declared.idp_record.Issued.{Issued}
 use Rattle.ledger_records.specs.declared.idp_record.IdpRecord.{IdpRecord}
 use Rattle.ledger_records.specs.declared.idp_record.IdpRecord.TheVariants as kinds
 use Rattle.ledger_rules.specs.Numbers.{is_xml_text}
-use Rattle.saml_ids.specs.IdText.{id_text}
-use Rattle.saml_ids.specs.Names.{IsIdForm}
-use Rattle.saml_ids.specs.declared.Kind.{Kind}
-use Rattle.saml_ids.proofs.IdForm.{every_id_is_a_name}
 use Rattle.peer_keys.specs.declared.peers.LogoutPeer.{LogoutPeer}
 use Rattle.idp_ledger.specs.declared.row.Ask.{Ask}
 use Rattle.idp_ledger.specs.declared.row.PendingRow.{PendingRow}
@@ -26,7 +22,7 @@ use Rattle.idp_ledger.specs.RowsOf.{rows_of}
 use Rattle.idp_ledger.specs.Finding.{is_empty, pending_found}
 use Rattle.idp_ledger.specs.Record.{LAST, of_attribute}
 use Rattle.idp_ledger.specs.Ledger.{Held, next_number}
-use Rattle.idp_ledger.specs.Drafts.{IsXmlAsk, confirmed, issue, login, pending, spoke}
+use Rattle.idp_ledger.specs.Drafts.{IsXmlAsk, confirmed, is_turn_left, issue, login, pending, round, spoke, told}
 use Rattle.idp_ledger.specs.Draft.{drawn_cookie, first_id, second_id}
 use Rattle.idp_ledger.specs.Laws.{AnswerAlike}
 use Rattle.idp_ledger.proofs.Draftable.{text_is_allowed}
@@ -37,10 +33,15 @@ use Rattle.logout_answers.specs.Answers.{end_answer}
 use Rattle.protocol_messages.specs.declared.logout.LogoutRequest.{LogoutRequest}
 use Rattle.idp_server.specs.declared.reply.Reply.{Reply}
 use Rattle.idp_server.specs.declared.reply.Reply.TheVariants as replies
-use Rattle.idp_server.specs.Replies.{AsksAnew, AsksForAnEnd, AsksInSession, CanBeShown, HasAssertion, HasRefusal, HasRequest, HasResponse, IsIssuable, IsPage, IsTextAsk, IsTold, IsXmlReply, Leaves, LogsIn, Wants, found_record, is_nothing, record_for, refusal_of}
-use Rattle.idp_server.specs.Step.{Answers, ByIssuing, ByPassive, ByAsking, ByLogin, ByLeaving, ByEnding, ByConfirming, ByNothingToEnd, ByUnknownLogout, IsAnswerFor, IsEndingAnswer, IsLeavingAnswer, ended_by, ending_by, is_awaited, left_by, session_used}
+use Rattle.idp_server.specs.Replies.{AsksAnew, AsksForAnEnd, AsksInSession, CanBeShown, HasAssertion, HasRefusal, HasRequest, HasResponse, IsIssuable, IsPage, IsTextAsk, IsTold, IsXmlReply, Leaves, LogsIn, Wants, found_record, is_nothing, record_for, refusal_of, turn_of}
+use Rattle.idp_server.specs.Rounds.{asks_others, round_waiting}
+use Rattle.idp_server.specs.Step.{Answers, ByIssuing, ByPassive, ByAsking, ByLogin, ByLeaving, ByEnding, ByConfirming, ByNothingToEnd, ByUnknownLogout, IsAnswerFor, IsEndingAnswer, IsLeavingAnswer, asker_of, ended_by, ending_by, is_awaited, left_by, session_used}
 use Rattle.idp_server.proofs.Alike.{session_alike}
+use Rattle.idp_server.proofs.Asking.{asks_still, ending_live, one_live, waiting_still}
+use Rattle.idp_server.proofs.Ids.{drawn_named, drawn_text}
+use Rattle.idp_server.proofs.Peers.{there_inside}
 use Rattle.idp_server.proofs.Sessions.{all_at}
+use Rattle.idp_server.proofs.Telling.{asker_xml, asking_answers, asks_all_still, first_turn_of, next_step_of, telling_answers, tells_still, turns_xml}
 
 -- ---- the record
 
@@ -116,22 +117,10 @@ reply_allowed setup held request now (replies.End asked peer name relay) w =
     let who = all_at IsTextPeer setup.peers peer w.peer w.peers w.there in
     (text_is_allowed asked.id w.id_text, text_is_allowed name (subst IsText (sym w.name_is) who.entity))
 reply_allowed setup held request now (replies.Confirm of partial) w = tt
+reply_allowed setup held request now (replies.AskAll cookies asker plan) w = (asker_xml asker w.asker_text, turns_xml plan.turns w.turn_texts)
+reply_allowed setup held request now (replies.Told of peer confirms next) w = tt
 
 -- ---- it can be shown
-
-id_named : (id : List ℕ) → IsIdForm id → id ≢ []
-id_named id form none = subst IsIdForm none form
-
-drawn_named : (key : List ℕ) (kind : Kind) (n : ℕ) → id_text key kind n ≢ []
-drawn_named key kind n = id_named (id_text key kind n) (every_id_is_a_name key kind n).form
-
-drawn_text : (key : List ℕ) (kind : Kind) (n : ℕ) → IsText (id_text key kind n)
-drawn_text key kind n = (every_id_is_a_name key kind n).text
-
-pub there_inside : {X : Type 0} (xs : List X) (i : ℕ) (x : X) → slice_get xs i ≡ Some x → i < length xs
-there_inside [] i x is = absurd (cc)
-there_inside (y ∷ xs) zero x is = omega arith
-there_inside (y ∷ xs) (suc i) x is = omega (arith, there_inside xs i x is)
 
 -- an issued record that can be shown, with the written forms of its moments
 pub record CanBeIssued (r : IdpRecord) : Type 0 where
@@ -236,7 +225,7 @@ request_of setup held request now key cookie user index r w is =
     })
 
 pub response_of : (setup : IdpConfig) (held : Held) (request : Request) (now : ℕ) (key : List ℕ) (asked : LogoutRequest) (peer : ℕ) (name : List ℕ) (relay : Option (List ℕ)) (r : IdpRecord)
-    → AsksForAnEnd setup request now asked peer name relay → record_for key held now (replies.End asked peer name relay) ≡ Some r → HasResponse setup asked peer r
+    → AsksForAnEnd setup held request now asked peer name relay → record_for key held now (replies.End asked peer name relay) ≡ Some r → HasResponse setup asked peer r
 response_of setup held request now key asked peer name relay r w is =
     subst (HasResponse setup asked peer) (ended_record held now key asked peer name relay r is).1 (record {
       ended = _;
@@ -262,6 +251,8 @@ shown_of setup held request now key (replies.Login id user attributes peer) r mo
 shown_of setup held request now key (replies.Leave cookie user index) r moment w is = request_of setup held request now key cookie user index r w is
 shown_of setup held request now key (replies.End asked peer name relay) r moment w is = response_of setup held request now key asked peer name relay r w is
 shown_of setup held request now key (replies.Confirm of partial) r moment w is = tt
+shown_of setup held request now key (replies.AskAll cookies asker plan) r moment w is = first_turn_of setup held request now key cookies asker plan r w is
+shown_of setup held request now key (replies.Told of peer confirms next) r moment w is = next_step_of setup held request now key of peer confirms next r w is
 
 -- ---- the page stands for it
 
@@ -305,7 +296,7 @@ page_answers setup held request now (replies.Login id user attributes peer) r an
     (subst (λ (p : LogoutPeer). IsAnswerFor setup p page.page.issued (Some page.cookie) now page.page.bytes) who page.page.answers)) page.page.full
 page_answers setup held request now (replies.Leave cookie user index) r answer w is page =
     let same = left_record setup held request now setup.id_key cookie user index r w is in
-    ByLeaving w.row page.left page.bytes w.to w.live (ap (left_by setup.id_key held now) (sym w.cookie_is) ∙ same ∙ page.is) (ap Some page.is)
+    ByLeaving w.row page.left page.bytes w.to w.live (subst (λ (c : List ℕ). asks_others setup held None (c ∷ []) ≡ false) w.cookie_is w.alone) (ap (left_by setup.id_key held now) (sym w.cookie_is) ∙ same ∙ page.is) (ap Some page.is)
     (subst (λ (u : List ℕ). IsLeavingAnswer setup page.left u w.row.index now page.bytes) w.user_is
     (subst (λ (i : List ℕ). IsLeavingAnswer setup page.left user i now page.bytes) w.index_is page.answers)) page.full
 page_answers setup held request now (replies.End asked peer name relay) r answer w is page =
@@ -313,12 +304,15 @@ page_answers setup held request now (replies.End asked peer name relay) r answer
     let who = same_peer setup.peers peer page.peer w.peer page.there w.there in
     ByEnding asked w.peer relay page.ended page.bytes w.to (record { place = peer; there = w.there; obeyed = w.obeyed })
     (subst (λ (n : List ℕ). is_empty (ending_by held now n asked) ≡ false) w.name_is own.0)
+    (subst (λ (n : List ℕ). asks_others setup held (Some (asker_of w.peer asked relay)) (ending_by held now n asked) ≡ false) w.name_is w.alone)
     (ap (λ (n : List ℕ). ended_by setup.id_key held now n asked) (sym w.name_is) ∙ own.1 ∙ page.is) (ap Some page.is)
     (subst (λ (p : LogoutPeer). IsEndingAnswer setup p page.ended relay now page.bytes) who page.answers) page.full
 page_answers setup held request now (replies.Confirm of partial) r answer w is page =
     let own = confirmed_record held now setup.id_key of partial r is in
-    ByConfirming w.response w.to (record { place = w.place; obeyed = w.obeyed }) (subst (λ (q : List ℕ). is_awaited held now q ≡ true) w.of_is own.0)
+    ByConfirming w.response w.peer w.to w.replies (subst (λ (q : List ℕ). round_waiting setup held now q w.peer.peer.entity ≡ None) w.of_is w.none) (subst (λ (q : List ℕ). is_awaited held now q ≡ true) w.of_is own.0)
     (ap Some (sym own.1 ∙ ap (confirmed now) w.of_is)) (page ∙ ap (λ (b : Bool). Full (end_answer b)) w.partial_is)
+page_answers setup held request now (replies.AskAll cookies asker plan) r answer w is page = asking_answers setup held request now cookies asker plan r answer w is page
+page_answers setup held request now (replies.Told of peer confirms next) r answer w is page = telling_answers setup held request now of peer confirms next r answer w is page
 
 -- ---- behind a compaction it is asked for as before
 
@@ -376,6 +370,7 @@ wants_still setup anew old request now (replies.Leave cookie user index) like w 
   live = session_alike now anew old request like ∙ w.live;
   found = like.session cookie ∙ w.found;
   cookie_is = w.cookie_is;
+  alone = asks_still setup now anew old None (cookie ∷ []) like (one_live old now cookie w.row w.found) ∙ w.alone;
   user_is = w.user_is;
   index_is = w.index_is;
   user_text = w.user_text;
@@ -389,6 +384,8 @@ wants_still setup anew old request now (replies.End asked peer name relay) like 
   peer = w.peer;
   there = w.there;
   name_is = w.name_is;
+  alone = ap (λ (cs : List (List ℕ)). asks_others setup anew (Some (asker_of w.peer asked relay)) cs) (like.ending name asked.name asked.indexes)
+      ∙ asks_still setup now anew old (Some (asker_of w.peer asked relay)) (ending_by old now name asked) like (ending_live old now name asked) ∙ w.alone;
   id_text = w.id_text;
   peers = w.peers;
   told = w.told;
@@ -396,11 +393,14 @@ wants_still setup anew old request now (replies.End asked peer name relay) like 
 wants_still setup anew old request now (replies.Confirm of partial) like w = record {
   to = w.to;
   response = w.response;
-  place = w.place;
-  obeyed = w.obeyed;
+  peer = w.peer;
+  replies = w.replies;
   of_is = w.of_is;
+  none = waiting_still setup now anew old of w.peer.peer.entity like ∙ w.none;
   partial_is = w.partial_is;
 }
+wants_still setup anew old request now (replies.AskAll cookies asker plan) like w = asks_all_still setup anew old request now cookies asker plan like w
+wants_still setup anew old request now (replies.Told of peer confirms next) like w = tells_still setup anew old request now of peer confirms next like w
 
 -- ---- in the words of a step
 
@@ -417,6 +417,9 @@ found_record_of setup held request now key (replies.Leave cookie user index) w =
     (left_by key held now cookie, ap (option_map (λ (row : SessionRow). left_by key held now cookie)) w.found)
 found_record_of setup held request now key (replies.End asked peer name relay) w = (ended_by key held now name asked, refl)
 found_record_of setup held request now key (replies.Confirm of partial) w = (confirmed now of, refl)
+found_record_of setup held request now key (replies.AskAll cookies asker plan) w = (round key (next_number held) now cookies asker plan.turns plan.skipped, refl)
+found_record_of setup held request now key (replies.Told of peer confirms next) w =
+    (told key (next_number held) now of confirms (is_turn_left (turn_of held now of peer)), refl)
 
 pub record_found : (setup : IdpConfig) (held : Held) (request : Request) (now : ℕ) (key : List ℕ) (reply : Reply) → Wants setup held request now reply
     → IsSome (found_record key held now reply)
@@ -438,8 +441,10 @@ refused_at setup held request now (replies.End asked peer name relay) w none =
     ByNothingToEnd asked w.peer relay w.to (record { place = peer; there = w.there; obeyed = w.obeyed })
     (subst (λ (n : List ℕ). is_empty (ending_by held now n asked) ≡ true) w.name_is none) refl refl
 refused_at setup held request now (replies.Confirm of partial) w none =
-    ByUnknownLogout w.response w.to (record { place = w.place; obeyed = w.obeyed })
+    ByUnknownLogout w.response w.peer w.to w.replies (subst (λ (q : List ℕ). round_waiting setup held now q w.peer.peer.entity ≡ None) w.of_is w.none)
     (subst (λ (q : List ℕ). is_awaited held now q ≡ false) w.of_is (not_then (is_awaited held now of) none)) refl refl
+refused_at setup held request now (replies.AskAll cookies asker plan) w none = absurd (let clash : false ≡ true = none in cc)
+refused_at setup held request now (replies.Told of peer confirms next) w none = absurd (let clash : false ≡ true = sym (ap is_none w.waits) ∙ none in cc)
 
 pub nothing_alike : (anew old : Held) (now : ℕ) (reply : Reply) → AnswerAlike now anew old → is_nothing anew now reply ≡ is_nothing old now reply
 nothing_alike anew old now (replies.InSession cookie ask peer) like = refl
@@ -449,6 +454,8 @@ nothing_alike anew old now (replies.Login id user attributes peer) like = refl
 nothing_alike anew old now (replies.Leave cookie user index) like = refl
 nothing_alike anew old now (replies.End asked peer name relay) like = ap is_empty (like.ending name asked.name asked.indexes)
 nothing_alike anew old now (replies.Confirm of partial) like = ap not (like.waiting of)
+nothing_alike anew old now (replies.AskAll cookies asker plan) like = refl
+nothing_alike anew old now (replies.Told of peer confirms next) like = ap is_none (like.turn of peer)
 
 pub is_some_where : (nothing : Bool) (found : Option IdpRecord) (own : IdpRecord) → found ≡ Some own → is_some (if nothing then None else found) ≡ not nothing
 is_some_where true found own is = refl

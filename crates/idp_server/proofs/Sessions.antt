@@ -21,6 +21,7 @@ use Rattle.idp_rules.specs.Config.{IsTextPeer, IsTextUser, sign_on}
 use Rattle.idp_rules.specs.declared.asked.Asked.{Asked}
 use Rattle.idp_rules.specs.declared.config.IdpConfig.{IdpConfig}
 use Rattle.idp_server.specs.Replies.{AreTold, AsksFor, IsTextAsk, IsTextSession, Leaves}
+use Rattle.idp_server.specs.Rounds.{asks_others}
 use Rattle.idp_server.specs.Routes.{Logout, SignOn, To, route}
 use Rattle.idp_server.specs.Step.{ask_of, session_for}
 use Rattle.idp_server.proofs.Issues.{followed, found_at, used_is}
@@ -80,8 +81,8 @@ asks_for setup request ask asked texts all to is says =
 -- a user leaves the session of a cookie
 pub leaves : (setup : IdpConfig) (held : Held) (request : Request) (now : ℕ) (row : SessionRow) (cookie user index : List ℕ) → AllByRecursion IsTextPeer setup.peers → AreRecords held.records
     → route request ≡ To Logout → Some row ≡ session_for held now request → cookie ≡ row.cookie → user ≡ row.user → index ≡ row.index → IsTextSession row → AreTold now row.until
-    → Leaves setup held request now cookie user index
-leaves setup held request now row cookie user index peers are to live cookie_is user_is index_is texts told =
+    → asks_others setup held None (cookie ∷ []) ≡ false → Leaves setup held request now cookie user index
+leaves setup held request now row cookie user index peers are to live cookie_is user_is index_is texts told alone =
     let used = used_session held false request now row are live in
     record {
       to = to;
@@ -89,6 +90,7 @@ leaves setup held request now row cookie user index peers are to live cookie_is 
       live = sym live;
       found = subst (λ (c : List ℕ). session_found (rows_of held.records).sessions c now held.header.horizon ≡ Some row) (sym cookie_is) used.found;
       cookie_is = cookie_is;
+      alone = alone;
       user_is = user_is;
       index_is = index_is;
       user_text = subst IsText (sym user_is) texts.user;

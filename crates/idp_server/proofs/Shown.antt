@@ -14,8 +14,12 @@ use Rattle.idp_ledger.specs.Draft.{first_id, issued_in, partial_in, peer_in}
 use Rattle.idp_rules.specs.declared.config.IdpConfig.{IdpConfig}
 use Rattle.idp_answers.specs.Answers.{IsIssuedAnswer}
 use Rattle.idp_server.specs.Logins.{login_of}
-use Rattle.idp_server.specs.Replies.{HasAssertion, HasRequest, HasResponse, IsAssertionPage, IsEndingPage, IsLeavingPage}
-use Rattle.idp_server.specs.Step.{IsAnswerFor, ToNone, ToPeer}
+use Rattle.idp_server.specs.Replies.{HasAssertion, HasFirstTurn, HasRequest, HasResponse, IsAskingPage, IsAssertionPage, IsEndingPage, IsLastPage, IsLeavingPage, IsNextPage}
+use Rattle.logout_fanout.specs.declared.plan.Plan.{Plan}
+use Rattle.logout_turns.specs.declared.part.Asker.{Asker}
+use Rattle.logout_turns.specs.declared.turns.Turn.{Turn}
+use Rattle.idp_server.specs.Messages.{IsRequestTo, IsRoundEnd, ToAsker, ToNone, ToPeer}
+use Rattle.idp_server.specs.Step.{IsAnswerFor}
 
 -- the Issued of a record that has an Assertion
 the_same : (setup : IdpConfig) (place : ℕ) (r : IdpRecord) (issued : Issued) → HasAssertion setup place r → Some issued ≡ issued_in r → r ≡ kinds.Issued issued
@@ -131,3 +135,58 @@ ending_page_of setup asked place relay given r now peer id issuer request partia
 pub end_shown : {E : Type 0} (partial : Bool) (result : Result (List ℕ) E) → IfOk result (λ bytes. bytes ≡ end_answer partial) → IfOk result (λ bytes. Full bytes ≡ Full (end_answer partial))
 end_shown partial (Ok bytes) is = ap Full is
 end_shown partial (Err e) is = is
+
+-- ---- of a round
+
+-- a request to the peer of a turn
+pub request_page_of : {E : Type 0} (setup : IdpConfig) (turn : Turn) (id : List ℕ) (now place : ℕ) (peer : LogoutPeer) (goes issuer name : List ℕ) (result : Result (List ℕ) E)
+    → goes ≡ turn.peer → issuer ≡ setup.entity → name ≡ turn.name → place_of goes setup.peers ≡ Some place → slice_get setup.peers place ≡ Some peer
+    → IfOk result (Leaving peer id issuer now name turn.indexes) → IfOk result (λ bytes. IsRequestTo setup turn.peer id turn.name turn.indexes now bytes)
+request_page_of setup turn id now place peer goes issuer name (Ok bytes) goes_is issuer_is name_is known there leaves =
+    ToPeer peer (place, subst (λ (e : List ℕ). place_of e setup.peers ≡ Some place) goes_is known, there)
+    (subst (λ (e : List ℕ). Leaving peer id e now turn.name turn.indexes bytes) issuer_is
+    (subst (λ (n : List ℕ). Leaving peer id issuer now n turn.indexes bytes) name_is leaves))
+request_page_of setup turn id now place peer goes issuer name (Err e) goes_is issuer_is name_is known there leaves = leaves
+
+-- a response to the provider that asked
+pub end_page_of : {E : Type 0} (setup : IdpConfig) (message : List ℕ) (asked : Option Asker) (asker : Asker) (partial : Bool) (now place : ℕ) (peer : LogoutPeer) (goes id issuer request : List ℕ)
+    (given : Option (List ℕ)) (result : Result (List ℕ) E) → asked ≡ Some asker → goes ≡ asker.peer → id ≡ message → issuer ≡ setup.entity → request ≡ asker.request → given ≡ asker.relay
+    → place_of goes setup.peers ≡ Some place → slice_get setup.peers place ≡ Some peer → IfOk result (Ending peer id issuer now request partial given)
+    → IfOk result (λ bytes. IsRoundEnd setup message asked partial now bytes)
+end_page_of setup message asked asker partial now place peer goes id issuer request given (Ok bytes) is goes_is id_is issuer_is request_is relay_is known there ends =
+    ToAsker asker peer is (place, subst (λ (e : List ℕ). place_of e setup.peers ≡ Some place) goes_is known, there)
+    (subst (λ (i : List ℕ). Ending peer i setup.entity now asker.request partial asker.relay bytes) id_is
+    (subst (λ (e : List ℕ). Ending peer id e now asker.request partial asker.relay bytes) issuer_is
+    (subst (λ (q : List ℕ). Ending peer id issuer now q partial asker.relay bytes) request_is
+    (subst (λ (r : Option (List ℕ)). Ending peer id issuer now request partial r bytes) relay_is ends))))
+end_page_of setup message asked asker partial now place peer goes id issuer request given (Err e) is goes_is id_is issuer_is request_is relay_is known there ends = ends
+
+-- the answer that begins a round
+pub asking_page_of : {E : Type 0} (setup : IdpConfig) (plan : Plan) (r : IdpRecord) (now : ℕ) (turn : Turn) (id : List ℕ) (result : Result (List ℕ) E) → HasFirstTurn setup plan r
+    → slice_get plan.turns 0 ≡ Some turn → Some id ≡ first_id r → IfOk result (λ bytes. IsRequestTo setup turn.peer id turn.name turn.indexes now bytes)
+    → IfOk result (λ bytes. IsAskingPage setup r now (Full bytes))
+asking_page_of setup plan r now turn id (Ok bytes) has there named asks =
+    let id_is : id ≡ has.begun.request = some_same id has.begun.request (named ∙ ap first_id has.is) in
+    record {
+      begun = has.begun;
+      is = has.is;
+      bytes = bytes;
+      asks = record {
+        turn = turn;
+        first = subst (λ (ts : List Turn). slice_get ts 0 ≡ Some turn) (sym has.turns_are) there;
+        asks = subst (λ (i : List ℕ). IsRequestTo setup turn.peer i turn.name turn.indexes now bytes) id_is asks;
+      };
+      full = refl;
+    }
+asking_page_of setup plan r now turn id (Err e) has there named asks = asks
+
+-- and those to a provider that answered
+pub next_page_of : {E : Type 0} (setup : IdpConfig) (turn : Turn) (r : IdpRecord) (now : ℕ) (id : List ℕ) (result : Result (List ℕ) E) → Some id ≡ first_id r
+    → IfOk result (λ bytes. IsRequestTo setup turn.peer id turn.name turn.indexes now bytes) → IfOk result (λ bytes. IsNextPage setup turn r now (Full bytes))
+next_page_of setup turn r now id (Ok bytes) named asks = record { id = id; named = sym named; bytes = bytes; asks = asks; full = refl }
+next_page_of setup turn r now id (Err e) named asks = asks
+
+pub last_page_of : {E : Type 0} (setup : IdpConfig) (message : List ℕ) (asker : Option Asker) (partial : Bool) (now : ℕ) (result : Result (List ℕ) E)
+    → IfOk result (λ bytes. IsRoundEnd setup message asker partial now bytes) → IfOk result (λ bytes. IsLastPage setup message asker partial now (Full bytes))
+last_page_of setup message asker partial now (Ok bytes) ends = record { bytes = bytes; ends = ends; full = refl }
+last_page_of setup message asker partial now (Err e) ends = ends

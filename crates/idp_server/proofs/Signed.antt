@@ -1,13 +1,13 @@
 -- Each signed element of an answer is of its record.
-use Rattle.std.specs.Prelude.{slice_get, if◌then◌else◌}
-use Rattle.std.proofs.Common.{◌≡◌, ℕ, Bool, true, false, List, [], ◌∷◌, Option, None, Some, refl, sym, subst, ap, ◌∙◌}
+use Rattle.std.specs.Prelude.{not, slice_get, codes, if◌then◌else◌}
+use Rattle.std.proofs.Common.{◌≡◌, ℕ, Bool, true, false, List, [], ◌∷◌, ◌++◌, Option, None, Some, refl, sym, subst, ap, ◌∙◌}
 use Rattle.std.specs.List.{AllByRecursion}
 use Rattle.std.specs.Option.{option_map}
 use Rattle.saml_time.specs.Instant.{TellsInFull}
 use Rattle.element_make.specs.Made.{Made, alone, written}
 use Rattle.sig_reference.specs.Signing.{signed}
 use Rattle.saml_names.specs.Uris.{partial_logout}
-use Rattle.protocol_messages.specs.Making.{failed, logged_out, logout_request, request_end, response, succeeded}
+use Rattle.protocol_messages.specs.Making.{IsMadeAt, IsMadeFrom, failed, logged_out, logout_request, request_end, response, session_indexes, succeeded}
 use Rattle.post_binding.specs.Pages.{auto_form}
 use Rattle.post_binding.specs.declared.posted.Field.TheVariants as fields
 use Rattle.http_wire.specs.Answers.{answer}
@@ -19,12 +19,14 @@ use Rattle.http_wire.specs.Requests.{Request}
 use Rattle.ledger_records.specs.declared.idp_record.Ended.{Ended}
 use Rattle.ledger_records.specs.declared.idp_record.Issued.{Issued}
 use Rattle.ledger_records.specs.declared.idp_record.Left.{Left}
+use Rattle.ledger_records.specs.declared.idp_round.Round.{Round}
+use Rattle.ledger_records.specs.declared.idp_round.Told.{Told}
 use Rattle.ledger_records.specs.declared.idp_record.IdpRecord.{IdpRecord}
 use Rattle.ledger_records.specs.declared.idp_record.IdpRecord.TheVariants as kinds
 use Rattle.peer_keys.specs.Peers.{place_of}
 use Rattle.peer_keys.specs.declared.peers.LogoutPeer.{LogoutPeer}
 use Rattle.idp_ledger.specs.declared.row.SessionRow.{SessionRow}
-use Rattle.idp_ledger.specs.Finding.{session_found}
+use Rattle.idp_ledger.specs.Finding.{session_found, turn_found}
 use Rattle.idp_ledger.specs.RowsOf.{rows_of}
 use Rattle.idp_ledger.specs.Ledger.{Held, next_number}
 use Rattle.idp_ledger.specs.Drafts.{issue, login}
@@ -32,16 +34,21 @@ use Rattle.idp_rules.specs.Asking.{IsAsked}
 use Rattle.idp_rules.specs.declared.asked.Asked.{Asked}
 use Rattle.idp_rules.specs.declared.config.IdpConfig.{IdpConfig}
 use Rattle.idp_answers.specs.Answers.{IsNoPassiveAnswer, session_cookie, signed_assertion, signed_response, signs_assertion, signs_response}
-use Rattle.logout_answers.specs.Answers.{BySending, ByEnding, Leaving}
+use Rattle.logout_answers.specs.Answers.{BySending, ByEnding, Ending, Leaving}
+use Rattle.logout_turns.specs.declared.part.Asker.{Asker}
+use Rattle.round_rows.specs.declared.row.RoundRow.{RoundRow}
+use Rattle.round_rows.specs.Rounds.{is_turn_left}
 use Rattle.idp_answers.specs.SignedElements.{signed_by}
 use Rattle.idp_answers.proofs.SignedElements.{elements_are}
 use Rattle.idp_server.specs.Logins.{stated_by}
-use Rattle.idp_server.specs.Signed.{Carries, ALogout, AnEnd, AQuestion, AForm, AReply, ARequest, EachSignedElementIsOfARecord, AnAssertion, AResponse, IsSignedOf, signed_elements}
+use Rattle.idp_server.specs.Messages.{AsksFirst, AsksNext, EndsRound, IsRequestTo, IsRoundEnd, IsToldAnswer, ToAsker, ToNone, ToPeer, ToUser}
+use Rattle.idp_server.specs.Rounds.{next_in, round_by, round_waiting}
+use Rattle.idp_server.specs.Signed.{Carries, AFirstRequest, ALastReply, ALogout, ANextRequest, AnEnd, AQuestion, AForm, AReply, ARequest, EachSignedElementIsOfARecord, AnAssertion, AResponse, IsSignedFor, IsSignedOf, Waits, signed_elements}
 use Rattle.idp_server.specs.Step as steps
-use Rattle.idp_server.specs.Step.{Answers, IsAnswerFor, IsEndingAnswer, IsLeavingAnswer, IsPeer, ask_of, ended_by, is_in_part, left_by, session_for}
+use Rattle.idp_server.specs.Step.{Answers, IsAnswerFor, IsEndingAnswer, IsLeavingAnswer, IsPeer, ask_of, asker_of, ended_by, ending_by, is_in_part, left_by, session_for}
 use Rattle.idp_server.proofs.Ending.{IsAtItsPlace, asking_peer}
 use Rattle.idp_server.proofs.Issues.{found_itself, the_issued}
-use Rattle.idp_server.proofs.Logouts.{the_ended, the_left}
+use Rattle.idp_server.proofs.Logouts.{has_answer, the_ended, the_left, the_round}
 use Rattle.idp_server.proofs.Peers.{place_names}
 
 -- ---- what is signed of a Response
@@ -90,9 +97,14 @@ carries_refusal setup held r message request consumer relay now bytes a =
 -- ---- of an answer in a logout
 
 -- one element is signed of a LogoutRequest, and of a LogoutResponse
-request_signed : (key id issuer address name index at end : List ℕ)
-    → signed_elements (alone (signed key (logout_request id issuer address name (index ∷ []) at end))) ≡ signed key (logout_request id issuer address name (index ∷ []) at end) ∷ []
-request_signed key id issuer address name index at end = refl
+indexes_unsigned : (indexes : List (List ℕ)) → signed_elements (session_indexes indexes) ≡ []
+indexes_unsigned [] = refl
+indexes_unsigned (index ∷ indexes) = indexes_unsigned indexes
+
+request_signed : (key id issuer address name : List ℕ) (indexes : List (List ℕ)) (at end : List ℕ)
+    → signed_elements (alone (signed key (logout_request id issuer address name indexes at end))) ≡ signed key (logout_request id issuer address name indexes at end) ∷ []
+request_signed key id issuer address name indexes at end =
+    ap (λ (xs : List Made). signed key (logout_request id issuer address name indexes at end) ∷ (xs ++ [])) (indexes_unsigned indexes)
 
 response_signed : (key id issuer address request : List ℕ) (partial : Bool) (at : List ℕ)
     → signed_elements (alone (signed key (logged_out id issuer address request (if partial then failed partial_logout else succeeded) at)))
@@ -110,52 +122,97 @@ is_left held r row request now at cookie live =
     subst (λ (c : List ℕ). session_found rows c r.moment held.header.horizon ≡ Some row) cookie
     (subst (λ (t : ℕ). session_found rows row.cookie t held.header.horizon ≡ Some row) at (found_itself held request now row live))
 
-carries_asking : (setup : IdpConfig) (held : Held) (r : Left) (row : SessionRow) (now : ℕ) (bytes : List ℕ) (peer : LogoutPeer) → IsPeer setup r.peer peer → r.moment ≡ now → IsLeft held r row
-    → Leaving peer r.request setup.entity now row.user (row.index ∷ []) bytes → Carries setup held (kinds.Left r) bytes
-carries_asking setup held r row now bytes peer known at live (ByEnding none is) = AnEnd true is
-carries_asking setup held r row now bytes peer known at live (BySending a) =
-    let q = a.request in
-    let key = peer.key_out in
-    let built = logout_request r.request setup.entity q.address row.user (row.index ∷ []) q.made.instant q.made.until in
-    let P : Made → Type 0 = IsSignedOf setup held (kinds.Left r) in
-    let one : P (signed key built) = record {
-      key = key;
-      made = built;
-      stands = ARequest r peer row q.address built known q.given live (record {
-        instant = q.made.instant;
-        until = q.made.until;
-        told = subst (TellsInFull q.made.instant) (sym at) q.made.told;
-        ended = subst (λ (m : ℕ). TellsInFull q.made.until (request_end m)) (sym at) q.made.ended;
+-- a request that a record stands for, where it goes to a peer with an address
+module _ (setup : IdpConfig) (held : Held) (r : IdpRecord) (moment now : ℕ) (at : moment ≡ now) where
+  request_sent : (id name : List ℕ) (indexes : List (List ℕ)) (bytes : List ℕ) (peer : LogoutPeer)
+      → ((address : List ℕ) (made : Made) → peer.peer.logout ≡ Some address
+      → IsMadeFrom moment (request_end moment) (logout_request id setup.entity address name indexes) made → IsSignedFor setup held r peer.key_out made)
+      → Leaving peer id setup.entity now name indexes bytes → Carries setup held r bytes
+  request_sent id name indexes bytes peer stands (ByEnding none is) = AnEnd true is
+  request_sent id name indexes bytes peer stands (BySending a) =
+      let q = a.request in
+      let key = peer.key_out in
+      let built = logout_request id setup.entity q.address name indexes q.made.instant q.made.until in
+      let P : Made → Type 0 = IsSignedOf setup held r in
+      let one : P (signed key built) = record {
+        key = key;
+        made = built;
+        stands = stands q.address built q.given (record {
+          instant = q.made.instant;
+          until = q.made.until;
+          told = subst (TellsInFull q.made.instant) (sym at) q.made.told;
+          ended = subst (λ (m : ℕ). TellsInFull q.made.until (request_end m)) (sym at) q.made.ended;
+          is = refl;
+        });
         is = refl;
-      });
-      is = refl;
-    } in
-    ALogout (signed key built)
-    (record { address = q.address; field = fields.Request; relay = None; is = a.is ∙ ap (λ (m : List ℕ). answer 200 None None (auto_form q.address fields.Request m None)) (q.signed.is ∙ ap (λ (m : Made). written (signed key m)) q.made.is) })
-    (subst (AllByRecursion P) (sym (request_signed key r.request setup.entity q.address row.user row.index q.made.instant q.made.until)) (one, tt))
+      } in
+      ALogout (signed key built)
+      (record { address = q.address; field = fields.Request; relay = None; is = a.is ∙ ap (λ (m : List ℕ). answer 200 None None (auto_form q.address fields.Request m None)) (q.signed.is ∙ ap (λ (m : Made). written (signed key m)) q.made.is) })
+      (subst (AllByRecursion P) (sym (request_signed key id setup.entity q.address name indexes q.made.instant q.made.until)) (one, tt))
+
+  carries_request : (entity id name : List ℕ) (indexes : List (List ℕ)) (bytes : List ℕ)
+      → ((peer : LogoutPeer) (address : List ℕ) (made : Made) → IsPeer setup entity peer → peer.peer.logout ≡ Some address
+      → IsMadeFrom moment (request_end moment) (logout_request id setup.entity address name indexes) made → IsSignedFor setup held r peer.key_out made)
+      → IsRequestTo setup entity id name indexes now bytes → Carries setup held r bytes
+  carries_request entity id name indexes bytes stands (ToPeer peer known answers) =
+      request_sent id name indexes bytes peer (λ address made given is. stands peer address made known given is) answers
+  carries_request entity id name indexes bytes stands (ToNone none is) = AnEnd true is
+
+  -- and a response
+  carries_response : (message request : List ℕ) (partial : Bool) (relay : Option (List ℕ)) (bytes : List ℕ) (peer : LogoutPeer)
+      → ((address : List ℕ) (made : Made) → peer.peer.logout ≡ Some address
+      → IsMadeAt moment (logged_out message setup.entity address request (if partial then failed partial_logout else succeeded)) made → IsSignedFor setup held r peer.key_out made)
+      → Ending peer message setup.entity now request partial relay bytes → Carries setup held r bytes
+  carries_response message request partial relay bytes peer stands (ByEnding none is) = AnEnd partial is
+  carries_response message request partial relay bytes peer stands (BySending a) =
+      let q = a.response in
+      let key = peer.key_out in
+      let built = logged_out message setup.entity q.address request (if partial then failed partial_logout else succeeded) q.made.instant in
+      let P : Made → Type 0 = IsSignedOf setup held r in
+      let one : P (signed key built) = record {
+        key = key;
+        made = built;
+        stands = stands q.address built q.given (record { instant = q.made.instant; told = subst (TellsInFull q.made.instant) (sym at) q.made.told; is = refl });
+        is = refl;
+      } in
+      ALogout (signed key built)
+      (record { address = q.address; field = fields.Response; relay = relay; is = a.is ∙ ap (λ (m : List ℕ). answer 200 None None (auto_form q.address fields.Response m relay)) (q.signed.is ∙ ap (λ (m : Made). written (signed key m)) q.made.is) })
+      (subst (AllByRecursion P) (sym (response_signed key message setup.entity q.address request partial q.made.instant)) (one, tt))
+
+  -- the end of a round
+  carries_end : (message : List ℕ) (asked : Option Asker) (partial : Bool) (bytes : List ℕ)
+      → ((asker : Asker) (peer : LogoutPeer) (address : List ℕ) (made : Made) → asked ≡ Some asker → IsPeer setup asker.peer peer → peer.peer.logout ≡ Some address
+      → IsMadeAt moment (logged_out message setup.entity address asker.request (if partial then failed partial_logout else succeeded)) made → IsSignedFor setup held r peer.key_out made)
+      → IsRoundEnd setup message asked partial now bytes → Carries setup held r bytes
+  carries_end message asked partial bytes stands (ToAsker asker peer is known answers) =
+      carries_response message asker.request partial asker.relay bytes peer (λ address made given made_is. stands asker peer address made is known given made_is) answers
+  carries_end message asked partial bytes stands (ToUser none is) = AnEnd partial is
 
 carries_leaving : (setup : IdpConfig) (held : Held) (r : Left) (row : SessionRow) (now : ℕ) (bytes : List ℕ) → r.moment ≡ now → IsLeft held r row → IsLeavingAnswer setup r row.user row.index now bytes
     → Carries setup held (kinds.Left r) bytes
-carries_leaving setup held r row now bytes at live (steps.ToPeer peer known answers) = carries_asking setup held r row now bytes peer known at live answers
-carries_leaving setup held r row now bytes at live (steps.ToNone none is) = AnEnd true is
+carries_leaving setup held r row now bytes at live answers =
+    carries_request setup held (kinds.Left r) r.moment now at r.peer r.request row.user (row.index ∷ []) bytes
+    (λ peer address made known given is. ARequest r peer row address made known given live is) answers
 
 carries_ending : (setup : IdpConfig) (held : Held) (r : Ended) (relay : Option (List ℕ)) (now : ℕ) (bytes : List ℕ) (peer : LogoutPeer) → IsPeer setup r.peer peer → r.moment ≡ now
     → IsEndingAnswer setup peer r relay now bytes → Carries setup held (kinds.Ended r) bytes
-carries_ending setup held r relay now bytes peer known at (ByEnding none is) = AnEnd r.partial is
-carries_ending setup held r relay now bytes peer known at (BySending a) =
-    let q = a.response in
-    let key = peer.key_out in
-    let built = logged_out r.message setup.entity q.address r.request (if r.partial then failed partial_logout else succeeded) q.made.instant in
-    let P : Made → Type 0 = IsSignedOf setup held (kinds.Ended r) in
-    let one : P (signed key built) = record {
-      key = key;
-      made = built;
-      stands = AReply r peer q.address built known q.given (record { instant = q.made.instant; told = subst (TellsInFull q.made.instant) (sym at) q.made.told; is = refl });
-      is = refl;
-    } in
-    ALogout (signed key built)
-    (record { address = q.address; field = fields.Response; relay = relay; is = a.is ∙ ap (λ (m : List ℕ). answer 200 None None (auto_form q.address fields.Response m relay)) (q.signed.is ∙ ap (λ (m : Made). written (signed key m)) q.made.is) })
-    (subst (AllByRecursion P) (sym (response_signed key r.message setup.entity q.address r.request r.partial q.made.instant)) (one, tt))
+carries_ending setup held r relay now bytes peer known at answers =
+    carries_response setup held (kinds.Ended r) r.moment now at r.message r.request r.partial relay bytes peer
+    (λ address made given is. AReply r peer address made known given is) answers
+
+carries_first : (setup : IdpConfig) (held : Held) (r : Round) (now : ℕ) (bytes : List ℕ) → r.moment ≡ now → AsksFirst setup r now bytes → Carries setup held (kinds.Round r) bytes
+carries_first setup held r now bytes at asks =
+    carries_request setup held (kinds.Round r) r.moment now at asks.turn.peer r.request asks.turn.name asks.turn.indexes bytes
+    (λ peer address made known given is. AFirstRequest r asks.turn peer address made asks.first known given is) asks.asks
+
+carries_told : (setup : IdpConfig) (held : Held) (r : Told) (row : RoundRow) (confirms : Bool) (now : ℕ) (bytes : List ℕ) → r.moment ≡ now → confirms ≡ r.confirmed → Waits held r row
+    → IsToldAnswer setup row confirms r now bytes → Carries setup held (kinds.Told r) bytes
+carries_told setup held r row confirms now bytes at same waits (AsksNext place turn id next there named asks) =
+    carries_request setup held (kinds.Told r) r.moment now at turn.peer id turn.name turn.indexes bytes
+    (λ peer address made known given is. ANextRequest r row place turn id peer address made waits (sym (ap (next_in row) same) ∙ next) there named known given is) asks
+carries_told setup held r row confirms now bytes at same waits (EndsRound partial next ends) =
+    carries_end setup held (kinds.Told r) r.moment now at row.message row.asker partial bytes
+    (λ asker peer address made asked known given is. ALastReply r row partial asker peer address made waits (sym (ap (next_in row) same) ∙ next) asked known given is) ends
 
 -- ---- the peer of a record
 
@@ -166,6 +223,16 @@ known_peer setup address body asked peer is there =
     let at : slice_get setup.peers is.place ≡ Some peer = subst (λ (p : ℕ). slice_get setup.peers p ≡ Some peer) same there in
     let named = place_names is.carried.request.issuer setup.peers is.place peer is.asks.known at in
     (is.place, subst (λ (e : List ℕ). place_of e setup.peers ≡ Some is.place) (sym named) is.asks.known, at)
+
+-- a round that waits is found
+pub waiting_turn : (setup : IdpConfig) (held : Held) (now : ℕ) (of peer : List ℕ) (row : RoundRow) → round_waiting setup held now of peer ≡ Some row
+    → turn_found (rows_of held.records).rounds of peer now held.header.horizon ≡ Some row
+waiting_turn setup held now of peer row waits = by_line setup.fanout waits
+  where
+    by_line : (b : Bool) → (if b then turn_found (rows_of held.records).rounds of peer now held.header.horizon else None) ≡ Some row
+        → turn_found (rows_of held.records).rounds of peer now held.header.horizon ≡ Some row
+    by_line true is = is
+    by_line false is = absurd (cc)
 
 carried : IsAtItsPlace → (setup : IdpConfig) (held : Held) (request : Request) (now : ℕ) (answer : Answer) (bytes : List ℕ) (adds : Option IdpRecord) (r : IdpRecord) → answer ≡ Full bytes → adds ≡ Some r
     → Answers setup held request now answer adds → Carries setup held r bytes
@@ -195,24 +262,48 @@ carried law setup held request now answer bytes adds r shown some (steps.ByLogin
     subst (λ (x : IdpRecord). Carries setup held x bytes) same (subst (Carries setup held (kinds.Issued other)) spelled
     (carries_issued setup held peer other (Some other.cookie) now sent known_as (sym (ap (λ (i : Issued). i.moment) made)) answers))
 carried law setup held request now answer bytes adds r shown some (steps.ByNoSession to none_live is none) = absurd (let e = sym some ∙ none in cc)
-carried law setup held request now answer bytes adds r shown some (steps.ByLeaving row left sent to live drafted adding answers full) =
+carried law setup held request now answer bytes adds r shown some (steps.ByLeaving row left sent to live alone drafted adding answers full) =
     let same : kinds.Left left ≡ r = (let e = sym adding ∙ some in cc) in
     let spelled : sent ≡ bytes = (let e = sym full ∙ shown in cc) in
     let made = the_left left (left_by setup.id_key held now row.cookie) _ drafted refl in
     subst (λ (x : IdpRecord). Carries setup held x bytes) same (subst (Carries setup held (kinds.Left left)) spelled
     (carries_leaving setup held left row now sent (sym (ap (λ (l : Left). l.moment) made))
     (is_left held left row request now (ap (λ (l : Left). l.moment) made) (ap (λ (l : Left). l.cookie) made) live) answers))
+carried law setup held request now answer bytes adds r shown some (steps.ByLeavingAll row begun sent to live others drafted adding first full) =
+    let same : kinds.Round begun ≡ r = (let e = sym adding ∙ some in cc) in
+    let spelled : sent ≡ bytes = (let e = sym full ∙ shown in cc) in
+    let made = the_round begun (round_by setup held now None (row.cookie ∷ [])) _ drafted refl in
+    subst (λ (x : IdpRecord). Carries setup held x bytes) same (subst (Carries setup held (kinds.Round begun)) spelled
+    (carries_first setup held begun now sent (sym (ap (λ (b : Round). b.moment) made)) first))
 carried law setup held request now answer bytes adds r shown some (steps.ByLogoutVerdict verdict to refused is none) = absurd (let e = sym some ∙ none in cc)
 carried law setup held request now answer bytes adds r shown some (steps.ByNothingToEnd asked peer relay to asks nothing is none) = absurd (let e = sym some ∙ none in cc)
-carried law setup held request now answer bytes adds r shown some (steps.ByEnding asked peer relay ended sent to asks some_end drafted adding answers full) =
+carried law setup held request now answer bytes adds r shown some (steps.ByEnding asked peer relay ended sent to asks some_end alone drafted adding answers full) =
     let same : kinds.Ended ended ≡ r = (let e = sym adding ∙ some in cc) in
     let spelled : sent ≡ bytes = (let e = sym full ∙ shown in cc) in
     let made = the_ended ended (ended_by setup.id_key held now peer.peer.entity asked) _ drafted refl in
     let known_as = subst (λ (e : List ℕ). IsPeer setup e peer) (ap (λ (l : Ended). l.peer) made) (asking_peer law setup request now asked peer relay asks) in
     subst (λ (x : IdpRecord). Carries setup held x bytes) same (subst (Carries setup held (kinds.Ended ended)) spelled
     (carries_ending setup held ended relay now sent peer known_as (sym (ap (λ (l : Ended). l.moment) made)) answers))
-carried law setup held request now answer bytes adds r shown some (steps.ByUnknownLogout response to replies unknown is none) = absurd (let e = sym some ∙ none in cc)
-carried law setup held request now answer bytes adds r shown some (steps.ByConfirming response to replies waits adding full) =
+carried law setup held request now answer bytes adds r shown some (steps.ByEndingAll asked peer relay begun sent to asks some_end others drafted adding first full) =
+    let same : kinds.Round begun ≡ r = (let e = sym adding ∙ some in cc) in
+    let spelled : sent ≡ bytes = (let e = sym full ∙ shown in cc) in
+    let made = the_round begun (round_by setup held now (Some (asker_of peer asked relay)) (ending_by held now peer.peer.entity asked)) _ drafted refl in
+    subst (λ (x : IdpRecord). Carries setup held x bytes) same (subst (Carries setup held (kinds.Round begun)) spelled
+    (carries_first setup held begun now sent (sym (ap (λ (b : Round). b.moment) made)) first))
+carried law setup held request now answer bytes adds r shown some (steps.ByTold response peer row told sent to replies waits drafted adding answers full) =
+    let same : kinds.Told told ≡ r = (let e = sym adding ∙ some in cc) in
+    let spelled : sent ≡ bytes = (let e = sym full ∙ shown in cc) in
+    let confirms = not (is_in_part response.outcome) in
+    let has = has_answer setup.id_key (next_number held) now response.request confirms (is_turn_left row) told drafted in
+    let found = waiting_turn setup held now response.request peer.peer.entity row waits in
+    subst (λ (x : IdpRecord). Carries setup held x bytes) same (subst (Carries setup held (kinds.Told told)) spelled
+    (carries_told setup held told row confirms now sent has.moment_is (sym has.confirms_is) (
+      peer.peer.entity,
+      subst (λ (q : List ℕ). turn_found (rows_of held.records).rounds q peer.peer.entity told.moment held.header.horizon ≡ Some row) (sym has.request_is)
+          (subst (λ (m : ℕ). turn_found (rows_of held.records).rounds response.request peer.peer.entity m held.header.horizon ≡ Some row) (sym has.moment_is) found),
+    ) answers))
+carried law setup held request now answer bytes adds r shown some (steps.ByUnknownLogout response peer to replies no_round unknown is none) = absurd (let e = sym some ∙ none in cc)
+carried law setup held request now answer bytes adds r shown some (steps.ByConfirming response peer to replies no_round waits adding full) =
     AnEnd (is_in_part response.outcome) (let e = sym shown ∙ full in cc)
 
 pub each_signed : IsAtItsPlace → EachSignedElementIsOfARecord

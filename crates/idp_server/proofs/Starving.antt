@@ -41,7 +41,10 @@ no_code setup held request now code answer adds r is some
     absurd (cc)
 no_code setup held request now code answer adds r is some (steps.ByNoSession to none what nothing) = absurd (cc)
 no_code setup held request now code answer adds r is some
-    (steps.ByLeaving row left bytes to live made adding page what) =
+    (steps.ByLeaving row left bytes to live alone made adding page what) =
+    absurd (cc)
+no_code setup held request now code answer adds r is some
+    (steps.ByLeavingAll row begun bytes to live asks made adding page what) =
     absurd (cc)
 no_code setup held request now code answer adds r is some (steps.ByLogoutVerdict verdict to refused what none) =
     absurd (cc)
@@ -49,12 +52,19 @@ no_code setup held request now code answer adds r is some
     (steps.ByNothingToEnd asked peer relay to asks empty what none) =
     absurd (cc)
 no_code setup held request now code answer adds r is some
-    (steps.ByEnding asked peer relay ended bytes to asks some_end made adding page what) =
+    (steps.ByEnding asked peer relay ended bytes to asks some_end alone made adding page what) =
     absurd (cc)
-no_code setup held request now code answer adds r is some (steps.ByUnknownLogout response to replies none what nothing)
-    =
+no_code setup held request now code answer adds r is some
+    (steps.ByEndingAll asked peer relay begun bytes to asks some_end others made adding page what) =
     absurd (cc)
-no_code setup held request now code answer adds r is some (steps.ByConfirming response to replies awaited adding what) =
+no_code setup held request now code answer adds r is some
+    (steps.ByTold response peer row told bytes to replies waits made adding page what) =
+    absurd (cc)
+no_code setup held request now code answer adds r is some
+    (steps.ByUnknownLogout response peer to replies no_round none what nothing) =
+    absurd (cc)
+no_code setup held request now code answer adds r is some
+    (steps.ByConfirming response peer to replies no_round awaited adding what) =
     absurd (cc)
 
 codes_add_nothing : CodesAddNothing Answers
@@ -68,7 +78,10 @@ alike_itself now held = record {
   ending = λ peer name indexes. refl;
   partial = λ peer name indexes. refl;
   last_peer = λ cookie is. refl;
+  parts = λ cookies live. refl;
   waiting = λ request. refl;
+  round = λ request. refl;
+  turn = λ request peer. refl;
 }
 
 alike_behind : CompactionsChangeNoAnswer → (now : ℕ) (old new : Held) → AreRecords old.records

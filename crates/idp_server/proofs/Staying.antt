@@ -40,6 +40,8 @@ last_row (kinds.Ended x ∷ before) r pending has = last_row before r pending ha
 last_row (kinds.Left x ∷ before) r pending has = last_row before r pending has
 last_row (kinds.Confirmed x ∷ before) r pending has = last_row before r pending has
 last_row (kinds.Spoke x ∷ before) r pending has = last_row before r pending has
+last_row (kinds.Round x ∷ before) r pending has = last_row before r pending has
+last_row (kinds.Told x ∷ before) r pending has = last_row before r pending has
 
 -- what passes a test is found
 found_by : (test : SessionRow → Bool) (rows : List SessionRow) (row : SessionRow) → Contains rows row → test row ≡ true

@@ -152,6 +152,12 @@ cookie_number cookie before (kinds.Confirmed r ∷ later) are some =
 cookie_number cookie before (kinds.Spoke r ∷ later) are some =
     let joined = next_cons (kinds.Spoke r) later in
     further cookie (next_of later) (next_of (kinds.Spoke r ∷ later)) (omega (arith, joined)) (cookie_number cookie (before ++ kinds.Spoke r ∷ []) later are.1 some)
+cookie_number cookie before (kinds.Round r ∷ later) are some =
+    let joined = next_cons (kinds.Round r) later in
+    further cookie (next_of later) (next_of (kinds.Round r ∷ later)) (omega (arith, joined)) (cookie_number cookie (before ++ kinds.Round r ∷ []) later are.1 some)
+cookie_number cookie before (kinds.Told r ∷ later) are some =
+    let joined = next_cons (kinds.Told r) later in
+    further cookie (next_of later) (next_of (kinds.Told r ∷ later)) (omega (arith, joined)) (cookie_number cookie (before ++ kinds.Told r ∷ []) later are.1 some)
 
 -- ---- from event to event
 
@@ -193,6 +199,9 @@ added_rows before (kinds.Left r) cookie t is numbers never =
     none_ended (λ (row : SessionRow). bytes_eq r.cookie row.cookie) (session_rows before.records) cookie t before.header.horizon (never.none t)
 added_rows before (kinds.Confirmed r) cookie t is numbers never = never.none t
 added_rows before (kinds.Spoke r) cookie t is numbers never = never.none t
+added_rows before (kinds.Round r) cookie t is numbers never =
+    none_ended (λ (row : SessionRow). is_among row.cookie r.cookies) (session_rows before.records) cookie t before.header.horizon (never.none t)
+added_rows before (kinds.Told r) cookie t is numbers never = never.none t
 
 added : (before : Held) (r : IdpRecord) (cookie : List ℕ) → is_record before.records r ≡ true → All (λ (d : Drawn). next_number before ≤ d.number) (drawn r) → Never before cookie
     → Never (held_with r before) cookie
@@ -307,6 +316,14 @@ ends_it held (kinds.Left r) cookie is ending =
     (ended_all f rows cookie (λ row here. other_way row.cookie r.cookie (subst (λ (t : List ℕ). bytes_eq row.cookie t ≡ true) (sym same) here)))
 ends_it held (kinds.Confirmed r) cookie is ending = absurd (false≢true ending)
 ends_it held (kinds.Spoke r) cookie is ending = absurd (false≢true ending)
+ends_it held (kinds.Round r) cookie is ending =
+    let rows = session_rows held.records in
+    let f : SessionRow → Bool = λ row. is_among row.cookie r.cookies in
+    let free = (parts held.records (kinds.Round r) is).free in
+    ended_with held (kinds.Round r) cookie _ (rows_of-push held.records (kinds.Round r))
+    (cookies_stay f rows cookie ∙ unended_there rows cookie (all_among (is_unended rows) r.cookies cookie free ending))
+    (ended_all f rows cookie (λ row same. subst (λ (t : List ℕ). is_among t r.cookies ≡ true) (sym (same_text row.cookie cookie same)) ending))
+ends_it held (kinds.Told r) cookie is ending = absurd (false≢true ending)
 
 front : {X : Type 0} (x r : X) (xs : List X) → Contains (x ∷ xs) r → (x ≡ r) ⊎ Contains xs r
 front x r xs (zero, less, is) = inl is

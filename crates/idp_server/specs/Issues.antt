@@ -73,6 +73,8 @@ IsOfUserIfIssued setup held request now (kinds.Ended r) = Unit {0}
 IsOfUserIfIssued setup held request now (kinds.Left r) = Unit {0}
 IsOfUserIfIssued setup held request now (kinds.Confirmed r) = Unit {0}
 IsOfUserIfIssued setup held request now (kinds.Spoke r) = Unit {0}
+IsOfUserIfIssued setup held request now (kinds.Round r) = Unit {0}
+IsOfUserIfIssued setup held request now (kinds.Told r) = Unit {0}
 
 -- what a request may do to a ledger that stays whole: nothing, a compaction, or a record behind either, and an Issued only for a user
 pub data Changes (setup : IdpConfig) (found : Held) (request : Request) (now : ℕ) (new : Provider) : Type 0 where

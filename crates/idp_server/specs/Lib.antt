@@ -1,11 +1,14 @@
 pub mod Routes
 pub mod Logins
+pub mod Rounds
+pub mod Messages
 pub mod Step
 pub mod Replies
 pub mod Issues
 pub mod Histories
 pub mod Signed
 pub mod Logouts
+pub mod Outcomes
 pub mod Views
 pub mod Examples
 pub mod Starving

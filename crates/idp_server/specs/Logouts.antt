@@ -1,5 +1,5 @@
 -- When a session is ended, and what stands behind an answer to a logout.
-use Rattle.std.specs.Prelude.{◌≡◌, ◌⊎◌, ℕ, true, false, List, codes, Option, Some, slice_get}
+use Rattle.std.specs.Prelude.{◌≡◌, ◌⊎◌, ℕ, true, false, not, List, [], ◌∷◌, codes, Option, None, Some, if◌then◌else◌, slice_get}
 use Rattle.std.specs.Option.{option_and_then}
 use Rattle.crash_disk.specs.Counts.{Rose}
 use Rattle.crash_disk.specs.Disk.{DiskState}
@@ -9,23 +9,28 @@ use Rattle.http_wire.specs.Requests.{Request}
 use Rattle.http_wire.specs.Cookies.{cookie_value}
 use Rattle.ledger_records.specs.declared.idp_record.Ended.{Ended}
 use Rattle.ledger_records.specs.declared.idp_record.Left.{Left}
+use Rattle.ledger_records.specs.declared.idp_round.Round.{Round}
+use Rattle.ledger_records.specs.declared.idp_round.Told.{Told}
 use Rattle.ledger_records.specs.declared.idp_record.IdpRecord.{IdpRecord}
 use Rattle.ledger_records.specs.declared.idp_record.IdpRecord.TheVariants as kinds
 use Rattle.peer_keys.specs.declared.peers.LogoutPeer.{LogoutPeer}
 use Rattle.protocol_messages.specs.declared.logout.LogoutRequest.{LogoutRequest}
 use Rattle.protocol_messages.specs.declared.logout.LogoutResponse.{LogoutResponse}
 use Rattle.ledger_records.specs.declared.idp_record.Confirmed.{Confirmed}
+use Rattle.round_rows.specs.declared.row.RoundRow.{RoundRow}
 use Rattle.idp_ledger.specs.declared.row.SessionRow.{SessionRow}
 use Rattle.idp_ledger.specs.Finding.{is_empty, visible}
-use Rattle.idp_ledger.specs.RowsOf.{is_among, rows_of}
+use Rattle.idp_ledger.specs.RowsOf.{ends, is_among, rows_of}
 use Rattle.idp_ledger.specs.Compacting.{Compacts}
 use Rattle.idp_ledger.specs.Ledger.{Held, held_with}
 use Rattle.idp_rules.specs.declared.config.IdpConfig.{IdpConfig}
 use Rattle.provider_node.specs.declared.codes.TheConstants.{NO_MEMORY}
 use Rattle.idp_server.specs.Histories.{IsEnded}
-use Rattle.idp_server.specs.Issues.{IsRecorded}
+use Rattle.idp_server.specs.Issues.{IsRecorded, LeavesLedger}
 use Rattle.idp_server.specs.Routes.{Logout, SingleLogout, To, route}
-use Rattle.idp_server.specs.Step.{Provider, Answers, AsksToEnd, HasPlace, OwnsDisk, RepliesTo, Serves, Steps, ended_by, ending_by, is_awaited, left_by, session_for}
+use Rattle.idp_server.specs.Replies.{OfPeer, OfUser}
+use Rattle.idp_server.specs.Rounds.{asks_others, round_by, round_waiting, skips_for, turns_for}
+use Rattle.idp_server.specs.Step.{Provider, Answers, AsksToEnd, HasPlace, OwnsDisk, RepliesTo, Serves, Steps, asker_of, ended_by, ending_by, is_awaited, is_in_part, left_by, session_for}
 
 -- ONLY
 
@@ -52,11 +57,30 @@ pub record IsOfPeerThatAsks (setup : IdpConfig) (held : Held) (request : Request
   pub request_is : r.request ≡ asked.id
   pub peer_is : r.peer ≡ peer.peer.entity
 
+-- Either, and each other provider that the sessions were used for is asked by the plan of the record.
+pub record AsksAllOthers (setup : IdpConfig) (held : Held) (request : Request) (now : ℕ) (r : Round) : Type 0 where
+  pub of : OfUser held request now r.cookies r.asker ⊎ OfPeer setup held request now r.cookies r.asker
+  pub asks : asks_others setup held r.asker r.cookies ≡ true
+  pub turns_are : r.turns ≡ turns_for setup held r.asker r.cookies
+  pub skips : r.skipped ≡ skips_for setup held r.asker r.cookies
+
+-- A LogoutResponse of the provider whose turn it is in a round was posted and accepted, and the round waits for it.
+pub record IsOfProviderInTurn (setup : IdpConfig) (held : Held) (request : Request) (now : ℕ) (r : Told) : Type 0 where
+  pub to : route request ≡ To SingleLogout
+  pub response : LogoutResponse
+  pub peer : LogoutPeer
+  pub replies : RepliesTo setup request now response peer
+  pub row : RoundRow
+  pub waits : round_waiting setup held now response.request peer.peer.entity ≡ Some row
+  pub request_is : r.request ≡ response.request
+  pub confirms : r.confirmed ≡ not (is_in_part response.outcome)
+
 -- A LogoutResponse of a peer was posted and accepted, and the logout that it replies to waits for a reply.
 pub record IsOfPeerThatReplies (setup : IdpConfig) (held : Held) (request : Request) (now : ℕ) (r : Confirmed) : Type 0 where
   pub to : route request ≡ To SingleLogout
   pub response : LogoutResponse
-  pub replies : RepliesTo setup request now response
+  pub peer : LogoutPeer
+  pub replies : RepliesTo setup request now response peer
   pub request_is : r.request ≡ response.request
   pub awaited : is_awaited held now response.request ≡ true
 
@@ -68,6 +92,8 @@ IsOfLogoutIfEnding setup held request now (kinds.Ended r) = IsOfPeerThatAsks set
 IsOfLogoutIfEnding setup held request now (kinds.Left r) = IsOfUserWhoLeaves held request now r
 IsOfLogoutIfEnding setup held request now (kinds.Confirmed r) = IsOfPeerThatReplies setup held request now r
 IsOfLogoutIfEnding setup held request now (kinds.Spoke r) = Unit {0}
+IsOfLogoutIfEnding setup held request now (kinds.Round r) = AsksAllOthers setup held request now r
+IsOfLogoutIfEnding setup held request now (kinds.Told r) = IsOfProviderInTurn setup held request now r
 
 -- what a request may do to a ledger that stays whole: nothing, a compaction, or a record behind either, and a record of a logout only
 -- for one
@@ -101,20 +127,33 @@ pub record EndsOver (setup : IdpConfig) (request : Request) (now : ℕ) (asked :
   pub relay : Option (List ℕ)
   pub asks : AsksToEnd setup request now asked peer relay
 
+-- the record of a user who leaves, and of a peer that asks: that of a round, where one begins
+abbrev pub leaving_record : IdpConfig → Held → ℕ → (cookie : List ℕ) → IdpRecord
+leaving_record setup held now cookie =
+    if asks_others setup held None (cookie ∷ []) then round_by setup held now None (cookie ∷ [])
+    else left_by setup.id_key held now cookie
+
+abbrev pub ending_record : IdpConfig → Held → ℕ → LogoutPeer → LogoutRequest → (relay : Option (List ℕ)) → IdpRecord
+ending_record setup held now peer asked relay =
+    let asker = Some (asker_of peer asked relay) in
+    let cookies = ending_by held now peer.peer.entity asked in
+    if asks_others setup held asker cookies then round_by setup held now asker cookies
+    else ended_by setup.id_key held now peer.peer.entity asked
+
 -- Wherever a session is left or a peer asks to end it, there is room for the record and the disk does not fail, it is ended behind the
 -- step; or there was no memory.
 abbrev pub WhereverAUserLeaves : Type 0
 WhereverAUserLeaves =
     (found : Held) (request : Request) (now faults later : ℕ) (answer : Answer) (old new : Provider) (row : SessionRow)
-    → LeavesOver found request now row → HasPlace found (left_by old.setup.id_key found now row.cookie)
+    → LeavesOver found request now row → HasPlace found (leaving_record old.setup found now row.cookie)
     → ¬ (Rose faults later) → Serves found request now (Rose faults later) answer old new
     → (answer ≡ Fixed NO_MEMORY) ⊎ IsEnded new.ledger.held row.cookie
 
 abbrev pub WhereverAPeerEnds : Type 0
 WhereverAPeerEnds =
     (found : Held) (request : Request) (now faults later : ℕ) (answer : Answer) (old new : Provider) (asked : LogoutRequest) (peer : LogoutPeer) (cookie : List ℕ)
-    → EndsOver old.setup request now asked peer → is_among cookie (ending_by found now peer.peer.entity asked) ≡ true
-    → HasPlace found (ended_by old.setup.id_key found now peer.peer.entity asked)
+    → (over : EndsOver old.setup request now asked peer) → is_among cookie (ending_by found now peer.peer.entity asked) ≡ true
+    → HasPlace found (ending_record old.setup found now peer asked over.relay)
     → ¬ (Rose faults later) → Serves found request now (Rose faults later) answer old new
     → (answer ≡ Fixed NO_MEMORY) ⊎ IsEnded new.ledger.held cookie
 
@@ -127,3 +166,18 @@ WhatIsAnsweredToALogoutIsRecorded =
     (old new : Provider) (disk later : Option DiskState) (request : Request) (now before after : ℕ) (bytes : List ℕ)
     → Steps old disk request now (Rose before after) (Full bytes) new → OwnsDisk new later
     → (route request ≡ To Logout) ⊎ (route request ≡ To SingleLogout) → IsRecorded old.setup request now (Full bytes) later
+
+-- And in each of these images every session is ended that the record ends: so those of a round are ended before the first provider is
+-- asked to end them, too.
+pub record EndsBeforeItAnswers (setup : IdpConfig) (request : Request) (now : ℕ) (answer : Answer) (later : Option DiskState) : Type 0 where
+  pub held : Held
+  pub r : IdpRecord
+  pub stands : Answers setup held request now answer (Some r)
+  pub kept : LeavesLedger later (held_with r held)
+  pub ended : (cookie : List ℕ) → ends cookie r ≡ true → IsEnded (held_with r held) cookie
+
+abbrev pub SessionsEndBeforeTheAnswer : Type 0
+SessionsEndBeforeTheAnswer =
+    (old new : Provider) (disk later : Option DiskState) (request : Request) (now before after : ℕ) (bytes : List ℕ)
+    → Steps old disk request now (Rose before after) (Full bytes) new → OwnsDisk new later
+    → (route request ≡ To Logout) ⊎ (route request ≡ To SingleLogout) → EndsBeforeItAnswers old.setup request now (Full bytes) later

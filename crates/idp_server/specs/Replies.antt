@@ -1,7 +1,7 @@
 -- How a request is replied to with a record: what it asks for, the record that stands for it, and the page.
-use Rattle.std.specs.Prelude.{◌≡◌, ◌≢◌, ℕ, ◌+◌, ◌≤◌, ◌<◌, min, Bool, true, false, not, List, [], length, Option, None, Some, IsSome, slice_get, if◌then◌else◌}
+use Rattle.std.specs.Prelude.{◌≡◌, ◌≢◌, ◌⊎◌, ℕ, ◌+◌, ◌≤◌, ◌<◌, min, Bool, true, false, not, List, [], ◌∷◌, length, Option, None, Some, IsSome, slice_get, if◌then◌else◌}
 use Rattle.std.specs.List.{AllByRecursion}
-use Rattle.std.specs.Option.{option_map}
+use Rattle.std.specs.Option.{is_none, option_map}
 use Rattle.xml_spec.specs.Characters.{IsText}
 use Rattle.owned_values.specs.declared.attributes.Attribute.{Attribute}
 use Rattle.assertion_model.specs.Assertion.{IsStatable}
@@ -11,22 +11,27 @@ use Rattle.http_wire.specs.Requests.{Request}
 use Rattle.ledger_records.specs.declared.idp_record.Ended.{Ended}
 use Rattle.ledger_records.specs.declared.idp_record.Issued.{Issued}
 use Rattle.ledger_records.specs.declared.idp_record.Left.{Left}
+use Rattle.ledger_records.specs.declared.idp_round.Round.{Round}
 use Rattle.ledger_records.specs.declared.idp_record.IdpRecord.{IdpRecord}
 use Rattle.ledger_records.specs.declared.idp_record.IdpRecord.TheVariants as kinds
 use Rattle.ledger_rules.specs.Numbers.{is_xml_text}
 use Rattle.peer_keys.specs.Peers.{place_of}
 use Rattle.peer_keys.specs.declared.peers.LogoutPeer.{LogoutPeer}
+use Rattle.logout_fanout.specs.declared.plan.Plan.{Plan}
+use Rattle.logout_turns.specs.declared.part.Asker.{Asker}
+use Rattle.logout_turns.specs.declared.turns.Turn.{Turn}
+use Rattle.round_rows.specs.declared.row.RoundRow.{RoundRow}
 use Rattle.user_store.specs.Store.{checked}
 use Rattle.user_store.specs.declared.user.User.{User}
 use Rattle.idp_ledger.specs.declared.row.Ask.{Ask}
 use Rattle.idp_ledger.specs.declared.row.PendingRow.{PendingRow}
 use Rattle.idp_ledger.specs.declared.row.SessionRow.{SessionRow}
 use Rattle.idp_ledger.specs.RowsOf.{rows_of}
-use Rattle.idp_ledger.specs.Finding.{is_empty, pending_found, session_found}
+use Rattle.idp_ledger.specs.Finding.{is_empty, pending_found, session_found, turn_found}
 use Rattle.idp_ledger.specs.Record.{LAST}
 use Rattle.idp_ledger.specs.Ledger.{Held, next_number}
 use Rattle.idp_ledger.specs.Draft.{first_id, second_id}
-use Rattle.idp_ledger.specs.Drafts.{SESSION_LIFE, AreXmlAttributes, IsXmlAsk, confirmed, issue, login, pending, spoke}
+use Rattle.idp_ledger.specs.Drafts.{SESSION_LIFE, AreLive, AreXmlAttributes, AreXmlTurns, IsXmlAsk, IsXmlAsker, confirmed, is_turn_left, issue, login, pending, round, spoke, told}
 use Rattle.idp_rules.specs.Asking.{IsAsked}
 use Rattle.idp_rules.specs.Config.{IsTextPeer, sign_on}
 use Rattle.idp_rules.specs.declared.asked.Asked.{Asked}
@@ -42,14 +47,23 @@ use Rattle.verdict_codes.specs.Codes.{number_of}
 use Rattle.verdict_codes.specs.declared.codes.Verdict.TheVariants.{NoSuchSession, UnknownLogout}
 use Rattle.provider_node.specs.Replies.{IsReplied, ReplyRules}
 use Rattle.provider_node.specs.declared.replied.Replied.{Replied}
+use Rattle.idp_server.specs.declared.reply.Follows.{Follows}
+use Rattle.idp_server.specs.declared.reply.Follows.TheVariants as follows
 use Rattle.idp_server.specs.declared.reply.Reply.{Reply}
 use Rattle.idp_server.specs.declared.reply.Reply.TheVariants as replies
 use Rattle.idp_server.specs.Logins.{stated_by}
 use Rattle.idp_server.specs.Routes as routes
 use Rattle.idp_server.specs.Routes.{To, route}
-use Rattle.idp_server.specs.Step.{Answers, IsAnswerFor, IsEndingAnswer, IsLeavingAnswer, IsObeyed, Typed, ask_of, ended_by, ending_by, is_awaited, is_in_part, left_by, session_for, session_used, typed}
+use Rattle.idp_server.specs.Messages.{AsksFirst, IsRequestTo, IsRoundEnd}
+use Rattle.idp_server.specs.Rounds.{asks_others, follows_of, round_waiting, skips_for, turns_for}
+use Rattle.idp_server.specs.Step as step
+use Rattle.idp_server.specs.Step.{Answers, AsksToEnd, IsAnswerFor, IsEndingAnswer, IsLeavingAnswer, IsObeyed, Typed, asker_of, ask_of, ended_by, ending_by, is_awaited, is_in_part, left_by, session_for, session_used, typed}
 
 -- THE RECORD
+
+-- the round that waits for the answer of this provider to this request
+abbrev pub turn_of : Held → ℕ → (request peer : List ℕ) → Option RoundRow
+turn_of held now request peer = turn_found (rows_of held.records).rounds request peer now held.header.horizon
 
 -- the record that stands for a reply over a ledger where there is something to record; none where the session does not live, or the login
 -- is not pending
@@ -64,11 +78,16 @@ found_record key held now (replies.Leave cookie user index) =
     option_map (λ row. left_by key held now cookie) (session_found (rows_of held.records).sessions cookie now held.header.horizon)
 found_record key held now (replies.End asked peer name relay) = Some (ended_by key held now name asked)
 found_record key held now (replies.Confirm request partial) = Some (confirmed now request)
+found_record key held now (replies.AskAll cookies asker plan) = Some (round key (next_number held) now cookies asker plan.turns plan.skipped)
+found_record key held now (replies.Told request peer confirms next) =
+    Some (told key (next_number held) now request confirms (is_turn_left (turn_of held now request peer)))
 
--- whether there is nothing to record: no session to end, or no logout that waits; and the code that says so
+-- whether there is nothing to record: no session to end, or no logout that waits; and the code that says so. A round that is replied to
+-- waits.
 abbrev pub is_nothing : Held → ℕ → Reply → Bool
 is_nothing held now (replies.End asked peer name relay) = is_empty (ending_by held now name asked)
 is_nothing held now (replies.Confirm request partial) = not (is_awaited held now request)
+is_nothing held now (replies.Told request peer confirms next) = is_none (turn_of held now request peer)
 is_nothing held now other = false
 
 abbrev pub refusal_of : Reply → ℕ
@@ -129,6 +148,31 @@ pub record IsEndingPage (setup : IdpConfig) (place : ℕ) (relay : Option (List 
   pub answers : IsEndingAnswer setup peer ended relay now bytes
   pub full : answer ≡ Full bytes
 
+-- the answer that begins a round
+pub record IsAskingPage (setup : IdpConfig) (r : IdpRecord) (now : ℕ) (answer : Answer) : Type 0 where
+  pub begun : Round
+  pub is : r ≡ kinds.Round begun
+  pub bytes : List ℕ
+  pub asks : AsksFirst setup begun now bytes
+  pub full : answer ≡ Full bytes
+
+-- the answer to a provider that answered in its turn: a request to that of the next one, or the end of the round
+pub record IsNextPage (setup : IdpConfig) (turn : Turn) (r : IdpRecord) (now : ℕ) (answer : Answer) : Type 0 where
+  pub id : List ℕ
+  pub named : first_id r ≡ Some id
+  pub bytes : List ℕ
+  pub asks : IsRequestTo setup turn.peer id turn.name turn.indexes now bytes
+  pub full : answer ≡ Full bytes
+
+pub record IsLastPage (setup : IdpConfig) (message : List ℕ) (asker : Option Asker) (partial : Bool) (now : ℕ) (answer : Answer) : Type 0 where
+  pub bytes : List ℕ
+  pub ends : IsRoundEnd setup message asker partial now bytes
+  pub full : answer ≡ Full bytes
+
+abbrev pub IsToldPage : IdpConfig → Follows → IdpRecord → ℕ → Answer → Type 0
+IsToldPage setup (follows.Turn turn) r now answer = IsNextPage setup turn r now answer
+IsToldPage setup (follows.End message asker partial) r now answer = IsLastPage setup message asker partial now answer
+
 -- the answer that stands for the record of a reply
 abbrev pub IsPage : IdpConfig → Reply → IdpRecord → ℕ → Answer → Type 0
 IsPage setup (replies.InSession cookie ask peer) r now answer = IsAssertionPage setup peer None r now answer
@@ -138,6 +182,8 @@ IsPage setup (replies.Login id user attributes peer) r now answer = IsLoginPage 
 IsPage setup (replies.Leave cookie user index) r now answer = IsLeavingPage setup user index r now answer
 IsPage setup (replies.End asked peer name relay) r now answer = IsEndingPage setup peer relay r now answer
 IsPage setup (replies.Confirm request partial) r now answer = answer ≡ Full (end_answer partial)
+IsPage setup (replies.AskAll cookies asker plan) r now answer = IsAskingPage setup r now answer
+IsPage setup (replies.Told request peer confirms next) r now answer = IsToldPage setup next r now answer
 
 -- WHAT A PAGE NEEDS
 
@@ -181,6 +227,44 @@ pub record HasResponse (setup : IdpConfig) (asked : LogoutRequest) (place : ℕ)
   pub known : place < length setup.peers
   pub peers : AllByRecursion IsTextPeer setup.peers
 
+-- a request with this ID to the provider of a turn may stand in a document
+pub record CanAsk (setup : IdpConfig) (turn : Turn) (id : List ℕ) : Type 0 where
+  pub id_text : IsText id
+  pub named : id ≢ []
+  pub name : IsText turn.name
+  pub indexes : AllByRecursion IsText turn.indexes
+  pub peers : AllByRecursion IsTextPeer setup.peers
+
+-- so may the response at the end of a round
+abbrev pub IsTextAsker : Option Asker → Type 0
+IsTextAsker None = Unit {0}
+IsTextAsker (Some asker) = IsText asker.peer × IsText asker.request
+
+pub record CanEnd (setup : IdpConfig) (message : List ℕ) (asker : Option Asker) : Type 0 where
+  pub message_text : IsText message
+  pub named : message ≢ []
+  pub asker_text : IsTextAsker asker
+  pub peers : AllByRecursion IsTextPeer setup.peers
+
+-- a Round of this plan, whose first request may stand in a document
+pub record HasFirstTurn (setup : IdpConfig) (plan : Plan) (r : IdpRecord) : Type 0 where
+  pub begun : Round
+  pub is : r ≡ kinds.Round begun
+  pub turns_are : begun.turns ≡ plan.turns
+  pub turn : Turn
+  pub first : slice_get plan.turns 0 ≡ Some turn
+  pub can : CanAsk setup turn begun.request
+
+-- a record that draws the next request, which may stand in a document
+pub record HasNextTurn (setup : IdpConfig) (turn : Turn) (r : IdpRecord) : Type 0 where
+  pub id : List ℕ
+  pub named : first_id r ≡ Some id
+  pub can : CanAsk setup turn id
+
+abbrev pub HasNextStep : IdpConfig → Follows → IdpRecord → Type 0
+HasNextStep setup (follows.Turn turn) r = HasNextTurn setup turn r
+HasNextStep setup (follows.End message asker partial) r = CanEnd setup message asker
+
 -- the record of a reply can be shown
 abbrev pub CanBeShown : IdpConfig → Reply → IdpRecord → Type 0
 CanBeShown setup (replies.InSession cookie ask peer) r = HasAssertion setup peer r
@@ -190,6 +274,8 @@ CanBeShown setup (replies.Login id user attributes peer) r = HasAssertion setup 
 CanBeShown setup (replies.Leave cookie user index) r = HasRequest setup user index r
 CanBeShown setup (replies.End asked peer name relay) r = HasResponse setup asked peer r
 CanBeShown setup (replies.Confirm request partial) r = Unit {0}
+CanBeShown setup (replies.AskAll cookies asker plan) r = HasFirstTurn setup plan r
+CanBeShown setup (replies.Told request peer confirms next) r = HasNextStep setup next r
 
 -- a document may hold the texts of what is recorded
 abbrev pub IsXmlReply : Reply → Type 0
@@ -200,6 +286,14 @@ IsXmlReply (replies.Login id user attributes peer) = (is_xml_text user ≡ true)
 IsXmlReply (replies.Leave cookie user index) = Unit {0}
 IsXmlReply (replies.End asked peer name relay) = (is_xml_text asked.id ≡ true) × (is_xml_text name ≡ true)
 IsXmlReply (replies.Confirm request partial) = Unit {0}
+IsXmlReply (replies.AskAll cookies asker plan) = IsXmlAsker asker × AreXmlTurns plan.turns
+IsXmlReply (replies.Told request peer confirms next) = Unit {0}
+
+-- A round ends sessions that live, and asks somebody.
+abbrev pub CanDraft : Held → ℕ → Reply → Type 0
+CanDraft held now (replies.AskAll cookies asker plan) =
+    AreLive (rows_of held.records).sessions cookies now held.header.horizon × ¬ (plan.turns ≡ [])
+CanDraft held now other = Unit {0}
 
 -- WHEN A REQUEST ASKS FOR A REPLY
 
@@ -214,6 +308,18 @@ pub record IsTextSession (row : SessionRow) : Type 0 where
   pub user : IsText row.user
   pub attributes : AllByRecursion IsStatable row.attributes
   pub until : row.until ≤ LAST
+
+-- so may those of a turn and of a round
+pub record IsTextTurn (turn : Turn) : Type 0 where
+  pub peer : IsText turn.peer
+  pub name : IsText turn.name
+  pub indexes : AllByRecursion IsText turn.indexes
+
+pub record IsTextRound (row : RoundRow) : Type 0 where
+  pub message : IsText row.message
+  pub named : row.message ≢ []
+  pub asker : IsTextAsker row.asker
+  pub turns : AllByRecursion IsTextTurn row.turns
 
 pub record IsTextPending (row : PendingRow) : Type 0 where
   pub request : IsText row.request
@@ -269,13 +375,14 @@ pub record LogsIn (setup : IdpConfig) (held : Held) (request : Request) (now : �
   pub stated : AllByRecursion IsStatable attributes
   pub told : AreTold now (min LAST (now + SESSION_LIFE))
 
--- a user leaves the session of this cookie
+-- a user leaves the session of this cookie, and nobody is asked, or only the peer to which its last Assertion went
 pub record Leaves (setup : IdpConfig) (held : Held) (request : Request) (now : ℕ) (cookie user index : List ℕ) : Type 0 where
   pub to : route request ≡ To routes.Logout
   pub row : SessionRow
   pub live : session_for held now request ≡ Some row
   pub found : session_found (rows_of held.records).sessions cookie now held.header.horizon ≡ Some row
   pub cookie_is : cookie ≡ row.cookie
+  pub alone : asks_others setup held None (cookie ∷ []) ≡ false
   pub user_is : user ≡ row.user
   pub index_is : index ≡ row.index
   pub user_text : IsText user
@@ -283,25 +390,74 @@ pub record Leaves (setup : IdpConfig) (held : Held) (request : Request) (now : �
   pub peers : AllByRecursion IsTextPeer setup.peers
   pub told : AreTold now row.until
 
--- the peer of this name at this place asks to end sessions
-pub record AsksForAnEnd (setup : IdpConfig) (request : Request) (now : ℕ) (asked : LogoutRequest) (place : ℕ) (name : List ℕ) (relay : Option (List ℕ)) : Type 0 where
+-- the peer of this name at this place asks to end sessions, and nobody else is asked
+pub record AsksForAnEnd (setup : IdpConfig) (held : Held) (request : Request) (now : ℕ) (asked : LogoutRequest) (place : ℕ) (name : List ℕ) (relay : Option (List ℕ)) : Type 0 where
   pub to : route request ≡ To routes.SingleLogout
   pub obeyed : IsObeyed setup now request.body (messages.Ask asked place relay)
   pub peer : LogoutPeer
   pub there : slice_get setup.peers place ≡ Some peer
   pub name_is : name ≡ peer.peer.entity
+  pub alone : asks_others setup held (Some (asker_of peer asked relay)) (ending_by held now name asked) ≡ false
   pub id_text : IsText asked.id
   pub peers : AllByRecursion IsTextPeer setup.peers
   pub told : IsTold now
 
--- a peer replies to the logout of this request
-pub record Confirms (setup : IdpConfig) (request : Request) (now : ℕ) (of : List ℕ) (partial : Bool) : Type 0 where
+-- a peer replies to the logout of this request, for which no round waits
+pub record Confirms (setup : IdpConfig) (held : Held) (request : Request) (now : ℕ) (of : List ℕ) (partial : Bool) : Type 0 where
   pub to : route request ≡ To routes.SingleLogout
   pub response : LogoutResponse
-  pub place : ℕ
-  pub obeyed : IsObeyed setup now request.body (messages.Reply response place)
+  pub peer : LogoutPeer
+  pub replies : step.RepliesTo setup request now response peer
   pub of_is : of ≡ response.request
+  pub none : round_waiting setup held now of peer.peer.entity ≡ None
   pub partial_is : partial ≡ is_in_part response.outcome
+
+-- The user leaves, or a peer asks to end sessions of which there are some: those of these cookies.
+pub record OfUser (held : Held) (request : Request) (now : ℕ) (cookies : List (List ℕ)) (asker : Option Asker) : Type 0 where
+  pub to : route request ≡ To routes.Logout
+  pub row : SessionRow
+  pub live : session_for held now request ≡ Some row
+  pub cookies_are : cookies ≡ row.cookie ∷ []
+  pub asker_is : asker ≡ None
+
+pub record OfPeer (setup : IdpConfig) (held : Held) (request : Request) (now : ℕ) (cookies : List (List ℕ)) (asker : Option Asker) : Type 0 where
+  pub to : route request ≡ To routes.SingleLogout
+  pub asked : LogoutRequest
+  pub peer : LogoutPeer
+  pub relay : Option (List ℕ)
+  pub asks : AsksToEnd setup request now asked peer relay
+  pub cookies_are : cookies ≡ ending_by held now peer.peer.entity asked
+  pub some : is_empty cookies ≡ false
+  pub asker_is : asker ≡ Some (asker_of peer asked relay)
+
+-- and the others are asked by this plan
+pub record AsksAll (setup : IdpConfig) (held : Held) (request : Request) (now : ℕ) (cookies : List (List ℕ)) (asker : Option Asker) (plan : Plan) : Type 0 where
+  pub of : OfUser held request now cookies asker ⊎ OfPeer setup held request now cookies asker
+  pub asks : asks_others setup held asker cookies ≡ true
+  pub turns_are : plan.turns ≡ turns_for setup held asker cookies
+  pub skips : plan.skipped ≡ skips_for setup held asker cookies
+  pub live : AreLive (rows_of held.records).sessions cookies now held.header.horizon
+  pub asker_text : IsTextAsker asker
+  pub turn_texts : AllByRecursion IsTextTurn plan.turns
+  pub peers : AllByRecursion IsTextPeer setup.peers
+  pub told : AreTold now now
+
+-- the provider of this name replies, whose turn it is in a round, and this follows
+pub record Tells (setup : IdpConfig) (held : Held) (request : Request) (now : ℕ) (of peer : List ℕ) (confirms : Bool) (next : Follows) : Type 0 where
+  pub to : route request ≡ To routes.SingleLogout
+  pub response : LogoutResponse
+  pub who : LogoutPeer
+  pub replies : step.RepliesTo setup request now response who
+  pub of_is : of ≡ response.request
+  pub peer_is : peer ≡ who.peer.entity
+  pub confirms_is : confirms ≡ not (is_in_part response.outcome)
+  pub fanout : setup.fanout ≡ true
+  pub row : RoundRow
+  pub waits : turn_of held now of peer ≡ Some row
+  pub next_is : Some next ≡ follows_of row confirms
+  pub row_texts : IsTextRound row
+  pub peers : AllByRecursion IsTextPeer setup.peers
+  pub told : AreTold now now
 
 -- a request asks for a reply over a ledger at a moment
 abbrev pub Wants : IdpConfig → Held → Request → ℕ → Reply → Type 0
@@ -310,8 +466,37 @@ Wants setup held request now (replies.Passive ask) = AsksAnew true setup held re
 Wants setup held request now (replies.Question ask) = AsksAnew false setup held request now ask
 Wants setup held request now (replies.Login id user attributes peer) = LogsIn setup held request now id user attributes peer
 Wants setup held request now (replies.Leave cookie user index) = Leaves setup held request now cookie user index
-Wants setup held request now (replies.End asked peer name relay) = AsksForAnEnd setup request now asked peer name relay
-Wants setup held request now (replies.Confirm request_id partial) = Confirms setup request now request_id partial
+Wants setup held request now (replies.End asked peer name relay) = AsksForAnEnd setup held request now asked peer name relay
+Wants setup held request now (replies.Confirm request_id partial) = Confirms setup held request now request_id partial
+Wants setup held request now (replies.AskAll cookies asker plan) = AsksAll setup held request now cookies asker plan
+Wants setup held request now (replies.Told request_id peer confirms next) = Tells setup held request now request_id peer confirms next
+
+-- the reply that asks all others where these sessions end, where there are some to ask
+pub record AsksByPlan (setup : IdpConfig) (held : Held) (asker : Option Asker) (cookies : List (List ℕ)) (reply : Reply) : Type 0 where
+  pub asks : asks_others setup held asker cookies ≡ true
+  pub plan : Plan
+  pub is : reply ≡ replies.AskAll cookies asker plan
+  pub turns_are : plan.turns ≡ turns_for setup held asker cookies
+  pub skips : plan.skipped ≡ skips_for setup held asker cookies
+  pub texts : AllByRecursion IsTextTurn plan.turns
+
+abbrev pub IsAskAll : IdpConfig → Held → Option Asker → (cookies : List (List ℕ)) → Option Reply → Type 0
+IsAskAll setup held asker cookies None = asks_others setup held asker cookies ≡ false
+IsAskAll setup held asker cookies (Some reply) = AsksByPlan setup held asker cookies reply
+
+-- the reply to the answer of a provider, where a round waits for it
+pub record AnswersRound (setup : IdpConfig) (held : Held) (now : ℕ) (of peer : List ℕ) (confirms : Bool) (reply : Reply) : Type 0 where
+  pub fanout : setup.fanout ≡ true
+  pub row : RoundRow
+  pub waits : turn_of held now of peer ≡ Some row
+  pub next : Follows
+  pub is : reply ≡ replies.Told of peer confirms next
+  pub next_is : Some next ≡ follows_of row confirms
+  pub texts : IsTextRound row
+
+abbrev pub IsToldReply : IdpConfig → Held → ℕ → (of peer : List ℕ) → (confirms : Bool) → Option Reply → Type 0
+IsToldReply setup held now of peer confirms None = round_waiting setup held now of peer ≡ None
+IsToldReply setup held now of peer confirms (Some reply) = AnswersRound setup held now of peer confirms reply
 
 -- IN THE WORDS OF A STEP
 

@@ -1,5 +1,5 @@
 -- Which elements an identity provider's records stand for as signed ones.
-use Rattle.std.specs.Prelude.{◌≡◌, ℕ, Bool, true, List, [], ◌∷◌, None, Option, Some, if◌then◌else◌}
+use Rattle.std.specs.Prelude.{◌≡◌, ℕ, Bool, true, List, [], ◌∷◌, None, Option, Some, if◌then◌else◌, slice_get}
 use Rattle.std.specs.List.{AllByRecursion}
 use Rattle.element_make.specs.Made.{Made, alone, written}
 use Rattle.saml_names.specs.Uris.{partial_logout}
@@ -16,9 +16,15 @@ use Rattle.ledger_records.specs.declared.idp_record.IdpRecord.TheVariants as kin
 use Rattle.ledger_records.specs.declared.idp_record.Ended.{Ended}
 use Rattle.ledger_records.specs.declared.idp_record.Issued.{Issued}
 use Rattle.ledger_records.specs.declared.idp_record.Left.{Left}
+use Rattle.ledger_records.specs.declared.idp_round.Round.{Round}
+use Rattle.ledger_records.specs.declared.idp_round.Told.{Told}
+use Rattle.logout_fanout.specs.declared.round.Next.TheVariants.{Ask, Done}
+use Rattle.logout_turns.specs.declared.part.Asker.{Asker}
+use Rattle.logout_turns.specs.declared.turns.Turn.{Turn}
+use Rattle.round_rows.specs.declared.row.RoundRow.{RoundRow}
 use Rattle.peer_keys.specs.declared.peers.LogoutPeer.{LogoutPeer}
 use Rattle.idp_ledger.specs.declared.row.SessionRow.{SessionRow}
-use Rattle.idp_ledger.specs.Finding.{session_found}
+use Rattle.idp_ledger.specs.Finding.{session_found, turn_found}
 use Rattle.idp_ledger.specs.RowsOf.{rows_of}
 use Rattle.idp_ledger.specs.Ledger.{Held}
 use Rattle.idp_rules.specs.declared.config.IdpConfig.{IdpConfig}
@@ -26,13 +32,21 @@ use Rattle.idp_answers.specs.Answers.{login_answer, response_form, signed_assert
 pub use Rattle.idp_answers.specs.SignedElements.{signed_elements}
 use Rattle.logout_answers.specs.Answers.{end_answer}
 use Rattle.idp_server.specs.Logins.{login_of}
+use Rattle.idp_server.specs.Rounds.{next_in}
 use Rattle.idp_server.specs.Step.{Answers, IsPeer}
+
+-- in the ledger this round waits for the answer that a Told is, of the provider whose turn it is
+abbrev pub Waits : Held → Told → RoundRow → Type 0
+Waits held r row =
+    (peer : List ℕ) × (turn_found (rows_of held.records).rounds r.request peer r.moment held.header.horizon ≡ Some row)
 
 -- An element that is signed for a record, before it is signed, and the key: the Assertion of an Issued where the mode signs it; the
 -- Response that carries this, where the mode signs that; the LogoutRequest of a Left for the user and the index of the session that was
 -- left, which lived in the ledger under the record's cookie at its moment, and the LogoutResponse of an Ended, where the peer has an
--- address for logout; all with the key of what is sent to the record's peer. No other record stands for a signed element: the Response
--- of a Spoke is not signed.
+-- address for logout; all with the key of what is sent to the record's peer. A Round stands for the LogoutRequest to the provider of its
+-- first turn, and a Told, which answers the round that waits for it, for the one to the provider of the next turn, or where none is left
+-- for the LogoutResponse to the provider that asked for the logout; each where that provider is a peer with an address for logout, and
+-- with the key of what is sent to it. No other record stands for a signed element: the Response of a Spoke is not signed.
 pub data IsSignedFor (setup : IdpConfig) (held : Held) : IdpRecord → (key : List ℕ) → Made → Type 0 where
   AnAssertion : (r : Issued) (peer : LogoutPeer) (made : Made) → IsPeer setup r.peer peer → signs_assertion setup.mode ≡ true
       → IsAssertionOf (login_of setup.entity r) made → IsSignedFor setup held (kinds.Issued r) peer.key_out made
@@ -47,6 +61,20 @@ pub data IsSignedFor (setup : IdpConfig) (held : Held) : IdpRecord → (key : Li
   AReply : (r : Ended) (peer : LogoutPeer) (address : List ℕ) (made : Made) → IsPeer setup r.peer peer → peer.peer.logout ≡ Some address
       → IsMadeAt r.moment (logged_out r.message setup.entity address r.request (if r.partial then failed partial_logout else succeeded)) made
       → IsSignedFor setup held (kinds.Ended r) peer.key_out made
+  AFirstRequest : (r : Round) (turn : Turn) (peer : LogoutPeer) (address : List ℕ) (made : Made) → slice_get r.turns 0 ≡ Some turn
+      → IsPeer setup turn.peer peer → peer.peer.logout ≡ Some address
+      → IsMadeFrom r.moment (request_end r.moment) (logout_request r.request setup.entity address turn.name turn.indexes) made
+      → IsSignedFor setup held (kinds.Round r) peer.key_out made
+  ANextRequest : (r : Told) (row : RoundRow) (place : ℕ) (turn : Turn) (id : List ℕ) (peer : LogoutPeer) (address : List ℕ) (made : Made)
+      → Waits held r row → next_in row r.confirmed ≡ Ask place → slice_get row.turns place ≡ Some turn → r.next ≡ Some id
+      → IsPeer setup turn.peer peer → peer.peer.logout ≡ Some address
+      → IsMadeFrom r.moment (request_end r.moment) (logout_request id setup.entity address turn.name turn.indexes) made
+      → IsSignedFor setup held (kinds.Told r) peer.key_out made
+  ALastReply : (r : Told) (row : RoundRow) (partial : Bool) (asker : Asker) (peer : LogoutPeer) (address : List ℕ) (made : Made)
+      → Waits held r row → next_in row r.confirmed ≡ Done partial → row.asker ≡ Some asker
+      → IsPeer setup asker.peer peer → peer.peer.logout ≡ Some address
+      → IsMadeAt r.moment (logged_out row.message setup.entity address asker.request (if partial then failed partial_logout else succeeded)) made
+      → IsSignedFor setup held (kinds.Told r) peer.key_out made
 
 -- the element is one of these with its Signature
 pub record IsSignedOf (setup : IdpConfig) (held : Held) (r : IdpRecord) (element : Made) : Type 0 where

@@ -1,5 +1,5 @@
 -- What an identity provider does at one request.
-use Rattle.std.specs.Prelude.{◌≡◌, ℕ, Bool, true, false, List, [], ◌∷◌, codes, Option, None, Some, if◌then◌else◌, slice_get}
+use Rattle.std.specs.Prelude.{◌≡◌, ℕ, Bool, true, false, not, List, [], ◌∷◌, codes, Option, None, Some, if◌then◌else◌, slice_get}
 use Rattle.std.specs.Option.{option_and_then}
 use Rattle.crash_disk.specs.Disk.{Image, DiskState}
 use Rattle.http_wire.specs.declared.answer.Answer.{Answer}
@@ -17,9 +17,12 @@ use Rattle.verdict_codes.specs.declared.codes.Verdict.TheVariants as verdicts
 use Rattle.ledger_records.specs.declared.idp_record.Ended.{Ended}
 use Rattle.ledger_records.specs.declared.idp_record.Issued.{Issued}
 use Rattle.ledger_records.specs.declared.idp_record.Left.{Left}
+use Rattle.ledger_records.specs.declared.idp_round.Round.{Round}
+use Rattle.ledger_records.specs.declared.idp_round.Told.{Told}
+use Rattle.logout_turns.specs.declared.part.Asker.{Asker}
+use Rattle.round_rows.specs.declared.row.RoundRow.{RoundRow}
 use Rattle.ledger_records.specs.declared.idp_record.IdpRecord.{IdpRecord}
 use Rattle.ledger_records.specs.declared.idp_record.IdpRecord.TheVariants as kinds
-use Rattle.peer_keys.specs.Peers.{place_of}
 use Rattle.peer_keys.specs.declared.peers.LogoutPeer.{LogoutPeer}
 use Rattle.user_store.specs.Store.{checked}
 use Rattle.user_store.specs.declared.user.User.{User}
@@ -38,12 +41,15 @@ use Rattle.idp_rules.specs.Verdict.{IsRefused}
 use Rattle.idp_rules.specs.declared.asked.Asked.{Asked}
 use Rattle.idp_rules.specs.declared.config.IdpConfig.{IdpConfig}
 use Rattle.idp_answers.specs.Answers.{IsIssuedAnswer, IsNoPassiveAnswer, login_answer, metadata_answer}
-use Rattle.logout_answers.specs.Answers.{Ending, Leaving, end_answer}
+use Rattle.logout_answers.specs.Answers.{end_answer}
 use Rattle.logout_profile.specs.Verdict as logouts
 use Rattle.logout_profile.specs.declared.logout.Logout.{Logout as Message}
 use Rattle.logout_profile.specs.declared.logout.Logout.TheVariants as messages
 use Rattle.provider_node.specs.Step as any
 use Rattle.idp_server.specs.Logins.{login_of}
+pub use Rattle.idp_server.specs.Messages.{IsPeer, IsLeavingAnswer, IsEndingAnswer}
+use Rattle.idp_server.specs.Messages.{AsksFirst, IsToldAnswer}
+use Rattle.idp_server.specs.Rounds.{asks_others, round_by, round_waiting, told_by}
 use Rattle.idp_server.specs.Routes.{SignOn, Login, Metadata, Logout, SingleLogout, To, Refused, route}
 
 -- a provider: what it is set up with, and its ledger
@@ -62,10 +68,6 @@ session_for held now request =
 -- ForceAuthn)
 abbrev pub session_used : Asked → Option SessionRow → Option SessionRow
 session_used asked session = if asked.force then None else session
-
--- the peer of this name
-abbrev pub IsPeer : IdpConfig → List ℕ → LogoutPeer → Type 0
-IsPeer setup entity peer = (place : ℕ) × (place_of entity setup.peers ≡ Some place) × (slice_get setup.peers place ≡ Some peer)
 
 -- what is asked of the ledger for a request of this peer
 abbrev pub ask_of : Asked → LogoutPeer → Ask
@@ -105,8 +107,9 @@ pub record AsksToEnd (setup : IdpConfig) (request : Request) (now : ℕ) (asked 
   pub obeyed : IsObeyed setup now request.body (messages.Ask asked place relay)
 
 -- a peer replies by a posted form to a logout that began here
-pub record RepliesTo (setup : IdpConfig) (request : Request) (now : ℕ) (response : LogoutResponse) : Type 0 where
+pub record RepliesTo (setup : IdpConfig) (request : Request) (now : ℕ) (response : LogoutResponse) (peer : LogoutPeer) : Type 0 where
   pub place : ℕ
+  pub there : slice_get setup.peers place ≡ Some peer
   pub obeyed : IsObeyed setup now request.body (messages.Reply response place)
 
 -- the cookies of the sessions that a peer asks to end: SAML Core, 3.7.3.2
@@ -122,6 +125,10 @@ ended_by key held now peer asked =
 -- the record of a user who leaves the session of this cookie: the peer to which its last Assertion went is asked to end it too
 abbrev pub left_by : (key : List ℕ) → Held → ℕ → (cookie : List ℕ) → IdpRecord
 left_by key held now cookie = left key (next_number held) now cookie (last_peer (rows_of held.records).issues cookie)
+
+-- the peer that asks to end sessions, as one that waits for an answer
+abbrev pub asker_of : LogoutPeer → LogoutRequest → (relay : Option (List ℕ)) → Asker
+asker_of peer asked relay = record { peer = peer.peer.entity; request = asked.id; relay = relay }
 
 -- whether a logout that began here waits for the reply to this request
 abbrev pub is_awaited : Held → ℕ → (request : List ℕ) → Bool
@@ -139,17 +146,6 @@ is_in_part outcomes.Other = true
 abbrev pub IsAnswerFor : IdpConfig → LogoutPeer → Issued → (cookie : Option (List ℕ)) → ℕ → List ℕ → Type 0
 IsAnswerFor setup peer r cookie now bytes =
     IsIssuedAnswer setup.mode peer.key_out (login_of setup.entity r) r.message r.consumer r.relay cookie now bytes
-
--- The answer to a user of this name who leaves the session with this index: a request to the peer of the record (SAML Profiles, 4.4.3.1).
--- Where that peer is not known any more the logout is partial.
-pub data IsLeavingAnswer (setup : IdpConfig) (r : Left) (user index : List ℕ) (now : ℕ) (bytes : List ℕ) : Type 0 where
-  ToPeer : (peer : LogoutPeer) → IsPeer setup r.peer peer → Leaving peer r.request setup.entity now user (index ∷ []) bytes
-      → IsLeavingAnswer setup r user index now bytes
-  ToNone : place_of r.peer setup.peers ≡ None → bytes ≡ end_answer true → IsLeavingAnswer setup r user index now bytes
-
--- the answer to the peer that asked for what is recorded
-abbrev pub IsEndingAnswer : IdpConfig → LogoutPeer → Ended → (relay : Option (List ℕ)) → ℕ → List ℕ → Type 0
-IsEndingAnswer setup peer r relay now bytes = Ending peer r.message setup.entity now r.request r.partial relay bytes
 
 -- What is answered to a request by this ledger at this moment where nothing fails, and the record that is added with it.
 pub data Answers (setup : IdpConfig) (held : Held) (request : Request) (now : ℕ) (answer : Answer) (adds : Option IdpRecord) : Type 0 where
@@ -201,9 +197,15 @@ pub data Answers (setup : IdpConfig) (held : Held) (request : Request) (now : �
   -- a user leaves who has no live session
   ByNoSession : route request ≡ To Logout → session_for held now request ≡ None → answer ≡ Fixed (number_of verdicts.NoSuchSession) → adds ≡ None
       → Answers setup held request now answer adds
-  -- a user leaves, and the session ends
+  -- a user leaves, and the session ends: nobody else is asked, or only the peer to which its last Assertion went
   ByLeaving : (row : SessionRow) (r : Left) (bytes : List ℕ) → route request ≡ To Logout → session_for held now request ≡ Some row
+      → asks_others setup held None (row.cookie ∷ []) ≡ false
       → left_by setup.id_key held now row.cookie ≡ kinds.Left r → adds ≡ Some (kinds.Left r) → IsLeavingAnswer setup r row.user row.index now bytes
+      → answer ≡ Full bytes → Answers setup held request now answer adds
+  -- a user leaves, the session ends, and each provider that it was used for is asked
+  ByLeavingAll : (row : SessionRow) (r : Round) (bytes : List ℕ) → route request ≡ To Logout → session_for held now request ≡ Some row
+      → asks_others setup held None (row.cookie ∷ []) ≡ true
+      → round_by setup held now None (row.cookie ∷ []) ≡ kinds.Round r → adds ≡ Some (kinds.Round r) → AsksFirst setup r now bytes
       → answer ≡ Full bytes → Answers setup held request now answer adds
   -- a posted form neither asks nor replies anything of a logout
   ByLogoutVerdict : (verdict : Verdict) → route request ≡ To SingleLogout → IsNotObeyed setup now request.body verdict
@@ -212,17 +214,33 @@ pub data Answers (setup : IdpConfig) (held : Held) (request : Request) (now : �
   ByNothingToEnd : (asked : LogoutRequest) (peer : LogoutPeer) (relay : Option (List ℕ)) → route request ≡ To SingleLogout
       → AsksToEnd setup request now asked peer relay → is_empty (ending_by held now peer.peer.entity asked) ≡ true
       → answer ≡ Fixed (number_of verdicts.NoSuchSession) → adds ≡ None → Answers setup held request now answer adds
-  -- there are, and they end
+  -- there are, and they end, and nobody else is asked
   ByEnding : (asked : LogoutRequest) (peer : LogoutPeer) (relay : Option (List ℕ)) (r : Ended) (bytes : List ℕ) → route request ≡ To SingleLogout
       → AsksToEnd setup request now asked peer relay → is_empty (ending_by held now peer.peer.entity asked) ≡ false
+      → asks_others setup held (Some (asker_of peer asked relay)) (ending_by held now peer.peer.entity asked) ≡ false
       → ended_by setup.id_key held now peer.peer.entity asked ≡ kinds.Ended r → adds ≡ Some (kinds.Ended r) → IsEndingAnswer setup peer r relay now bytes
       → answer ≡ Full bytes → Answers setup held request now answer adds
+  -- there are, they end, and each other provider that they were used for is asked
+  ByEndingAll : (asked : LogoutRequest) (peer : LogoutPeer) (relay : Option (List ℕ)) (r : Round) (bytes : List ℕ)
+      → route request ≡ To SingleLogout → AsksToEnd setup request now asked peer relay
+      → is_empty (ending_by held now peer.peer.entity asked) ≡ false
+      → asks_others setup held (Some (asker_of peer asked relay)) (ending_by held now peer.peer.entity asked) ≡ true
+      → round_by setup held now (Some (asker_of peer asked relay)) (ending_by held now peer.peer.entity asked) ≡ kinds.Round r
+      → adds ≡ Some (kinds.Round r) → AsksFirst setup r now bytes → answer ≡ Full bytes → Answers setup held request now answer adds
+  -- the provider replies whose turn it is in a round: the next one is asked, or the round ends
+  ByTold : (response : LogoutResponse) (peer : LogoutPeer) (row : RoundRow) (r : Told) (bytes : List ℕ) → route request ≡ To SingleLogout
+      → RepliesTo setup request now response peer → round_waiting setup held now response.request peer.peer.entity ≡ Some row
+      → told_by setup held now response.request (not (is_in_part response.outcome)) row ≡ kinds.Told r → adds ≡ Some (kinds.Told r)
+      → IsToldAnswer setup row (not (is_in_part response.outcome)) r now bytes → answer ≡ Full bytes
+      → Answers setup held request now answer adds
   -- a peer replies to a logout that does not wait for a reply
-  ByUnknownLogout : (response : LogoutResponse) → route request ≡ To SingleLogout → RepliesTo setup request now response
+  ByUnknownLogout : (response : LogoutResponse) (peer : LogoutPeer) → route request ≡ To SingleLogout
+      → RepliesTo setup request now response peer → round_waiting setup held now response.request peer.peer.entity ≡ None
       → is_awaited held now response.request ≡ false → answer ≡ Fixed (number_of verdicts.UnknownLogout) → adds ≡ None
       → Answers setup held request now answer adds
   -- it does, and the logout is over
-  ByConfirming : (response : LogoutResponse) → route request ≡ To SingleLogout → RepliesTo setup request now response
+  ByConfirming : (response : LogoutResponse) (peer : LogoutPeer) → route request ≡ To SingleLogout
+      → RepliesTo setup request now response peer → round_waiting setup held now response.request peer.peer.entity ≡ None
       → is_awaited held now response.request ≡ true → adds ≡ Some (confirmed now response.request)
       → answer ≡ Full (end_answer (is_in_part response.outcome)) → Answers setup held request now answer adds
 

@@ -158,6 +158,8 @@ impl IdpRole {
                 ..
             } => self.ending_page(draft, asked, *peer, relay, now),
             Reply::Confirm { partial, .. } => end_answer(self.alloc, *partial),
+            Reply::AskAll { plan, .. } => self.asking_page(plan, draft, now),
+            Reply::Told { follows, .. } => self.told_page(follows, draft, now),
         }
     }
 }

@@ -1,7 +1,8 @@
 //! Laws of an identity provider, each the contract of a function that does nothing.
 ghost use Rattle.idp_server.specs.Issues.{AnswersHaveUsers, ServicesHaveUsers, WhatIsAnsweredIsRecorded};
 ghost use Rattle.idp_server.specs.Histories.{AnEndedSessionStaysEnded, SessionsStayEndedInAService, SessionsStayEndedOverStarts, WhatIsAcknowledgedIsKept, WhatIsAcknowledgedIsKeptOverStarts};
-ghost use Rattle.idp_server.specs.Logouts.{AnswersEndExactly, ServicesEndExactly, WhatIsAnsweredToALogoutIsRecorded, WhereverAPeerEnds, WhereverAUserLeaves};
+ghost use Rattle.idp_server.specs.Logouts.{AnswersEndExactly, ServicesEndExactly, SessionsEndBeforeTheAnswer, WhatIsAnsweredToALogoutIsRecorded, WhereverAPeerEnds, WhereverAUserLeaves};
+ghost use Rattle.idp_server.specs.Outcomes.{RoundsBeginWithTheFirst, RoundsEndAsConfirmed};
 ghost use Rattle.idp_server.specs.Signed.{EachSignedElementIsOfARecord};
 ghost use Rattle.idp_server.specs.Staying.{SessionsStayInAService, SessionsStayOverStarts, WhatWasBegunIsAsLeft};
 ghost use Rattle.idp_server.specs.Starving.{WhatIsVisibleStays};
@@ -79,12 +80,31 @@ pub fn what_is_answered_to_a_logout_is_recorded()
     ensures { WhatIsAnsweredToALogoutIsRecorded }
 {}
 
+/// In each of these images every session is ended that the record ends: those of a logout that asks all others are ended before the
+/// first of them is asked.
+pub fn sessions_end_before_the_answer()
+    ensures { SessionsEndBeforeTheAnswer }
+{
+    what_is_answered_to_a_logout_is_recorded();
+    a_session_is_ended_exactly();
+}
+
 /// The elements that are signed in an answer are those that its record stands for: its Assertion, the Response with this, or both; its
 /// LogoutRequest or LogoutResponse; with the key of what is sent to the record's peer.
 pub fn each_signed_element_is_of_a_record()
     ensures { EachSignedElementIsOfARecord }
 {
     logout_profile::laws::what_an_obeyed_form_says();
+}
+
+/// A logout that asks all others asks the provider of the first turn first, and behind each answer the one of the next turn. It ends
+/// with Success exactly where none was skipped, as many providers answered as there are turns, and each confirmed; no other answer says
+/// how the logout ended.
+pub fn a_round_ends_as_confirmed()
+    ensures begins { RoundsBeginWithTheFirst }
+    ensures ends { RoundsEndAsConfirmed }
+{
+    idp_ledger::laws::rounds_are_counted();
 }
 
 /// Where there was no memory for an answer and the ledger was not broken, all that may be asked of its rows at that

@@ -14,6 +14,7 @@ use crate::role::IdpRole;
 use crate::sign_on::{can_be_stated, session_for};
 use fault_verdicts::Judged;
 use http_wire::HttpRequest;
+use idp_answers::are_told;
 use idp_ledger::IdpLedger;
 use verdict_codes::Verdict;
 
@@ -40,6 +41,10 @@ impl IdpRole {
             return Err(Judged::Code(Verdict::NoSuchSession));
         };
         can_be_stated(row, now);
+        are_told(now, now);
+        if let Some(reply) = self.ask_for_user(ledger, &row.cookie)? {
+            return Ok(reply);
+        }
         Ok(Reply::Leave {
             cookie: row.cookie.copy()?,
             user: row.user.copy()?,

@@ -14,6 +14,12 @@
 //! | POST `/slo` | the verdict on the posted form; to a LogoutRequest a form with a LogoutResponse, where there are sessions to end, else code 33; to a LogoutResponse the page at the end of the logout that it replies to, else code 34 |
 //! | GET `/metadata` | the metadata of the provider |
 //!
+//! Where the config has `fanout`, a logout asks each other provider to which an Assertion was issued in the sessions that it
+//! ends, one after the other: the answer to POST `/logout` and to a LogoutRequest is then a form with a LogoutRequest to the
+//! first of them, and to the LogoutResponse of each the form to the next one; behind the last answer it is the
+//! LogoutResponse to the provider that asked, or the page at the end. It says Success exactly where each confirmed and none
+//! was skipped. The sessions are ended before the first is asked.
+//!
 //! What one request does is one definition, `Steps` of `specs/Step.antt`, by the named cases of `provider_node`: nothing
 //! is recorded; a record is added; it is added after one compaction that made room; there is no room (code 51); the
 //! disk failed (50); it holds no ledger (53); there was no memory (52). What is answered, and with which record, is
@@ -32,7 +38,8 @@
 //! service, the metadata, the verdict on a form that asks for no login, an Assertion in a live session, a Response
 //! without one where the user may not be asked, the page where a user logs in, and behind it 1, 45, 46 or an Assertion
 //! with the cookie of a new session; of a logout as at the service provider, with PartialLogout where an ended session
-//! had issued to another peer. Records, codes 50 to 53, crashes, `start`, `restart` and `compact` as at the service
+//! had issued to another peer, or, where the config has `fanout`, with each other provider asked in its turn and Success
+//! exactly where each confirmed. Records, codes 50 to 53, crashes, `start`, `restart` and `compact` as at the service
 //! provider. Laws: each Assertion is issued to a user whose password was posted for a login that was pending and
 //! unused, or in the user's live session (`each_issue_has_a_password_or_a_session`); whatever is answered to a request
 //! for a login stands for a record that is in every image that a crash may leave behind the step
@@ -45,7 +52,12 @@
 //! (`sessions_stay_ended_in_a_service`, `sessions_stay_ended_over_starts`); what is answered to a logout is recorded
 //! (`what_is_answered_to_a_logout_is_recorded`); a session whose answer went out is found as it was left
 //! (`what_was_begun_is_as_left`, `sessions_stay_in_a_service`, `sessions_stay_over_starts`), and at 52 what was visible
-//! is (`what_is_visible_stays`).
+//! is (`what_is_visible_stays`). Of a logout that asks all others: the answer that begins it asks the provider of the first
+//! turn, each later one that of the next turn, and the one behind the last answer says Success exactly where none was
+//! skipped, as many providers answered as there are turns, and each confirmed (`a_round_ends_as_confirmed`); all its
+//! sessions are ended in every image that a crash may leave before the first provider is asked
+//! (`sessions_end_before_the_answer`). That a provider answers is not claimed: a round whose provider never does is never
+//! finished.
 #![tactic(auto)]
 
 mod issuing;
@@ -56,6 +68,8 @@ mod login;
 mod reply;
 mod replying;
 mod role;
+mod round_texts;
+mod rounds;
 mod route;
 mod sign_on;
 mod single_logout;

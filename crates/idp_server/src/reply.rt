@@ -3,10 +3,12 @@ ghost use Rattle.std.specs.Prelude.{◌≡◌, ◌≤◌, IfSome, IsSome, IsTrue
 ghost use Rattle.http_wire.specs.Answers.{is_fixed};
 ghost use Rattle.saml_time.specs.declared.TheConstants.{LAST};
 ghost use Rattle.idp_ledger.specs.Drafts.{DraftsSome, SameLedger};
-ghost use Rattle.idp_server.specs.Replies.{IsXmlReply, found_record, is_nothing, refusal_of};
+ghost use Rattle.idp_server.specs.Replies.{CanDraft, IsXmlReply, found_record, is_nothing, refusal_of};
 
 use idp_ledger::{Ask, Draft, DraftFault, IdpLedger};
-use owned_values::{Attributes, Text};
+use logout_fanout::Plan;
+use logout_turns::{Asker, Turn};
+use owned_values::{Attributes, Text, Texts};
 use protocol_messages::LogoutRequest;
 use verdict_codes::Verdict;
 
@@ -53,6 +55,33 @@ pub enum Reply {
         request: Text,
         partial: bool,
     },
+    /// A LogoutRequest to the first of those whom the plan asks, as the sessions of these cookies end (SAML Profiles, 4.4.3.3).
+    AskAll {
+        cookies: Texts,
+        asker: Option<Asker>,
+        plan: Plan,
+    },
+    /// What follows the answer of the provider of this name to this request, which confirms the logout or not.
+    Told {
+        request: Text,
+        peer: Text,
+        confirms: bool,
+        follows: Follows,
+    },
+}
+
+/// What follows the answer of a provider that was asked in its turn.
+#[derive(Debug, Drop)]
+pub enum Follows {
+    /// A LogoutRequest to the provider of this turn (SAML Profiles, 4.4.3.3).
+    Turn(Turn),
+    /// Each has answered: a LogoutResponse of this ID to the provider that asked for the logout (SAML Profiles, 4.4.3.4), or the
+    /// page at the end where none did. `partial` where not each confirmed, or some were not asked.
+    End {
+        message: Text,
+        asker: Option<Asker>,
+        partial: bool,
+    },
 }
 
 impl Reply {
@@ -65,6 +94,7 @@ impl Reply {
         requires moment { now ≤ LAST }
         requires texts { IsXmlReply self.now }
         requires found { IsSome (found_record ledger.old.key ledger.old.held now self.now) }
+        requires live { CanDraft ledger.old.held now self.now }
         ensures drafts { IfSome (found_record ledger.old.key ledger.old.held now self.now)
             (λ r. DraftsSome ledger.old ledger.new (is_nothing ledger.old.held now self.now) r result) }
         ensures same { SameLedger ledger.old ledger.new }
@@ -103,6 +133,21 @@ impl Reply {
                 asked.id.as_str(),
             ),
             Reply::Confirm { request, .. } => ledger.draft_confirm(now, request.as_str()),
+            Reply::AskAll {
+                cookies,
+                asker,
+                plan,
+            } => {
+                let turns = plan.turns.as_slice();
+                let draft = ledger.draft_round(now, cookies, asker.as_ref(), turns, plan.skipped)?;
+                Ok(Some(draft))
+            }
+            Reply::Told {
+                request,
+                peer,
+                confirms,
+                ..
+            } => ledger.draft_told(now, request.as_str(), peer.as_str(), *confirms),
         }
     }
 

@@ -91,7 +91,7 @@ impl Role for IdpRole {
                 self.replied(ledger, request, now, reply)
             }
             Route::SingleLogout => {
-                let reply = self.single_logout(request, now);
+                let reply = self.single_logout(ledger, request, now);
                 self.replied(ledger, request, now, reply)
             }
         }

@@ -4,7 +4,6 @@ ghost use Rattle.fault_verdicts.specs.Judging.{IsJudged};
 ghost use Rattle.http_wire.specs.Views.{request_view};
 ghost use Rattle.saml_time.specs.declared.TheConstants.{LAST};
 ghost use Rattle.logout_profile.specs.declared.logout.Logout.TheVariants as messages;
-ghost use Rattle.idp_ledger.specs.Ledger.{Held};
 ghost use Rattle.idp_rules.specs.Config.{logout};
 ghost use Rattle.idp_server.specs.Routes.{SingleLogout, To, route};
 ghost use Rattle.idp_server.specs.Step as spec;
@@ -15,12 +14,13 @@ use crate::reply::Reply;
 use crate::role::IdpRole;
 use fault_verdicts::Judged;
 use http_wire::HttpRequest;
-use idp_answers::is_told;
+use idp_answers::are_told;
+use idp_ledger::IdpLedger;
 use idp_rules::IdpConfig;
 use logout_profile::laws::what_an_obeyed_form_says;
 use logout_profile::{Logout, judge_logout};
 use owned_values::{NoMemory, Text};
-use protocol_messages::{LogoutRequest, Outcome};
+use protocol_messages::{LogoutRequest, LogoutResponse, Outcome};
 use std::alloc::Global;
 
 /// The address to which messages of a logout are posted (SAML Metadata, 2.4.2, SingleLogoutService).
@@ -62,6 +62,7 @@ impl IdpRole {
     /// The reply to a peer that asks to end sessions.
     fn end(
         &self,
+        ledger: &IdpLedger,
         request: &HttpRequest<'_>,
         asked: LogoutRequest,
         peer: usize,
@@ -71,11 +72,14 @@ impl IdpRole {
         requires moment { now ≤ LAST }
         requires route { route (request_view request.now) ≡ To SingleLogout }
         requires obeyed { IsObeyed self.now now request.now.body.now (messages.Ask asked peer relay) }
-        ensures { IfOk result (λ reply. (held : Held) → Wants self.now held (request_view request.now) now reply) }
+        ensures { IfOk result (Wants self.now ledger.now.held (request_view request.now) now) }
     {
         what_an_obeyed_form_says();
-        is_told(now);
+        are_told(now, now);
         let name = self.config.peers.at(peer).peer.entity.copy()?;
+        if let Some(reply) = self.ask_for_peer(ledger, &asked, &name, &relay, now)? {
+            return Ok(reply);
+        }
         Ok(Reply::End {
             asked,
             peer,
@@ -84,15 +88,46 @@ impl IdpRole {
         })
     }
 
+    /// The reply to a peer that replies to a logout that began here.
+    fn reply_to_response(
+        &self,
+        ledger: &IdpLedger,
+        request: &HttpRequest<'_>,
+        response: LogoutResponse,
+        peer: usize,
+        now: u64,
+    ) -> Result<Reply, NoMemory>
+        requires moment { now ≤ LAST }
+        requires route { route (request_view request.now) ≡ To SingleLogout }
+        requires obeyed { IsObeyed self.now now request.now.body.now (messages.Reply response peer) }
+        ensures { IfOk result (Wants self.now ledger.now.held (request_view request.now) now) }
+    {
+        are_told(now, now);
+        let partial = is_in_part(response.outcome);
+        let name = &self.config.peers.at(peer).peer.entity;
+        if let Some(reply) = self.told(ledger, &response.request, name, !partial, now)? {
+            return Ok(reply);
+        }
+        Ok(Reply::Confirm {
+            partial,
+            request: response.request,
+        })
+    }
+
     /// The reply to a posted message of a logout, or why there is none.
     ///
     /// # Errors
     ///
     /// The verdict on the form. `NoMemory` may come in place of any other answer.
-    pub(crate) fn single_logout(&self, request: &HttpRequest<'_>, now: u64) -> Result<Reply, Judged>
+    pub(crate) fn single_logout(
+        &self,
+        ledger: &IdpLedger,
+        request: &HttpRequest<'_>,
+        now: u64,
+    ) -> Result<Reply, Judged>
         requires moment { now ≤ LAST }
         requires route { route (request_view request.now) ≡ To SingleLogout }
-        ensures reply { IfOk result (λ reply. (held : Held) → Wants self.now held (request_view request.now) now reply) }
+        ensures reply { IfOk result (Wants self.now ledger.now.held (request_view request.now) now) }
         ensures refused { IfErr result (IsJudged (IsNotObeyed self.now now request.now.body.now)) }
     {
         match self.logout_by(request, now)? {
@@ -100,11 +135,10 @@ impl IdpRole {
                 request: asked,
                 peer,
                 relay,
-            } => Ok(self.end(request, asked, peer, relay, now)?),
-            Logout::Reply { response, .. } => Ok(Reply::Confirm {
-                partial: is_in_part(response.outcome),
-                request: response.request,
-            }),
+            } => Ok(self.end(ledger, request, asked, peer, relay, now)?),
+            Logout::Reply { response, peer } => {
+                Ok(self.reply_to_response(ledger, request, response, peer, now)?)
+            }
         }
     }
 }

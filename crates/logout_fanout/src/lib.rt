@@ -4,7 +4,7 @@
 //! ```
 //! let plan = make_plan(alloc, parts.as_slice(), Some("urn:example:sp1"), peers.as_slice())?;
 //! let first = plan.turns.at(0);                                 // a LogoutRequest to this provider
-//! let mut round = Round::at(plan.turns.len() as u32, plan.skipped, 0, 0);
+//! let mut round = Round::at(plan.turns.len(), plan.skipped, 0, 0);
 //! match round.told(true) {                                      // it confirmed
 //!     Next::Ask(place) => ..                                    // a LogoutRequest to the one at this place
 //!     Next::Done { partial } => ..                              // Success, or PartialLogout
@@ -24,7 +24,7 @@
 //! only want of memory keeps it from that. `Round::told`: who is asked next behind an answer, or how the logout ended.
 //! A logout ends with Success exactly where each that was to be asked confirmed and none was skipped, else with
 //! PartialLogout (`laws::a_round_succeeds_where_each_confirms`), and asks each once, in order
-//! (`laws::a_round_asks_in_order`). No provider uses it yet.
+//! (`laws::a_round_asks_in_order`).
 #![tactic(auto)]
 
 pub mod laws;

@@ -8,7 +8,7 @@ use std::marker::Model;
 #[derive(Clone, Copy, Debug, PartialEq, Eq)]
 pub enum Next {
     /// The provider of the turn at this place, counted from 0, is asked.
-    Ask(u32),
+    Ask(usize),
     /// Each provider has answered. `partial` where one of them did not confirm, or was skipped.
     Done { partial: bool },
 }
@@ -16,10 +16,10 @@ pub enum Next {
 /// The turns of a plan, while their providers are asked one after the other.
 #[derive(Debug, Drop)]
 pub struct Round {
-    turns: u32,
+    turns: usize,
     skipped: bool,
-    told: u32,
-    confirmed: u32,
+    told: usize,
+    confirmed: usize,
 }
 
 impl Model for Round {
@@ -35,7 +35,7 @@ impl Model for Round {
 
 impl Round {
     /// A round of so many turns behind `told` answers, of which `confirmed` confirmed.
-    pub fn at(turns: u32, skipped: bool, told: u32, confirmed: u32) -> Round
+    pub fn at(turns: usize, skipped: bool, told: usize, confirmed: usize) -> Round
         requires confirmed { confirmed ≤ told }
         requires told { told < turns }
         ensures { result ≡ round_at turns skipped told confirmed }

@@ -1,5 +1,5 @@
 -- To those below a hub is an identity provider that signs its Assertions, and a login that it passes on is as one that is issued.
-use Rattle.std.specs.Prelude.{◌≡◌, List, [], ◌∷◌, map, None, Contains}
+use Rattle.std.specs.Prelude.{◌≡◌, false, List, [], ◌∷◌, map, None, Contains}
 use Rattle.std.proofs.Common.{◌⊎◌, inl, inr, zero, suc, refl, subst, arith}
 use Rattle.ledger_records.specs.declared.hub_record.Backed.{Backed}
 use Rattle.ledger_records.specs.declared.idp_record.Issued.{Issued}
@@ -24,6 +24,7 @@ as_idp hub = record {
   id_key = hub.upstream.id_key;
   skew = hub.upstream.skew;
   mode = Assertion;
+  fanout = false;
 }
 
 abbrev pub as_issued : Backed → Issued

@@ -30,7 +30,7 @@ use Rattle.ledger_records.specs.declared.idp_record.IdpRecord.TheVariants as kin
 use Rattle.idp_ledger.specs.Ledger.{Held}
 use Rattle.idp_rules.specs.declared.config.IdpConfig.{IdpConfig}
 use Rattle.idp_server.specs.Logins.{login_of}
-use Rattle.idp_server.specs.Signed.{IsSignedFor, AnAssertion, AResponse, ARequest, AReply}
+use Rattle.idp_server.specs.Signed.{IsSignedFor, AnAssertion, AResponse, ARequest, AReply, AFirstRequest, ANextRequest, ALastReply}
 use Rattle.request_rows.specs.declared.row.NewSession.{NewSession}
 use Rattle.request_rows.specs.Rows.{RowsView}
 use Rattle.sp_rules.specs.declared.config.SpConfig.{SpConfig}
@@ -133,10 +133,10 @@ message_says setup r key local attributes kids other parts p l is (inl same) e =
 message_says setup r key local attributes kids other parts p l is (inr inside) e =
     absurd (differs _ _ (codes "Response") (sym inside.response) refl other)
 
-request_says : (setup : IdpConfig) (r : IdpRecord) (key id issuer address name index at end : List ℕ) →
-    Says setup r key (logout_request id issuer address name (index ∷ []) at end)
-request_says setup r key id issuer address name index at end =
-    let made = logout_request id issuer address name (index ∷ []) at end in
+request_says : (setup : IdpConfig) (r : IdpRecord) (key id issuer address name : List ℕ) (indexes : List (List ℕ))
+    (at end : List ℕ) → Says setup r key (logout_request id issuer address name indexes at end)
+request_says setup r key id issuer address name indexes at end =
+    let made = logout_request id issuer address name indexes at end in
     message_says setup r key (codes "LogoutRequest") made.attributes made.kids refl
 
 reply_says : (setup : IdpConfig) (r : IdpRecord) (key id issuer address request at : List ℕ) (partial : Bool) →
@@ -154,12 +154,24 @@ each_says law setup held r key made (AResponse issued peer assertion sent known 
     (response_says law setup issued peer.key_out at.instant assertion of)
 each_says law setup held r key made (ARequest left peer row address request known given live from) =
     subst (Says setup (kinds.Left left) peer.key_out) (sym from.is)
-    (request_says setup (kinds.Left left) peer.key_out left.request setup.entity address row.user row.index
+    (request_says setup (kinds.Left left) peer.key_out left.request setup.entity address row.user (row.index ∷ [])
     from.instant from.until)
 each_says law setup held r key made (AReply ended peer address sent known given at) =
     subst (Says setup (kinds.Ended ended) peer.key_out) (sym at.is)
     (reply_says setup (kinds.Ended ended) peer.key_out ended.message setup.entity address ended.request at.instant
     ended.partial)
+each_says law setup held r key made (AFirstRequest begun turn peer address request first known given from) =
+    subst (Says setup (kinds.Round begun) peer.key_out) (sym from.is)
+    (request_says setup (kinds.Round begun) peer.key_out begun.request setup.entity address turn.name turn.indexes
+    from.instant from.until)
+each_says law setup held r key made (ANextRequest told row place turn id peer address request waits next there named known given from) =
+    subst (Says setup (kinds.Told told) peer.key_out) (sym from.is)
+    (request_says setup (kinds.Told told) peer.key_out id setup.entity address turn.name turn.indexes
+    from.instant from.until)
+each_says law setup held r key made (ALastReply told row partial asker peer address sent waits next asked known given at) =
+    subst (Says setup (kinds.Told told) peer.key_out) (sym at.is)
+    (reply_says setup (kinds.Told told) peer.key_out row.message setup.entity address asker.request at.instant
+    partial)
 
 -- ---- the login
 

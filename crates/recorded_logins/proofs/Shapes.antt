@@ -3,12 +3,12 @@ use Rattle.std.proofs.Common.{◌≡◌, ℕ, Bool, true, false, if◌then◌els
 use Rattle.xml_spec.specs.Tree as tree
 use Rattle.owned_values.specs.declared.attributes.Attribute.{Attribute}
 use Rattle.saml_names.specs.Uris.{partial_logout}
-use Rattle.element_make.specs.declared.names.Ns.TheVariants.{Saml}
+use Rattle.element_make.specs.declared.names.Ns.TheVariants.{Saml, Samlp}
 use Rattle.element_make.specs.Made.{Made, MadeNodes, NothingMade, MadeText, alone, joined, nodes_of}
 use Rattle.sig_reference.specs.Signing.{signed}
 use Rattle.assertion_model.specs.declared.login.Login.{Login}
 use Rattle.assertion_model.specs.Assertion.{IsAssertionOf, assertion, given, statements}
-use Rattle.protocol_messages.specs.Making.{failed, logged_out, logout_request, response, succeeded}
+use Rattle.protocol_messages.specs.Making.{failed, logged_out, logout_request, response, session_indexes, succeeded}
 use Rattle.idp_answers.specs.Answers.{signed_if}
 use Rattle.ledger_records.specs.declared.idp_record.Issued.{Issued}
 use Rattle.idp_server.specs.Logins.{login_of}
@@ -81,10 +81,21 @@ response_signable id issuer destination request at held a =
       unsigned = record { none = λ k. refl };
     })
 
-pub request_signable : (id issuer address name index at end : List ℕ) →
-    IsSignable (logout_request id issuer address name (index ∷ []) at end)
-request_signable id issuer address name index at end =
-    record { kids = _; rest = _; begins = refl; unsigned = record { none = λ k. refl } }
+-- no index of a session is a Signature
+indexes_unsigned : (indexes : List (List ℕ)) (around : List tree.Attribute) →
+    HasNoSignature (inside Samlp around) (nodes_of (Samlp ∷ []) (session_indexes indexes))
+indexes_unsigned [] around = record { none = λ k. refl }
+indexes_unsigned (index ∷ indexes) around = passed refl (indexes_unsigned indexes around)
+
+pub request_signable : (id issuer address name : List ℕ) (indexes : List (List ℕ)) (at end : List ℕ) →
+    IsSignable (logout_request id issuer address name indexes at end)
+request_signable id issuer address name indexes at end =
+    record {
+      kids = MadeText issuer NothingMade;
+      rest = _;
+      begins = refl;
+      unsigned = passed refl (indexes_unsigned indexes (logout_request id issuer address name indexes at end).attributes);
+    }
 
 pub reply_signable : (id issuer address request at : List ℕ) (partial : Bool) →
     IsSignable (logged_out id issuer address request (if partial then failed partial_logout else succeeded) at)

@@ -15,7 +15,7 @@ use Rattle.idp_ledger.specs.Ledger.{Held}
 use Rattle.idp_rules.specs.declared.config.IdpConfig.{IdpConfig}
 use Rattle.idp_answers.specs.Answers.{signed_assertion, signs_assertion}
 use Rattle.idp_server.specs.Logins.{login_of}
-use Rattle.idp_server.specs.Signed.{IsSignedFor, AnAssertion, AResponse, ARequest, AReply, IsSignedOf}
+use Rattle.idp_server.specs.Signed.{IsSignedFor, AnAssertion, AResponse, ARequest, AReply, AFirstRequest, ANextRequest, ALastReply, IsSignedOf}
 use Rattle.login_origin.specs.Signed.{Signed, IsSigned}
 use Rattle.recorded_logins.specs.Documents.{IsDocumentOf, AreDocumentsOf}
 use Rattle.recorded_logins.specs.Recorded.{Added, IsOf, AreOf}
@@ -37,10 +37,19 @@ signable setup held r key made (AResponse issued peer assertion response known s
     (made_assertion (login_of setup.entity issued) assertion of)))
 signable setup held r key made (ARequest left peer row address request known given live from) =
     subst IsSignable (sym from.is)
-    (request_signable left.request setup.entity address row.user row.index from.instant from.until)
+    (request_signable left.request setup.entity address row.user (row.index ∷ []) from.instant from.until)
 signable setup held r key made (AReply ended peer address response known given at) =
     subst IsSignable (sym at.is)
     (reply_signable ended.message setup.entity address ended.request at.instant ended.partial)
+signable setup held r key made (AFirstRequest begun turn peer address request first known given from) =
+    subst IsSignable (sym from.is)
+    (request_signable begun.request setup.entity address turn.name turn.indexes from.instant from.until)
+signable setup held r key made (ANextRequest told row place turn id peer address request waits next there named known given from) =
+    subst IsSignable (sym from.is)
+    (request_signable id setup.entity address turn.name turn.indexes from.instant from.until)
+signable setup held r key made (ALastReply told row partial asker peer address response waits next asked known given at) =
+    subst IsSignable (sym at.is)
+    (reply_signable row.message setup.entity address asker.request at.instant partial)
 
 -- the Signature of such an element, in its own tree
 record IsSignedSo (element : Made) : Type 0 where
