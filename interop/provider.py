@@ -42,15 +42,15 @@ def samld(*words, folder):
 class Provider:
     """The program as a provider in a folder, as long as the block lasts."""
 
-    def __init__(self, role, folder, config, port):
+    def __init__(self, role, folder, config, port, host="127.0.0.1"):
         self.words = [SAMLD, role, config, "1000000"]
-        self.folder, self.port = folder, port
+        self.folder, self.address = folder, (host, port)
 
     def __enter__(self):
         self.process = subprocess.Popen(self.words, cwd=self.folder, stdout=subprocess.DEVNULL)
         for _ in range(2_000):
             try:
-                socket.create_connection(("127.0.0.1", self.port)).close()
+                socket.create_connection(self.address).close()
                 return self
             except OSError:
                 time.sleep(0.005)
@@ -119,6 +119,14 @@ def example(folder, role="sp"):
     for name in os.listdir(source):
         if os.path.isfile(os.path.join(source, name)):
             shutil.copy(os.path.join(source, name), folder)
+
+
+def change(folder, name, changed, into=None):
+    """Writes what this makes of a file's text, into that file or into another one."""
+    with open(os.path.join(folder, name), encoding="utf-8") as file:
+        text = changed(file.read())
+    with open(os.path.join(folder, into or name), "w", encoding="utf-8") as file:
+        file.write(text)
 
 
 def temporary():
