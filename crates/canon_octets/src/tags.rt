@@ -1,5 +1,5 @@
 //! Tags as they are written: Canonical XML 1.0, 2.3.
-ghost use Rattle.std.specs.Prelude.{◌≡◌, ℕ, ◌∷◌, ◌++◌, List, [], codes, OnOk, OnErr, IsTrue};
+ghost use Rattle.std.specs.Prelude.{◌≡◌, ℕ, ◌∷◌, ◌++◌, List, [], codes, IfSome, OnOk, OnErr, IsTrue};
 ghost use Rattle.xml_spec.specs.Ascii.{less_than, quotation_mark, space_character};
 ghost use Rattle.xml_spec.specs.Canonical.{declaration_name, escape_value, print_attribute, print_binding, print_end, print_instruction};
 ghost use Rattle.canon_octets.specs.Places.{AppendsPart};
@@ -7,7 +7,11 @@ ghost use Rattle.canon_octets.specs.Names.{joined_name};
 
 use crate::escape::escape_value;
 use crate::octets::Octets;
+use arrayvec::ArrayVec;
 use owned_values::NoMemory;
+
+/// Short pieces are put together up to so many bytes: to put a piece costs as much as some hundred bytes of one.
+const SHORT: usize = 64;
 
 /// A name as it is written, in two parts (Namespaces in XML 1.0, 4).
 #[derive(Clone, Copy, Debug)]
@@ -30,6 +34,29 @@ impl<'d> QualifiedName<'d> {
     }
 }
 
+/// A name that is held in one piece.
+fn in_one_piece<'d>(name: QualifiedName<'d>) -> Option<&'d [u8]>
+    ensures { IfSome result (λ bytes. bytes.now ≡ joined_name name.entry.prefix.now name.entry.local.now) }
+{
+    if name.prefix.is_empty() {
+        Some(name.local.as_bytes())
+    } else {
+        None
+    }
+}
+
+/// Pieces one behind the other, where they are short.
+#[inline(always)]
+fn together(first: &[u8], second: &[u8], third: &[u8]) -> Option<ArrayVec<u8, SHORT>>
+    ensures { IfSome result (λ piece. piece.items ≡ first.now ++ (second.now ++ third.now)) }
+{
+    let mut piece = ArrayVec::new();
+    piece.try_extend_from_slice(first).ok()?;
+    piece.try_extend_from_slice(second).ok()?;
+    piece.try_extend_from_slice(third).ok()?;
+    Some(piece)
+}
+
 /// What stands between an instruction's target and its value.
 fn space_before(value: &str) -> &'static [u8]
     ensures { (target : List ℕ) → codes "<?" ++ (target ++ (result.now ++ (value.now ++ codes "?>"))) ≡ print_instruction target value.now }
@@ -43,6 +70,9 @@ fn put_two<O: Octets>(first: &[u8], second: &[u8], out: &mut O) -> Result<(), No
     ensures err { OnErr result (AppendsPart O.appends out.old out.new (first.now ++ second.now)) }
     ensures refusing { OnErr result (IsTrue O.may_refuse) }
 {
+    if let Some(piece) = together(first, second, b"") {
+        return out.put(piece.as_slice());
+    }
     out.put(first)?;
     out.put(second)
 }
@@ -58,6 +88,9 @@ fn put_three<O: Octets>(
     ensures err { OnErr result (AppendsPart O.appends out.old out.new (first.now ++ (second.now ++ third.now))) }
     ensures refusing { OnErr result (IsTrue O.may_refuse) }
 {
+    if let Some(piece) = together(first, second, third) {
+        return out.put(piece.as_slice());
+    }
     out.put(first)?;
     put_two(second, third, out)
 }
@@ -104,6 +137,9 @@ pub fn put_start<O: Octets>(name: QualifiedName<'_>, out: &mut O) -> Result<(), 
     ensures err { OnErr result (AppendsPart O.appends out.old out.new (less_than ∷ joined_name name.entry.prefix.now name.entry.local.now)) }
     ensures refusing { OnErr result (IsTrue O.may_refuse) }
 {
+    if let Some(written) = in_one_piece(name) {
+        return put_two(b"<", written, out);
+    }
     out.put(b"<")?;
     put_name(name, out)
 }
@@ -114,6 +150,9 @@ pub fn put_end<O: Octets>(name: QualifiedName<'_>, out: &mut O) -> Result<(), No
     ensures err { OnErr result (AppendsPart O.appends out.old out.new (print_end (joined_name name.entry.prefix.now name.entry.local.now))) }
     ensures refusing { OnErr result (IsTrue O.may_refuse) }
 {
+    if let Some(written) = in_one_piece(name) {
+        return put_three(b"</", written, b">", out);
+    }
     out.put(b"</")?;
     put_name(name, out)?;
     out.put(b">")
@@ -130,6 +169,10 @@ pub fn put_attribute<O: Octets>(
         (print_attribute (joined_name name.entry.prefix.now name.entry.local.now) value.now)) }
     ensures refusing { OnErr result (IsTrue O.may_refuse) }
 {
+    if let Some(written) = in_one_piece(name) {
+        put_three(b" ", written, b"=\"", out)?;
+        return put_value(value, out);
+    }
     out.put(b" ")?;
     put_name(name, out)?;
     put_quoted(value, out)

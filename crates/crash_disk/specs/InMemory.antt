@@ -9,8 +9,8 @@ use Rattle.crash_disk.specs.declared.change.Change.TheVariants.{Write, Cut, Sync
 use Rattle.crash_disk.specs.declared.change.Taken.{Taken}
 use Rattle.crash_disk.specs.Counts.{CountsFaults, one_more}
 use Rattle.crash_disk.specs.Disk.{Image, DiskState, MayLeave, LeavesAtMost, Changes, FileState, FileMayLeave, after_write, after_cut, settled_image, begun}
-use Rattle.crash_disk.specs.Moments.{Elapses}
-use Rattle.crash_disk.specs.Memory.{DiskInMemory, state_of, LeftSince, left_by, replay, after_taken, answered, after_call, starved_by_call, Calls}
+use Rattle.crash_disk.specs.Moments.{DiskShown, IsMadeByCalls, Elapses}
+use Rattle.crash_disk.specs.Memory.{DiskInMemory, state_of, LeftSince, left_by, replay, after_taken, answered, after_call, starved_by_call, faulted, Calls, Changing, Starved, Reading}
 use Rattle.crash_disk.specs.Soundness.{IsSoundDisk, sound-begun, sound-replay, sound-settled_image, left_by_a_crash, only-settled_image, replay-push, outside-push}
 
 pub sound-state : (m : DiskInMemory) → IsSoundDisk (state_of m)
@@ -100,13 +100,29 @@ keeps_push old new taken t image start log (k, low, high, may) =
     let front : take k new.log ≡ take k old.log = ap (take k) log ∙ take-append-le k old.log (taken ∷ []) high in
     (k, low, omega arith, subst (λ (s : DiskState). MayLeave s image) (sym (ap (λ (i : Image). replay (settled_image i) (take k new.log)) start ∙ ap (replay (settled_image old.start)) front)) may)
 
-elapses_push : (old new : DiskInMemory) (taken : Taken) → new.start ≡ old.start → new.log ≡ old.log ++ taken ∷ [] → Elapses (length old.log) (length new.log) (LeftSince old) (LeftSince new) (Some (state_of new))
-elapses_push old new taken start log =
+-- what a disk in memory shows
+abbrev pub shown_in_memory : DiskInMemory → DiskShown
+shown_in_memory m = record { told = Some (state_of m); faults = m.faults; moment = length m.log; left_since = LeftSince m; memory = Some m }
+
+-- one call made the new disk of the old one
+made_by_call : (change : Change) (old new : DiskInMemory) (ok : Bool) → ((ok, new) ≡ after_call change old) ⊎ ((ok, new) ≡ starved_by_call old) → IsMadeByCalls (Some old) (Some new)
+made_by_call change old new ok (inl is) = (Changing change ∷ [], ap (λ p. p.1) is)
+made_by_call change old new ok (inr is) = (Starved ∷ [], ap (λ p. p.1) is)
+
+made_by_none : (old new : DiskInMemory) → new ≡ old → IsMadeByCalls (Some old) (Some new)
+made_by_none old new is = ([], is)
+
+made_by_reading : (old new : DiskInMemory) → old.stopped ≡ true → new ≡ faulted old → IsMadeByCalls (Some old) (Some new)
+made_by_reading old new stopped is = (Reading ∷ [], is ∙ sym (ap (λ (b : Bool). if b then faulted old else old) stopped))
+
+elapses_push : (old new : DiskInMemory) (taken : Taken) → new.start ≡ old.start → new.log ≡ old.log ++ taken ∷ [] → IsMadeByCalls (Some old) (Some new) → Elapses (shown_in_memory old) (shown_in_memory new)
+elapses_push old new taken start log made =
     let longer : length new.log ≡ length old.log + 1 = ap length log ∙ length-append old.log (taken ∷ []) in
     record {
       later = omega arith;
       nothing_else = λ t image le left. since_push old new taken t image start log le left;
       keeps = λ t image le left. keeps_push old new taken t image start log left;
+      calls = made;
     }
 
 -- disks of one start and one list of calls might have left the same
@@ -115,22 +131,31 @@ moved old new t image start log (k, low, high, may) =
     let as_long : length new.log ≡ length old.log = ap length log in
     (k, low, omega arith, subst (λ (s : DiskState). MayLeave s image) (sym (ap (λ (i : Image). replay (settled_image i) (take k new.log)) start ∙ ap (λ (l : List Taken). replay (settled_image old.start) (take k l)) log)) may)
 
-pub elapses_same : (old new : DiskInMemory) → new.start ≡ old.start → new.log ≡ old.log → Elapses (length old.log) (length new.log) (LeftSince old) (LeftSince new) (Some (state_of new))
-elapses_same old new start log =
+elapses_same : (old new : DiskInMemory) → new.start ≡ old.start → new.log ≡ old.log → IsMadeByCalls (Some old) (Some new) → Elapses (shown_in_memory old) (shown_in_memory new)
+elapses_same old new start log made =
     let as_long : length new.log ≡ length old.log = ap length log in
     record {
       later = omega arith;
       nothing_else = λ t image le left. inl (moved new old t image (sym start) (sym log) left);
       keeps = λ t image le left. moved old new t image start log left;
+      calls = made;
     }
 
-elapses_by : (change : Change) (old new : DiskInMemory) (ok : Bool) → HowChanged change old new ok → Elapses (length old.log) (length new.log) (LeftSince old) (LeftSince new) (Some (state_of new))
-elapses_by change old new ok (did is start log) = elapses_push old new (record { change = change; stop = None }) start log
-elapses_by change old new ok (stopped_in pick is start log) = elapses_push old new (record { change = change; stop = Some pick }) start log
-elapses_by change old new ok (nothing is start log) = elapses_same old new start log
+-- a call that only reads
+pub elapses_read : (old new : DiskInMemory) → new ≡ old → Elapses (shown_in_memory old) (shown_in_memory new)
+elapses_read old new is = elapses_same old new (ap (λ (m : DiskInMemory). m.start) is) (ap (λ (m : DiskInMemory). m.log) is) (made_by_none old new is)
 
-pub elapses_in_memory : {T E : Type 0} (change : Change) (old new : DiskInMemory) (result : Result T E) → Calls change old result new → Elapses (length old.log) (length new.log) (LeftSince old) (LeftSince new) (Some (state_of new))
-elapses_in_memory change old new result calls = elapses_by change old new (is_ok result) (how_changed change old new (is_ok result) calls)
+-- one that fails, since the disk has stopped
+pub elapses_unread : (old new : DiskInMemory) → old.stopped ≡ true → new ≡ faulted old → Elapses (shown_in_memory old) (shown_in_memory new)
+elapses_unread old new stopped is = elapses_same old new (ap (λ (m : DiskInMemory). m.start) is) (ap (λ (m : DiskInMemory). m.log) is) (made_by_reading old new stopped is)
+
+elapses_by : (change : Change) (old new : DiskInMemory) (ok : Bool) → IsMadeByCalls (Some old) (Some new) → HowChanged change old new ok → Elapses (shown_in_memory old) (shown_in_memory new)
+elapses_by change old new ok made (did is start log) = elapses_push old new (record { change = change; stop = None }) start log made
+elapses_by change old new ok made (stopped_in pick is start log) = elapses_push old new (record { change = change; stop = Some pick }) start log made
+elapses_by change old new ok made (nothing is start log) = elapses_same old new start log made
+
+pub elapses_in_memory : {T E : Type 0} (change : Change) (old new : DiskInMemory) (result : Result T E) → Calls change old result new → Elapses (shown_in_memory old) (shown_in_memory new)
+elapses_in_memory change old new result calls = elapses_by change old new (is_ok result) (made_by_call change old new (is_ok result) calls) (how_changed change old new (is_ok result) calls)
 
 -- a call counts a fault where it fails, and no other
 fault_cases : (change : Change) (old new : DiskInMemory) (ok stopped stops fails : Bool)

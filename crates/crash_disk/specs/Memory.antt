@@ -106,3 +106,24 @@ starved_by_call m = (false, faulted (record (counted m) { starved = true }))
 -- What a changing call answers, and what it does to a disk in memory.
 abbrev pub Calls : {T E : Type 0} → Change → DiskInMemory → Result T E → DiskInMemory → Type 0
 Calls change old result new = ((is_ok result, new) ≡ after_call change old) ⊎ ((is_ok result, new) ≡ starved_by_call old)
+
+-- how many failures are still to come
+abbrev pub due : ℕ → ℕ
+due failing = if failing == 0 then 0 else 1
+
+-- How a call of a disk in memory goes: it is a changing one and finds memory, or finds none, or it only reads.
+pub data Call : Type 0 where
+  Changing : Change → Call
+  Starved : Call
+  Reading : Call
+
+-- the disk after it: a call that only reads fails where the disk has stopped, and changes nothing else
+abbrev pub after_one : Call → DiskInMemory → DiskInMemory
+after_one (Changing change) m = (after_call change m).1
+after_one Starved m = (starved_by_call m).1
+after_one Reading m = if m.stopped then faulted m else m
+
+-- the disk after these calls, the first of them first
+abbrev pub after_calls : List Call → DiskInMemory → DiskInMemory
+after_calls [] m = m
+after_calls (call ∷ later) m = after_calls later (after_one call m)

@@ -1,8 +1,8 @@
 -- Plans: changing calls in an order, and how far a run of calls of a disk went in one.
-use Rattle.std.specs.Prelude.{◌≡◌, ◌⊎◌, ℕ, List, [], ◌∷◌, Option, IfSome, IsSomeAnd, Result, Ok, Err}
+use Rattle.std.specs.Prelude.{◌≡◌, ◌⊎◌, List, [], ◌∷◌, IfSome, IsSomeAnd, Result, Ok, Err}
 use Rattle.crash_disk.specs.declared.change.Change.{Change}
 use Rattle.crash_disk.specs.Disk.{Image, DiskState, MayLeave, LeavesAtMost, after, begun}
-use Rattle.crash_disk.specs.Moments.{LeavesOnly}
+use Rattle.crash_disk.specs.Moments.{DiskShown, LeavesOnly}
 
 -- the disk after all calls of a plan, each of which succeeded
 abbrev pub after_all : List Change → DiskState → DiskState
@@ -27,7 +27,6 @@ LeftAmid (change ∷ plan) disk image = MayLeave disk image ⊎ MayLeave (begun 
 -- From the old disk to the new one no changing calls were made but those of the plan for what the old disk tells: all of them,
 -- in their order, where the answer is Ok, and else a beginning of them. A crash at any moment leaves what one amid them leaves,
 -- so a call more shows even where it writes what stood there already.
-pub record Follows {D T E : Type 0} (told : D → Option DiskState) (moment : D → ℕ) (left_since : D → ℕ → Image → Type 0)
-    (plan : DiskState → List Change) (old new : D) (result : Result T E) : Type 0 where
-  pub ends : IfSome (told old) (λ disk. IsSomeAnd (told new) (IsCarriedOut result (plan disk) disk))
-  pub moments : IfSome (told old) (λ disk. LeavesOnly moment left_since old new (LeftAmid (plan disk) disk))
+pub record Follows {D T E : Type 0} (shows : D → DiskShown) (plan : DiskState → List Change) (old new : D) (result : Result T E) : Type 0 where
+  pub ends : IfSome (shows old).told (λ disk. IsSomeAnd (shows new).told (IsCarriedOut result (plan disk) disk))
+  pub moments : IfSome (shows old).told (λ disk. LeavesOnly shows old new (LeftAmid (plan disk) disk))

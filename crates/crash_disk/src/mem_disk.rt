@@ -2,8 +2,9 @@
 ghost use Rattle.std.specs.Prelude.{◌≡◌, ◌<◌, ◌≤◌, ◌^◌, ◌++◌, ℕ, Some, length, drop, [], true, false, IsTrue, IfSome, IfOk, OnOk, OnErr, IsErr};
 ghost use Rattle.crash_disk.specs.Counts.{CountsFaults, one_more};
 ghost use Rattle.crash_disk.specs.Disk.{Changes, after, begun, reads_of, read_from, settled};
+ghost use Rattle.crash_disk.specs.InMemory.{shown_in_memory};
 ghost use Rattle.crash_disk.specs.Moments.{Elapses};
-ghost use Rattle.crash_disk.specs.Memory.{after_taken, state_of, LeftSince, IsAllowed, Calls, faulted, starved_by_call};
+ghost use Rattle.crash_disk.specs.Memory.{after_taken, state_of, IsAllowed, Calls, faulted, starved_by_call};
 
 use crate::mem_file::MemFile;
 use crate::{Change, Disk, Failed, FileNo, Taken};
@@ -267,19 +268,13 @@ impl MemDisk {
 }
 
 impl Disk for MemDisk {
-    ghost use Rattle.std.specs.Prelude.{Some, true, refl, length};
-    ghost use Rattle.crash_disk.specs.Memory.{state_of, LeftSince};
+    ghost use Rattle.std.specs.Prelude.{true, refl};
+    ghost use Rattle.crash_disk.specs.InMemory.{shown_in_memory};
     ghost use Rattle.crash_disk.specs.Soundness.{reads_an_image, left_since_now, left_now};
 
-    ghost told = { λ m. Some (state_of m) };
+    ghost shows = { shown_in_memory };
 
     ghost tells = { true };
-
-    ghost moment = { λ m. length m.log };
-
-    ghost left_since = { LeftSince };
-
-    ghost faults_of = { λ m. m.faults };
 
     ghost tells_always = { λ _. refl };
 
@@ -293,7 +288,7 @@ impl Disk for MemDisk {
     fn length(&mut self, file: FileNo) -> Result<u64, Failed>
         ensures length { IfOk result (λ n. IfSome (Some (state_of self.old)) (λ disk. n ≡ Rattle.std.specs.Prelude.length (reads_of disk file))) }
         ensures same { Some (state_of self.new) ≡ Some (state_of self.old) }
-        ensures time { Elapses (Rattle.std.specs.Prelude.length self.old.log) (Rattle.std.specs.Prelude.length self.new.log) (LeftSince self.old) (LeftSince self.new) (Some (state_of self.new)) }
+        ensures time { Elapses (shown_in_memory self.old) (shown_in_memory self.new) }
         ensures faults { CountsFaults result self.old.faults self.new.faults }
         ensures ok { OnOk result (self.new ≡ self.old) }
         ensures err { OnErr result (IsTrue self.old.stopped × (self.new ≡ faulted self.old)) }
@@ -310,7 +305,7 @@ impl Disk for MemDisk {
         ensures count { IfOk result (λ n. IfSome (Some (state_of self.old)) (λ disk. n ≡ length (read_from (reads_of disk file) at (length into.old)))) }
         ensures bytes { IfOk result (λ n. IfSome (Some (state_of self.old)) (λ disk. into.new ≡ read_from (reads_of disk file) at (length into.old) ++ drop n into.old)) }
         ensures same { Some (state_of self.new) ≡ Some (state_of self.old) }
-        ensures time { Elapses (length self.old.log) (length self.new.log) (LeftSince self.old) (LeftSince self.new) (Some (state_of self.new)) }
+        ensures time { Elapses (shown_in_memory self.old) (shown_in_memory self.new) }
         ensures faults { CountsFaults result self.old.faults self.new.faults }
         ensures ok { OnOk result (self.new ≡ self.old) }
         ensures err { OnErr result (IsTrue self.old.stopped × (self.new ≡ faulted self.old)) }
@@ -324,7 +319,7 @@ impl Disk for MemDisk {
     fn write_at(&mut self, file: FileNo, at: u64, bytes: &[u8]) -> Result<(), Failed>
         requires { at ≤ length (reads_of (state_of self.old) file) }
         ensures changes { Changes (Change.Write file at bytes.now) (Some (state_of self.old)) result (Some (state_of self.new)) }
-        ensures time { Elapses (length self.old.log) (length self.new.log) (LeftSince self.old) (LeftSince self.new) (Some (state_of self.new)) }
+        ensures time { Elapses (shown_in_memory self.old) (shown_in_memory self.new) }
         ensures faults { CountsFaults result self.old.faults self.new.faults }
         ensures calls { Calls (Change.Write file at bytes.now) self.old result self.new }
     {
@@ -337,7 +332,7 @@ impl Disk for MemDisk {
     fn cut(&mut self, file: FileNo, len: u64) -> Result<(), Failed>
         requires { len ≤ length (reads_of (state_of self.old) file) }
         ensures changes { Changes (Change.Cut file len) (Some (state_of self.old)) result (Some (state_of self.new)) }
-        ensures time { Elapses (length self.old.log) (length self.new.log) (LeftSince self.old) (LeftSince self.new) (Some (state_of self.new)) }
+        ensures time { Elapses (shown_in_memory self.old) (shown_in_memory self.new) }
         ensures faults { CountsFaults result self.old.faults self.new.faults }
         ensures calls { Calls (Change.Cut file len) self.old result self.new }
     {
@@ -346,7 +341,7 @@ impl Disk for MemDisk {
 
     fn sync(&mut self, file: FileNo) -> Result<(), Failed>
         ensures changes { Changes (Change.Sync file) (Some (state_of self.old)) result (Some (state_of self.new)) }
-        ensures time { Elapses (length self.old.log) (length self.new.log) (LeftSince self.old) (LeftSince self.new) (Some (state_of self.new)) }
+        ensures time { Elapses (shown_in_memory self.old) (shown_in_memory self.new) }
         ensures faults { CountsFaults result self.old.faults self.new.faults }
         ensures calls { Calls (Change.Sync file) self.old result self.new }
     {

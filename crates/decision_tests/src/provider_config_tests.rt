@@ -1,8 +1,8 @@
 //! What no clause says: configs that others read, and that there is memory for a config.
 
 use provider_config::{
-    ConfigFault, FileRole, IdpFile, Purpose, SignMode, SpFile, Times, read_idp_config,
-    read_sp_config,
+    ConfigFault, FileRole, HubFile, IdpFile, Purpose, SignMode, SpFile, Times, read_hub_config,
+    read_idp_config, read_sp_config,
 };
 use std::alloc::Global;
 use std::process::Abort;
@@ -101,6 +101,30 @@ fn a_config_of_an_identity_provider_is_read(rt: HostRuntime) -> Result<(), Fail>
     assert_eq!(rt; peer.key_out.as_str(), "out");
     assert_eq!(rt;
         read_idp_config(alloc, b"entity a\nidp b\n").err(),
+        Some(ConfigFault::Line(2))
+    );
+    Ok(())
+}
+
+#[test]
+fn a_config_of_a_hub_is_read(rt: HostRuntime) -> Result<(), Fail> {
+    let alloc = rt.alloc();
+    let text =
+        b"entity urn:example:hub\nbase http://127.0.0.1:8082\nlisten 127.0.0.1:8082\npeer sp.xml in out\nid_key id_key\nskew 60\nidp idp.xml\nkey_in key_in\nkey_out key_out\nnext_in next 0 9\n";
+    let lines = read_hub_config(alloc, text)?;
+    assert_eq!(rt; lines.listen.as_str(), "127.0.0.1:8082");
+    assert_eq!(rt; lines.next_in, Some(Times { from: 0, until: 9 }));
+    assert_eq!(rt; lines.files.len(), 6);
+    let Some(HubFile::Peer(peer)) = lines.files.first() else {
+        return Err(Fail::from("no peer"));
+    };
+    assert_eq!(rt; peer.line, 4);
+    let Some(HubFile::Above(SpFile::One(last))) = lines.files.last() else {
+        return Err(Fail::from("no file"));
+    };
+    assert_eq!(rt; last.role, FileRole::NextIn);
+    assert_eq!(rt;
+        read_hub_config(alloc, b"entity a\npolicy b\n").err(),
         Some(ConfigFault::Line(2))
     );
     Ok(())

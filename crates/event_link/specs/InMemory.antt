@@ -1,5 +1,5 @@
 -- Clocks and links in memory.
-use Rattle.std.specs.Prelude.{◌≡◌, ℕ, ◌-◌, ◌≤◌, List, [], ◌∷◌, length}
+use Rattle.std.specs.Prelude.{◌≡◌, ℕ, ◌-◌, ◌≤◌, List, [], ◌∷◌, length, Some}
 use Rattle.std.specs.Option.{unwrap_or}
 use Rattle.std.specs.Map.{lookup}
 use Rattle.std.specs.BTreeMap.{is_at}
@@ -10,7 +10,7 @@ use Rattle.event_link.specs.declared.arrival.Arrival.TheVariants.{Start, Bytes, 
 use Rattle.event_link.specs.declared.faults.Faults.{Faults}
 use Rattle.event_link.specs.declared.link.LinkEvent.{LinkEvent}
 use Rattle.event_link.specs.declared.link.LinkEvent.TheVariants.{Started, Piece, Ended, Stop}
-use Rattle.event_link.specs.Links.{LinkState}
+use Rattle.event_link.specs.Links.{LinkState, LinkShown}
 
 -- a clock in memory
 pub record ClockInMemory : Type 0 where
@@ -74,6 +74,10 @@ sent_on sent conn = unwrap_or (lookup (is_at (nat_cmp conn)) sent) []
 -- what a link in memory tells
 abbrev pub state_of : LinkInMemory → LinkState
 state_of link = record { coming = link.coming; sent = sent_on link.sent }
+
+-- what a link in memory shows
+abbrev pub shown_by_list : LinkInMemory → LinkShown
+shown_by_list link = record { told = Some (state_of link); faults = link.nexts.count; send_faults = link.sends.count }
 
 -- the calls of one kind after one more that went well: the chosen call is one nearer
 abbrev pub nearer : Faults → Faults

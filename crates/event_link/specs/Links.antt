@@ -12,6 +12,14 @@ pub record LinkState : Type 0 where
   -- all bytes that went out on each connection
   pub sent : ℕ → List ℕ
 
+-- What a link shows at a moment.
+pub record LinkShown : Type 0 where
+  -- what is to come and what was sent, where the link tells it
+  pub told : Option LinkState
+  -- how many faults of `listen` and `next` there were, and how many of `send`
+  pub faults : ℕ
+  pub send_faults : ℕ
+
 -- What a `next` gives.
 pub record Given : Type 0 where
   pub event : LinkEvent

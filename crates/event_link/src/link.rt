@@ -1,7 +1,7 @@
 //! Connections: what comes from them and what goes out on them.
-ghost use Rattle.std.specs.Prelude.{◌≡◌, ◌<◌, Option, ℕ, length, IfOk};
+ghost use Rattle.std.specs.Prelude.{◌≡◌, ◌<◌, length, IfOk};
 ghost use Rattle.crash_disk.specs.Counts.{CountsFaults};
-ghost use Rattle.event_link.specs.Links.{LinkState, Fits, Gives, Sends};
+ghost use Rattle.event_link.specs.Links.{LinkShown, Fits, Gives, Sends};
 
 use crash_disk::Failed;
 
@@ -20,20 +20,14 @@ pub enum LinkEvent {
 
 /// Many connections, each with a number.
 pub trait Link {
-    /// What is to come and what was sent, where the object tells it.
-    ghost told: { Self → Option LinkState };
-
-    /// How many faults of `listen` and `next` there were.
-    ghost faults_of: { Self → ℕ };
-
-    /// How many faults of `send` there were.
-    ghost send_faults_of: { Self → ℕ };
+    /// What the link shows: what it tells, and its counts of faults.
+    ghost shows: { Self → LinkShown };
 
     /// Begins to take connections at an address.
     fn listen(&mut self, address: &str) -> Result<(), Failed>
-        ensures same { told self.new ≡ told self.old }
-        ensures faults { CountsFaults result (faults_of self.old) (faults_of self.new) }
-        ensures send_faults { send_faults_of self.new ≡ send_faults_of self.old };
+        ensures same { (shows self.new).told ≡ (shows self.old).told }
+        ensures faults { CountsFaults result (shows self.old).faults (shows self.new).faults }
+        ensures send_faults { (shows self.new).send_faults ≡ (shows self.old).send_faults };
 
     /// The next event. The bytes of a piece are put in front of `into`; of a piece with more bytes than fit those that
     /// fit are given, and the others later. After all events it is Stop, for ever. After Failed all that was to come is
@@ -41,28 +35,28 @@ pub trait Link {
     fn next(&mut self, into: &mut [u8]) -> Result<LinkEvent, Failed>
         requires { 0 < length into.old }
         ensures fits { IfOk result (λ event. Fits event (length into.old)) }
-        ensures gives { Gives (told self.old) into.old result into.new (told self.new) }
-        ensures faults { CountsFaults result (faults_of self.old) (faults_of self.new) }
-        ensures send_faults { send_faults_of self.new ≡ send_faults_of self.old };
+        ensures gives { Gives (shows self.old).told into.old result into.new (shows self.new).told }
+        ensures faults { CountsFaults result (shows self.old).faults (shows self.new).faults }
+        ensures send_faults { (shows self.new).send_faults ≡ (shows self.old).send_faults };
 
     /// Sends bytes on a connection, and nothing on others. After Failed a prefix of the bytes went out.
     fn send(&mut self, conn: u32, bytes: &[u8]) -> Result<(), Failed>
-        ensures sends { Sends conn bytes.now (told self.old) result (told self.new) }
-        ensures faults { faults_of self.new ≡ faults_of self.old }
-        ensures send_faults { CountsFaults result (send_faults_of self.old) (send_faults_of self.new) };
+        ensures sends { Sends conn bytes.now (shows self.old).told result (shows self.new).told }
+        ensures faults { (shows self.new).faults ≡ (shows self.old).faults }
+        ensures send_faults { CountsFaults result (shows self.old).send_faults (shows self.new).send_faults };
 
     /// Closes a connection. It can't fail, and changes nothing that a link tells.
     fn close(&mut self, conn: u32)
-        ensures same { told self.new ≡ told self.old }
-        ensures faults { faults_of self.new ≡ faults_of self.old }
-        ensures send_faults { send_faults_of self.new ≡ send_faults_of self.old };
+        ensures same { (shows self.new).told ≡ (shows self.old).told }
+        ensures faults { (shows self.new).faults ≡ (shows self.old).faults }
+        ensures send_faults { (shows self.new).send_faults ≡ (shows self.old).send_faults };
 
     /// How many faults of `listen` and `next` there were. The count never falls, and stays at 2^64 - 1 once it is
     /// there.
     fn faults(&self) -> u64
-        ensures { result ≡ faults_of self.now };
+        ensures { result ≡ (shows self.now).faults };
 
     /// How many faults of `send` there were. The count never falls, and stays at 2^64 - 1 once it is there.
     fn send_faults(&self) -> u64
-        ensures { result ≡ send_faults_of self.now };
+        ensures { result ≡ (shows self.now).send_faults };
 }

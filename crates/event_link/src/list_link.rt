@@ -2,7 +2,7 @@
 ghost use Rattle.std.specs.Prelude.{◌≡◌, ◌↔◌, ◌<◌, [], ◌∷◌, ◌++◌, Some, length, IfOk, IsErr, IsOk, OnErr, OnOk};
 ghost use Rattle.crash_disk.specs.Counts.{CountsFaults};
 ghost use Rattle.event_link.specs.Links.{Fits, Gives, Sends, next_of};
-ghost use Rattle.event_link.specs.InMemory.{GoesWith, arrival_of, sent_on, state_of, nearer, failed};
+ghost use Rattle.event_link.specs.InMemory.{shown_by_list, GoesWith, arrival_of, sent_on, state_of, nearer, failed};
 
 use crate::faults::Faults;
 use crate::outbox::Outbox;
@@ -83,11 +83,7 @@ impl ListLink {
 }
 
 impl Link for ListLink {
-    ghost told = { λ l. Some (state_of l) };
-
-    ghost faults_of = { λ l. l.nexts.count };
-
-    ghost send_faults_of = { λ l. l.sends.count };
+    ghost shows = { shown_by_list };
 
     /// It does nothing, and never fails.
     fn listen(&mut self, address: &str) -> Result<(), Failed>

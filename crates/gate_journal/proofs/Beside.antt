@@ -4,11 +4,11 @@ use Rattle.std.proofs.Common.{◌≡◌, inl, inr, ⊎_elim, false, ℕ, ◌<◌
 use Rattle.crash_disk.specs.declared.file_no.FileNo.{FileNo}
 use Rattle.crash_disk.specs.declared.file_no.FileNo.TheVariants.{Zero, One}
 use Rattle.crash_disk.specs.Disk.{Image, DiskState, MayLeave, IsSettled, image_of, content, reads_of}
-use Rattle.crash_disk.specs.Moments.{LeavesOnly}
+use Rattle.crash_disk.specs.Moments.{DiskShown, LeavesOnly}
 use Rattle.crash_disk.specs.Steps.{weaker}
 use Rattle.crash_disk.specs.Torn.{other_file, quiet-disk}
 use Rattle.gate_journal.specs.Format.{Committed, Kept, journal, file_of}
-use Rattle.gate_journal.specs.Journal.{Opened, IsOwn, IsOldOrNew}
+use Rattle.gate_journal.specs.Journal.{OpenedJournal, IsOwn, IsOldOrNew}
 use Rattle.gate_journal.specs.Making.{IsBeforeOrBlank, IsBeforeOrMade, IsBlankBeside, IsHolding, IsMade, IsMadeOrBlank, read_of}
 use Rattle.gate_journal.proofs.Owning.{own_settled}
 use Rattle.gate_journal.proofs.Stages.{content-image}
@@ -90,13 +90,14 @@ not_both : (a : List ℕ) → a ≡ [] → a ≡ 0 ∷ [] → ⊥
 not_both a none one = let no : 0 ≡ 1 = ap (length {A = ℕ}) (sym none ∙ one) in absurd (omega (arith, no))
 
 -- two things that each image has
-both : {D : Type 0} (moment : D → ℕ) (left_since : D → ℕ → Image → Type 0) (old new : D) (P Q R : Image → Type 0) → LeavesOnly moment left_since old new P → LeavesOnly moment left_since old new Q
-    → ((image : Image) → P image → Q image → R image) → LeavesOnly moment left_since old new R
-both moment left_since old new P Q R p q leads = record {
+both : {D : Type 0} (shows : D → DiskShown) (old new : D) (P Q R : Image → Type 0) → LeavesOnly shows old new P → LeavesOnly shows old new Q
+    → ((image : Image) → P image → Q image → R image) → LeavesOnly shows old new R
+both shows old new P Q R p q leads = record {
   later = p.later;
   each = λ image left. leads image (p.each image left) (q.each image left);
   before = λ t image le left. ⊎_elim inl (λ has_p. ⊎_elim inl (λ has_q. inr (leads image has_p has_q)) (q.before t image le left)) (p.before t image le left);
   keeps = p.keeps;
+  calls = p.calls;
 }
 
 -- the same of all disks
@@ -110,18 +111,18 @@ module _ (told : Option DiskState) (kept : Kept) (holds : Committed) (reads : If
       go None reads is = tt
       go (Some d) reads is = (held d kept reads is, held_is d kept reads is)
 
-  pub remade_moments : {D : Type 0} (moment : D → ℕ) (left_since : D → ℕ → Image → Type 0) (old new : D)
-      → ((before : Option Committed) (other : List ℕ) → IfSome told (IsHolding (other_file kept.file) before other) → LeavesOnly moment left_since old new (IsBeforeOrMade (other_file kept.file) before holds other))
-      → LeavesOnly moment left_since old new (IsOldOrNew kept (record { file = other_file kept.file; holds = holds }))
-  remade_moments moment left_since old new run = go told reads is run
+  pub remade_moments : {D : Type 0} (shows : D → DiskShown) (old new : D)
+      → ((before : Option Committed) (other : List ℕ) → IfSome told (IsHolding (other_file kept.file) before other) → LeavesOnly shows old new (IsBeforeOrMade (other_file kept.file) before holds other))
+      → LeavesOnly shows old new (IsOldOrNew kept (record { file = other_file kept.file; holds = holds }))
+  remade_moments shows old new run = go told reads is run
     where
       go : (told : Option DiskState) → IfSome told (λ d. MayLeave d (image_of d)) → IfSome told (λ d. IsSettled d × (journal (image_of d) ≡ Ok (Some kept)))
-          → ((before : Option Committed) (other : List ℕ) → IfSome told (IsHolding (other_file kept.file) before other) → LeavesOnly moment left_since old new (IsBeforeOrMade (other_file kept.file) before holds other))
-          → LeavesOnly moment left_since old new (IsOldOrNew kept (record { file = other_file kept.file; holds = holds }))
-      go None reads is run = both moment left_since old new _ _ _ (run None [] tt) (run None (0 ∷ []) tt) (λ image p q. absurd (not_both _ p.1 q.1))
-      go (Some d) reads is run = weaker moment left_since old new _ _ (run (held d kept reads is) (own_bytes d kept reads is) (held_is d kept reads is)) (old_or_new d kept reads is holds newer)
+          → ((before : Option Committed) (other : List ℕ) → IfSome told (IsHolding (other_file kept.file) before other) → LeavesOnly shows old new (IsBeforeOrMade (other_file kept.file) before holds other))
+          → LeavesOnly shows old new (IsOldOrNew kept (record { file = other_file kept.file; holds = holds }))
+      go None reads is run = both shows old new _ _ _ (run None [] tt) (run None (0 ∷ []) tt) (λ image p q. absurd (not_both _ p.1 q.1))
+      go (Some d) reads is run = weaker shows old new _ _ (run (held d kept reads is) (own_bytes d kept reads is) (held_is d kept reads is)) (old_or_new d kept reads is holds newer)
 
-  pub remade_own : (now : Option DiskState) (j : Opened) → j.broken ≡ false → j.kept ≡ record { file = other_file kept.file; holds = holds }
+  pub remade_own : (now : Option DiskState) (j : OpenedJournal) → j.broken ≡ false → j.kept ≡ record { file = other_file kept.file; holds = holds }
       → ((before : Option Committed) (other : List ℕ) → IfSome told (IsHolding (other_file kept.file) before other) → IfSome now (IsMade (other_file kept.file) holds other)) → IsOwn now j
   remade_own None j whole kept_is made = tt
   remade_own (Some n) j whole kept_is made = go told reads is made

@@ -1,10 +1,11 @@
 -- What a crash may leave while the commit is taken off a file.
-use Rattle.std.specs.Prelude.{slice_index, IfSome, None, Some, Ok}
+use Rattle.std.specs.Prelude.{◌==◌, if◌then◌else◌, slice_index, IfSome, None, Some, Ok}
 use Rattle.std.proofs.Common.{◌≡◌, ◌≢◌, ◌⊎◌, inl, inr, Option, ℕ, ◌<◌, ◌≤◌, List, [], ◌∷◌, ◌++◌, length, drop, get_or, refl, sym, ◌∙◌, ap, subst, arith}
 use Rattle.std.proofs.lemmas.Bool.{cases_eq}
 use Rattle.crash_disk.specs.declared.file_no.FileNo.{FileNo}
 use Rattle.crash_disk.specs.declared.change.Change.TheVariants.{Write, Sync}
 use Rattle.crash_disk.specs.Disk.{Image, DiskState, MayLeave, content, reads_of, read_from, after}
+use Rattle.gate_journal.specs.Calls.{closing}
 use Rattle.gate_journal.specs.Format.{Committed, file_of}
 use Rattle.gate_journal.specs.Making.{IsHead, IsAt, IsBeforeOrBlank, IsClosed, IsHolding, Changing, with_commit}
 use Rattle.gate_journal.proofs.Files.{committed-inverse, none-inverse}
@@ -15,6 +16,16 @@ use Rattle.gate_journal.proofs.Holding.{holding_closed}
 pub first_read : (bytes rest : List ℕ) → 1 ≤ length bytes → get_or (read_from bytes 0 1 ++ rest) 0 0 ≡ slice_index bytes 0
 first_read [] rest some = absurd (omega arith)
 first_read (b ∷ bytes) rest some = refl
+
+-- the calls that take the commit off, where the byte that was read says that there is one
+pub closed_open : (file : FileNo) (n : ℕ) (into old : List ℕ) (told : Option DiskState) → IfSome told (λ d. 72 ≤ length (reads_of d file))
+    → IfSome told (λ d. into ≡ read_from (reads_of d file) 0 1 ++ drop n old) → slice_index into 0 ≡ 1 →
+    IfSome told (λ d. Write file 0 (0 ∷ []) ∷ Sync file ∷ [] ≡ closing file (reads_of d file))
+closed_open file n into old None long read one = tt
+closed_open file n into old (Some d) long read one =
+    let first : slice_index (reads_of d file) 0 ≡ 1 =
+    sym (first_read (reads_of d file) (drop n old) (omega (arith, long))) ∙ sym (ap (λ (b : List ℕ). get_or b 0 0) read) ∙ one in
+    sym (ap (λ (k : ℕ). if k == 1 then Write file 0 (0 ∷ []) ∷ Sync file ∷ [] else []) first)
 
 with_commit_same : (bytes : List ℕ) → 1 ≤ length bytes → slice_index bytes 0 ≡ 1 → with_commit bytes ≡ bytes
 with_commit_same [] some first = absurd (omega arith)

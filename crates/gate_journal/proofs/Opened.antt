@@ -9,7 +9,7 @@ use Rattle.crash_disk.specs.Moments.{Leaves}
 use Rattle.gate_journal.specs.Format.{Committed, Kept, Fault, joined, journal, file_of}
 use Rattle.gate_journal.specs.Making.{IsMadeOrBlank, IsMade, first_journal, read_of}
 use Rattle.gate_journal.specs.Opening.{Opens, IsEmptyOrNone}
-use Rattle.gate_journal.specs.Journal.{Opened, IsOwn}
+use Rattle.gate_journal.specs.Journal.{OpenedJournal, IsOwn}
 use Rattle.gate_journal.proofs.Files.{length_blank}
 use Rattle.gate_journal.proofs.Owning.{own_settled}
 
@@ -68,7 +68,7 @@ module _ (told : Option DiskState) (d : DiskState) (is : told ≡ Some d) (reads
       ]
 
 -- the disk of a journal that was found
-pub own_found : (told : Option DiskState) (j : Opened) (zero one : Option Committed) → j.broken ≡ false → IfSome told (λ d. (d' : DiskState) × (d ≡ settled_image (image_of d'))) → IfSome told (λ d. file_of (reads_of d Zero) ≡ Ok zero)
+pub own_found : (told : Option DiskState) (j : OpenedJournal) (zero one : Option Committed) → j.broken ≡ false → IfSome told (λ d. (d' : DiskState) × (d ≡ settled_image (image_of d'))) → IfSome told (λ d. file_of (reads_of d Zero) ≡ Ok zero)
     → IfSome told (λ d. file_of (reads_of d One) ≡ Ok one) → joined (Ok zero) (Ok one) ≡ Ok (Some j.kept) → IsOwn told j
 own_found None j zero one whole settled zero_is one_is found = tt
 own_found (Some d) j zero one whole (d', is) zero_is one_is found =
@@ -82,7 +82,7 @@ synced_told None now is = rw is tt
 synced_told (Some d) now is = rw is (d, refl)
 
 -- the disk of a journal that was made
-pub own_made : (told now : Option DiskState) (j : Opened) (zero one : Option Committed) → j.broken ≡ false → j.kept ≡ record { file = Zero; holds = first_journal } → IfSome told (λ d. file_of (reads_of d One) ≡ Ok one)
+pub own_made : (told now : Option DiskState) (j : OpenedJournal) (zero one : Option Committed) → j.broken ≡ false → j.kept ≡ record { file = Zero; holds = first_journal } → IfSome told (λ d. file_of (reads_of d One) ≡ Ok one)
     → joined (Ok zero) (Ok one) ≡ Ok None → IfSome now (IsMade Zero first_journal (read_of told One)) → IsOwn now j
 own_made told None j zero one whole kept one_is none made = tt
 own_made told (Some n) j zero one whole kept one_is none made =

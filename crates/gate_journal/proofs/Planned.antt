@@ -10,7 +10,7 @@ use Rattle.crash_disk.specs.Disk.{DiskState, reads_of, image_of, settled_image}
 use Rattle.gate_journal.specs.Calls.{putting_header, closing, clearing, beginning, preparing_first, syncing_both, making_first, where_none, opening}
 use Rattle.gate_journal.specs.Making.{fields_bytes, head_bytes, first_journal}
 use Rattle.std.specs.Int.{w32, to_be_bytes}
-use Rattle.gate_journal.specs.Format.{Committed, file_of, joined, journal}
+use Rattle.gate_journal.specs.Format.{Committed, Kept, file_of, joined, journal}
 
 -- a file is shorter than a header, or it is not
 if_short : (bytes : List ℕ) (n : ℕ) (short long : List Change) → n ≡ length bytes → n < 72 → cond (ltb (length bytes) 72) short long ≡ short
@@ -67,3 +67,14 @@ nothing_there (Some d) now zero one is a b none =
     let second : file_of d.one.reads ≡ Ok one = subst (λ (o : Option DiskState). IfSome o (λ d. file_of (reads_of d One) ≡ Ok one)) is b in
     let nothing : journal (image_of d) ≡ Ok None = (λ i. joined (first i) (second i)) ∙ none in
     ap (λ found. syncing_both ++ where_none found (making_first (reads_of d Zero))) (sym nothing)
+
+-- there is a journal, so no more is done
+pub something_there : (told now : Option DiskState) (zero one : Option Committed) (kept : Kept) → IfSome told (λ d. now ≡ Some (settled_image (image_of d))) →
+    IfSome now (λ d. file_of (reads_of d Zero) ≡ Ok zero) → IfSome now (λ d. file_of (reads_of d One) ≡ Ok one) → joined (Ok zero) (Ok one) ≡ Ok (Some kept) →
+    IfSome told (λ d. syncing_both ≡ opening d)
+something_there None now zero one kept is a b some = tt
+something_there (Some d) now zero one kept is a b some =
+    let first : file_of d.zero.reads ≡ Ok zero = subst (λ (o : Option DiskState). IfSome o (λ d. file_of (reads_of d Zero) ≡ Ok zero)) is a in
+    let second : file_of d.one.reads ≡ Ok one = subst (λ (o : Option DiskState). IfSome o (λ d. file_of (reads_of d One) ≡ Ok one)) is b in
+    let there : journal (image_of d) ≡ Ok (Some kept) = (λ i. joined (first i) (second i)) ∙ some in
+    ap (λ found. syncing_both ++ where_none found (making_first (reads_of d Zero))) (sym there)

@@ -6,7 +6,7 @@ use Rattle.crash_disk.specs.Torn.{other_file}
 use Rattle.gate_journal.specs.Format.{Kept, LONGEST_FILE, LONGEST_PAYLOAD, journal, longest_file, longest_payload, end_of, gate_place}
 
 -- an opened journal
-pub record Opened : Type 0 where
+pub record OpenedJournal : Type 0 where
   -- what it holds, and in which file
   pub kept : Kept
   -- how long a payload may be for which there is memory: none where none was reserved since the last record
@@ -20,7 +20,7 @@ room_of kept = LONGEST_FILE - end_of kept.holds.payloads
 
 -- The disk is the journal's own. While it is not broken, a crash leaves what a read gives, which stands for the journal.
 -- While it is broken, each image that a crash may leave stands for some list of records.
-abbrev pub IsOwn : Option DiskState → Opened → Type 0
+abbrev pub IsOwn : Option DiskState → OpenedJournal → Type 0
 IsOwn told j =
     IfSome told (λ disk. MatchBool j.broken
     ((image : Image) → MayLeave disk image → IsOk (journal image))

@@ -22,7 +22,7 @@ impl Journal {
         kept: &[Blob],
         header: Header,
     ) -> Result<(), OpenFault>
-        requires own { IsOwn (D.told disk.old) self.old }
+        requires own { IsOwn (D.shows disk.old).told self.old }
         requires whole { self.old.broken ≡ false }
         requires generation { header.generation ≡ self.old.kept.holds.header.generation + 1 }
         requires writable { IsWritable header }
@@ -31,10 +31,10 @@ impl Journal {
         ensures failed { IsErrOf result OpenFault.DiskFault → self.new ≡ record self.old { broken = true } }
         ensures no_memory { IsErrOf result OpenFault.NoMemory → (self.new ≡ self.old) × (disk.new ≡ disk.old) }
         ensures not_foreign { IfErr result (λ e. open_fault_of e ≡ None) }
-        ensures own { IsOwn (D.told disk.new) self.new }
-        ensures moments { LeavesOnly D.moment D.left_since disk.old disk.new (IsOldOrNew self.old.kept (made_anew kept.now header.horizon header.next self.old.kept)) }
-        ensures faults { CausesFaults result (D.faults_of disk.old) (D.faults_of disk.new) }
-        ensures calls { Follows D.told D.moment D.left_since
+        ensures own { IsOwn (D.shows disk.new).told self.new }
+        ensures moments { LeavesOnly D.shows disk.old disk.new (IsOldOrNew self.old.kept (made_anew kept.now header.horizon header.next self.old.kept)) }
+        ensures faults { CausesFaults result (D.shows disk.old).faults (D.shows disk.new).faults }
+        ensures calls { Follows D.shows
             (remaking (made_anew kept.now header.horizon header.next self.old.kept)) disk.old disk.new result }
     {
         let alloc = self.allocator();
@@ -69,7 +69,7 @@ impl Journal {
         horizon: u64,
         next: u64,
     ) -> Result<(), OpenFault>
-        requires own { IsOwn (D.told disk.old) self.old }
+        requires own { IsOwn (D.shows disk.old).told self.old }
         requires whole { self.old.broken ≡ false }
         requires version { self.old.kept.holds.version ≡ 2 }
         requires generation { self.old.kept.holds.header.generation < 2 ^ 64 - 1 }
@@ -78,11 +78,11 @@ impl Journal {
         ensures failed { IsErrOf result OpenFault.DiskFault → self.new ≡ record self.old { broken = true } }
         ensures no_memory { IsErrOf result OpenFault.NoMemory → (self.new ≡ self.old) × (disk.new ≡ disk.old) }
         ensures not_foreign { IfErr result (λ e. open_fault_of e ≡ None) }
-        ensures own { IsOwn (D.told disk.new) self.new }
+        ensures own { IsOwn (D.shows disk.new).told self.new }
         // A crash at any moment of the call leaves the journal from before it, or the new one.
-        ensures moments { LeavesOnly D.moment D.left_since disk.old disk.new (IsOldOrNew self.old.kept (made_anew kept.now horizon next self.old.kept)) }
-        ensures faults { CausesFaults result (D.faults_of disk.old) (D.faults_of disk.new) }
-        ensures calls { Follows D.told D.moment D.left_since
+        ensures moments { LeavesOnly D.shows disk.old disk.new (IsOldOrNew self.old.kept (made_anew kept.now horizon next self.old.kept)) }
+        ensures faults { CausesFaults result (D.shows disk.old).faults (D.shows disk.new).faults }
+        ensures calls { Follows D.shows
             (remaking (made_anew kept.now horizon next self.old.kept)) disk.old disk.new result }
     {
         let generation = self.header.generation + 1;
@@ -97,7 +97,7 @@ impl Journal {
     /// Makes a journal of version 1 anew in version 2: in its other file, with these payloads, its horizon, its next
     /// number, and the next generation. Its answers are those of `compact`.
     pub fn migrate<D: Disk>(&mut self, disk: &mut D, kept: &[Blob]) -> Result<(), OpenFault>
-        requires own { IsOwn (D.told disk.old) self.old }
+        requires own { IsOwn (D.shows disk.old).told self.old }
         requires whole { self.old.broken ≡ false }
         requires version { self.old.kept.holds.version ≡ 1 }
         requires fits { Fits kept.now }
@@ -105,11 +105,11 @@ impl Journal {
         ensures failed { IsErrOf result OpenFault.DiskFault → self.new ≡ record self.old { broken = true } }
         ensures no_memory { IsErrOf result OpenFault.NoMemory → (self.new ≡ self.old) × (disk.new ≡ disk.old) }
         ensures not_foreign { IfErr result (λ e. open_fault_of e ≡ None) }
-        ensures own { IsOwn (D.told disk.new) self.new }
+        ensures own { IsOwn (D.shows disk.new).told self.new }
         // A crash at any moment of the call leaves the journal from before it, or the new one.
-        ensures moments { LeavesOnly D.moment D.left_since disk.old disk.new (IsOldOrNew self.old.kept (made_anew kept.now self.old.kept.holds.header.horizon self.old.kept.holds.header.next self.old.kept)) }
-        ensures faults { CausesFaults result (D.faults_of disk.old) (D.faults_of disk.new) }
-        ensures calls { Follows D.told D.moment D.left_since
+        ensures moments { LeavesOnly D.shows disk.old disk.new (IsOldOrNew self.old.kept (made_anew kept.now self.old.kept.holds.header.horizon self.old.kept.holds.header.next self.old.kept)) }
+        ensures faults { CausesFaults result (D.shows disk.old).faults (D.shows disk.new).faults }
+        ensures calls { Follows D.shows
             (remaking (made_anew kept.now self.old.kept.holds.header.horizon self.old.kept.holds.header.next self.old.kept)) disk.old disk.new result }
     {
         let header = Header {

@@ -82,9 +82,9 @@ impl Model for Journal {
     ghost use Rattle.std.specs.Prelude.{◌≡◌, ◌+◌, ◌-◌, ◌^◌, ◌<◌, ◌≤◌, [], All, length, vec_capacity};
     ghost use Rattle.std.specs.Option.{ForSome};
     ghost use Rattle.gate_journal.specs.Format.{end_of};
-    ghost use Rattle.gate_journal.specs.Journal.{FitsVersion, Opened};
+    ghost use Rattle.gate_journal.specs.Journal.{FitsVersion, OpenedJournal};
 
-    ghost Value = { Opened };
+    ghost Value = { OpenedJournal };
 
     ghost view = { λ j. record {
       kept = record { file = j.file; holds = record { version = j.version; header = j.header; payloads = j.records.items } };
@@ -188,7 +188,7 @@ impl Journal {
     /// Adds a record. It takes no memory. At `Failed` the journal is broken, and has to be opened again; the disk then
     /// stands for the records with the new one or without.
     pub fn append<D: Disk>(&mut self, disk: &mut D, payload: &[u8]) -> Result<(), Failed>
-        requires own { IsOwn (D.told disk.old) self.old }
+        requires own { IsOwn (D.shows disk.old).told self.old }
         requires whole { self.old.broken ≡ false }
         requires version { self.old.kept.holds.version ≡ 2 }
         requires spare { IsSomeAnd self.old.spare (λ n. length payload.now ≤ n) }
@@ -196,11 +196,11 @@ impl Journal {
         requires room { length payload.now + 5 ≤ room_of self.old.kept }
         ensures ok { OnOk result (self.new ≡ record { kept = kept_with payload.now self.old.kept; spare = None; broken = false }) }
         ensures err { OnErr result (self.new ≡ record self.old { broken = true }) }
-        ensures own { IsOwn (D.told disk.new) self.new }
+        ensures own { IsOwn (D.shows disk.new).told self.new }
         // A crash at any moment of the call leaves the records from before it, with the new one or without.
-        ensures moments { LeavesOnly D.moment D.left_since disk.old disk.new (IsBeforeOrAfter payload.now self.old.kept) }
-        ensures faults { CountsFaults result (D.faults_of disk.old) (D.faults_of disk.new) }
-        ensures calls { Follows D.told D.moment D.left_since (λ _. appending self.old.kept payload.now) disk.old disk.new result }
+        ensures moments { LeavesOnly D.shows disk.old disk.new (IsBeforeOrAfter payload.now self.old.kept) }
+        ensures faults { CountsFaults result (D.shows disk.old).faults (D.shows disk.new).faults }
+        ensures calls { Follows D.shows (λ _. appending self.old.kept payload.now) disk.old disk.new result }
     {
         let gate = gate_before(self.end, &self.records);
         self.broken = true;

@@ -50,10 +50,10 @@ pub(crate) fn head_of(alloc: Global, fields: &[u8]) -> Result<Vec<u8>, NoMemory>
 
 /// Commits a file of which all but the commit was written: a sync, the commit in a write of its own, a sync.
 pub(crate) fn commit<D: Disk>(disk: &mut D, file: FileNo) -> Result<(), Failed>
-    ensures moments { (holds : Committed) (other : List ℕ) → IfSome (D.told disk.old) (IsWritten file holds other) → LeavesOnly D.moment D.left_since disk.old disk.new (IsMadeOrBlank file holds other) }
-    ensures ok { OnOk result ((holds : Committed) (other : List ℕ) → IfSome (D.told disk.old) (IsWritten file holds other) → IfSome (D.told disk.new) (IsMade file holds other)) }
-    ensures faults { CountsFaults result (D.faults_of disk.old) (D.faults_of disk.new) }
-    ensures calls { Follows D.told D.moment D.left_since (λ _. committing file) disk.old disk.new result }
+    ensures moments { (holds : Committed) (other : List ℕ) → IfSome (D.shows disk.old).told (IsWritten file holds other) → LeavesOnly D.shows disk.old disk.new (IsMadeOrBlank file holds other) }
+    ensures ok { OnOk result ((holds : Committed) (other : List ℕ) → IfSome (D.shows disk.old).told (IsWritten file holds other) → IfSome (D.shows disk.new).told (IsMade file holds other)) }
+    ensures faults { CountsFaults result (D.shows disk.old).faults (D.shows disk.new).faults }
+    ensures calls { Follows D.shows (λ _. committing file) disk.old disk.new result }
 {
     disk.sync(file)?;
     disk.write_at(file, 0, &[COMMITTED])?;
@@ -63,10 +63,10 @@ pub(crate) fn commit<D: Disk>(disk: &mut D, file: FileNo) -> Result<(), Failed>
 /// Begins a file that is shorter than a header: all but the last byte of one that is not committed.
 fn lengthen<D: Disk>(disk: &mut D, file: FileNo, head: &[u8]) -> Result<(), Failed>
     requires { length head.now < 72 }
-    ensures moments { (other : List ℕ) → IfSome (D.told disk.old) (IsShort file other) → LeavesOnly D.moment D.left_since disk.old disk.new (IsBlankBeside file other) }
-    ensures ok { OnOk result ((other : List ℕ) → IfSome (D.told disk.old) (IsShort file other) → IfSome (D.told disk.new) (IsAt file head.now other)) }
-    ensures faults { CountsFaults result (D.faults_of disk.old) (D.faults_of disk.new) }
-    ensures calls { Follows D.told D.moment D.left_since (λ _. lengthening file head.now) disk.old disk.new result }
+    ensures moments { (other : List ℕ) → IfSome (D.shows disk.old).told (IsShort file other) → LeavesOnly D.shows disk.old disk.new (IsBlankBeside file other) }
+    ensures ok { OnOk result ((other : List ℕ) → IfSome (D.shows disk.old).told (IsShort file other) → IfSome (D.shows disk.new).told (IsAt file head.now other)) }
+    ensures faults { CountsFaults result (D.shows disk.old).faults (D.shows disk.new).faults }
+    ensures calls { Follows D.shows (λ _. lengthening file head.now) disk.old disk.new result }
 {
     disk.cut(file, 0)?;
     disk.sync(file)?;
@@ -78,11 +78,11 @@ fn lengthen<D: Disk>(disk: &mut D, file: FileNo, head: &[u8]) -> Result<(), Fail
 /// synced the last byte, which is not looked at.
 pub(crate) fn put_head<D: Disk>(disk: &mut D, file: FileNo, head: &[u8]) -> Result<(), Failed>
     requires head { IsUnfinished head.now }
-    requires short { IfSome (D.told disk.old) (λ d. IsShort file (reads_of d (other_file file)) d) }
-    ensures moments { (other : List ℕ) → IfSome (D.told disk.old) (IsShort file other) → LeavesOnly D.moment D.left_since disk.old disk.new (IsBlankBeside file other) }
-    ensures ok { OnOk result ((other : List ℕ) → IfSome (D.told disk.old) (IsShort file other) → IfSome (D.told disk.new) (Changing (IsBlankBeside file other) file (overwritten head.now 71 (0 ∷ [])) other)) }
-    ensures faults { CountsFaults result (D.faults_of disk.old) (D.faults_of disk.new) }
-    ensures calls { Follows D.told D.moment D.left_since (λ _. putting_header file head.now) disk.old disk.new result }
+    requires short { IfSome (D.shows disk.old).told (λ d. IsShort file (reads_of d (other_file file)) d) }
+    ensures moments { (other : List ℕ) → IfSome (D.shows disk.old).told (IsShort file other) → LeavesOnly D.shows disk.old disk.new (IsBlankBeside file other) }
+    ensures ok { OnOk result ((other : List ℕ) → IfSome (D.shows disk.old).told (IsShort file other) → IfSome (D.shows disk.new).told (Changing (IsBlankBeside file other) file (overwritten head.now 71 (0 ∷ [])) other)) }
+    ensures faults { CountsFaults result (D.shows disk.old).faults (D.shows disk.new).faults }
+    ensures calls { Follows D.shows (λ _. putting_header file head.now) disk.old disk.new result }
 {
     lengthen(disk, file, head)?;
     disk.write_at(file, HEAD_END, &[0])
@@ -90,12 +90,12 @@ pub(crate) fn put_head<D: Disk>(disk: &mut D, file: FileNo, head: &[u8]) -> Resu
 
 /// Begins a file anew that has a header and is not committed: it is cut to the header, and then its fields are written.
 pub(crate) fn begin_anew<D: Disk>(disk: &mut D, file: FileNo, fields: &[u8]) -> Result<(), Failed>
-    requires long { IfSome (D.told disk.old) (λ d. 72 ≤ length (reads_of d file)) }
+    requires long { IfSome (D.shows disk.old).told (λ d. 72 ≤ length (reads_of d file)) }
     requires fields { length fields.now ≡ 63 }
-    ensures moments { (other : List ℕ) → IfSome (D.told disk.old) (IsClosed file other) → LeavesOnly D.moment D.left_since disk.old disk.new (IsBlankBeside file other) }
-    ensures ok { OnOk result ((other : List ℕ) → IfSome (D.told disk.old) (IsClosed file other) → IfSome (D.told disk.new) (IsFilling file fields.now [] other)) }
-    ensures faults { CountsFaults result (D.faults_of disk.old) (D.faults_of disk.new) }
-    ensures calls { Follows D.told D.moment D.left_since (λ _. beginning file fields.now) disk.old disk.new result }
+    ensures moments { (other : List ℕ) → IfSome (D.shows disk.old).told (IsClosed file other) → LeavesOnly D.shows disk.old disk.new (IsBlankBeside file other) }
+    ensures ok { OnOk result ((other : List ℕ) → IfSome (D.shows disk.old).told (IsClosed file other) → IfSome (D.shows disk.new).told (IsFilling file fields.now [] other)) }
+    ensures faults { CountsFaults result (D.shows disk.old).faults (D.shows disk.new).faults }
+    ensures calls { Follows D.shows (λ _. beginning file fields.now) disk.old disk.new result }
 {
     disk.cut(file, HEAD)?;
     disk.sync(file)?;

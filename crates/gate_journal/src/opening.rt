@@ -27,10 +27,10 @@ const TOO_LONG: u64 = 134_217_729;
 
 /// Syncs both files, so that a crash leaves what a read gives.
 fn sync_both<D: Disk>(disk: &mut D) -> Result<(), Failed>
-    ensures ok { OnOk result (D.told disk.new ≡ option_map (λ d. settled_image (image_of d)) (D.told disk.old)) }
-    ensures moments { LeavesOnly D.moment D.left_since disk.old disk.new (Leaves (D.told disk.old)) }
-    ensures faults { CountsFaults result (D.faults_of disk.old) (D.faults_of disk.new) }
-    ensures calls { Follows D.told D.moment D.left_since (λ _. syncing_both) disk.old disk.new result }
+    ensures ok { OnOk result ((D.shows disk.new).told ≡ option_map (λ d. settled_image (image_of d)) (D.shows disk.old).told) }
+    ensures moments { LeavesOnly D.shows disk.old disk.new (Leaves (D.shows disk.old).told) }
+    ensures faults { CountsFaults result (D.shows disk.old).faults (D.shows disk.new).faults }
+    ensures calls { Follows D.shows (λ _. syncing_both) disk.old disk.new result }
 {
     disk.sync(FileNo::Zero)?;
     disk.sync(FileNo::One)
@@ -38,11 +38,11 @@ fn sync_both<D: Disk>(disk: &mut D) -> Result<(), Failed>
 
 /// The bytes of a file, or the first of them where it is too long.
 fn read_whole<D: Disk>(alloc: Global, disk: &mut D, file: FileNo) -> Result<Vec<u8>, OpenFault>
-    ensures bytes { IfOk result (λ bytes. IfSome (D.told disk.old) (λ d. bytes.items ≡ take 134217729 (reads_of d file))) }
+    ensures bytes { IfOk result (λ bytes. IfSome (D.shows disk.old).told (λ d. bytes.items ≡ take 134217729 (reads_of d file))) }
     ensures no_fault { IfErr result (λ e. open_fault_of e ≡ None) }
-    ensures same { D.told disk.new ≡ D.told disk.old }
-    ensures moments { LeavesOnly D.moment D.left_since disk.old disk.new (Leaves (D.told disk.old)) }
-    ensures faults { CausesFaults result (D.faults_of disk.old) (D.faults_of disk.new) }
+    ensures same { (D.shows disk.new).told ≡ (D.shows disk.old).told }
+    ensures moments { LeavesOnly D.shows disk.old disk.new (Leaves (D.shows disk.old).told) }
+    ensures faults { CausesFaults result (D.shows disk.old).faults (D.shows disk.new).faults }
 {
     let size = disk.length(file)?.min(TOO_LONG);
     let mut bytes = vec![in alloc; 0; size as usize]?;
@@ -53,10 +53,10 @@ fn read_whole<D: Disk>(alloc: Global, disk: &mut D, file: FileNo) -> Result<Vec<
 
 /// What a file of the disk holds, where it is committed.
 fn load<D: Disk>(alloc: Global, disk: &mut D, file: FileNo) -> Result<Option<Stored>, OpenFault>
-    ensures gives { IfSome (D.told disk.old) (λ d. MatchResult result (λ found. file_of (reads_of d file) ≡ Ok found) (FaultIs (file_of (reads_of d file)) file)) }
-    ensures same { D.told disk.new ≡ D.told disk.old }
-    ensures moments { LeavesOnly D.moment D.left_since disk.old disk.new (Leaves (D.told disk.old)) }
-    ensures faults { CausesFaults result (D.faults_of disk.old) (D.faults_of disk.new) }
+    ensures gives { IfSome (D.shows disk.old).told (λ d. MatchResult result (λ found. file_of (reads_of d file) ≡ Ok found) (FaultIs (file_of (reads_of d file)) file)) }
+    ensures same { (D.shows disk.new).told ≡ (D.shows disk.old).told }
+    ensures moments { LeavesOnly D.shows disk.old disk.new (Leaves (D.shows disk.old).told) }
+    ensures faults { CausesFaults result (D.shows disk.old).faults (D.shows disk.new).faults }
 {
     let bytes = read_whole(alloc, disk, file)?;
     match read_file(alloc, &bytes) {
@@ -104,14 +104,14 @@ const FIRST: Header = Header {
 
 /// Writes all of the first journal but its commit to file 0, which holds none.
 fn prepare_first<D: Disk>(disk: &mut D, head: &[u8], fields: &[u8]) -> Result<(), Failed>
-    requires quiet { IfSome (D.told disk.old) IsQuietDisk }
-    requires none { file_of (read_of (D.told disk.old) FileNo.Zero) ≡ Ok None }
+    requires quiet { IfSome (D.shows disk.old).told IsQuietDisk }
+    requires none { file_of (read_of (D.shows disk.old).told FileNo.Zero) ≡ Ok None }
     requires head { head.now ≡ head_bytes FIRST 0 }
     requires fields { fields.now ≡ fields_bytes FIRST 0 }
-    ensures moments { LeavesOnly D.moment D.left_since disk.old disk.new (IsBlankBeside FileNo.Zero (read_of (D.told disk.old) FileNo.One)) }
-    ensures ok { OnOk result (IfSome (D.told disk.new) (IsWritten FileNo.Zero first_journal (read_of (D.told disk.old) FileNo.One))) }
-    ensures faults { CountsFaults result (D.faults_of disk.old) (D.faults_of disk.new) }
-    ensures calls { Follows D.told D.moment D.left_since (λ d. preparing_first (reads_of d FileNo.Zero)) disk.old disk.new result }
+    ensures moments { LeavesOnly D.shows disk.old disk.new (IsBlankBeside FileNo.Zero (read_of (D.shows disk.old).told FileNo.One)) }
+    ensures ok { OnOk result (IfSome (D.shows disk.new).told (IsWritten FileNo.Zero first_journal (read_of (D.shows disk.old).told FileNo.One))) }
+    ensures faults { CountsFaults result (D.shows disk.old).faults (D.shows disk.new).faults }
+    ensures calls { Follows D.shows (λ d. preparing_first (reads_of d FileNo.Zero)) disk.old disk.new result }
 {
     if disk.length(FileNo::Zero)? < HEAD_LENGTH {
         put_head(disk, FileNo::Zero, head)
@@ -122,13 +122,13 @@ fn prepare_first<D: Disk>(disk: &mut D, head: &[u8], fields: &[u8]) -> Result<()
 
 /// Makes the first journal in file 0, where the two files hold none.
 fn make_first<D: Disk>(alloc: Global, disk: &mut D) -> Result<(), OpenFault>
-    requires quiet { IfSome (D.told disk.old) IsQuietDisk }
-    requires none { file_of (read_of (D.told disk.old) FileNo.Zero) ≡ Ok None }
-    ensures moments { LeavesOnly D.moment D.left_since disk.old disk.new (IsMadeOrBlank FileNo.Zero first_journal (read_of (D.told disk.old) FileNo.One)) }
-    ensures ok { OnOk result (IfSome (D.told disk.new) (IsMade FileNo.Zero first_journal (read_of (D.told disk.old) FileNo.One))) }
+    requires quiet { IfSome (D.shows disk.old).told IsQuietDisk }
+    requires none { file_of (read_of (D.shows disk.old).told FileNo.Zero) ≡ Ok None }
+    ensures moments { LeavesOnly D.shows disk.old disk.new (IsMadeOrBlank FileNo.Zero first_journal (read_of (D.shows disk.old).told FileNo.One)) }
+    ensures ok { OnOk result (IfSome (D.shows disk.new).told (IsMade FileNo.Zero first_journal (read_of (D.shows disk.old).told FileNo.One))) }
     ensures no_fault { IfErr result (λ e. open_fault_of e ≡ None) }
-    ensures faults { CausesFaults result (D.faults_of disk.old) (D.faults_of disk.new) }
-    ensures calls { Follows D.told D.moment D.left_since (λ d. making_first (reads_of d FileNo.Zero)) disk.old disk.new result }
+    ensures faults { CausesFaults result (D.shows disk.old).faults (D.shows disk.new).faults }
+    ensures calls { Follows D.shows (λ d. making_first (reads_of d FileNo.Zero)) disk.old disk.new result }
 {
     let fields = fields_of(alloc, &FIRST, CLOSED)?;
     let head = head_of(alloc, &fields)?;
@@ -143,15 +143,15 @@ fn make_first<D: Disk>(alloc: Global, disk: &mut D) -> Result<(), OpenFault>
 /// It answers [`OpenFault::Foreign`] where the files are no journal, [`OpenFault::DiskFault`] only where the disk's
 /// count of faults rose.
 pub fn open_journal<D: Disk>(alloc: Global, disk: &mut D) -> Result<Journal, OpenFault>
-    ensures gives { IfSome (D.told disk.old) (λ d. Gives (λ j. j.kept) open_fault_of result (opened (journal (image_of d)))) }
+    ensures gives { IfSome (D.shows disk.old).told (λ d. Gives (λ j. j.kept) open_fault_of result (opened (journal (image_of d)))) }
     ensures whole { IfOk result (λ j. (j.broken ≡ false) × (j.spare ≡ None)) }
-    ensures own { IfOk result (λ j. IsOwn (D.told disk.new) j) }
+    ensures own { IfOk result (λ j. IsOwn (D.shows disk.new).told j) }
     // A crash at any moment of the call leaves what an image of the disk at its start stood for.
-    ensures moments { IfSome (D.told disk.old) (λ d. LeavesOnly D.moment D.left_since disk.old disk.new (Opens d)) }
+    ensures moments { IfSome (D.shows disk.old).told (λ d. LeavesOnly D.shows disk.old disk.new (Opens d)) }
     // Of a disk that does not tell, none is told but of an empty journal that is made.
-    ensures untold { IfNone (D.told disk.old) (LeavesOnly D.moment D.left_since disk.old disk.new IsEmptyOrNone) }
-    ensures faults { CausesFaults result (D.faults_of disk.old) (D.faults_of disk.new) }
-    ensures calls { Follows D.told D.moment D.left_since opening disk.old disk.new result }
+    ensures untold { IfNone (D.shows disk.old).told (LeavesOnly D.shows disk.old disk.new IsEmptyOrNone) }
+    ensures faults { CausesFaults result (D.shows disk.old).faults (D.shows disk.new).faults }
+    ensures calls { Follows D.shows opening disk.old disk.new result }
 {
     sync_both(disk)?;
     let zero = load(alloc, disk, FileNo::Zero)?;
@@ -168,14 +168,14 @@ pub fn open_journal<D: Disk>(alloc: Global, disk: &mut D) -> Result<Journal, Ope
 impl Journal {
     /// Opens the journal again, as `open_journal` does. At an error it is broken, and else as it was.
     pub fn reopen<D: Disk>(&mut self, disk: &mut D) -> Result<(), OpenFault>
-        ensures gives { IfSome (D.told disk.old) (λ d. Gives (λ _. self.new.kept) open_fault_of result (opened (journal (image_of d)))) }
+        ensures gives { IfSome (D.shows disk.old).told (λ d. Gives (λ _. self.new.kept) open_fault_of result (opened (journal (image_of d)))) }
         ensures whole { OnOk result ((self.new.broken ≡ false) × (self.new.spare ≡ None)) }
-        ensures own { OnOk result (IsOwn (D.told disk.new) self.new) }
+        ensures own { OnOk result (IsOwn (D.shows disk.new).told self.new) }
         ensures err { OnErr result (self.new ≡ record self.old { broken = true }) }
         // A crash at any moment of the call leaves what an image of the disk at its start stood for.
-        ensures moments { IfSome (D.told disk.old) (λ d. LeavesOnly D.moment D.left_since disk.old disk.new (Opens d)) }
-        ensures faults { CausesFaults result (D.faults_of disk.old) (D.faults_of disk.new) }
-        ensures calls { Follows D.told D.moment D.left_since opening disk.old disk.new result }
+        ensures moments { IfSome (D.shows disk.old).told (λ d. LeavesOnly D.shows disk.old disk.new (Opens d)) }
+        ensures faults { CausesFaults result (D.shows disk.old).faults (D.shows disk.new).faults }
+        ensures calls { Follows D.shows opening disk.old disk.new result }
     {
         let alloc = self.allocator();
         match open_journal(alloc, disk) {

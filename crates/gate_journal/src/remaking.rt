@@ -73,11 +73,11 @@ pub(crate) fn first_gate(records: &[Record]) -> u8
 
 /// Takes the commit off a file that has one. At every moment the file holds what it held before, or no journal.
 fn close<D: Disk>(disk: &mut D, file: FileNo) -> Result<(), Failed>
-    requires { IfSome (D.told disk.old) (λ d. 72 ≤ length (reads_of d file)) }
-    ensures moments { (before : Option Committed) (other : List ℕ) → IfSome (D.told disk.old) (IsHolding file before other) → LeavesOnly D.moment D.left_since disk.old disk.new (IsBeforeOrBlank file before other) }
-    ensures ok { OnOk result ((before : Option Committed) (other : List ℕ) → IfSome (D.told disk.old) (IsHolding file before other) → IfSome (D.told disk.new) (IsClosed file other)) }
-    ensures faults { CountsFaults result (D.faults_of disk.old) (D.faults_of disk.new) }
-    ensures calls { Follows D.told D.moment D.left_since (λ d. closing file (reads_of d file)) disk.old disk.new result }
+    requires { IfSome (D.shows disk.old).told (λ d. 72 ≤ length (reads_of d file)) }
+    ensures moments { (before : Option Committed) (other : List ℕ) → IfSome (D.shows disk.old).told (IsHolding file before other) → LeavesOnly D.shows disk.old disk.new (IsBeforeOrBlank file before other) }
+    ensures ok { OnOk result ((before : Option Committed) (other : List ℕ) → IfSome (D.shows disk.old).told (IsHolding file before other) → IfSome (D.shows disk.new).told (IsClosed file other)) }
+    ensures faults { CountsFaults result (D.shows disk.old).faults (D.shows disk.new).faults }
+    ensures calls { Follows D.shows (λ d. closing file (reads_of d file)) disk.old disk.new result }
 {
     let mut first = [0];
     disk.read_at(file, 0, &mut first)?;
@@ -91,11 +91,11 @@ fn close<D: Disk>(disk: &mut D, file: FileNo) -> Result<(), Failed>
 /// Makes a file one that has a header and is not committed.
 fn clear<D: Disk>(disk: &mut D, file: FileNo, head: &[u8]) -> Result<(), Failed>
     requires head { IsUnfinished head.now }
-    requires holding { IfSome (D.told disk.old) (λ d. (before : Option Committed) × IsHolding file before (reads_of d (other_file file)) d) }
-    ensures moments { (before : Option Committed) (other : List ℕ) → IfSome (D.told disk.old) (IsHolding file before other) → LeavesOnly D.moment D.left_since disk.old disk.new (IsBeforeOrBlank file before other) }
-    ensures ok { OnOk result ((before : Option Committed) (other : List ℕ) → IfSome (D.told disk.old) (IsHolding file before other) → IfSome (D.told disk.new) (IsClosed file other)) }
-    ensures faults { CountsFaults result (D.faults_of disk.old) (D.faults_of disk.new) }
-    ensures calls { Follows D.told D.moment D.left_since (λ d. clearing file head.now (reads_of d file)) disk.old disk.new result }
+    requires holding { IfSome (D.shows disk.old).told (λ d. (before : Option Committed) × IsHolding file before (reads_of d (other_file file)) d) }
+    ensures moments { (before : Option Committed) (other : List ℕ) → IfSome (D.shows disk.old).told (IsHolding file before other) → LeavesOnly D.shows disk.old disk.new (IsBeforeOrBlank file before other) }
+    ensures ok { OnOk result ((before : Option Committed) (other : List ℕ) → IfSome (D.shows disk.old).told (IsHolding file before other) → IfSome (D.shows disk.new).told (IsClosed file other)) }
+    ensures faults { CountsFaults result (D.shows disk.old).faults (D.shows disk.new).faults }
+    ensures calls { Follows D.shows (λ d. clearing file head.now (reads_of d file)) disk.old disk.new result }
 {
     if disk.length(file)? >= HEAD {
         return close(disk, file);
@@ -113,14 +113,14 @@ fn fill<D: Disk>(
     records: &[Record],
     body: &mut Vec<u8>,
 ) -> Result<(), Failed>
-    requires closed { IfSome (D.told disk.old) (λ d. IsClosed file (reads_of d (other_file file)) d) }
+    requires closed { IfSome (D.shows disk.old).told (λ d. IsClosed file (reads_of d (other_file file)) d) }
     requires fields { length fields.now ≡ 63 }
     requires fits { Fits records.now }
     requires room { All (λ payload. length payload + 5 ≤ vec_capacity body.old) records.now }
-    ensures moments { (other : List ℕ) → IfSome (D.told disk.old) (IsClosed file other) → LeavesOnly D.moment D.left_since disk.old disk.new (IsBlankBeside file other) }
-    ensures ok { OnOk result ((other : List ℕ) → IfSome (D.told disk.old) (IsClosed file other) → IfSome (D.told disk.new) (IsFilling file fields.now (bodies_of records.now) other)) }
-    ensures faults { CountsFaults result (D.faults_of disk.old) (D.faults_of disk.new) }
-    ensures calls { Follows D.told D.moment D.left_since (λ _. filling file fields.now records.now) disk.old disk.new result }
+    ensures moments { (other : List ℕ) → IfSome (D.shows disk.old).told (IsClosed file other) → LeavesOnly D.shows disk.old disk.new (IsBlankBeside file other) }
+    ensures ok { OnOk result ((other : List ℕ) → IfSome (D.shows disk.old).told (IsClosed file other) → IfSome (D.shows disk.new).told (IsFilling file fields.now (bodies_of records.now) other)) }
+    ensures faults { CountsFaults result (D.shows disk.old).faults (D.shows disk.new).faults }
+    ensures calls { Follows D.shows (λ _. filling file fields.now records.now) disk.old disk.new result }
 {
     begin_anew(disk, file, fields)?;
     let mut at = HEAD;
@@ -148,11 +148,11 @@ pub(crate) fn make_beside<D: Disk>(
     requires fields { length fields.now ≡ 63 }
     requires fits { Fits records.now }
     requires room { All (λ payload. length payload + 5 ≤ vec_capacity body.old) records.now }
-    requires holding { IfSome (D.told disk.old) (λ d. (before : Option Committed) × IsHolding file before (reads_of d (other_file file)) d) }
-    ensures moments { (before : Option Committed) (header : Header) (other : List ℕ) → fields.now ≡ fields_bytes header (gate_of records.now) → IsWritable header → IfSome (D.told disk.old) (IsHolding file before other) → LeavesOnly D.moment D.left_since disk.old disk.new (IsBeforeOrMade file before (record { version = 2; header = header; payloads = records.now }) other) }
-    ensures ok { OnOk result ((before : Option Committed) (header : Header) (other : List ℕ) → fields.now ≡ fields_bytes header (gate_of records.now) → IsWritable header → IfSome (D.told disk.old) (IsHolding file before other) → IfSome (D.told disk.new) (IsMade file (record { version = 2; header = header; payloads = records.now }) other)) }
-    ensures faults { CountsFaults result (D.faults_of disk.old) (D.faults_of disk.new) }
-    ensures calls { Follows D.told D.moment D.left_since
+    requires holding { IfSome (D.shows disk.old).told (λ d. (before : Option Committed) × IsHolding file before (reads_of d (other_file file)) d) }
+    ensures moments { (before : Option Committed) (header : Header) (other : List ℕ) → fields.now ≡ fields_bytes header (gate_of records.now) → IsWritable header → IfSome (D.shows disk.old).told (IsHolding file before other) → LeavesOnly D.shows disk.old disk.new (IsBeforeOrMade file before (record { version = 2; header = header; payloads = records.now }) other) }
+    ensures ok { OnOk result ((before : Option Committed) (header : Header) (other : List ℕ) → fields.now ≡ fields_bytes header (gate_of records.now) → IsWritable header → IfSome (D.shows disk.old).told (IsHolding file before other) → IfSome (D.shows disk.new).told (IsMade file (record { version = 2; header = header; payloads = records.now }) other)) }
+    ensures faults { CountsFaults result (D.shows disk.old).faults (D.shows disk.new).faults }
+    ensures calls { Follows D.shows
         (λ d. making_beside file head.now fields.now records.now (reads_of d file)) disk.old disk.new result }
 {
     clear(disk, file, head)?;

@@ -38,12 +38,12 @@ pub(crate) fn write_record<D: Disk>(
 ) -> Result<(), Failed>
     requires room { length payload.now + 5 ≤ vec_capacity body.old }
     requires small { length payload.now < 2 ^ 32 }
-    requires ready { IfSome (D.told disk.old) (IsReadyFor file end gate payload.now) }
-    ensures moments { LeavesOnly D.moment D.left_since disk.old disk.new (λ image. IsSomeAnd (D.told disk.old) (λ d. WithOrWithout payload.now d image)) }
-    ensures ok { OnOk result (MatchOption (D.told disk.old) (D.told disk.new ≡ None) (λ d. IsSomeAnd (D.told disk.new) (Gained payload.now d))) }
-    ensures faults { CountsFaults result (D.faults_of disk.old) (D.faults_of disk.new) }
+    requires ready { IfSome (D.shows disk.old).told (IsReadyFor file end gate payload.now) }
+    ensures moments { LeavesOnly D.shows disk.old disk.new (λ image. IsSomeAnd (D.shows disk.old).told (λ d. WithOrWithout payload.now d image)) }
+    ensures ok { OnOk result (MatchOption (D.shows disk.old).told ((D.shows disk.new).told ≡ None) (λ d. IsSomeAnd (D.shows disk.new).told (Gained payload.now d))) }
+    ensures faults { CountsFaults result (D.shows disk.old).faults (D.shows disk.new).faults }
     ensures capacity { vec_capacity body.old ≤ vec_capacity body.new }
-    ensures calls { Follows D.told D.moment D.left_since (λ _. writing_record file end gate payload.now) disk.old disk.new result }
+    ensures calls { Follows D.shows (λ _. writing_record file end gate payload.now) disk.old disk.new result }
 {
     fill_body(body, payload, CLOSED);
     disk.write_at(file, end, body)?;

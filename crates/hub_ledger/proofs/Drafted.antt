@@ -27,7 +27,7 @@ use Rattle.hub_ledger.specs.Ids.{AreLoginIds, AreRequestIds}
 use Rattle.hub_ledger.specs.RowsOf.{Route, asked_rows, below_rows, opened_rows, routes, rows_of}
 use Rattle.hub_ledger.specs.Finding.{routed_row}
 use Rattle.hub_ledger.specs.Record.{drawn, goes_to, is_free, is_routed, moments, next_of, of_attribute, of_option, same_option, texts, AreRecords, AreRecordsAfter, LAST, hub_rules}
-use Rattle.hub_ledger.specs.Ledger.{Held, Opened, next_number}
+use Rattle.hub_ledger.specs.Ledger.{Held, OpenedLedger, next_number}
 use Rattle.hub_ledger.specs.Drafts.{backed, backed_with, passed_with, routed, routed_with, spoke, AreSessionTexts, Drafts, IsDraftable, IsXmlBelow}
 use Rattle.hub_ledger.proofs.Words.{is_record-is, parts}
 
@@ -259,7 +259,7 @@ text_alike a b same = omega (arith, length-append (count (length a)) a, length-a
 id_57 : (key : List ℕ) (kind : Kind) (n : ℕ) (id : List ℕ) → length id ≡ 57 → length id ≡ length (id_text key kind n)
 id_57 key kind n id long = long ∙ sym (id_long key kind n)
 
-refused_alike : (old new : Opened) (one other : HubRecord) → length (hub_bytes one) ≡ length (hub_bytes other) → (old_kind : Rattle.hub_ledger.specs.RowsOf.rows_of_kind (rows_of old.held.records) one ≡ Rattle.hub_ledger.specs.RowsOf.rows_of_kind (rows_of old.held.records) other)
+refused_alike : (old new : OpenedLedger) (one other : HubRecord) → length (hub_bytes one) ≡ length (hub_bytes other) → (old_kind : Rattle.hub_ledger.specs.RowsOf.rows_of_kind (rows_of old.held.records) one ≡ Rattle.hub_ledger.specs.RowsOf.rows_of_kind (rows_of old.held.records) other)
     → (All BelowEnd (drawn one) → ⊥) → (All BelowEnd (drawn other) → ⊥)
     → (result : Result HubRecord DraftFault) → Drafts old new one result → Drafts old new other result
 refused_alike old new one other long kind past past' (Ok drafted) is = absurd (past is.can.fits.numbers)
@@ -269,7 +269,7 @@ refused_alike old new one other long kind past past' (Err (JournalFull len room 
     (ap Rattle.record_ledger.specs.Drafts.is_most (sym kind) ∙ is.0, λ fits. past' fits.numbers, is.2 ∙ ap capped long, is.3, is.4)
 refused_alike old new one other long kind past past' (Err NoMemory) is = tt
 
-pub routed_drafts : (old new : Opened) (key : List ℕ) (next now : ℕ) (ids : RequestIds) (below : BelowRow) (result : Result HubRecord DraftFault)
+pub routed_drafts : (old new : OpenedLedger) (key : List ℕ) (next now : ℕ) (ids : RequestIds) (below : BelowRow) (result : Result HubRecord DraftFault)
     → AreRequestIds key next ids → Drafts old new (routed_with next now ids below) result → Drafts old new (routed key next now below) result
 routed_drafts old new key next now ids below result are is =
     let with : List ℕ → List ℕ → HubRecord = λ (a : List ℕ) (b : List ℕ). routed_with next now (record { request = a; relay = b }) below in
@@ -302,7 +302,7 @@ routed_drafts old new key next now ids below result are is =
         let less = All-head BelowEnd two [] (All-tail BelowEnd one (two ∷ []) all) in
         absurd (omega (arith, past, less))
 
-pub backed_drafts : (old new : Opened) (key : List ℕ) (next now : ℕ) (ids : LoginIds) (below : BelowRow) (session : NewSession) (result : Result HubRecord DraftFault)
+pub backed_drafts : (old new : OpenedLedger) (key : List ℕ) (next now : ℕ) (ids : LoginIds) (below : BelowRow) (session : NewSession) (result : Result HubRecord DraftFault)
     → AreLoginIds key next ids → Drafts old new (backed_with next now ids below session) result → Drafts old new (backed key next now below session) result
 backed_drafts old new key next now ids below session result are is =
     let with : List ℕ → List ℕ → List ℕ → HubRecord =

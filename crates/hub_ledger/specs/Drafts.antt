@@ -16,7 +16,7 @@ use Rattle.hub_ledger.specs.declared.ids.RequestIds.{RequestIds}
 use Rattle.hub_ledger.specs.Ids.{login_ids, request_ids}
 use Rattle.hub_ledger.specs.Record.{LAST, hub_rules}
 use Rattle.hub_ledger.specs.Standing.{hub_row_rules}
-use Rattle.hub_ledger.specs.Ledger.{Held, Opened}
+use Rattle.hub_ledger.specs.Ledger.{Held, OpenedLedger}
 pub use Rattle.ledger_rules.specs.Moments.{LIFE}
 pub use Rattle.request_ledger.specs.Drafts.{key_of, AreSessionTexts}
 
@@ -82,11 +82,11 @@ spoke key next now below = kinds.Spoke (record {
 })
 
 -- what a draft call answers: a draft of this record, or the cause of the refusal
-abbrev pub Drafts : Opened → Opened → HubRecord → Result HubRecord DraftFault → Type 0
+abbrev pub Drafts : OpenedLedger → OpenedLedger → HubRecord → Result HubRecord DraftFault → Type 0
 Drafts = any.Drafts hub_rules hub_row_rules
 
 -- a draft call changes nothing but the memory that is ready
-abbrev pub SameLedger : Opened → Opened → Type 0
+abbrev pub SameLedger : OpenedLedger → OpenedLedger → Type 0
 SameLedger = any.SameLedger
 
 -- A record that may be drafted: one of the ledger where its numbers are below the end, and these were not drawn before.

@@ -2,17 +2,17 @@
 ghost use Rattle.std.specs.Prelude.{◌≡◌, IsSome, Some};
 ghost use Rattle.hub_ledger.specs.Draft.{backed_in, first_id, second_id};
 
-use crate::standing::Standing;
+use crate::standing::HubStanding;
 use ledger_records::HubRecord;
 use ledger_records::hub_record::Backed;
-use record_ledger::Drafted;
+use record_ledger::DraftedRecord;
 use saml_ids::Id;
 use std::marker::Model;
 
 /// A record that was drafted, and the IDs of it that go out. Contracts see it as the record.
 #[derive(Drop)]
 pub struct Draft {
-    pub(crate) drafted: Drafted<Standing>,
+    pub(crate) drafted: DraftedRecord<HubStanding>,
     pub(crate) ids: [Option<Id>; 2],
 }
 

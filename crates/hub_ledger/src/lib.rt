@@ -46,4 +46,4 @@ pub use gate_journal::{Disk, Failed, FileNo, Header, OpenFault};
 pub use ledger::HubLedger;
 pub use ledger_rules::DraftFault;
 pub use row::{BelowRow, RoutedRow};
-pub use standing::Standing;
+pub use standing::HubStanding;

@@ -5,13 +5,13 @@ ghost use Rattle.hub_ledger.specs.Linking.{hub_links};
 
 use crate::checks::are_before_end;
 use crate::naming::{has_visible, named, row_number};
-use crate::standing::Standing;
+use crate::standing::HubStanding;
 use ledger_records::laws::a_record_is_found_in_its_payload;
 use ledger_records::{HubRecord, read_hub_record};
 use owned_values::{Blob, NoMemory, Text};
 use std::alloc::Global;
 
-impl record_ledger::Standing for Standing {
+impl record_ledger::Standing for HubStanding {
     type Record = HubRecord;
 
     ghost rules = { hub_rules };
@@ -53,8 +53,8 @@ impl record_ledger::Standing for Standing {
         row_number(entry)
     }
 
-    fn new(alloc: Global) -> Standing {
-        Standing::empty(alloc)
+    fn new(alloc: Global) -> HubStanding {
+        HubStanding::empty(alloc)
     }
 
     fn next(&self) -> u64 {
@@ -77,7 +77,7 @@ impl record_ledger::Standing for Standing {
         self.put_entry(entry);
     }
 
-    fn ready(self, alloc: Global) -> Result<Standing, NoMemory> {
+    fn ready(self, alloc: Global) -> Result<HubStanding, NoMemory> {
         self.indexed(alloc)
     }
 

@@ -24,7 +24,7 @@ use std::marker::Model;
 /// The rows of records, the numbers by which requests upwards are found, the mark of each whether it is spent, and the least number
 /// above all that were drawn.
 #[derive(Debug, Drop)]
-pub struct Standing {
+pub struct HubStanding {
     rows: KeptRows,
     below: Vec<BelowRow>,
     spent: Vec<bool>,
@@ -33,7 +33,7 @@ pub struct Standing {
     alloc: Global,
 }
 
-impl Model for Standing {
+impl Model for HubStanding {
     ghost use Rattle.std.specs.Prelude.{◌≤◌, ◌^◌, min, map};
     ghost use Rattle.request_rows.specs.Indexed.{room};
     ghost use Rattle.hub_ledger.specs.Standing.{StandingView, rows_with, HaveNumbers, AreCounted, AreSpent};
@@ -67,13 +67,13 @@ fn put_last<T: Drop>(values: &mut Vec<T>, value: T)
     }
 }
 
-impl Standing {
+impl HubStanding {
     /// What no records stand for. It takes no memory.
-    pub(crate) fn empty(alloc: Global) -> Standing
+    pub(crate) fn empty(alloc: Global) -> HubStanding
         ensures rows { result.rows ≡ record { asked = []; below = []; opened = [] } }
         ensures next { result.next ≡ 0 }
     {
-        Standing {
+        HubStanding {
             rows: KeptRows::new(alloc),
             below: Vec::new(alloc),
             spent: Vec::new(alloc),
@@ -84,13 +84,13 @@ impl Standing {
     }
 
     /// The same with indexes of its rows. Where there is no memory all is let go.
-    pub(crate) fn indexed(self, alloc: Global) -> Result<Standing, NoMemory>
+    pub(crate) fn indexed(self, alloc: Global) -> Result<HubStanding, NoMemory>
         ensures rows { IfOk result (λ standing. standing.rows ≡ self.rows) }
         ensures next { IfOk result (λ standing. standing.next ≡ self.next) }
         ensures indexed { IfOk result (λ standing. standing.is_indexed ≡ true) }
     {
         let rows = self.rows.indexed(alloc)?;
-        Ok(Standing {
+        Ok(HubStanding {
             rows,
             below: self.below,
             spent: self.spent,

@@ -14,6 +14,7 @@ use Rattle.peer_keys.specs.Peers.{place_of}
 use Rattle.peer_keys.specs.declared.peers.LogoutPeer.{LogoutPeer}
 use Rattle.hub_ledger.specs.declared.row.BelowRow.{BelowRow}
 use Rattle.hub_ledger.specs.Draft.{backed_in}
+use Rattle.hub_ledger.specs.Drafts.{IsXmlBelow}
 use Rattle.hub_ledger.specs.Finding.{routed_row}
 use Rattle.hub_ledger.specs.Ledger.{Held}
 use Rattle.hub_ledger.specs.RowsOf.{Route, rows_of}
@@ -24,7 +25,7 @@ use Rattle.sp_rules.specs.declared.accepted.Accepted.{Accepted}
 use Rattle.sp_rules.specs.Shown.{IsOpening}
 use Rattle.provider_config.specs.declared.idp_config.SignMode.TheVariants.{Assertion}
 use Rattle.idp_answers.specs.Answers.{IsIssuedAnswer}
-use Rattle.idp_answers.specs.Stating.{IsTold}
+use Rattle.idp_answers.specs.Stating.{AllowedTextsMayStand, IsTold}
 use Rattle.service_routes.specs.declared.route.Route.TheVariants.{To}
 use Rattle.identity_hub.specs.declared.config.HubConfig.{HubConfig}
 use Rattle.identity_hub.specs.declared.route.Service.TheVariants.{SignOn, Consumer}
@@ -162,3 +163,10 @@ pub row_there : (own setup : HubConfig) (place : ℕ) → own ≡ setup → plac
     → (peer : LogoutPeer) × (slice_get setup.peers place ≡ Some peer)
 row_there own setup place is less =
     inside setup.peers place (subst (λ (s : HubConfig). place < length s.peers) is less)
+
+-- ---- a request below whose texts passed the test of a record's
+
+pub below_stands : AllowedTextsMayStand → (below : BelowRow) → IsXmlBelow below → IsTextBelow below
+below_stands law below all =
+    let texts = law (below.peer ∷ below.consumer ∷ below.request ∷ []) all in
+    record { request = texts.1.1.0; peer = texts.0; consumer = texts.1.0 }

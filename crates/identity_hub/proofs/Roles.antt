@@ -6,7 +6,7 @@ use Rattle.ledger_rules.specs.declared.fault.DraftFault.{DraftFault}
 use Rattle.record_ledger.specs.Drafts.{DraftsSome}
 use Rattle.hub_ledger.specs.Drafts.{SameLedger}
 use Rattle.hub_ledger.specs.Laws.{CompactionsChangeNoAnswer}
-use Rattle.hub_ledger.specs.Ledger.{CanCommit, Opened}
+use Rattle.hub_ledger.specs.Ledger.{CanCommit, OpenedLedger}
 use Rattle.hub_ledger.specs.Record.{LAST, hub_rules}
 use Rattle.hub_ledger.specs.Standing.{hub_row_rules}
 use Rattle.idp_answers.specs.Stating.{EachLoginHasAnAnswer, EachRefusalHasAnAnswer}
@@ -52,7 +52,7 @@ of_record : (P : HubRecord → Type 0) (o : Option HubRecord) (r : HubRecord) �
 of_record P o r is holds = subst (λ (o : Option HubRecord). IfSome o P) is holds
 
 -- what became of a draft
-pub hub_drafted : (key : List ℕ) (old new : Opened) (now : ℕ) (reply : Reply) (r : HubRecord)
+pub hub_drafted : (key : List ℕ) (old new : OpenedLedger) (now : ℕ) (reply : Reply) (r : HubRecord)
     (result : Result (Option HubRecord) DraftFault) → old.key ≡ key → SameLedger old new
     → record_for old.key old.held now reply ≡ Some r
     → IfSome (record_for old.key old.held now reply) (λ r. DraftsSome hub_rules hub_row_rules old new false r result)

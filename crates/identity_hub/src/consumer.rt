@@ -18,27 +18,13 @@ use crate::role::HubRole;
 use http_wire::{Answer, HttpRequest};
 use hub_ledger::laws::the_texts_of_a_routed_request_may_stand;
 use hub_ledger::{BelowRow, HubLedger};
-use idp_answers::{are_told, is_text};
+use idp_answers::laws::{each_moment_is_told, what_is_recorded_may_stand};
 use owned_values::NoMemory;
 use provider_node::Replied;
 use saml_time::LAST;
 use sp_answers::laws::{like_rows_are_judged_alike, what_is_accepted_can_be_recorded};
 use sp_rules::{Accepted, Judged, judge};
 use verdict_codes::Verdict;
-
-/// That the texts of a request below are texts that a document may hold, and that the moments of a login that is passed on
-/// to it have a written form. It is there for the proof.
-fn can_be_passed(below: &BelowRow, until: u64, now: u64)
-    requires texts { IsXmlBelow below.now }
-    requires moment { now ≤ LAST }
-    ensures texts { IsTextBelow below.now }
-    ensures told { AreTold now (min LAST until) }
-{
-    is_text(below.request.as_str());
-    is_text(below.peer.as_str());
-    is_text(below.consumer.as_str());
-    are_told(now, LAST.min(until));
-}
 
 impl HubRole {
     /// What is replied to a form that brings a login: it is passed on to the provider below for which it was asked, where
@@ -58,6 +44,8 @@ impl HubRole {
         ensures { RepliesTo self.now ledger.now.held (request_view request.now) now result }
     {
         ledger.holds_records();
+        what_is_recorded_may_stand();
+        each_moment_is_told();
         the_texts_of_a_routed_request_may_stand();
         let unknown = Verdict::UnknownIssuer.number();
         let Some(row) = ledger.routed(accepted.session.request.as_str(), now) else {
@@ -66,7 +54,6 @@ impl HubRole {
         let Some(peer) = self.config.peers.place_of(row.below.peer.as_str()) else {
             return Replied::Plain(Answer::Fixed(unknown));
         };
-        can_be_passed(row.below, accepted.session.until, now);
         Replied::ForRecord(Reply::Pass { accepted, peer })
     }
 

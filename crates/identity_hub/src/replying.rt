@@ -9,7 +9,7 @@ use hub_ledger::{Draft, HubLedger};
 use idp_answers::laws::each_login_has_an_answer;
 use idp_answers::plain_metadata_answer;
 use owned_values::{Blob, NoMemory};
-use provider_node::{Drafted, Replied, Role};
+use provider_node::{DraftOutcome, Replied, Role};
 use service_routes::{Route, route_to};
 use sp_answers::laws::like_rows_are_judged_alike;
 use verdict_codes::Verdict;
@@ -49,8 +49,8 @@ impl Role for HubRole {
         }
     }
 
-    fn draft(&self, reply: &Reply, ledger: &mut HubLedger, now: u64) -> Drafted<Draft> {
-        Drafted::of(reply.draft(ledger, now))
+    fn draft(&self, reply: &Reply, ledger: &mut HubLedger, now: u64) -> DraftOutcome<Draft> {
+        DraftOutcome::of(reply.draft(ledger, now))
     }
 
     fn page(&self, reply: &Reply, draft: &Draft, now: u64) -> Result<Blob, NoMemory> {

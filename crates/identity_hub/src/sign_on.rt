@@ -16,7 +16,7 @@ use crate::role::HubRole;
 use fault_verdicts::Judged;
 use http_wire::{Answer, HttpRequest};
 use hub_ledger::{BelowRow, HubLedger};
-use idp_answers::is_told;
+use idp_answers::laws::each_moment_is_told;
 use idp_rules::laws::the_texts_of_a_request_are_texts;
 use idp_rules::{Asked, judge_request};
 use owned_values::{NoMemory, Text};
@@ -64,7 +64,7 @@ impl HubRole {
     {
         let _usable = &self.config;
         the_texts_of_a_request_are_texts();
-        is_told(now);
+        each_moment_is_told();
         let passive = asked.passive;
         let below = self.below_of(asked)?;
         if passive {

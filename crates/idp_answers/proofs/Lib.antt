@@ -5,4 +5,4 @@ pub mod Responses
 pub mod Signable
 pub mod SignedElements
 pub mod Texts
-pub mod Walks
+pub mod MayStand

@@ -1,7 +1,9 @@
 -- What an identity provider states of a user to a peer that asked for a login: SAML Core, 2.3.3; SAML Profiles, 4.1.4.2.
-use Rattle.std.specs.Prelude.{◌≢◌, ℕ, ◌+◌, ◌≤◌, min, List, [], ◌∷◌, Option, Some}
-use Rattle.std.specs.List.{AllByRecursion}
+use Rattle.std.specs.Prelude.{◌≡◌, ◌≢◌, ℕ, ◌+◌, ◌≤◌, min, true, List, [], ◌∷◌, Option, Some}
+use Rattle.std.specs.List.{AllByRecursion, flat_map, list_all}
 use Rattle.xml_spec.specs.Characters.{IsText}
+use Rattle.ledger_rules.specs.Numbers.{is_xml_text}
+use Rattle.ledger_rules.specs.Texts.{of_attribute}
 use Rattle.owned_values.specs.declared.attributes.Attribute.{Attribute}
 use Rattle.saml_time.specs.declared.TheConstants.{LAST}
 use Rattle.saml_time.specs.Instant.{TellsInFull}
@@ -92,6 +94,23 @@ pub record AreTold (now session_end : ℕ) : Type 0 where
   pub issued : IsTold now
   pub until : IsTold (presented_until now)
   pub ends : IsTold session_end
+
+-- What passes the test of a record's texts may stand in a document.
+abbrev pub AllowedTextsMayStand : Type 0
+AllowedTextsMayStand = (texts : List (List ℕ)) → list_all is_xml_text texts ≡ true → AllByRecursion IsText texts
+
+abbrev pub AllowedAttributesMayStand : Type 0
+AllowedAttributesMayStand =
+    (attributes : List Attribute) → list_all is_xml_text (flat_map of_attribute attributes) ≡ true
+    → AllByRecursion IsStatable attributes
+
+-- Each moment up to the last one has a written form.
+abbrev pub EachMomentIsTold : Type 0
+EachMomentIsTold = (moment : ℕ) → moment ≤ LAST → IsTold moment
+
+-- And so have the moments of each Assertion.
+abbrev pub EachAssertionIsTold : Type 0
+EachAssertionIsTold = (now session_end : ℕ) → now ≤ LAST → session_end ≤ LAST → AreTold now session_end
 
 -- ---- there is an answer to each
 

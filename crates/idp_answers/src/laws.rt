@@ -18,7 +18,7 @@ ghost use Rattle.protocol_messages.specs.Messages.{IsResponse};
 ghost use Rattle.provider_config.specs.declared.idp_config.SignMode.{SignMode};
 ghost use Rattle.idp_answers.specs.Answers.{IsIssued, signs_assertion, signs_response};
 ghost use Rattle.idp_answers.specs.SignedElements.{AResponseIsSignedByItsMode};
-ghost use Rattle.idp_answers.specs.Stating.{EachLoginHasAnAnswer, EachRefusalHasAnAnswer};
+ghost use Rattle.idp_answers.specs.Stating.{AllowedAttributesMayStand, AllowedTextsMayStand, EachAssertionIsTold, EachLoginHasAnAnswer, EachMomentIsTold, EachRefusalHasAnAnswer};
 
 /// Where the mode signs the Response, the Response that is sent, of no more bytes than a document that is read, is
 /// vouched for with the same key, wherever its written form is read, by a Signature of its own; and without that
@@ -110,3 +110,19 @@ pub fn each_login_has_an_answer()
 pub fn a_response_is_signed_by_its_mode()
     ensures { AResponseIsSignedByItsMode }
 {}
+
+/// The texts and the attributes of a record, which passed its test, may stand in a document.
+pub fn what_is_recorded_may_stand()
+    ensures texts { AllowedTextsMayStand }
+    ensures attributes { AllowedAttributesMayStand }
+{
+    ledger_rules::laws::an_allowed_text_may_stand();
+}
+
+/// Each moment up to the last one has a written form, which may stand in a document; so have those of each Assertion.
+pub fn each_moment_is_told()
+    ensures one { EachMomentIsTold }
+    ensures assertion { EachAssertionIsTold }
+{
+    saml_time::each_moment_is_told();
+}

@@ -23,7 +23,7 @@ use Rattle.idp_ledger.specs.declared.ids.LoginIds.{LoginIds}
 use Rattle.idp_ledger.specs.RowsOf.{pending_rows, issued_rows, session_rows, left_rows, rows_of}
 use Rattle.idp_ledger.specs.Finding.{pending_found, session_found, ending, is_waiting_now, last_peer}
 use Rattle.idp_ledger.specs.Record.{drawn, LAST, of_attribute, AreRecords, idp_rules}
-use Rattle.idp_ledger.specs.Ledger.{Held, Opened, next_number}
+use Rattle.idp_ledger.specs.Ledger.{Held, OpenedLedger, next_number}
 use Rattle.idp_ledger.specs.Ids.{AreLoginIds, login_ids}
 use Rattle.idp_ledger.specs.Drafts.{ASSERTION_LIFE, SESSION_LIFE, IsXmlAsk, AreXmlAttributes, pending, login, login_with, issue, issue_with, ended, left, confirmed, spoke, Drafts, IsDraftable}
 use Rattle.record_ledger.proofs.Draftable.{both, BelowEnd, id_has_number, id_is_allowed, HasItsNumber, one_number, one_id}
@@ -219,7 +219,7 @@ issued_alike : (one other : Issued) → one.first ≡ other.first → one.moment
 issued_alike a b e0 e1 e2 e3 e4 e5 e6 e7 e8 e9 e10 e11 e12 e13 e14 =
     fields_alike (issued a) (issued b) (ap (λ n. length (field (Number n))) e0, (ap (λ n. length (field (Number n))) e1, (ap (λ p. length (field (Optional p))) e2, (text_alike a.cookie b.cookie e3, (text_alike a.index b.index e4, (ap (λ n. length (field (Number n))) e5, (text_alike a.assertion b.assertion e6, (text_alike a.message b.message e7, (ap (λ t. length (field (Text t))) e8, (ap (λ t. length (field (Text t))) e9, (ap (λ t. length (field (Text t))) e10, (ap (λ t. length (field (Text t))) e11, (ap (λ p. length (field (Optional p))) e12, (ap (λ n. length (field (Number n))) e13, (ap (λ attributes. length (field (Attributes attributes))) e14, tt)))))))))))))))
 
-refused_alike : (old new : Opened) (one other : Issued) → length (idp_bytes (kinds.Issued one)) ≡ length (idp_bytes (kinds.Issued other))
+refused_alike : (old new : OpenedLedger) (one other : Issued) → length (idp_bytes (kinds.Issued one)) ≡ length (idp_bytes (kinds.Issued other))
     → (All BelowEnd (drawn (kinds.Issued one)) → ⊥) → (All BelowEnd (drawn (kinds.Issued other)) → ⊥)
     → (result : Result IdpRecord DraftFault) → Drafts old new (kinds.Issued one) result → Drafts old new (kinds.Issued other) result
 refused_alike old new r s long past past' (Ok drafted) is = absurd (past is.can.fits.numbers)
@@ -239,7 +239,7 @@ id_57 : (key : List ℕ) (kind : Rattle.saml_ids.specs.declared.Kind.Kind) (n : 
 id_57 key kind n id long = long ∙ sym (Rattle.record_ledger.proofs.Draftable.id_long key kind n)
 
 -- the IDs of the next numbers stand for those that were drawn
-pub login_drafts : (old new : Opened) (key : List ℕ) (next now : ℕ) (ids : LoginIds) (row : PendingRow) (user : List ℕ) (attributes : List Attribute) (result : Result IdpRecord DraftFault)
+pub login_drafts : (old new : OpenedLedger) (key : List ℕ) (next now : ℕ) (ids : LoginIds) (row : PendingRow) (user : List ℕ) (attributes : List Attribute) (result : Result IdpRecord DraftFault)
     → AreLoginIds key next ids → Drafts old new (login_with next now ids row user attributes) result → Drafts old new (login key next now row user attributes) result
 login_drafts old new key next now ids row user attributes result are is =
     elim (cases_lt (next + 3) NUMBER_END) [
@@ -278,7 +278,7 @@ login_drafts old new key next now ids row user attributes result are is =
         let less = All-head BelowEnd four [] (All-tail BelowEnd three (four ∷ []) (All-tail BelowEnd two (three ∷ four ∷ []) (All-tail BelowEnd one (two ∷ three ∷ four ∷ []) all))) in
         absurd (omega (arith, past, less))
 
-pub issue_drafts : (old new : Opened) (key : List ℕ) (next now : ℕ) (ids : LoginIds) (row : SessionRow) (ask : Ask) (result : Result IdpRecord DraftFault)
+pub issue_drafts : (old new : OpenedLedger) (key : List ℕ) (next now : ℕ) (ids : LoginIds) (row : SessionRow) (ask : Ask) (result : Result IdpRecord DraftFault)
     → AreLoginIds key next ids → Drafts old new (issue_with next now ids row ask) result → Drafts old new (issue key next now row ask) result
 issue_drafts old new key next now ids row ask result are is =
     elim (cases_lt (next + 1) NUMBER_END) [

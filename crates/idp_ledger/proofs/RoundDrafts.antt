@@ -27,7 +27,7 @@ use Rattle.idp_ledger.specs.RoundsOf.{round_row, round_behind, round_rows}
 use Rattle.idp_ledger.specs.RowsOf.{session_rows}
 use Rattle.idp_ledger.specs.Finding.{session_found, visible}
 use Rattle.idp_ledger.specs.Record.{LAST, drawn, of_asker, of_option, of_turn, is_unended, is_record, AreRecords, AreRecordsAfter, idp_rules}
-use Rattle.idp_ledger.specs.Ledger.{Held, Opened, next_number}
+use Rattle.idp_ledger.specs.Ledger.{Held, OpenedLedger, next_number}
 use Rattle.idp_ledger.specs.Ids.{AreRoundIds, round_ids}
 use Rattle.idp_ledger.specs.Drafts.{round, round_with, told_with, AreLive, AreXmlTurns, IsXmlAsker, Drafts, IsDraftable}
 use Rattle.record_ledger.proofs.Draftable.{both, BelowEnd, id_has_number, id_is_allowed, HasItsNumber, one_number, one_id, id_long}
@@ -93,7 +93,7 @@ module _ (held : Held) (key : List ℕ) (ids : RoundIds) (are : AreRoundIds key 
       (ap is_xml_text are.message ∙ id_is_allowed key Message (next_number held), (request, tt)) behind)
       (one_moment now moment)
 
-refused_alike : (old new : Opened) (one other : Round) → length (idp_bytes (kinds.Round one)) ≡ length (idp_bytes (kinds.Round other))
+refused_alike : (old new : OpenedLedger) (one other : Round) → length (idp_bytes (kinds.Round one)) ≡ length (idp_bytes (kinds.Round other))
     → (All BelowEnd (drawn (kinds.Round one)) → ⊥) → (All BelowEnd (drawn (kinds.Round other)) → ⊥)
     → (result : Result IdpRecord DraftFault) → Drafts old new (kinds.Round one) result → Drafts old new (kinds.Round other) result
 refused_alike old new r s long past past' (Ok drafted) is = absurd (past is.can.fits.numbers)
@@ -103,7 +103,7 @@ refused_alike old new r s long past past' (Err (JournalFull len room next)) is =
 refused_alike old new r s long past past' (Err NoMemory) is = tt
 
 -- where the next number is the end or greater no round fits, whatever its IDs are
-pub round_drafts : (old new : Opened) (key : List ℕ) (next now : ℕ) (ids : RoundIds) (cookies : List (List ℕ)) (asker : Option Asker) (turns : List Turn) (skipped : Bool) (result : Result IdpRecord DraftFault)
+pub round_drafts : (old new : OpenedLedger) (key : List ℕ) (next now : ℕ) (ids : RoundIds) (cookies : List (List ℕ)) (asker : Option Asker) (turns : List Turn) (skipped : Bool) (result : Result IdpRecord DraftFault)
     → AreRoundIds key next ids → Drafts old new (round_with next now ids cookies asker turns skipped) result → Drafts old new (round key next now cookies asker turns skipped) result
 round_drafts old new key next now ids cookies asker turns skipped result are is =
     elim (cases_lt (next + 1) NUMBER_END) [

@@ -251,7 +251,7 @@ all_reverse test (x ∷ xs) all =
     ∙ both (list_all test (reverse xs)) (test x && true) (all_reverse test xs parts.1) (both (test x) true parts.0 refl)
 
 empty_xml : is_xml_text [] ≡ true
-unfolding is_xml_text chars
+unfolding is_xml_text chars lib.Utf8.encode
 empty_xml = refl
 
 pub last_peer_xml : (issues : List IssuedRow) (cookie : List ℕ) → list_all is_peer_xml issues ≡ true → is_xml_text (last_peer issues cookie) ≡ true

@@ -2,6 +2,7 @@
 use Rattle.std.specs.Prelude.{ℕ, List, Option, Result}
 use Rattle.crash_disk.specs.declared.change.Change.{Change}
 use Rattle.crash_disk.specs.Disk.{Image, DiskState}
+use Rattle.crash_disk.specs.Moments.{DiskShown}
 use Rattle.ledger_records.specs.declared.idp_record.IdpRecord.{IdpRecord}
 use Rattle.record_ledger.specs.Calls as any
 use Rattle.idp_ledger.specs.Record.{idp_rules}
@@ -20,6 +21,6 @@ abbrev pub committing : Held → IdpRecord → DiskState → List Change
 committing = any.committing idp_rules
 
 -- No changing call was made, or those of one compaction at a moment, as far as the answer says.
-abbrev pub FollowsCompaction : {D T E : Type 0} → (D → Option DiskState) → (D → ℕ) → (D → ℕ → Image → Type 0) → (now : ℕ) → Held
+abbrev pub FollowsCompaction : {D T E : Type 0} → (D → DiskShown) → (now : ℕ) → Held
     → (old new : D) → Result T E → Type 0
-FollowsCompaction told moment left_since now held old new result = any.FollowsCompaction idp_rules told moment left_since now held old new result
+FollowsCompaction shows now held old new result = any.FollowsCompaction idp_rules shows now held old new result

@@ -24,7 +24,7 @@ use Rattle.idp_ledger.specs.Standing.{idp_row_rules}
 use Rattle.idp_ledger.specs.Ids.{login_ids, round_ids}
 use Rattle.idp_ledger.specs.Finding.{session_found}
 use Rattle.idp_ledger.specs.Record.{LAST, of_attribute, of_asker, of_turn, idp_rules}
-use Rattle.idp_ledger.specs.Ledger.{Held, Opened}
+use Rattle.idp_ledger.specs.Ledger.{Held, OpenedLedger}
 pub use Rattle.ledger_rules.specs.Moments.{LIFE}
 
 -- how long an assertion is accepted, and how long a session lives
@@ -190,23 +190,23 @@ is_full rows r = any.is_most (rows_of_kind rows r)
 
 -- Why a record is not drafted, the first of these that holds: as many rows of its kind are kept as there may be; it does not
 -- fit. Want of memory may come in place of each.
-abbrev pub IsCause : Opened → IdpRecord → DraftFault → Type 0
+abbrev pub IsCause : OpenedLedger → IdpRecord → DraftFault → Type 0
 IsCause = any.IsCause idp_rules
 
 -- a draft of this record, for which nothing but memory was missing, and which can be committed now
-abbrev pub IsDraftOf : Opened → Opened → IdpRecord → IdpRecord → Type 0
+abbrev pub IsDraftOf : OpenedLedger → OpenedLedger → IdpRecord → IdpRecord → Type 0
 IsDraftOf = any.IsDraftOf idp_rules idp_row_rules
 
 -- what a draft call answers: a draft of this record, or the cause of the refusal
-abbrev pub Drafts : Opened → Opened → IdpRecord → Result IdpRecord DraftFault → Type 0
+abbrev pub Drafts : OpenedLedger → OpenedLedger → IdpRecord → Result IdpRecord DraftFault → Type 0
 Drafts = any.Drafts idp_rules idp_row_rules
 
 -- the same where there may be nothing to record: none exactly there
-abbrev pub DraftsSome : Opened → Opened → (nothing : Bool) → IdpRecord → Result (Option IdpRecord) DraftFault → Type 0
+abbrev pub DraftsSome : OpenedLedger → OpenedLedger → (nothing : Bool) → IdpRecord → Result (Option IdpRecord) DraftFault → Type 0
 DraftsSome = any.DraftsSome idp_rules idp_row_rules
 
 -- a draft call changes nothing but the memory that is ready
-abbrev pub SameLedger : Opened → Opened → Type 0
+abbrev pub SameLedger : OpenedLedger → OpenedLedger → Type 0
 SameLedger = any.SameLedger
 
 -- A record that may be drafted: one of the ledger where its numbers are below the end, and these were not drawn before.

@@ -2,17 +2,17 @@
 ghost use Rattle.std.specs.Prelude.{◌≡◌, IsSome, Some};
 ghost use Rattle.idp_ledger.specs.Draft.{first_id, second_id, issued_in, peer_in, partial_in};
 
-use crate::standing::Standing;
+use crate::standing::IdpStanding;
 use ledger_records::IdpRecord;
 use ledger_records::idp_record::Issued;
-use record_ledger::Drafted;
+use record_ledger::DraftedRecord;
 use saml_ids::Id;
 use std::marker::Model;
 
 /// A record that was drafted, and the IDs of it that go out. Contracts see it as the record.
 #[derive(Drop)]
 pub struct Draft {
-    pub(crate) drafted: Drafted<Standing>,
+    pub(crate) drafted: DraftedRecord<IdpStanding>,
     pub(crate) ids: [Option<Id>; 2],
 }
 

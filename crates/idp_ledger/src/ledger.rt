@@ -18,7 +18,7 @@ ghost use Rattle.idp_ledger.specs.Compacting.{Compacts, IsOldOrCompacted};
 use crate::draft::Draft;
 use crate::key::IdpKey;
 use crate::row::{IssuedRow, LeftRow, PendingRow, SessionRow};
-use crate::standing::Standing;
+use crate::standing::IdpStanding;
 use gate_journal::{Disk, Failed, Header, OpenFault};
 use record_ledger::RecordLedger;
 use round_rows::RoundRow;
@@ -28,13 +28,13 @@ use std::marker::Model;
 /// The records of an identity provider in a journal, and the rows that they stand for.
 #[derive(Debug, Drop)]
 pub struct IdpLedger {
-    pub(crate) ledger: RecordLedger<Standing>,
+    pub(crate) ledger: RecordLedger<IdpStanding>,
 }
 
 impl Model for IdpLedger {
-    ghost use Rattle.idp_ledger.specs.Ledger.{Opened};
+    ghost use Rattle.idp_ledger.specs.Ledger.{OpenedLedger};
 
-    ghost Value = { Opened };
+    ghost Value = { OpenedLedger };
 
     ghost view = { λ l. l.ledger };
 }
@@ -51,13 +51,13 @@ impl IdpLedger {
         disk: &mut D,
         key: [u8; 32],
     ) -> Result<IdpLedger, OpenFault>
-        ensures gives { IfSome (D.told disk.old) (λ d. Gives (λ l. l.held) open_fault_of result (taken (ledger_in (image_of d)))) }
+        ensures gives { IfSome (D.shows disk.old).told (λ d. Gives (λ l. l.held) open_fault_of result (taken (ledger_in (image_of d)))) }
         ensures whole { IfOk result (λ l. (l.broken ≡ false) × (l.key ≡ key)) }
-        ensures own { IfOk result (λ l. IsOwn (D.told disk.new) l) }
+        ensures own { IfOk result (λ l. IsOwn (D.shows disk.new).told l) }
         // A crash at any moment of the call leaves what an image at its start stood for, or what is opened from that.
-        ensures moments { LeavesOnly D.moment D.left_since disk.old disk.new (LeftByOpening (D.told disk.old)) }
-        ensures faults { CausesFaults result (D.faults_of disk.old) (D.faults_of disk.new) }
-        ensures calls { Follows D.told D.moment D.left_since opening disk.old disk.new result }
+        ensures moments { LeavesOnly D.shows disk.old disk.new (LeftByOpening (D.shows disk.old).told) }
+        ensures faults { CausesFaults result (D.shows disk.old).faults (D.shows disk.new).faults }
+        ensures calls { Follows D.shows opening disk.old disk.new result }
     {
         Ok(IdpLedger {
             ledger: RecordLedger::start(alloc, disk, key)?,
@@ -66,22 +66,22 @@ impl IdpLedger {
 
     /// Opens the ledger again, as `start` does. At an error it is broken, and else as it was.
     pub fn reopen<D: Disk>(&mut self, disk: &mut D) -> Result<(), OpenFault>
-        ensures gives { IfSome (D.told disk.old) (λ d. Gives (λ _. self.new.held) open_fault_of result (taken (ledger_in (image_of d)))) }
+        ensures gives { IfSome (D.shows disk.old).told (λ d. Gives (λ _. self.new.held) open_fault_of result (taken (ledger_in (image_of d)))) }
         ensures whole { OnOk result (self.new.broken ≡ false) }
-        ensures own { OnOk result (IsOwn (D.told disk.new) self.new) }
+        ensures own { OnOk result (IsOwn (D.shows disk.new).told self.new) }
         ensures err { OnErr result ((self.new.held ≡ self.old.held) × (self.new.broken ≡ true)) }
-        ensures own_err { OnErr result (IsOwn (D.told disk.old) (record self.old { broken = true }) → IsOwn (D.told disk.new) self.new) }
+        ensures own_err { OnErr result (IsOwn (D.shows disk.old).told (record self.old { broken = true }) → IsOwn (D.shows disk.new).told self.new) }
         ensures key { self.new.key ≡ self.old.key }
         // A crash at any moment of the call leaves what an image at its start stood for, or what is opened from that.
-        ensures moments { LeavesOnly D.moment D.left_since disk.old disk.new (LeftByOpening (D.told disk.old)) }
-        ensures faults { CausesFaults result (D.faults_of disk.old) (D.faults_of disk.new) }
-        ensures calls { Follows D.told D.moment D.left_since opening disk.old disk.new result }
+        ensures moments { LeavesOnly D.shows disk.old disk.new (LeftByOpening (D.shows disk.old).told) }
+        ensures faults { CausesFaults result (D.shows disk.old).faults (D.shows disk.new).faults }
+        ensures calls { Follows D.shows opening disk.old disk.new result }
     {
         self.ledger.reopen(disk)
     }
 
     /// The rows.
-    pub(crate) fn standing(&self) -> &Standing
+    pub(crate) fn standing(&self) -> &IdpStanding
         ensures { result.now.rows ≡ rows_in self.now }
     {
         self.ledger.standing()
@@ -192,17 +192,17 @@ impl IdpLedger {
     /// Adds the record of a draft. It takes no memory. At `Failed` the ledger is broken, and has to be opened again; the
     /// disk then stands for the records with the new one or without.
     pub fn commit<D: Disk>(&mut self, disk: &mut D, draft: Draft) -> Result<(), Failed>
-        requires own { IsOwn (D.told disk.old) self.old }
+        requires own { IsOwn (D.shows disk.old).told self.old }
         requires whole { self.old.broken ≡ false }
         requires can { CanCommit self.old draft }
         ensures ok { OnOk result ((self.new.held ≡ held_with draft self.old.held) × (self.new.broken ≡ false)) }
         ensures err { OnErr result ((self.new.held ≡ self.old.held) × (self.new.broken ≡ true)) }
         ensures key { self.new.key ≡ self.old.key }
-        ensures own { IsOwn (D.told disk.new) self.new }
+        ensures own { IsOwn (D.shows disk.new).told self.new }
         // A crash at any moment of the call leaves the records from before it, with the new one or without.
-        ensures moments { LeavesOnly D.moment D.left_since disk.old disk.new (IsWithOrWithout draft self.old.held) }
-        ensures faults { CountsFaults result (D.faults_of disk.old) (D.faults_of disk.new) }
-        ensures calls { Follows D.told D.moment D.left_since (committing self.old.held draft) disk.old disk.new result }
+        ensures moments { LeavesOnly D.shows disk.old disk.new (IsWithOrWithout draft self.old.held) }
+        ensures faults { CountsFaults result (D.shows disk.old).faults (D.shows disk.new).faults }
+        ensures calls { Follows D.shows (committing self.old.held draft) disk.old disk.new result }
     {
         self.ledger.commit(disk, draft.drafted)
     }
@@ -216,18 +216,18 @@ impl IdpLedger {
     /// of faults rose: then the ledger is broken, and the disk stands for it as before or as made anew. It never answers
     /// [`OpenFault::Foreign`].
     pub fn compact<D: Disk>(&mut self, disk: &mut D, now: u64) -> Result<(), OpenFault>
-        requires own { IsOwn (D.told disk.old) self.old }
+        requires own { IsOwn (D.shows disk.old).told self.old }
         requires whole { self.old.broken ≡ false }
         ensures ok { OnOk result (Compacts now self.old.held self.new.held × (self.new.broken ≡ false)) }
         ensures failed { IsErrOf result OpenFault.DiskFault → (self.new.held ≡ self.old.held) × (self.new.broken ≡ true) }
         ensures no_memory { IsErrOf result OpenFault.NoMemory → (self.new ≡ self.old) × (disk.new ≡ disk.old) }
         ensures not_foreign { IfErr result (λ e. open_fault_of e ≡ None) }
         ensures key { self.new.key ≡ self.old.key }
-        ensures own { IsOwn (D.told disk.new) self.new }
+        ensures own { IsOwn (D.shows disk.new).told self.new }
         // A crash at any moment of the call leaves the ledger from before it, or the one that is made anew.
-        ensures moments { LeavesOnly D.moment D.left_since disk.old disk.new (IsOldOrCompacted now self.old.held) }
-        ensures faults { CausesFaults result (D.faults_of disk.old) (D.faults_of disk.new) }
-        ensures calls { FollowsCompaction D.told D.moment D.left_since now self.old.held disk.old disk.new result }
+        ensures moments { LeavesOnly D.shows disk.old disk.new (IsOldOrCompacted now self.old.held) }
+        ensures faults { CausesFaults result (D.shows disk.old).faults (D.shows disk.new).faults }
+        ensures calls { FollowsCompaction D.shows now self.old.held disk.old disk.new result }
     {
         self.ledger.compact(disk, now)
     }

@@ -68,4 +68,4 @@ pub use noted::Noted;
 pub use record_ledger::MOST_ROWS;
 pub use round_rows::RoundRow;
 pub use row::{Ask, IssuedRow, LeftRow, PendingRow, SessionRow};
-pub use standing::Standing;
+pub use standing::IdpStanding;

@@ -8,13 +8,13 @@ ghost use Rattle.idp_ledger.specs.Linking.{idp_links};
 use crate::checks::are_before_end;
 use crate::naming::{has_visible, named, row_number, within};
 use crate::noted::Noted;
-use crate::standing::Standing;
+use crate::standing::IdpStanding;
 use ledger_records::laws::a_record_is_found_in_its_payload;
 use ledger_records::{IdpRecord, read_idp_record};
 use owned_values::{Blob, NoMemory, Text};
 use std::alloc::Global;
 
-impl Standing {
+impl IdpStanding {
     /// How many rows there are of a record's kind, where it has rows.
     fn kept_of_kind(&self, entry: &IdpRecord) -> Option<usize>
         ensures { result ≡ rows_of_kind self.now.rows entry.now }
@@ -32,7 +32,7 @@ impl Standing {
     }
 }
 
-impl record_ledger::Standing for Standing {
+impl record_ledger::Standing for IdpStanding {
     type Record = Noted;
 
     ghost rules = { idp_rules };
@@ -77,8 +77,8 @@ impl record_ledger::Standing for Standing {
         row_number(entry.entry())
     }
 
-    fn new(alloc: Global) -> Standing {
-        Standing::empty(alloc)
+    fn new(alloc: Global) -> IdpStanding {
+        IdpStanding::empty(alloc)
     }
 
     fn next(&self) -> u64 {
@@ -101,7 +101,7 @@ impl record_ledger::Standing for Standing {
         self.put_entry(entry);
     }
 
-    fn ready(self, _alloc: Global) -> Result<Standing, NoMemory> {
+    fn ready(self, _alloc: Global) -> Result<IdpStanding, NoMemory> {
         Ok(self)
     }
 

@@ -28,7 +28,7 @@ use std::marker::Model;
 
 /// The rows of records, and the least number above all that were drawn.
 #[derive(Debug, Drop)]
-pub struct Standing {
+pub struct IdpStanding {
     pendings: Pendings,
     sessions: Sessions,
     lefts: Lefts,
@@ -36,7 +36,7 @@ pub struct Standing {
     next: u64,
 }
 
-impl Model for Standing {
+impl Model for IdpStanding {
     ghost use Rattle.std.specs.Prelude.{◌≤◌, ◌^◌};
     ghost use Rattle.ledger_rules.specs.Numbers.{AreBelow};
     ghost use Rattle.idp_ledger.specs.Standing.{StandingView};
@@ -52,13 +52,13 @@ impl Model for Standing {
     ghost invariant = { λ s. AreBelow s.next s.pendings.numbers × AreBelow s.next s.sessions.numbers × AreBelow s.next s.lefts.numbers × AreBelow s.next s.rounds.numbers × (s.next ≤ 2 ^ 63) };
 }
 
-impl Standing {
+impl IdpStanding {
     /// What no records stand for. It takes no memory.
-    pub(crate) fn empty(alloc: Global) -> Standing
+    pub(crate) fn empty(alloc: Global) -> IdpStanding
         ensures rows { result.rows ≡ record { pendings = []; issues = []; sessions = []; lefts = []; rounds = [] } }
         ensures next { result.next ≡ 0 }
     {
-        Standing {
+        IdpStanding {
             pendings: Pendings::new(alloc),
             sessions: Sessions::new(alloc),
             lefts: Lefts::new(alloc),

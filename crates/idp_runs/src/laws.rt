@@ -12,7 +12,7 @@ use idp_ledger::Disk;
 /// the history of each ledger that a crash might leave, and each session whose answer went out is as it was left. A logout
 /// that asks all others asks each in its turn, and says Success exactly where each confirmed.
 pub fn a_run_carries_the_headline<D: Disk>()
-    ensures { (disk : D) → ARunCarriesTheHeadline (D.left_since disk) }
+    ensures { (disk : D) → ARunCarriesTheHeadline (D.shows disk).left_since }
 {
     idp_ledger::laws::images_hold_records();
     idp_ledger::laws::rounds_ask_in_turn();
@@ -41,7 +41,7 @@ pub fn a_run_is_a_start()
 /// moments may leave is one from which a later start goes on, as behind a start of this run that was cut at that
 /// moment: so runs that a crash cut join into one service, of which the laws of starts speak.
 pub fn each_image_of_a_run_goes_on<D: Disk>()
-    ensures { (disk : D) → EachImageOfARunGoesOn (D.left_since disk) }
+    ensures { (disk : D) → EachImageOfARunGoesOn (D.shows disk).left_since }
 {
     idp_ledger::laws::images_hold_records();
 }

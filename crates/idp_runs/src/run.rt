@@ -64,25 +64,31 @@ pub fn run_idp<F: Files, L: Link, D: Disk, C: Clock>(
     // good; what its answers acknowledged is from then on in every image that a crash might leave; and a crash at any moment of it
     // leaves what one inside the opening or inside an answer may leave.
     ensures runs { (turns : List (Turn Provider))
-        × Runs (D.left_since disk.new) (F.holds files.old) config.now budget (outside (D.told disk.old) (D.faults_of disk.old) (D.moment disk.old) (L.told link.old) (L.faults_of link.old) (L.send_faults_of link.old) (C.to_come clock.old)) turns result (outside (D.told disk.new) (D.faults_of disk.new) (D.moment disk.new) (L.told link.new) (L.faults_of link.new) (L.send_faults_of link.new) (C.to_come clock.new))
-        × Headline (D.left_since disk.new) (F.holds files.old) config.now (outside (D.told disk.old) (D.faults_of disk.old) (D.moment disk.old) (L.told link.old) (L.faults_of link.old) (L.send_faults_of link.old) (C.to_come clock.old)) turns (outside (D.told disk.new) (D.faults_of disk.new) (D.moment disk.new) (L.told link.new) (L.faults_of link.new) (L.send_faults_of link.new) (C.to_come clock.new))
-        × LeavesOnly D.moment D.left_since disk.old disk.new (RunLeaves (D.told disk.old) turns) }
+        × Runs (D.shows disk.new).left_since (F.holds files.old) config.now budget
+        (outside (D.shows disk.old) (L.shows link.old) (C.to_come clock.old)) turns result
+        (outside (D.shows disk.new) (L.shows link.new) (C.to_come clock.new))
+        × Headline (D.shows disk.new).left_since (F.holds files.old) config.now
+        (outside (D.shows disk.old) (L.shows link.old) (C.to_come clock.old)) turns
+        (outside (D.shows disk.new) (L.shows link.new) (C.to_come clock.new))
+        × LeavesOnly D.shows disk.old disk.new (RunLeaves (D.shows disk.old).told turns) }
 
     // Each fault has a cause.
     ensures read_fault { result ≡ Err RunFault.ReadFault → Rose (F.faults_of files.old) (F.faults_of files.new) }
-    ensures disk_fault { result ≡ Err RunFault.DiskFault → Rose (D.faults_of disk.old) (D.faults_of disk.new) }
-    ensures link_fault { result ≡ Err RunFault.LinkFault → Rose (L.faults_of link.old) (L.faults_of link.new) }
+    ensures disk_fault { result ≡ Err RunFault.DiskFault → Rose (D.shows disk.old).faults (D.shows disk.new).faults }
+    ensures link_fault { result ≡ Err RunFault.LinkFault → Rose (L.shows link.old).faults (L.shows link.new).faults }
 
     // Where the provider can be run and no fault kept it from that, it served, or there was no memory.
-    ensures complete { IsRunnable (F.holds files.old) config.now (D.told disk.old) → ¬ (Rose (F.faults_of files.old) (F.faults_of files.new)) →
-        ¬ (Rose (L.faults_of link.old) (L.faults_of link.new)) → result ≢ Err RunFault.DiskFault → IsServed result ⊎ (result ≡ Err RunFault.NoMemory) }
+    ensures complete { IsRunnable (F.holds files.old) config.now (D.shows disk.old).told →
+        ¬ (Rose (F.faults_of files.old) (F.faults_of files.new)) →
+        ¬ (Rose (L.shows link.old).faults (L.shows link.new).faults) → result ≢ Err RunFault.DiskFault →
+        IsServed result ⊎ (result ≡ Err RunFault.NoMemory) }
 
     // A provider that was not set up touches nothing. The files hold what they held, and no count falls.
     ensures untouched { IsNotSetUp result → (link.new ≡ link.old) × (disk.new ≡ disk.old) × (clock.new ≡ clock.old) }
     ensures same { F.holds files.new ≡ F.holds files.old }
     ensures files_never_fall { F.faults_of files.old ≤ F.faults_of files.new }
-    ensures disk_never_falls { D.faults_of disk.old ≤ D.faults_of disk.new }
-    ensures link_never_falls { L.faults_of link.old ≤ L.faults_of link.new }
+    ensures disk_never_falls { (D.shows disk.old).faults ≤ (D.shows disk.new).faults }
+    ensures link_never_falls { (L.shows link.old).faults ≤ (L.shows link.new).faults }
 {
     a_run_carries_the_headline::<D>();
     run::<IdentityProvider, F, L, D, C>(alloc, files, config, link, disk, clock, budget)

@@ -10,6 +10,7 @@ pub mod Logouts
 pub mod Sessions
 pub mod StayingEnded
 pub mod Fields
+pub mod MayStand
 mod Made
 mod Pages
 pub mod Requests

@@ -6,7 +6,7 @@ use Rattle.ledger_records.specs.declared.idp_record.IdpRecord.{IdpRecord}
 use Rattle.ledger_rules.specs.declared.fault.DraftFault.{DraftFault}
 use Rattle.idp_ledger.specs.Drafts.{DraftsSome, SameLedger}
 use Rattle.idp_ledger.specs.Laws.{CompactionsChangeNoAnswer}
-use Rattle.idp_ledger.specs.Ledger.{CanCommit, Opened}
+use Rattle.idp_ledger.specs.Ledger.{CanCommit, OpenedLedger}
 use Rattle.idp_ledger.specs.Record.{LAST, idp_rules}
 use Rattle.idp_ledger.specs.Standing.{idp_row_rules}
 use Rattle.idp_rules.specs.Config.{IsUsable}
@@ -42,7 +42,7 @@ of_record : (P : IdpRecord → Type 0) (o : Option IdpRecord) (r : IdpRecord) �
 of_record P o r is holds = subst (λ (o : Option IdpRecord). IfSome o P) is holds
 
 -- what became of a draft
-pub idp_drafted : (key : List ℕ) (old new : Opened) (now : ℕ) (reply : Reply) (r : IdpRecord) (result : Result (Option IdpRecord) DraftFault) → old.key ≡ key → SameLedger old new
+pub idp_drafted : (key : List ℕ) (old new : OpenedLedger) (now : ℕ) (reply : Reply) (r : IdpRecord) (result : Result (Option IdpRecord) DraftFault) → old.key ≡ key → SameLedger old new
     → found_record old.key old.held now reply ≡ Some r
     → IfSome (found_record old.key old.held now reply) (λ r. DraftsSome old new (is_nothing old.held now reply) r result)
     → IsDrafted idp_rules old.held (CanCommit new) (λ d. d) (record_for key old.held now reply) (drafted_of result)

@@ -11,10 +11,10 @@ ghost use Rattle.idp_server.specs.Replies.{Wants};
 
 use crate::reply::Reply;
 use crate::role::IdpRole;
-use crate::sign_on::{can_be_stated, session_for};
+use crate::sign_on::session_for;
 use fault_verdicts::Judged;
 use http_wire::HttpRequest;
-use idp_answers::are_told;
+use idp_answers::laws::{each_moment_is_told, what_is_recorded_may_stand};
 use idp_ledger::IdpLedger;
 use verdict_codes::Verdict;
 
@@ -36,12 +36,12 @@ impl IdpRole {
         ensures refused { IfErr result (IsJudged (λ verdict. Answers self.now ledger.now.held (request_view request.now) now (Fixed (number_of verdict)) None)) }
     {
         let _usable = &self.config;
+        what_is_recorded_may_stand();
+        each_moment_is_told();
         ledger.holds_records();
         let Some(row) = session_for(ledger, request, now) else {
             return Err(Judged::Code(Verdict::NoSuchSession));
         };
-        can_be_stated(row, now);
-        are_told(now, now);
         if let Some(reply) = self.ask_for_user(ledger, &row.cookie)? {
             return Ok(reply);
         }

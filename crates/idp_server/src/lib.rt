@@ -68,7 +68,6 @@ mod login;
 mod reply;
 mod replying;
 mod role;
-mod round_texts;
 mod rounds;
 mod route;
 mod sign_on;

@@ -16,7 +16,7 @@ use crate::reply::Reply;
 use crate::role::IdpRole;
 use fault_verdicts::Judged;
 use http_wire::HttpRequest;
-use idp_answers::{are_told, is_text};
+use idp_answers::laws::{each_moment_is_told, what_is_recorded_may_stand};
 use idp_ledger::{IdpLedger, PendingRow};
 use owned_values::{NoMemory, Text, Texts};
 use post_binding::read_fields;
@@ -38,22 +38,6 @@ fn field_names(alloc: Global) -> Result<Texts, NoMemory>
     Ok(names)
 }
 
-/// That the texts of a pending login are texts that a document may hold, and that the moments of its Assertion have a written
-/// form. It is there for the proof.
-fn can_be_answered(row: &PendingRow, now: u64)
-    requires request { is_xml_text row.now.request ≡ true }
-    requires peer { is_xml_text row.now.peer ≡ true }
-    requires consumer { is_xml_text row.now.consumer ≡ true }
-    requires moment { now ≤ LAST }
-    ensures texts { IsTextPending row.now }
-    ensures told { AreTold now (min LAST (now + SESSION_LIFE)) }
-{
-    is_text(row.request.as_str());
-    is_text(row.peer.as_str());
-    is_text(row.consumer.as_str());
-    are_told(now, LAST.min(now + SESSION_LIFE));
-}
-
 impl IdpRole {
     /// The reply to the page of a login with these fields, or why there is none.
     fn reply_to_fields(
@@ -69,6 +53,8 @@ impl IdpRole {
         ensures reply { IfOk result (Wants self.now ledger.now.held (request_view request.now) now) }
         ensures refused { IfErr result (IsJudged (λ verdict. Answers self.now ledger.now.held (request_view request.now) now (Fixed (number_of verdict)) None)) }
     {
+        what_is_recorded_may_stand();
+        each_moment_is_told();
         let (pending, user, password) = (given.at(0), given.at(1), given.at(2));
         ledger.holds_records();
         let Some(row) = ledger.pending(pending.as_str(), now) else {
@@ -81,7 +67,6 @@ impl IdpRole {
         let Some(user) = self.config.users.check(user.as_str(), password) else {
             return Err(Judged::Code(Verdict::LoginRefused));
         };
-        can_be_answered(row, now);
         Ok(Reply::Login {
             pending: pending.copy()?,
             user: user.name.copy()?,

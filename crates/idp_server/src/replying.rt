@@ -18,7 +18,7 @@ use idp_answers::metadata_answer;
 use idp_ledger::laws::compactions_change_no_answer;
 use idp_ledger::{Draft, IdpLedger};
 use owned_values::{Blob, NoMemory};
-use provider_node::{Drafted, Replied, Role};
+use provider_node::{DraftOutcome, Replied, Role};
 
 impl IdpRole {
     /// A reply, or the code of a refusal.
@@ -97,8 +97,8 @@ impl Role for IdpRole {
         }
     }
 
-    fn draft(&self, reply: &Reply, ledger: &mut IdpLedger, now: u64) -> Drafted<Draft> {
-        Drafted::of(reply.draft(ledger, now))
+    fn draft(&self, reply: &Reply, ledger: &mut IdpLedger, now: u64) -> DraftOutcome<Draft> {
+        DraftOutcome::of(reply.draft(ledger, now))
     }
 
     fn page(&self, reply: &Reply, draft: &Draft, now: u64) -> Result<Blob, NoMemory> {

@@ -11,7 +11,7 @@ ghost use Rattle.idp_server.specs.Rounds.{asks_others, follows_of, skips_for, tu
 
 use crate::reply::{Follows, Reply};
 use crate::role::IdpRole;
-use crate::round_texts::{are_text_turns, is_text_round};
+use idp_answers::laws::what_is_recorded_may_stand;
 use idp_answers::{just, text_of};
 use idp_ledger::{Draft, IdpLedger, RoundRow};
 use logout_answers::{end_answer, ending_answer, leaving_answer};
@@ -111,11 +111,11 @@ impl IdpRole {
         requires fanout { self.now.fanout ≡ true }
         ensures { IfOk result (IsAskAll self.now ledger.now.held asker cookies) }
     {
+        what_is_recorded_may_stand();
         ledger.holds_records();
         let Some(plan) = self.plan_for(ledger, &asker, &cookies)? else {
             return Ok(None);
         };
-        are_text_turns(plan.turns.as_slice());
         Ok(Some(Reply::AskAll {
             cookies,
             asker,
@@ -175,11 +175,11 @@ impl IdpRole {
         if !self.config.fanout {
             return Ok(None);
         }
+        what_is_recorded_may_stand();
         ledger.holds_records();
         let Some(row) = ledger.turn(request.as_str(), peer.as_str(), now) else {
             return Ok(None);
         };
-        is_text_round(row);
         Ok(Some(Reply::Told {
             request: request.copy()?,
             peer: peer.copy()?,

@@ -19,7 +19,7 @@ use crate::reply::Reply;
 use crate::role::IdpRole;
 use fault_verdicts::Judged;
 use http_wire::{HttpRequest, cookie_of};
-use idp_answers::{are_statable, are_told, is_text, is_told};
+use idp_answers::laws::{each_moment_is_told, what_is_recorded_may_stand};
 use idp_ledger::{Ask, IdpLedger, SessionRow};
 use idp_rules::laws::the_texts_of_a_request_are_texts;
 use idp_rules::{Asked, judge_request, sign_on_address};
@@ -27,23 +27,6 @@ use owned_values::NoMemory;
 
 /// The name of the cookie of a session.
 const SESSION_COOKIE: &str = "idp_sid";
-
-/// That the texts of a session are texts that a document may hold, and that the moments of an Assertion in it have a written
-/// form. It is there for the proof.
-pub(crate) fn can_be_stated(row: &SessionRow, now: u64)
-    requires index { is_xml_text row.now.index ≡ true }
-    requires user { is_xml_text row.now.user ≡ true }
-    requires attributes { AreXmlAttributes row.now.attributes }
-    requires until { row.now.until ≤ LAST }
-    requires moment { now ≤ LAST }
-    ensures texts { IsTextSession row.now }
-    ensures told { AreTold now row.now.until }
-{
-    is_text(row.index.as_str());
-    is_text(row.user.as_str());
-    are_statable(row.attributes.as_slice());
-    are_told(now, row.until);
-}
 
 /// The live session of a request's cookie.
 pub(crate) fn session_for<'a>(
@@ -104,12 +87,12 @@ impl IdpRole {
         let _usable = &self.config;
         the_texts_of_a_request_are_texts();
         ledger.holds_records();
-        is_told(now);
+        what_is_recorded_may_stand();
+        each_moment_is_told();
         let (peer, passive) = (asked.peer, asked.passive);
         let session = session_used(ledger, asked.force, request, now);
         let ask = self.ask_of(asked)?;
         if let Some(row) = session {
-            can_be_stated(row, now);
             let cookie = row.cookie.copy()?;
             return Ok(Reply::InSession { cookie, ask, peer });
         }

@@ -14,7 +14,7 @@ use crate::reply::Reply;
 use crate::role::IdpRole;
 use fault_verdicts::Judged;
 use http_wire::HttpRequest;
-use idp_answers::are_told;
+use idp_answers::laws::each_moment_is_told;
 use idp_ledger::IdpLedger;
 use idp_rules::IdpConfig;
 use logout_profile::laws::what_an_obeyed_form_says;
@@ -75,7 +75,7 @@ impl IdpRole {
         ensures { IfOk result (Wants self.now ledger.now.held (request_view request.now) now) }
     {
         what_an_obeyed_form_says();
-        are_told(now, now);
+        each_moment_is_told();
         let name = self.config.peers.at(peer).peer.entity.copy()?;
         if let Some(reply) = self.ask_for_peer(ledger, &asked, &name, &relay, now)? {
             return Ok(reply);
@@ -102,7 +102,7 @@ impl IdpRole {
         requires obeyed { IsObeyed self.now now request.now.body.now (messages.Reply response peer) }
         ensures { IfOk result (Wants self.now ledger.now.held (request_view request.now) now) }
     {
-        are_told(now, now);
+        each_moment_is_told();
         let partial = is_in_part(response.outcome);
         let name = &self.config.peers.at(peer).peer.entity;
         if let Some(reply) = self.told(ledger, &response.request, name, !partial, now)? {

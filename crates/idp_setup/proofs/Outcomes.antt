@@ -128,19 +128,19 @@ users_line files name line number (inr a) (inr b) =
 
 -- ---- the files of a peer
 
-peer_one : (files : List File) (names : PeerFiles) (one other : LogoutPeer) → IsPeer (Some files) names one → IsPeer (Some files) names other → one ≡ other
+pub peer_one : (files : List File) (names : PeerFiles) (one other : LogoutPeer) → IsPeer (Some files) names one → IsPeer (Some files) names other → one ≡ other
 peer_one files names one other a b =
     let peer = metadata_one files names.metadata one.peer other.peer a.metadata b.metadata in
     let key_in = same_bytes files names.key_in GREATEST_KEY one.key_in other.key_in a.key_in.0 b.key_in.0 in
     let key_out = same_bytes files names.key_out GREATEST_KEY one.key_out other.key_out a.key_out.0 b.key_out.0 in
     λ i. record { peer = peer i; key_in = key_in i; key_out = key_out i }
 
-peer_good : (files : List File) (names : PeerFiles) (peer : LogoutPeer) (file : List ℕ) → IsPeer (Some files) names peer → LacksPeer (Some files) names file → ⊥
+pub peer_good : (files : List File) (names : PeerFiles) (peer : LogoutPeer) (file : List ℕ) → IsPeer (Some files) names peer → LacksPeer (Some files) names file → ⊥
 peer_good files names peer file h (by_metadata lacks is) = metadata_good files names.metadata peer.peer h.metadata lacks
 peer_good files names peer file h (by_key_in other there lacks is) = key_good files names.key_in peer.key_in h.key_in lacks
 peer_good files names peer file h (by_key_out other key there holds lacks is) = key_good files names.key_out peer.key_out h.key_out lacks
 
-lacks_one : (files : List File) (names : PeerFiles) (one other : List ℕ) → LacksPeer (Some files) names one → LacksPeer (Some files) names other → one ≡ other
+pub lacks_one : (files : List File) (names : PeerFiles) (one other : List ℕ) → LacksPeer (Some files) names one → LacksPeer (Some files) names other → one ≡ other
 lacks_one files names one other (by_metadata lacks is) (by_metadata none same) = is ∙ sym same
 lacks_one files names one other (by_metadata lacks is) (by_key_in peer there none same) = absurd (metadata_good files names.metadata peer there lacks)
 lacks_one files names one other (by_metadata lacks is) (by_key_out peer key there holds none same) = absurd (metadata_good files names.metadata peer there lacks)

@@ -26,5 +26,6 @@ mod loaded;
 mod reading;
 mod setup;
 
+pub use reading::read_peer_files;
 pub use setup::set_up;
 pub use sp_setup::SetupFault;

@@ -105,7 +105,12 @@ pub(crate) fn read_user_file<F: Files>(
 }
 
 /// A peer: its metadata and its keys, in the order in which the line of the config names them.
-pub(crate) fn read_peer_files<F: Files>(
+///
+/// # Errors
+///
+/// `BadFile` tells the first of these files that can't be used, with line 0. `ReadFault` comes only where the files' count
+/// of faults rose; `NoMemory` may come in place of any other answer.
+pub fn read_peer_files<F: Files>(
     alloc: Global,
     files: &mut F,
     names: &PeerFiles,

@@ -7,3 +7,4 @@ pub mod Groups
 pub mod Ends
 pub mod Counted
 pub mod Passing
+pub mod Texts

@@ -33,7 +33,7 @@ fresh = (refl, refl, refl, refl, refl)
 
 -- a document may hold no character 1 (XML 1.0, 2.2)
 xml_texts : (is_xml_text (codes "a" ++ 195 ∷ 164 ∷ []) ≡ true) × (is_xml_text (codes "a" ++ 1 ∷ []) ≡ false)
-unfolding is_xml_text chars
+unfolding is_xml_text chars lib.Utf8.encode
 xml_texts = (refl, refl)
 
 -- of three records the first is linked to the second

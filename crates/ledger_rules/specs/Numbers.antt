@@ -1,10 +1,10 @@
 -- The numbers that records draw, and the IDs that have them.
 use Rattle.std.specs.Prelude.{◌≡◌, ℕ, ◌+◌, ◌^◌, ◌<◌, max, nat_le, nat_lt, Bool, true, ◌&&◌, List, [], ◌∷◌, length, take, slice_index, Option, Some, IfSome}
 use Rattle.std.specs.List.{list_all}
-use Rattle.std.specs.Str.{bytes_eq, chars}
+use Rattle.std.specs.Str.{bytes_eq}
 use Rattle.std.specs.Int.{w64, to_be_bytes}
 use Rattle.hex.specs.Hex.{encode_lower}
-use Rattle.xml_spec.specs.Characters.{is_char}
+use Rattle.text_lines.specs.Lines.{is_text}
 
 -- an ID that a record draws, and its number
 pub record Drawn : Type 0 where
@@ -33,9 +33,9 @@ abbrev pub are_fresh : ℕ → List Drawn → Bool
 are_fresh least drawn =
     list_all (λ d. nat_le least d.number && nat_lt d.number NUMBER_END && has_number d.number d.id) drawn
 
--- XML 1.0, 2.2: whether a text, in UTF-8, holds characters alone that a document may hold
+-- XML 1.0, 2.2: whether bytes are the UTF-8 of characters that a document may hold
 unfoldable pub is_xml_text : List ℕ → Bool
-is_xml_text text = list_all is_char (chars text)
+is_xml_text text = is_text text
 
 -- each number is less than the next
 abbrev pub Ascend : List ℕ → Type 0

@@ -23,7 +23,8 @@
 //!
 //! # What is proved
 //!
-//! `has_number`, `is_xml_text` are exact; `Numbers` are numbers that ascend, and `RowPlaces` finds by them the only row
+//! `has_number`, `is_xml_text` are exact, and what the latter lets through is a text that a document may hold
+//! (`laws::an_allowed_text_may_stand`); `Numbers` are numbers that ascend, and `RowPlaces` finds by them the only row
 //! whose ID a text may be; `TextSet` says whether a text is among those of a list, in n log n; the checks that the
 //! readings of both ledgers share; `keep` sets the flags of exactly those records from which steps between records that
 //! name one another lead to one that is seen (`AreFlagsOf`).
@@ -32,6 +33,7 @@
 mod checks;
 mod fault;
 mod kept;
+pub mod laws;
 mod numbers;
 mod row_places;
 mod text_set;

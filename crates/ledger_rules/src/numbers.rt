@@ -22,7 +22,7 @@ pub fn has_number(number: u64, id: &str) -> bool
 pub fn is_xml_text(text: &str) -> bool
     ensures { result ≡ is_xml_text text.now }
 {
-    xml_chars::text_of(text.as_bytes()).is_some()
+    xml_chars::is_text(text)
 }
 
 /// The number with which an ID may begin. Where it begins with a number, it is this one.

@@ -10,8 +10,8 @@ use Rattle.namespace_scope.specs.Levels.{lookup_of, declared_in}
 use Rattle.namespace_scope.specs.Levels as levels
 use Rattle.namespace_scope.specs.Index.{Index, found, found_after}
 use Rattle.namespace_scope.specs.Marks.{levels_of, IsIndexed}
-use Rattle.namespace_scope.specs.declared.Mark.{Mark}
-use Rattle.namespace_scope.specs.declared.Mark.TheVariants.{Level, Pair}
+use Rattle.namespace_scope.specs.declared.marks.Mark.{Mark}
+use Rattle.namespace_scope.specs.declared.marks.Mark.TheVariants.{Level, Pair}
 
 -- the first mark of the reversed list, after a push
 pub reverse-push : (marks : List Mark) (mark : Mark) → reverse (marks ++ mark ∷ []) ≡ mark ∷ reverse marks
@@ -36,6 +36,11 @@ IsIndexed-declared marks latest new prefix name shadowed old some was now = reco
   finds = λ q. now q ∙ ap (cond (bytes_eq prefix.now q) (Some name)) (old.finds q)
       ∙ sym (lookup_of-declared_in prefix.now name q (levels_of marks) some);
 }
+
+-- an index that finds the same is as good
+pub IsIndexed-same : (marks : List Mark) (latest new : Index) → IsIndexed marks latest
+    → ((q : List ℕ) → found new q ≡ found latest q) → IsIndexed marks new
+IsIndexed-same marks latest new old same = record { chained = old.chained; finds = λ q. same q ∙ old.finds q }
 
 -- the index has the innermost pair's number at its prefix
 pub found_innermost : (marks : List Mark) (latest : Index) (prefix : Bor (List ℕ)) (name : ℕ) (shadowed : Option ℕ)

@@ -1,16 +1,21 @@
 -- What a scope keeps, the latest first, and which levels that is.
-use Rattle.std.specs.Prelude.{◌≡◌, ◌<◌, ℕ, List, [], ◌∷◌, length}
+use Rattle.std.specs.Prelude.{◌≡◌, ◌<◌, ℕ, suc, zero, List, [], ◌∷◌, length}
 use Rattle.namespace_scope.specs.Levels.{lookup_of, declared_in}
 use Rattle.namespace_scope.specs.Levels as levels
 use Rattle.namespace_scope.specs.Index.{Index, found}
-use Rattle.namespace_scope.specs.declared.Mark.{Mark}
-use Rattle.namespace_scope.specs.declared.Mark.TheVariants.{Level, Pair}
+use Rattle.namespace_scope.specs.declared.marks.Mark.{Mark}
+use Rattle.namespace_scope.specs.declared.marks.Mark.TheVariants.{Level, Pair}
 
 -- the levels that the marks made
 abbrev pub levels_of : List Mark → List levels.Level
 levels_of [] = []
 levels_of (Level ∷ marks) = [] ∷ levels_of marks
 levels_of (Pair prefix name _ ∷ marks) = declared_in prefix.now name (levels_of marks)
+
+-- so many more levels, which declare nothing
+abbrev pub with_bare : ℕ → List levels.Level → List levels.Level
+with_bare zero outer = outer
+with_bare (suc n) outer = [] ∷ with_bare n outer
 
 -- each pair lies in a level, and keeps what its prefix had before
 abbrev pub IsChained : List Mark → Type 0

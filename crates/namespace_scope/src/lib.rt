@@ -17,8 +17,10 @@ ghost use Rattle.namespace_scope.specs.Levels.{declared_in, lookup_of};
 
 mod index;
 pub mod laws;
+mod marks;
 
 use index::restore;
+use marks::{Mark, settle};
 use std::alloc::{AllocError, AllocFailed, Global};
 use std::collections::BTreeMap;
 use std::error::Error;
@@ -51,19 +53,6 @@ impl<T: Drop> From<AllocFailed<T>> for NoMemory {
     }
 }
 
-// What a scope keeps of each call that added to it, in the order of the calls.
-#[derive(Drop)]
-enum Mark<'a> {
-    // a level began
-    Level,
-    // a prefix was declared, which until then had the number `shadowed`
-    Pair {
-        prefix: &'a str,
-        name: u32,
-        shadowed: Option<u32>,
-    },
-}
-
 /// The declarations in force: a stack of levels, each with the prefixes that it declares and the
 /// number of each one's namespace.
 ///
@@ -72,6 +61,8 @@ enum Mark<'a> {
 #[derive(Drop)]
 pub struct Scope<'a> {
     marks: Vec<Mark<'a>>,
+    // how many levels began behind the marks: they declare nothing, and most end so
+    bare: usize,
     // the number of each prefix in force
     latest: BTreeMap<String, u32>,
 }
@@ -81,10 +72,10 @@ impl<'a> Model for Scope<'a> {
 
     ghost Value = { List (List (List ℕ × ℕ)) };
 
-    ghost use Rattle.namespace_scope.specs.Marks.{levels_of, IsIndexed};
+    ghost use Rattle.namespace_scope.specs.Marks.{levels_of, with_bare, IsIndexed};
     ghost use Rattle.std.specs.Prelude.{reverse};
 
-    ghost view = { λ s. levels_of (reverse s.marks.items) };
+    ghost view = { λ s. with_bare s.bare (levels_of (reverse s.marks.items)) };
 
     ghost invariant = { λ s. IsIndexed (reverse s.marks.items) s.latest };
 }
@@ -96,16 +87,20 @@ impl<'a> Scope<'a> {
     {
         Scope {
             marks: Vec::new(alloc),
+            bare: 0,
             latest: BTreeMap::new(alloc),
         }
     }
 
-    /// Begins a level, which declares nothing yet. After `NoMemory` the scope is as before.
+    /// Begins a level, which declares nothing yet. After `NoMemory` the scope is as before. It takes no memory.
     pub fn push(&mut self) -> Result<(), NoMemory>
         ensures ok { OnOk result (self.new ≡ [] ∷ self.old) }
         ensures err { OnErr result (self.new ≡ self.old) }
     {
-        self.marks.push(Mark::Level)?;
+        let Some(bare) = self.bare.checked_add(1) else {
+            return Err(NoMemory);
+        };
+        self.bare = bare;
         Ok(())
     }
 
@@ -117,16 +112,14 @@ impl<'a> Scope<'a> {
         ensures err { OnErr result (self.new ≡ self.old) }
     {
         let key = String::from_str(*self.marks.allocator(), prefix)?;
-        let shadowed = self.lookup(prefix);
-        self.marks.push(Mark::Pair {
+        settle(&mut self.marks, &mut self.bare)?;
+        self.marks.reserve(1)?;
+        let shadowed = self.latest.insert(key, name)?;
+        self.marks.push_reserved(Mark::Pair {
             prefix,
             name,
             shadowed,
-        })?;
-        if self.latest.insert(key, name).is_err() {
-            let _ = self.marks.pop();
-            return Err(NoMemory);
-        }
+        });
         Ok(())
     }
 
@@ -135,6 +128,10 @@ impl<'a> Scope<'a> {
         requires { 0 < length self.old }
         ensures { self.new ≡ drop 1 self.old }
     {
+        if self.bare > 0 {
+            self.bare -= 1;
+            return;
+        }
         while let Some(mark) = self.marks.pop() {
             match mark {
                 Mark::Level => return,
@@ -149,6 +146,7 @@ impl<'a> Scope<'a> {
 
     /// The number that `prefix` has: that of its latest declaration in the innermost level that has
     /// one, and none where no level declares it. It takes no memory.
+    #[tactic(auto, using(crate::proofs::Bare::seen_through))]
     pub fn lookup(&self, prefix: &str) -> Option<u32>
         ensures { result ≡ lookup_of prefix.now self.now }
     {

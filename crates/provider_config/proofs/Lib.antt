@@ -1,4 +1,6 @@
 pub mod Counts
+pub mod HubNaming
+pub mod HubRunning
 pub mod IdpRunning
 pub mod Numbers
 pub mod Roles

@@ -18,7 +18,7 @@ use Rattle.provider_config.specs.Drafts.{taken, stands, unless_found, next_line,
 
 -- ---- one more line
 
-found-push : (lines : List SpLine) (line : SpLine) → found (lines ++ line ∷ []) ≡ taken line (found lines)
+pub found-push : (lines : List SpLine) (line : SpLine) → found (lines ++ line ∷ []) ≡ taken line (found lines)
 found-push lines line = λ i. record {
   entity = the-push entity lines line i;
   base = the-push base lines line i;
@@ -86,7 +86,7 @@ guard_key : (line : SpLine) → is_guard line ≡ has_key (codes "guard") line
 guard_key Guard = refl
 guard_key line = refl
 
-stands-found : (line : SpLine) (before : List SpLine) → stands line (found before) ≡ doubles line before
+pub stands-found : (line : SpLine) (before : List SpLine) → stands line (found before) ≡ doubles line before
 stands-found (Entity name) before = is_some-the entity (has_key (codes "entity")) entity_key before
 stands-found (Base address) before = is_some-the base (has_key (codes "base")) base_key before
 stands-found (Listen place) before = is_some-the listen (has_key (codes "listen")) listen_key before

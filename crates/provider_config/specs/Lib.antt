@@ -1,6 +1,10 @@
 pub mod Config
 pub mod Drafts
 pub mod Examples
+pub mod HubConfig
+pub mod HubDrafts
+pub mod HubExamples
+pub mod HubLine
 pub mod IdpConfig
 pub mod IdpDrafts
 pub mod IdpExamples

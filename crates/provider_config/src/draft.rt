@@ -1,12 +1,14 @@
 // What is found in the lines of a config so far.
 
-ghost use Rattle.std.specs.Prelude.{◌≡◌, ◌≤◌, ◌*◌, [], ◌∷◌, ◌++◌, IfSome, IsTrue, OnOk};
+ghost use Rattle.std.specs.Prelude.{◌≡◌, ◌≤◌, ◌*◌, [], ◌∷◌, ◌++◌, IfOk, IfSome, IsTrue, OnOk};
 ghost use Rattle.std.specs.Option.{option_map};
 ghost use Rattle.xml_spec.specs.Characters.{IsText};
 ghost use Rattle.provider_config.specs.Config as spec;
 ghost use Rattle.provider_config.specs.Drafts as drafts;
 
-use crate::config::{AskedLine, FileRole, NamedFile, OpenedLine, SpFile, SpLines, Times};
+use crate::config::{
+    AskedLine, FileRole, NamedFile, OpenedLine, RegistryLine, SpFile, SpLines, Times,
+};
 use crate::line::{MILLIS, MOST_SKEW, SpLine};
 use owned_values::{NoMemory, Text};
 use std::alloc::Global;
@@ -37,6 +39,45 @@ impl SpFile {
         match self {
             SpFile::One(file) => file.role,
             SpFile::Registry(_) => FileRole::Idp,
+        }
+    }
+}
+
+impl RegistryLine {
+    /// The same line.
+    fn copy(&self) -> Result<RegistryLine, NoMemory>
+        ensures { IfOk result (λ line. line ≡ self.now) }
+    {
+        Ok(RegistryLine {
+            file: self.file.copy()?,
+            key: self.key.copy()?,
+            entity: self.entity.copy()?,
+        })
+    }
+}
+
+/// One file of this role.
+fn one(role: FileRole, name: &Text) -> Result<Option<SpFile>, NoMemory>
+    ensures { IfOk result (λ file. file ≡ spec.one role name.now) }
+{
+    let name = name.copy()?;
+    Ok(Some(SpFile::One(NamedFile { role, name })))
+}
+
+impl SpLine {
+    /// What the line names; none where it names no file.
+    pub(crate) fn file(&self) -> Result<Option<SpFile>, NoMemory>
+        ensures { IfOk result (λ file. file ≡ spec.file self.now) }
+    {
+        match self {
+            SpLine::Idp(name) => one(FileRole::Idp, name),
+            SpLine::KeyIn(name) => one(FileRole::KeyIn, name),
+            SpLine::KeyOut(name) => one(FileRole::KeyOut, name),
+            SpLine::IdKey(name) => one(FileRole::IdKey, name),
+            SpLine::NextIn { file, .. } => one(FileRole::NextIn, file),
+            SpLine::Policy(name) => one(FileRole::Policy, name),
+            SpLine::Registry(line) => Ok(Some(SpFile::Registry(line.copy()?))),
+            _ => Ok(None),
         }
     }
 }

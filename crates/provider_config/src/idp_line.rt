@@ -71,7 +71,11 @@ fn peer(line: u32, metadata: &Text, key_in: &Text, key_out: &Text) -> Result<Idp
 }
 
 /// The line of these words, which has this number.
-fn spelled(alloc: Global, number: u32, words: &[Text]) -> Result<Option<IdpLine>, NoMemory>
+pub(crate) fn spelled(
+    alloc: Global,
+    number: u32,
+    words: &[Text],
+) -> Result<Option<IdpLine>, NoMemory>
     requires { AreTexts words.now }
     ensures value { IfOk result (λ line. line ≡ spec.spelled number words.now) }
     ensures sound { IfOk result (λ line. IfSome line IsSound) }

@@ -185,7 +185,11 @@ fn opened(
 }
 
 /// The line of these words.
-fn spelled(alloc: Global, purpose: Purpose, words: &[Text]) -> Result<Option<SpLine>, NoMemory>
+pub(crate) fn spelled(
+    alloc: Global,
+    purpose: Purpose,
+    words: &[Text],
+) -> Result<Option<SpLine>, NoMemory>
     requires { AreTexts words.now }
     ensures value { IfOk result (λ line. line ≡ spec.spelled purpose words.now) }
     ensures sound { IfOk result (λ line. IfSome line IsSound) }

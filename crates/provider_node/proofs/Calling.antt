@@ -3,7 +3,7 @@ use Rattle.std.specs.Prelude.{IfSome, IsSomeAnd, Option, None, Some, Result, Ok,
 use Rattle.std.proofs.Common.{◌≡◌, ◌⊎◌, inl, inr, ℕ, List, [], ◌∷◌, ap, refl}
 use Rattle.crash_disk.specs.declared.change.Change.{Change}
 use Rattle.crash_disk.specs.Disk.{Image, DiskState, MayLeave}
-use Rattle.crash_disk.specs.Moments.{Leaves, LeavesOnly}
+use Rattle.crash_disk.specs.Moments.{DiskShown, Leaves, LeavesOnly}
 use Rattle.crash_disk.specs.Plans.{Follows, IsCarriedOut, LeftAmid}
 use Rattle.crash_disk.specs.Steps.{weaker}
 use Rattle.gate_journal.specs.declared.fault.OpenFault.{OpenFault}
@@ -47,99 +47,100 @@ first_amid plan (Some d) image left = amid_first (plan d) d image left
 
 -- ---- what a crash leaves
 
-module _ {D : Type 0} (told : D → Option DiskState) (moment : D → ℕ) (left_since : D → ℕ → Image → Type 0) where
+module _ {D : Type 0} (shows : D → DiskShown) where
   two : (A P Q : Type 0) → A ⊎ P → A ⊎ Q → A ⊎ (P × Q)
   two A P Q (inl a) q = inl a
   two A P Q (inr p) (inl a) = inl a
   two A P Q (inr p) (inr q) = inr (p, q)
 
-  both : (old new : D) (P Q : Image → Type 0) → LeavesOnly moment left_since old new P
-      → LeavesOnly moment left_since old new Q
-      → LeavesOnly moment left_since old new (λ i. P i × Q i)
+  both : (old new : D) (P Q : Image → Type 0) → LeavesOnly shows old new P
+      → LeavesOnly shows old new Q
+      → LeavesOnly shows old new (λ i. P i × Q i)
   both old new P Q p q = record {
     later = p.later;
     each = λ image left. (p.each image left, q.each image left);
     before =
-        λ t image le left. two (left_since old t image) (P image) (Q image) (p.before t image le left)
+        λ t image le left. two ((shows old).left_since t image) (P image) (Q image) (p.before t image le left)
         (q.before t image le left);
     keeps = p.keeps;
+    calls = p.calls;
   }
 
   amid_told : (old new : D) (P : Image → Type 0) (plan : DiskState → List Change) (o : Option DiskState)
-      → LeavesOnly moment left_since old new P
-      → IfSome o (λ disk. LeavesOnly moment left_since old new (LeftAmid (plan disk) disk))
-      → LeavesOnly moment left_since old new (λ i. P i × IsAmid plan o i)
+      → LeavesOnly shows old new P
+      → IfSome o (λ disk. LeavesOnly shows old new (LeftAmid (plan disk) disk))
+      → LeavesOnly shows old new (λ i. P i × IsAmid plan o i)
   amid_told old new P plan None p amid =
-      weaker moment left_since old new P (λ i. P i × IsAmid plan None i) p (λ image is. (is, tt))
+      weaker shows old new P (λ i. P i × IsAmid plan None i) p (λ image is. (is, tt))
   amid_told old new P plan (Some d) p amid = both old new P (LeftAmid (plan d) d) p amid
 
   amid : {T E : Type 0} (old new : D) (P : Image → Type 0) (plan : DiskState → List Change) (result : Result T E)
-      → LeavesOnly moment left_since old new P
-      → Follows told moment left_since plan old new result
-      → LeavesOnly moment left_since old new (λ i. P i × IsAmid plan (told old) i)
-  amid old new P plan result p follows = amid_told old new P plan (told old) p follows.moments
+      → LeavesOnly shows old new P
+      → Follows shows plan old new result
+      → LeavesOnly shows old new (λ i. P i × IsAmid plan (shows old).told i)
+  amid old new P plan result p follows = amid_told old new P plan (shows old).told p follows.moments
 
   module _ {R : Type 0} (rules : RecordRules R) where
     pub opening_leaves : {T E : Type 0} (old new : D) (result : Result T E)
-        → LeavesOnly moment left_since old new (LeftByOpening rules (told old))
-        → Follows told moment left_since (opening rules) old new result
-        → LeavesOnly moment left_since old new (OpeningLeaves rules (told old))
+        → LeavesOnly shows old new (LeftByOpening rules (shows old).told)
+        → Follows shows (opening rules) old new result
+        → LeavesOnly shows old new (OpeningLeaves rules (shows old).told)
     opening_leaves old new result stands follows =
-        weaker moment left_since old new (λ i. LeftByOpening rules (told old) i × IsAmid (opening rules) (told old) i)
-        (OpeningLeaves rules (told old))
-        (amid old new (LeftByOpening rules (told old)) (opening rules) result stands follows)
+        weaker shows old new (λ i. LeftByOpening rules (shows old).told i × IsAmid (opening rules) (shows old).told i)
+        (OpeningLeaves rules (shows old).told)
+        (amid old new (LeftByOpening rules (shows old).told) (opening rules) result stands follows)
         (λ image is. record { stands = is.0; amid = is.1 })
 
     pub committing_leaves : {T E : Type 0} (old new : D) (r : R) (held : Held R) (result : Result T E)
-        → LeavesOnly moment left_since old new (IsWithOrWithout rules r held)
-        → Follows told moment left_since (committing rules held r) old new result
-        → LeavesOnly moment left_since old new (CommittingLeaves rules r held (told old))
+        → LeavesOnly shows old new (IsWithOrWithout rules r held)
+        → Follows shows (committing rules held r) old new result
+        → LeavesOnly shows old new (CommittingLeaves rules r held (shows old).told)
     committing_leaves old new r held result stands follows =
-        weaker moment left_since old new (λ i. IsWithOrWithout rules r held i × IsAmid (committing rules held r)
-        (told old) i) (CommittingLeaves rules r held (told old))
+        weaker shows old new (λ i. IsWithOrWithout rules r held i × IsAmid (committing rules held r)
+        (shows old).told i) (CommittingLeaves rules r held (shows old).told)
         (amid old new (IsWithOrWithout rules r held) (committing rules held r) result stands follows)
         (λ image is. record { stands = is.0; amid = is.1 })
 
     pub compacting_leaves : {T E : Type 0} (old new : D) (now : ℕ) (held : Held R) (result : Result T E)
-        → LeavesOnly moment left_since old new (IsOldOrCompacted rules now held)
-        → FollowsCompaction rules told moment left_since now held old new result
-        → LeavesOnly moment left_since old new (CompactingLeaves rules now held (told old))
+        → LeavesOnly shows old new (IsOldOrCompacted rules now held)
+        → FollowsCompaction rules shows now held old new result
+        → LeavesOnly shows old new (CompactingLeaves rules now held (shows old).told)
     compacting_leaves old new now held result stands (inl follows) =
-        weaker moment left_since old new (λ i. IsOldOrCompacted rules now held i × IsAmid no_call (told old) i)
-        (CompactingLeaves rules now held (told old))
+        weaker shows old new (λ i. IsOldOrCompacted rules now held i × IsAmid no_call (shows old).told i)
+        (CompactingLeaves rules now held (shows old).told)
         (amid old new (IsOldOrCompacted rules now held) no_call result stands follows)
         (λ image is. record { stands = is.0; amid = inl is.1 })
     compacting_leaves old new now held result stands (inr (made, is_made, follows)) =
-        weaker moment left_since old new (λ i. IsOldOrCompacted rules now held i × IsAmid (compacting rules made)
-        (told old) i) (CompactingLeaves rules now held (told old))
+        weaker shows old new (λ i. IsOldOrCompacted rules now held i × IsAmid (compacting rules made)
+        (shows old).told i) (CompactingLeaves rules now held (shows old).told)
         (amid old new (IsOldOrCompacted rules now held) (compacting rules made) result stands follows)
         (λ image is. record { stands = is.0; amid = inr (made, is_made, is.1) })
 
     -- ---- which calls a compaction made
 
     pub compaction_ended : (T E : Type 0) (old new : D) (now : ℕ) (held : Held R) (x : T)
-        → FollowsCompaction rules {T = T} {E = E} told moment left_since now held old new (Ok x)
-        → MakesCompaction rules now held (told old) (told new)
+        → FollowsCompaction rules {T = T} {E = E} shows now held old new (Ok x)
+        → MakesCompaction rules now held (shows old).told (shows new).told
     compaction_ended T E old new now held x (inl follows) =
-        inl (carried_ok T E no_call (told old) (told new) x follows.ends)
+        inl (carried_ok T E no_call (shows old).told (shows new).told x follows.ends)
     compaction_ended T E old new now held x (inr (made, is, follows)) =
-        inr (made, is, carried_ok T E (compacting rules made) (told old) (told new) x follows.ends)
+        inr (made, is, carried_ok T E (compacting rules made) (shows old).told (shows new).told x follows.ends)
 
     pub compaction_begun : (T E : Type 0) (old new : D) (now : ℕ) (held : Held R) (e : E)
-        → FollowsCompaction rules {T = T} {E = E} told moment left_since now held old new (Err e)
-        → BeginsCompaction rules now held (told old) (told new)
+        → FollowsCompaction rules {T = T} {E = E} shows now held old new (Err e)
+        → BeginsCompaction rules now held (shows old).told (shows new).told
     compaction_begun T E old new now held e (inl follows) =
-        inl (carried_err T E no_call (told old) (told new) e follows.ends)
+        inl (carried_err T E no_call (shows old).told (shows new).told e follows.ends)
     compaction_begun T E old new now held e (inr (made, is, follows)) =
-        inr (made, is, carried_err T E (compacting rules made) (told old) (told new) e follows.ends)
+        inr (made, is, carried_err T E (compacting rules made) (shows old).told (shows new).told e follows.ends)
 
     pub compaction_calls : (old new : D) (now : ℕ) (held : Held R) (result : Result (Unit {0}) OpenFault)
         → (IsErrOf result NoMemory → new ≡ old)
-        → FollowsCompaction rules told moment left_since now held old new result
-        → CompactionCalls rules now held (told old) (told new) result
+        → FollowsCompaction rules shows now held old new result
+        → CompactionCalls rules now held (shows old).told (shows new).told result
     compaction_calls old new now held (Ok u) same follows =
         compaction_ended (Unit {0}) OpenFault old new now held u follows
-    compaction_calls old new now held (Err NoMemory) same follows = ap told (same refl)
+    compaction_calls old new now held (Err NoMemory) same follows = ap (λ (d : D). (shows d).told) (same refl)
     compaction_calls old new now held (Err DiskFault) same follows =
         compaction_begun (Unit {0}) OpenFault old new now held DiskFault follows
     compaction_calls old new now held (Err (Foreign file place)) same follows =

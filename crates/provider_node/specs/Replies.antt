@@ -7,8 +7,8 @@ use Rattle.serve_loop.specs.Worlds.{HasBytes}
 use Rattle.record_ledger.specs.Rules.{RecordRules, AreRecords}
 use Rattle.record_ledger.specs.Ledger.{Held}
 use Rattle.record_ledger.specs.Compacting.{Compacts}
-use Rattle.provider_node.specs.declared.drafted.Drafted.{Drafted}
-use Rattle.provider_node.specs.declared.drafted.Drafted.TheVariants as drafts
+use Rattle.provider_node.specs.declared.drafted.DraftOutcome.{DraftOutcome}
+use Rattle.provider_node.specs.declared.drafted.DraftOutcome.TheVariants as drafts
 use Rattle.provider_node.specs.declared.replied.Replied.{Replied}
 use Rattle.provider_node.specs.declared.replied.Replied.TheVariants.{Plain, ForRecord}
 use Rattle.provider_node.specs.Step.{AnswersBy, HasPlace, IsWhole, Ledger, MakesRoom, provider}
@@ -40,7 +40,7 @@ pub record HasNoPlace {R : Type 0} (rules : RecordRules R) (held : Held R) (want
 -- was nothing to record; there is no place for it; there was no memory.
 abbrev pub IsDrafted : {R D : Type 0} → RecordRules R → Held R
     → (CanCommit : D → Type 0) (record_of : D → R) (wanted : Option R)
-    → Drafted D → Type 0
+    → DraftOutcome D → Type 0
 IsDrafted rules held CanCommit record_of wanted (drafts.Ready draft) =
     (wanted ≡ Some (record_of draft)) × CanCommit draft × HasPlace rules held (record_of draft)
 IsDrafted rules held CanCommit record_of wanted drafts.Nothing = wanted ≡ None

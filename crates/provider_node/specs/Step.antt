@@ -8,7 +8,7 @@ use Rattle.http_wire.specs.declared.answer.Answer.{Answer}
 use Rattle.http_wire.specs.declared.answer.Answer.TheVariants.{Fixed}
 use Rattle.http_wire.specs.Requests.{Request}
 use Rattle.record_ledger.specs.Rules.{RecordRules}
-use Rattle.record_ledger.specs.Ledger.{Held, Opened, IsFitting, IsOwn, ledger_in, taken, held_with}
+use Rattle.record_ledger.specs.Ledger.{Held, OpenedLedger, IsFitting, IsOwn, ledger_in, taken, held_with}
 use Rattle.record_ledger.specs.Calls.{opening, committing}
 use Rattle.record_ledger.specs.Drafts.{is_full}
 use Rattle.record_ledger.specs.Compacting.{Compacts}
@@ -22,7 +22,7 @@ pub record Ledger (R : Type 0) : Type 0 where
   pub broken : Bool
 
 -- an opened ledger seen so: without the memory that it has ready
-abbrev pub seen : {R S : Type 0} → Opened R S → Ledger R
+abbrev pub seen : {R S : Type 0} → OpenedLedger R S → Ledger R
 seen opened = record { held = opened.held; key = opened.key; broken = opened.broken }
 
 -- a provider: what it is set up with, and its ledger
@@ -213,7 +213,7 @@ pub data StepLeaves {Setup R : Type 0} (rules : RecordRules R) (Answers : Answer
       → StepLeaves rules Answers old disk request now image
 
 -- a ledger as one that is opened and has no memory ready
-abbrev pub opened_as : {R : Type 0} → Ledger R → Opened R (Unit {0})
+abbrev pub opened_as : {R : Type 0} → Ledger R → OpenedLedger R (Unit {0})
 opened_as ledger =
     record { held = ledger.held; key = ledger.key; broken = ledger.broken; payload_spare = None; standing = tt }
 

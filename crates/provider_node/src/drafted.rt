@@ -6,7 +6,7 @@ use ledger_rules::DraftFault;
 
 /// What became of the draft of what is to be recorded.
 #[derive(Drop)]
-pub enum Drafted<D> {
+pub enum DraftOutcome<D> {
     /// It can be committed.
     Ready(D),
     /// There is nothing to record.
@@ -17,17 +17,17 @@ pub enum Drafted<D> {
     NoMemory,
 }
 
-impl<D: Drop> Drafted<D> {
+impl<D: Drop> DraftOutcome<D> {
     /// From what a ledger answers to a call that drafts.
-    pub fn of(outcome: Result<Option<D>, DraftFault>) -> Drafted<D>
+    pub fn of(outcome: Result<Option<D>, DraftFault>) -> DraftOutcome<D>
         ensures { result ≡ drafted_of outcome }
     {
         match outcome {
-            Ok(Some(draft)) => Drafted::Ready(draft),
-            Ok(None) => Drafted::Nothing,
-            Err(DraftFault::LedgerFull { .. }) => Drafted::NoPlace,
-            Err(DraftFault::JournalFull { .. }) => Drafted::NoPlace,
-            Err(DraftFault::NoMemory) => Drafted::NoMemory,
+            Ok(Some(draft)) => DraftOutcome::Ready(draft),
+            Ok(None) => DraftOutcome::Nothing,
+            Err(DraftFault::LedgerFull { .. }) => DraftOutcome::NoPlace,
+            Err(DraftFault::JournalFull { .. }) => DraftOutcome::NoPlace,
+            Err(DraftFault::NoMemory) => DraftOutcome::NoMemory,
         }
     }
 }

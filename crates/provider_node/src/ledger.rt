@@ -45,30 +45,30 @@ pub trait KeepsLedger: Drop {
     /// It answers [`OpenFault::Foreign`] exactly where the files hold no such ledger, and [`OpenFault::DiskFault`] only
     /// where the disk's count of faults rose.
     fn open<D: Disk>(alloc: Global, disk: &mut D, key: [u8; 32]) -> Result<Self::Ledger, OpenFault>
-        ensures gives { IfSome (D.told disk.old) (λ d.
+        ensures gives { IfSome (D.shows disk.old).told (λ d.
             Gives (λ l. (seen l).held) open_fault_of result (taken (ledger_in rules (image_of d)))) }
         ensures whole { IfOk result (λ l. ((seen l).broken ≡ false) × ((seen l).key ≡ key)) }
-        ensures own { IfOk result (λ l. Owns rules (D.told disk.new) (seen l)) }
-        ensures moments { LeavesOnly D.moment D.left_since disk.old disk.new
-            (LeftByOpening rules (D.told disk.old)) }
-        ensures faults { CausesFaults result (D.faults_of disk.old) (D.faults_of disk.new) }
-        ensures calls { Follows D.told D.moment D.left_since (opening rules) disk.old disk.new result };
+        ensures own { IfOk result (λ l. Owns rules (D.shows disk.new).told (seen l)) }
+        ensures moments { LeavesOnly D.shows disk.old disk.new
+            (LeftByOpening rules (D.shows disk.old).told) }
+        ensures faults { CausesFaults result (D.shows disk.old).faults (D.shows disk.new).faults }
+        ensures calls { Follows D.shows (opening rules) disk.old disk.new result };
 
     /// Opens the ledger again, as `open` does. At an error it is broken, and else as it was.
     fn reopen<D: Disk>(ledger: &mut Self::Ledger, disk: &mut D) -> Result<(), OpenFault>
-        ensures gives { IfSome (D.told disk.old) (λ d.
+        ensures gives { IfSome (D.shows disk.old).told (λ d.
             Gives (λ _. (seen ledger.new).held) open_fault_of result (taken (ledger_in rules (image_of d)))) }
         ensures whole { OnOk result ((seen ledger.new).broken ≡ false) }
-        ensures own { OnOk result (Owns rules (D.told disk.new) (seen ledger.new)) }
+        ensures own { OnOk result (Owns rules (D.shows disk.new).told (seen ledger.new)) }
         ensures err { OnErr result (((seen ledger.new).held ≡ (seen ledger.old).held)
             × ((seen ledger.new).broken ≡ true)) }
-        ensures own_err { OnErr result (Owns rules (D.told disk.old) (record (seen ledger.old) { broken = true })
-            → Owns rules (D.told disk.new) (seen ledger.new)) }
+        ensures own_err { OnErr result (Owns rules (D.shows disk.old).told (record (seen ledger.old) { broken = true })
+            → Owns rules (D.shows disk.new).told (seen ledger.new)) }
         ensures key { (seen ledger.new).key ≡ (seen ledger.old).key }
-        ensures moments { LeavesOnly D.moment D.left_since disk.old disk.new
-            (LeftByOpening rules (D.told disk.old)) }
-        ensures faults { CausesFaults result (D.faults_of disk.old) (D.faults_of disk.new) }
-        ensures calls { Follows D.told D.moment D.left_since (opening rules) disk.old disk.new result };
+        ensures moments { LeavesOnly D.shows disk.old disk.new
+            (LeftByOpening rules (D.shows disk.old).told) }
+        ensures faults { CausesFaults result (D.shows disk.old).faults (D.shows disk.new).faults }
+        ensures calls { Follows D.shows (opening rules) disk.old disk.new result };
 
     /// Whether a call failed since the ledger was opened.
     fn is_broken(ledger: &Self::Ledger) -> bool
@@ -85,7 +85,7 @@ pub trait KeepsLedger: Drop {
         disk: &mut D,
         draft: Self::Draft,
     ) -> Result<(), Failed>
-        requires own { Owns rules (D.told disk.old) (seen ledger.old) }
+        requires own { Owns rules (D.shows disk.old).told (seen ledger.old) }
         requires whole { (seen ledger.old).broken ≡ false }
         requires can { can_commit ledger.old draft }
         ensures ok { OnOk result (((seen ledger.new).held ≡ held_with (record_of draft) (seen ledger.old).held)
@@ -93,18 +93,18 @@ pub trait KeepsLedger: Drop {
         ensures err { OnErr result (((seen ledger.new).held ≡ (seen ledger.old).held)
             × ((seen ledger.new).broken ≡ true)) }
         ensures key { (seen ledger.new).key ≡ (seen ledger.old).key }
-        ensures own { Owns rules (D.told disk.new) (seen ledger.new) }
-        ensures moments { LeavesOnly D.moment D.left_since disk.old disk.new
+        ensures own { Owns rules (D.shows disk.new).told (seen ledger.new) }
+        ensures moments { LeavesOnly D.shows disk.old disk.new
             (IsWithOrWithout rules (record_of draft) (seen ledger.old).held) }
-        ensures faults { CountsFaults result (D.faults_of disk.old) (D.faults_of disk.new) }
-        ensures calls { Follows D.told D.moment D.left_since
+        ensures faults { CountsFaults result (D.shows disk.old).faults (D.shows disk.new).faults }
+        ensures calls { Follows D.shows
             (committing rules (seen ledger.old).held (record_of draft)) disk.old disk.new result };
 
     /// Leaves out each record that no one can ask for any more from the moment `now` on. It answers
     /// [`OpenFault::NoMemory`] before it changes anything, [`OpenFault::DiskFault`] only where the disk's count of
     /// faults rose, and never [`OpenFault::Foreign`].
     fn compact<D: Disk>(ledger: &mut Self::Ledger, disk: &mut D, now: u64) -> Result<(), OpenFault>
-        requires own { Owns rules (D.told disk.old) (seen ledger.old) }
+        requires own { Owns rules (D.shows disk.old).told (seen ledger.old) }
         requires whole { (seen ledger.old).broken ≡ false }
         ensures ok { OnOk result (Compacts rules now (seen ledger.old).held (seen ledger.new).held
             × ((seen ledger.new).broken ≡ false)) }
@@ -114,10 +114,10 @@ pub trait KeepsLedger: Drop {
             × (disk.new ≡ disk.old) }
         ensures not_foreign { IfErr result (λ e. open_fault_of e ≡ None) }
         ensures key { (seen ledger.new).key ≡ (seen ledger.old).key }
-        ensures own { Owns rules (D.told disk.new) (seen ledger.new) }
-        ensures moments { LeavesOnly D.moment D.left_since disk.old disk.new
+        ensures own { Owns rules (D.shows disk.new).told (seen ledger.new) }
+        ensures moments { LeavesOnly D.shows disk.old disk.new
             (IsOldOrCompacted rules now (seen ledger.old).held) }
-        ensures faults { CausesFaults result (D.faults_of disk.old) (D.faults_of disk.new) }
-        ensures calls { FollowsCompaction rules D.told D.moment D.left_since now (seen ledger.old).held
+        ensures faults { CausesFaults result (D.shows disk.old).faults (D.shows disk.new).faults }
+        ensures calls { FollowsCompaction rules D.shows now (seen ledger.old).held
             disk.old disk.new result };
 }

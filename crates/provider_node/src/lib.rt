@@ -7,7 +7,7 @@
 //! ```
 //!
 //! A provider of any role is one struct, [`ProviderNode`], over its ledger on a disk. Its [`Role`] says where a
-//! request goes and what is replied to it ([`Replied`]), how a reply is drafted ([`Drafted`]), and how it is shown;
+//! request goes and what is replied to it ([`Replied`]), how a reply is drafted ([`DraftOutcome`]), and how it is shown;
 //! [`KeepsLedger`] says which ledger it keeps.
 //!
 //! What a provider answers to a request, and which record it adds with an answer, is a definition of its own
@@ -62,7 +62,7 @@ mod role;
 mod steps;
 
 pub use codes::{DISK_FAULT, FOREIGN, FULL, NO_MEMORY, code_of};
-pub use drafted::Drafted;
+pub use drafted::DraftOutcome;
 pub use ledger::KeepsLedger;
 pub use provider::ProviderNode;
 pub use replied::Replied;

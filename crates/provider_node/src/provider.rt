@@ -41,15 +41,15 @@ impl<R: Role> ProviderNode<R> {
         role: R,
         disk: &mut D,
     ) -> Result<ProviderNode<R>, OpenFault>
-        ensures gives { IfSome (D.told disk.old) (λ d.
+        ensures gives { IfSome (D.shows disk.old).told (λ d.
             Gives (λ n. n.ledger.held) open_fault_of result (taken (ledger_in R.rules (image_of d)))) }
         ensures setup { IfOk result (λ n. n.setup ≡ role) }
         ensures whole { IfOk result (λ n. n.ledger.broken ≡ false) }
         ensures key { IfOk result (λ n. n.ledger.key ≡ R.key role) }
-        ensures own { IfOk result (λ n. OwnsDisk R.rules n (D.told disk.new)) }
-        ensures moments { LeavesOnly D.moment D.left_since disk.old disk.new (LeftByOpening R.rules (D.told disk.old)) }
-        ensures faults { CausesFaults result (D.faults_of disk.old) (D.faults_of disk.new) }
-        ensures calls { Follows D.told D.moment D.left_since (opening R.rules) disk.old disk.new result }
+        ensures own { IfOk result (λ n. OwnsDisk R.rules n (D.shows disk.new).told) }
+        ensures moments { LeavesOnly D.shows disk.old disk.new (LeftByOpening R.rules (D.shows disk.old).told) }
+        ensures faults { CausesFaults result (D.shows disk.old).faults (D.shows disk.new).faults }
+        ensures calls { Follows D.shows (opening R.rules) disk.old disk.new result }
     {
         let ledger = R::open(alloc, disk, role.id_key())?;
         Ok(ProviderNode { role, ledger })

@@ -6,7 +6,7 @@ ghost use Rattle.http_wire.specs.Views.{request_view};
 ghost use Rattle.provider_node.specs.Step.{AnswersBy};
 ghost use Rattle.provider_node.specs.Replies.{AreReplies, IsDrafted, IsReplied, IsWanted, ReplyRules};
 
-use crate::drafted::Drafted;
+use crate::drafted::DraftOutcome;
 use crate::ledger::KeepsLedger;
 use crate::replied::Replied;
 use http_wire::HttpRequest;
@@ -51,7 +51,7 @@ pub trait Role: KeepsLedger {
         reply: &Self::Reply,
         ledger: &mut Self::Ledger,
         now: u64,
-    ) -> Drafted<Self::Draft>
+    ) -> DraftOutcome<Self::Draft>
         requires moment { now ≤ LAST }
         requires key { (Self.seen ledger.old).key ≡ key self.now }
         requires wanted { (request : Request)

@@ -11,7 +11,7 @@ ghost use Rattle.provider_node.specs.Serving.{Adds, CanServe, code_of};
 ghost use Rattle.provider_node.specs.Step.{Owns, ServesOnDisk, ServingLeaves, provider};
 
 use crate::codes::{DISK_FAULT, FULL, NO_MEMORY, code_of};
-use crate::drafted::Drafted;
+use crate::drafted::DraftOutcome;
 use crate::replied::Replied;
 use crate::role::Role;
 use crash_disk::Disk;
@@ -27,18 +27,18 @@ fn added<R: Role, D: Disk>(
     now: u64,
     disk: &mut D,
 ) -> Answer
-    requires can { CanServe R.rules (R.key role.now) (R.seen ledger.old) (D.told disk.old) now }
+    requires can { CanServe R.rules (R.key role.now) (R.seen ledger.old) (D.shows disk.old).told now }
     requires wanted { IsWanted R.replies role.now now reply.now (R.record_of draft) }
     requires fits { R.can_commit ledger.old draft }
     ensures adds { Adds R.rules (IsPage R.replies role.now reply.now (R.record_of draft) now) (R.record_of draft)
-        (Rose (D.faults_of disk.old) (D.faults_of disk.new)) result
+        (Rose (D.shows disk.old).faults (D.shows disk.new).faults) result
         (provider role.now (R.seen ledger.old)) (provider role.now (R.seen ledger.new))
-        (D.told disk.old) (D.told disk.new) }
+        (D.shows disk.old).told (D.shows disk.new).told }
     ensures has_bytes { HasBytes result }
-    ensures own { Owns R.rules (D.told disk.new) (R.seen ledger.new) }
-    ensures moments { LeavesOnly D.moment D.left_since disk.old disk.new
-        (CommittingLeaves R.rules (R.record_of draft) (R.seen ledger.old).held (D.told disk.old)) }
-    ensures faults { D.faults_of disk.old ≤ D.faults_of disk.new }
+    ensures own { Owns R.rules (D.shows disk.new).told (R.seen ledger.new) }
+    ensures moments { LeavesOnly D.shows disk.old disk.new
+        (CommittingLeaves R.rules (R.record_of draft) (R.seen ledger.old).held (D.shows disk.old).told) }
+    ensures faults { (D.shows disk.old).faults ≤ (D.shows disk.new).faults }
 {
     let Ok(bytes) = role.page(reply, &draft, now) else {
         return Answer::Fixed(NO_MEMORY);
@@ -58,24 +58,24 @@ fn make_room<R: Role, D: Disk>(
     now: u64,
     disk: &mut D,
 ) -> Result<(), OpenFault>
-    requires can { CanServe R.rules (R.key role.now) (R.seen ledger.old) (D.told disk.old) now }
+    requires can { CanServe R.rules (R.key role.now) (R.seen ledger.old) (D.shows disk.old).told now }
     requires wants { R.replies.wants role.now (R.seen ledger.old).held (request_view request.now) now reply.now }
     requires full { HasNoPlace R.rules (R.seen ledger.old).held
         (R.replies.record_for role.now (R.seen ledger.old).held now reply.now) }
     ensures again { OnOk result (IsAgain R.replies R.rules R.answers role.now now
         (R.seen ledger.old) (R.seen ledger.new) (request_view request.now) reply.now) }
     ensures made { OnOk result
-        (MakesCompaction R.rules now (R.seen ledger.old).held (D.told disk.old) (D.told disk.new)) }
+        (MakesCompaction R.rules now (R.seen ledger.old).held (D.shows disk.old).told (D.shows disk.new).told) }
     ensures serves { IfErr result (λ fault.
         ServesOnDisk R.rules R.answers (R.seen ledger.old).held (request_view request.now) now
-        (Rose (D.faults_of disk.old) (D.faults_of disk.new)) (Fixed (code_of fault))
+        (Rose (D.shows disk.old).faults (D.shows disk.new).faults) (Fixed (code_of fault))
         (provider role.now (R.seen ledger.old)) (provider role.now (R.seen ledger.new))
-        (D.told disk.old) (D.told disk.new)) }
-    ensures own { Owns R.rules (D.told disk.new) (R.seen ledger.new) }
-    ensures moments { LeavesOnly D.moment D.left_since disk.old disk.new
+        (D.shows disk.old).told (D.shows disk.new).told) }
+    ensures own { Owns R.rules (D.shows disk.new).told (R.seen ledger.new) }
+    ensures moments { LeavesOnly D.shows disk.old disk.new
         (ServingLeaves R.rules R.answers role.now (R.seen ledger.old).held (request_view request.now) now
-        (D.told disk.old)) }
-    ensures faults { D.faults_of disk.old ≤ D.faults_of disk.new }
+        (D.shows disk.old).told) }
+    ensures faults { (D.shows disk.old).faults ≤ (D.shows disk.new).faults }
 {
     role.laws_hold(now);
     R::holds_records(ledger);
@@ -91,30 +91,30 @@ fn serve_again<R: Role, D: Disk>(
     now: u64,
     disk: &mut D,
 ) -> Answer
-    requires can { CanServe R.rules (R.key role.now) (R.seen ledger.old) (D.told disk.old) now }
+    requires can { CanServe R.rules (R.key role.now) (R.seen ledger.old) (D.shows disk.old).told now }
     requires wants { R.replies.wants role.now (R.seen ledger.old).held (request_view request.now) now reply.now }
     requires full { HasNoPlace R.rules (R.seen ledger.old).held
         (R.replies.record_for role.now (R.seen ledger.old).held now reply.now) }
     ensures serves { ServesOnDisk R.rules R.answers (R.seen ledger.old).held (request_view request.now) now
-        (Rose (D.faults_of disk.old) (D.faults_of disk.new)) result
+        (Rose (D.shows disk.old).faults (D.shows disk.new).faults) result
         (provider role.now (R.seen ledger.old)) (provider role.now (R.seen ledger.new))
-        (D.told disk.old) (D.told disk.new) }
+        (D.shows disk.old).told (D.shows disk.new).told }
     ensures has_bytes { HasBytes result }
-    ensures own { Owns R.rules (D.told disk.new) (R.seen ledger.new) }
-    ensures moments { LeavesOnly D.moment D.left_since disk.old disk.new
+    ensures own { Owns R.rules (D.shows disk.new).told (R.seen ledger.new) }
+    ensures moments { LeavesOnly D.shows disk.old disk.new
         (ServingLeaves R.rules R.answers role.now (R.seen ledger.old).held (request_view request.now) now
-        (D.told disk.old)) }
-    ensures faults { D.faults_of disk.old ≤ D.faults_of disk.new }
+        (D.shows disk.old).told) }
+    ensures faults { (D.shows disk.old).faults ≤ (D.shows disk.new).faults }
 {
     role.laws_hold(now);
     if let Err(fault) = make_room(role, ledger, request, reply, now, disk) {
         return Answer::Fixed(code_of(fault));
     }
     match role.draft(reply, ledger, now) {
-        Drafted::Ready(draft) => added(role, ledger, reply, draft, now, disk),
-        Drafted::Nothing => unreachable!(),
-        Drafted::NoPlace => Answer::Fixed(FULL),
-        Drafted::NoMemory => Answer::Fixed(NO_MEMORY),
+        DraftOutcome::Ready(draft) => added(role, ledger, reply, draft, now, disk),
+        DraftOutcome::Nothing => unreachable!(),
+        DraftOutcome::NoPlace => Answer::Fixed(FULL),
+        DraftOutcome::NoMemory => Answer::Fixed(NO_MEMORY),
     }
 }
 
@@ -127,25 +127,25 @@ fn serve<R: Role, D: Disk>(
     now: u64,
     disk: &mut D,
 ) -> Answer
-    requires can { CanServe R.rules (R.key role.now) (R.seen ledger.old) (D.told disk.old) now }
+    requires can { CanServe R.rules (R.key role.now) (R.seen ledger.old) (D.shows disk.old).told now }
     requires wants { R.replies.wants role.now (R.seen ledger.old).held (request_view request.now) now reply.now }
     ensures serves { ServesOnDisk R.rules R.answers (R.seen ledger.old).held (request_view request.now) now
-        (Rose (D.faults_of disk.old) (D.faults_of disk.new)) result
+        (Rose (D.shows disk.old).faults (D.shows disk.new).faults) result
         (provider role.now (R.seen ledger.old)) (provider role.now (R.seen ledger.new))
-        (D.told disk.old) (D.told disk.new) }
+        (D.shows disk.old).told (D.shows disk.new).told }
     ensures has_bytes { HasBytes result }
-    ensures own { Owns R.rules (D.told disk.new) (R.seen ledger.new) }
-    ensures moments { LeavesOnly D.moment D.left_since disk.old disk.new
+    ensures own { Owns R.rules (D.shows disk.new).told (R.seen ledger.new) }
+    ensures moments { LeavesOnly D.shows disk.old disk.new
         (ServingLeaves R.rules R.answers role.now (R.seen ledger.old).held (request_view request.now) now
-        (D.told disk.old)) }
-    ensures faults { D.faults_of disk.old ≤ D.faults_of disk.new }
+        (D.shows disk.old).told) }
+    ensures faults { (D.shows disk.old).faults ≤ (D.shows disk.new).faults }
 {
     role.laws_hold(now);
     match role.draft(reply, ledger, now) {
-        Drafted::Ready(draft) => added(role, ledger, reply, draft, now, disk),
-        Drafted::Nothing => Answer::Fixed(role.refusal(reply)),
-        Drafted::NoPlace => serve_again(role, ledger, request, reply, now, disk),
-        Drafted::NoMemory => Answer::Fixed(NO_MEMORY),
+        DraftOutcome::Ready(draft) => added(role, ledger, reply, draft, now, disk),
+        DraftOutcome::Nothing => Answer::Fixed(role.refusal(reply)),
+        DraftOutcome::NoPlace => serve_again(role, ledger, request, reply, now, disk),
+        DraftOutcome::NoMemory => Answer::Fixed(NO_MEMORY),
     }
 }
 
@@ -157,17 +157,17 @@ pub(crate) fn answer_whole<R: Role, D: Disk>(
     now: u64,
     disk: &mut D,
 ) -> Answer
-    requires can { CanServe R.rules (R.key role.now) (R.seen ledger.old) (D.told disk.old) now }
+    requires can { CanServe R.rules (R.key role.now) (R.seen ledger.old) (D.shows disk.old).told now }
     ensures serves { ServesOnDisk R.rules R.answers (R.seen ledger.old).held (request_view request.now) now
-        (Rose (D.faults_of disk.old) (D.faults_of disk.new)) result
+        (Rose (D.shows disk.old).faults (D.shows disk.new).faults) result
         (provider role.now (R.seen ledger.old)) (provider role.now (R.seen ledger.new))
-        (D.told disk.old) (D.told disk.new) }
+        (D.shows disk.old).told (D.shows disk.new).told }
     ensures has_bytes { HasBytes result }
-    ensures own { Owns R.rules (D.told disk.new) (R.seen ledger.new) }
-    ensures moments { LeavesOnly D.moment D.left_since disk.old disk.new
+    ensures own { Owns R.rules (D.shows disk.new).told (R.seen ledger.new) }
+    ensures moments { LeavesOnly D.shows disk.old disk.new
         (ServingLeaves R.rules R.answers role.now (R.seen ledger.old).held (request_view request.now) now
-        (D.told disk.old)) }
-    ensures faults { D.faults_of disk.old ≤ D.faults_of disk.new }
+        (D.shows disk.old).told) }
+    ensures faults { (D.shows disk.old).faults ≤ (D.shows disk.new).faults }
 {
     match role.reply(ledger, request, now) {
         Ok(Replied::Plain(answer)) => answer,

@@ -1,7 +1,8 @@
 -- How a run goes on once a node was started.
 use Rattle.std.proofs.Common.{◌≡◌, ℕ, List, Option, Result, ap, ◌∙◌, subst}
 use Rattle.crash_disk.specs.Disk.{Image, DiskState}
-use Rattle.event_link.specs.Links.{LinkState}
+use Rattle.crash_disk.specs.Moments.{DiskShown}
+use Rattle.event_link.specs.Links.{LinkShown, LinkState}
 use Rattle.serve_loop.specs.declared.served.Served.{Served}
 use Rattle.serve_loop.specs.declared.served.ServeFault.{ServeFault}
 use Rattle.serve_loop.specs.Serving.{Serves}
@@ -12,12 +13,11 @@ use Rattle.provider_run.specs.declared.ended.RunFault.{RunFault}
 use Rattle.provider_run.specs.Runs.{Outside, outside, world_of, result_of, RunsBy, Serving}
 
 -- a call of `listen` changes the link's count of faults alone
-pub only_listened : (disk : Option DiskState) (disk_faults disk_moment : ℕ) (old new : Option LinkState) (old_faults new_faults old_sends new_sends : ℕ)
-    (clock : Option (List ℕ)) → new ≡ old → new_sends ≡ old_sends →
-    outside disk disk_faults disk_moment new new_faults new_sends clock ≡ record (outside disk disk_faults disk_moment old old_faults old_sends clock) { link_faults = new_faults }
-only_listened disk disk_faults disk_moment old new old_faults new_faults old_sends new_sends clock same sends =
-    ap (λ (l : Option LinkState). outside disk disk_faults disk_moment l new_faults new_sends clock) same
-    ∙ ap (λ (n : ℕ). outside disk disk_faults disk_moment old new_faults n clock) sends
+pub only_listened : (disk : DiskShown) (old new : LinkShown) (clock : Option (List ℕ)) → new.told ≡ old.told → new.send_faults ≡ old.send_faults →
+    outside disk new clock ≡ record (outside disk old clock) { link_faults = new.faults }
+only_listened disk old new clock same sends =
+    ap (λ (l : Option LinkState). record (outside disk new clock) { link = l }) same
+    ∙ ap (λ (n : ℕ). record (outside disk new clock) { link = old.told; send_faults = n }) sends
 
 -- then it serves
 pub served_so : {N : Type 0} (step : NodeStep N) (leaves : NodeLeaves N) (left : ℕ → Image → Type 0) (IsBadFile : List ℕ → ℕ → Type 0) (IsNotOpened : Outside → Result Ended RunFault → Type 0) (Begins : N → Outside → Type 0)

@@ -2,7 +2,8 @@
 use Rattle.std.specs.Prelude.{◌≡◌, ◌⊎◌, ℕ, List, [], Option, Result, Ok, Err}
 use Rattle.crash_disk.specs.Counts.{Rose}
 use Rattle.crash_disk.specs.Disk.{Image, DiskState}
-use Rattle.event_link.specs.Links.{LinkState}
+use Rattle.crash_disk.specs.Moments.{DiskShown}
+use Rattle.event_link.specs.Links.{LinkShown, LinkState}
 use Rattle.serve_loop.specs.declared.served.Served.{Served}
 use Rattle.serve_loop.specs.declared.served.ServeFault.{ServeFault}
 use Rattle.serve_loop.specs.declared.served.ServeFault.TheVariants as serve_faults
@@ -28,15 +29,15 @@ pub record Outside : Type 0 where
   -- the moments to come
   pub clock : Option (List ℕ)
 
--- what was told, the counts and the moment
-abbrev pub outside : Option DiskState → ℕ → ℕ → Option LinkState → ℕ → ℕ → Option (List ℕ) → Outside
-outside disk disk_faults disk_moment link link_faults send_faults clock = record {
-  disk = disk;
-  disk_faults = disk_faults;
-  disk_moment = disk_moment;
-  link = link;
-  link_faults = link_faults;
-  send_faults = send_faults;
+-- what the disk and the link show, and the moments to come
+abbrev pub outside : DiskShown → LinkShown → Option (List ℕ) → Outside
+outside disk link clock = record {
+  disk = disk.told;
+  disk_faults = disk.faults;
+  disk_moment = disk.moment;
+  link = link.told;
+  link_faults = link.faults;
+  send_faults = link.send_faults;
   clock = clock;
 }
 

@@ -30,24 +30,22 @@ fn listen_and_serve<R: RunsProvider, L: Link, D: Disk, C: Clock>(
     clock: &mut C,
     budget: u64,
 ) -> Result<Ended, RunFault>
-    requires { OwnsDisk R.Role.rules node.old (D.told disk.old) }
+    requires { OwnsDisk R.Role.rules node.old (D.shows disk.old).told }
     // Where it was set up and started so, this is how the run goes.
     ensures runs { (turns : List (Turn _))
         × ((told : Option (List File)) (file : List ℕ) (before : Outside) →
         Begins R.sets_up R.Role.key R.Role.rules told file before node.old
-        (outside (D.told disk.old) (D.faults_of disk.old) (D.moment disk.old)
-        (L.told link.old) (L.faults_of link.old) (L.send_faults_of link.old) (C.to_come clock.old)) →
-        Runs R.sets_up R.is_bad R.Role.key R.Role.rules R.Role.answers (D.left_since disk.new) told file
+        (outside (D.shows disk.old) (L.shows link.old) (C.to_come clock.old)) →
+        Runs R.sets_up R.is_bad R.Role.key R.Role.rules R.Role.answers (D.shows disk.new).left_since told file
         budget before turns result
-        (outside (D.told disk.new) (D.faults_of disk.new) (D.moment disk.new)
-        (L.told link.new) (L.faults_of link.new) (L.send_faults_of link.new) (C.to_come clock.new)))
-        × LeavesOnly D.moment D.left_since disk.old disk.new
-        (MightLeave (StepLeaves R.Role.rules R.Role.answers) (D.told disk.old) turns) }
-    ensures disk_never_falls { D.faults_of disk.old ≤ D.faults_of disk.new }
-    ensures link_never_falls { L.faults_of link.old ≤ L.faults_of link.new }
+        (outside (D.shows disk.new) (L.shows link.new) (C.to_come clock.new)))
+        × LeavesOnly D.shows disk.old disk.new
+        (MightLeave (StepLeaves R.Role.rules R.Role.answers) (D.shows disk.old).told turns) }
+    ensures disk_never_falls { (D.shows disk.old).faults ≤ (D.shows disk.new).faults }
+    ensures link_never_falls { (L.shows link.old).faults ≤ (L.shows link.new).faults }
     ensures set_up { ¬ (IsNotSetUp result) }
     ensures disk_fault { result ≢ Err RunFault.DiskFault }
-    ensures link_fault { result ≡ Err RunFault.LinkFault → Rose (L.faults_of link.old) (L.faults_of link.new) }
+    ensures link_fault { result ≡ Err RunFault.LinkFault → Rose (L.shows link.old).faults (L.shows link.new).faults }
 {
     link.listen(R::address(node.role()))?;
     ended_of(serve(alloc, node, link, disk, clock, budget))
@@ -65,18 +63,16 @@ fn run_by<R: RunsProvider, L: Link, D: Disk, C: Clock>(
     // Where it was set up so, this is how the run goes.
     ensures runs { (turns : List (Turn _))
         × ((told : Option (List File)) (file : List ℕ) → R.sets_up told file role →
-        Runs R.sets_up R.is_bad R.Role.key R.Role.rules R.Role.answers (D.left_since disk.new) told file budget
-        (outside (D.told disk.old) (D.faults_of disk.old) (D.moment disk.old)
-        (L.told link.old) (L.faults_of link.old) (L.send_faults_of link.old) (C.to_come clock.old)) turns result
-        (outside (D.told disk.new) (D.faults_of disk.new) (D.moment disk.new)
-        (L.told link.new) (L.faults_of link.new) (L.send_faults_of link.new) (C.to_come clock.new)))
-        × LeavesOnly D.moment D.left_since disk.old disk.new
-        (RunLeaves R.Role.rules R.Role.answers (D.told disk.old) turns) }
-    ensures disk_never_falls { D.faults_of disk.old ≤ D.faults_of disk.new }
-    ensures link_never_falls { L.faults_of link.old ≤ L.faults_of link.new }
+        Runs R.sets_up R.is_bad R.Role.key R.Role.rules R.Role.answers (D.shows disk.new).left_since told file budget
+        (outside (D.shows disk.old) (L.shows link.old) (C.to_come clock.old)) turns result
+        (outside (D.shows disk.new) (L.shows link.new) (C.to_come clock.new)))
+        × LeavesOnly D.shows disk.old disk.new
+        (RunLeaves R.Role.rules R.Role.answers (D.shows disk.old).told turns) }
+    ensures disk_never_falls { (D.shows disk.old).faults ≤ (D.shows disk.new).faults }
+    ensures link_never_falls { (L.shows link.old).faults ≤ (L.shows link.new).faults }
     ensures set_up { ¬ (IsNotSetUp result) }
-    ensures disk_fault { result ≡ Err RunFault.DiskFault → Rose (D.faults_of disk.old) (D.faults_of disk.new) }
-    ensures link_fault { result ≡ Err RunFault.LinkFault → Rose (L.faults_of link.old) (L.faults_of link.new) }
+    ensures disk_fault { result ≡ Err RunFault.DiskFault → Rose (D.shows disk.old).faults (D.shows disk.new).faults }
+    ensures link_fault { result ≡ Err RunFault.LinkFault → Rose (L.shows link.old).faults (L.shows link.new).faults }
 {
     match ProviderNode::start(alloc, role, disk) {
         Ok(mut node) => listen_and_serve::<R, L, D, C>(alloc, &mut node, link, disk, clock, budget),
@@ -105,32 +101,30 @@ pub fn run<R: RunsProvider, F: Files, L: Link, D: Disk, C: Clock>(
     // The run goes so, and a crash at any moment of it leaves what one inside the opening or inside an answer may
     // leave.
     ensures runs { (turns : List (Turn _))
-        × Runs R.sets_up R.is_bad R.Role.key R.Role.rules R.Role.answers (D.left_since disk.new) (F.holds files.old)
+        × Runs R.sets_up R.is_bad R.Role.key R.Role.rules R.Role.answers (D.shows disk.new).left_since (F.holds files.old)
         config.now budget
-        (outside (D.told disk.old) (D.faults_of disk.old) (D.moment disk.old)
-        (L.told link.old) (L.faults_of link.old) (L.send_faults_of link.old) (C.to_come clock.old)) turns result
-        (outside (D.told disk.new) (D.faults_of disk.new) (D.moment disk.new)
-        (L.told link.new) (L.faults_of link.new) (L.send_faults_of link.new) (C.to_come clock.new))
-        × LeavesOnly D.moment D.left_since disk.old disk.new
-        (RunLeaves R.Role.rules R.Role.answers (D.told disk.old) turns) }
+        (outside (D.shows disk.old) (L.shows link.old) (C.to_come clock.old)) turns result
+        (outside (D.shows disk.new) (L.shows link.new) (C.to_come clock.new))
+        × LeavesOnly D.shows disk.old disk.new
+        (RunLeaves R.Role.rules R.Role.answers (D.shows disk.old).told turns) }
 
     // Each fault has a cause.
     ensures read_fault { result ≡ Err RunFault.ReadFault → Rose (F.faults_of files.old) (F.faults_of files.new) }
-    ensures disk_fault { result ≡ Err RunFault.DiskFault → Rose (D.faults_of disk.old) (D.faults_of disk.new) }
-    ensures link_fault { result ≡ Err RunFault.LinkFault → Rose (L.faults_of link.old) (L.faults_of link.new) }
+    ensures disk_fault { result ≡ Err RunFault.DiskFault → Rose (D.shows disk.old).faults (D.shows disk.new).faults }
+    ensures link_fault { result ≡ Err RunFault.LinkFault → Rose (L.shows link.old).faults (L.shows link.new).faults }
 
     // Where the provider can be run and no fault kept it from that, it served, or there was no memory.
-    ensures complete { IsRunnable R.sets_up R.Role.rules (F.holds files.old) config.now (D.told disk.old) →
+    ensures complete { IsRunnable R.sets_up R.Role.rules (F.holds files.old) config.now (D.shows disk.old).told →
         ¬ (Rose (F.faults_of files.old) (F.faults_of files.new)) →
-        ¬ (Rose (L.faults_of link.old) (L.faults_of link.new)) → result ≢ Err RunFault.DiskFault →
+        ¬ (Rose (L.shows link.old).faults (L.shows link.new).faults) → result ≢ Err RunFault.DiskFault →
         IsServed result ⊎ (result ≡ Err RunFault.NoMemory) }
 
     // A provider that was not set up touches nothing. The files hold what they held, and no count falls.
     ensures untouched { IsNotSetUp result → (link.new ≡ link.old) × (disk.new ≡ disk.old) × (clock.new ≡ clock.old) }
     ensures same { F.holds files.new ≡ F.holds files.old }
     ensures files_never_fall { F.faults_of files.old ≤ F.faults_of files.new }
-    ensures disk_never_falls { D.faults_of disk.old ≤ D.faults_of disk.new }
-    ensures link_never_falls { L.faults_of link.old ≤ L.faults_of link.new }
+    ensures disk_never_falls { (D.shows disk.old).faults ≤ (D.shows disk.new).faults }
+    ensures link_never_falls { (L.shows link.old).faults ≤ (L.shows link.new).faults }
 {
     R::never_both();
     match R::set_up(alloc, files, config) {

@@ -2,6 +2,8 @@
 #![tactic(auto)]
 
 #[cfg(test)]
+mod hub_setup_tests;
+#[cfg(test)]
 mod idp_answers_tests;
 #[cfg(test)]
 mod idp_server_tests;

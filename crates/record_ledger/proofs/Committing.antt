@@ -3,13 +3,13 @@ use Rattle.std.specs.Prelude.{IsOk}
 use Rattle.std.proofs.Common.{◌≡◌, ℕ, ◌*◌, ◌<◌, ◌≤◌, true, false, List, [], ◌∷◌, ◌++◌, map, length, Option, None, Some, Ok, inl, inr, refl, sym, ap, ◌∙◌, subst, arith}
 use Rattle.std.proofs.lemmas.List.{map-append}
 use Rattle.crash_disk.specs.Disk.{Image, DiskState, image_of}
-use Rattle.crash_disk.specs.Moments.{Leaves, LeavesOnly}
+use Rattle.crash_disk.specs.Moments.{DiskShown, Leaves, LeavesOnly}
 use Rattle.gate_journal.specs.Format.{Committed, Kept, journal, sizes, end_of}
-use Rattle.gate_journal.specs.Journal.{Opened as OpenedJournal, IsBeforeOrAfter, kept_with}
+use Rattle.gate_journal.specs.Journal.{OpenedJournal, IsBeforeOrAfter, kept_with}
 use Rattle.gate_journal.specs.Journal.{IsOwn as IsJournalsOwn}
 use Rattle.gate_journal.proofs.Owning.{own_settled, own_is}
 use Rattle.record_ledger.specs.Rules.{RecordRules, records_of, AreRecords}
-use Rattle.record_ledger.specs.Ledger.{Held, Opened, IsOwn, IsWithOrWithout, ledger_in, of_journal, some_held, with_records, held_with, kept_of}
+use Rattle.record_ledger.specs.Ledger.{Held, OpenedLedger, IsOwn, IsWithOrWithout, ledger_in, of_journal, some_held, with_records, held_with, kept_of}
 use Rattle.record_ledger.specs.Keeping.{ok_records, records_in, held_in, StandsFor, IsPayload}
 use Rattle.record_ledger.proofs.Records.{records_of-record, records_of-length, records_of-are}
 
@@ -19,13 +19,14 @@ sizes_least [] = omega arith
 sizes_least (payload ∷ payloads) = omega (arith, sizes_least payloads)
 
 -- what a crash might have left, said otherwise
-pub leaves_so : {D : Type 0} (moment : D → ℕ) (left_since : D → ℕ → Image → Type 0) (old new : D) (P Q : Image → Type 0) → ((image : Image) → P image → Q image)
-    → LeavesOnly moment left_since old new P → LeavesOnly moment left_since old new Q
-leaves_so moment left_since old new P Q leads only = record {
+pub leaves_so : {D : Type 0} (shows : D → DiskShown) (old new : D) (P Q : Image → Type 0) → ((image : Image) → P image → Q image)
+    → LeavesOnly shows old new P → LeavesOnly shows old new Q
+leaves_so shows old new P Q leads only = record {
   later = only.later;
   each = λ image left. leads image (only.each image left);
   before = λ t image le left. elim (only.before t image le left) [ inl past ↦ inl past | inr is ↦ inr (leads image is) ];
   keeps = only.keeps;
+  calls = only.calls;
 }
 
 module _ {R S : Type 0} (rules : RecordRules R) (stands : S → List R → Type 0) where
@@ -89,14 +90,14 @@ module _ {R S : Type 0} (rules : RecordRules R) (stands : S → List R → Type 
 
   -- ---- whose disk it is
 
-  pub ledgers_own : (told : Option DiskState) (j : OpenedJournal) (standing : S) (l : Opened R S) → StandsFor rules stands j.kept.holds standing → held_in rules j.kept ≡ l.held → j.broken ≡ false → l.broken ≡ false
+  pub ledgers_own : (told : Option DiskState) (j : OpenedJournal) (standing : S) (l : OpenedLedger R S) → StandsFor rules stands j.kept.holds standing → held_in rules j.kept ≡ l.held → j.broken ≡ false → l.broken ≡ false
       → IsOwn rules told l → IsJournalsOwn told j
   ledgers_own None j standing l s same whole whole' own = tt
   ledgers_own (Some d) j standing l s same whole whole' own =
       let is = rw whole' at own in
       own_settled (Some d) j whole (is.0, is.2 ∙ ap (λ (h : Held R). Ok (Some (kept_of rules h))) (sym same) ∙ ap (λ (k : Kept). Ok (Some k)) (its_kept j.kept standing s))
 
-  pub journals_own : (told : Option DiskState) (j : OpenedJournal) (standing : S) (l : Opened R S) → StandsFor rules stands j.kept.holds standing → held_in rules j.kept ≡ l.held → j.broken ≡ false → l.broken ≡ false
+  pub journals_own : (told : Option DiskState) (j : OpenedJournal) (standing : S) (l : OpenedLedger R S) → StandsFor rules stands j.kept.holds standing → held_in rules j.kept ≡ l.held → j.broken ≡ false → l.broken ≡ false
       → IsJournalsOwn told j → IsOwn rules told l
   journals_own None j standing l s same whole whole' own = tt
   journals_own (Some d) j standing l s same whole whole' own =
@@ -105,7 +106,7 @@ module _ {R S : Type 0} (rules : RecordRules R) (stands : S → List R → Type 
       let kept : journal (image_of d) ≡ Ok (Some (kept_of rules l.held)) = is.1 ∙ ap (λ (k : Kept). Ok (Some k)) (sym (its_kept j.kept standing s)) ∙ ap (λ (h : Held R). Ok (Some (kept_of rules h))) same in
       rw whole' (is.0, held, kept)
 
-  pub own_broken : (told : Option DiskState) (l : Opened R S) → l.broken ≡ true → ((image : Image) → Leaves told image → IsOk (ledger_in rules image)) → IsOwn rules told l
+  pub own_broken : (told : Option DiskState) (l : OpenedLedger R S) → l.broken ≡ true → ((image : Image) → Leaves told image → IsOk (ledger_in rules image)) → IsOwn rules told l
   own_broken None l broken each = tt
   own_broken (Some d) l broken each = rw broken each
 

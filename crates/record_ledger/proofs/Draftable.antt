@@ -9,7 +9,7 @@ use Rattle.std.proofs.lemmas.List.Elements.{All-nil, All-cons, All-head, All-tai
 use Rattle.std.proofs.lemmas.Slice.Eq.{bytes_eq-Decides}
 use Rattle.hex.specs.Hex.{encode_lower, lower_digits}
 use Rattle.hex.proofs.HexLemmas.{length-encode_with}
-use Rattle.xml_chars.proofs.Texts.{text_utf8, text_tested}
+use Rattle.ledger_rules.proofs.Texts.{tested}
 use Rattle.xml_spec.specs.Characters.{IsText}
 use Rattle.saml_ids.specs.declared.Kind.{Kind}
 use Rattle.saml_ids.specs.IdText.{id_text, random_bytes}
@@ -47,8 +47,7 @@ id_has_number key kind n =
     (bytes_eq-Decides (take 17 (95 ∷ (digits ++ encode_lower (random_bytes key kind n)))) (number_text n)).1 front
 
 pub text_is_allowed : (s : List ℕ) → IsText s → is_xml_text s ≡ true
-unfolding is_xml_text
-text_is_allowed s text = (text_tested s (is_xml_text s) (text_utf8 s text) refl).1 text
+text_is_allowed s text = (tested s).1 text
 
 pub id_is_allowed : (key : List ℕ) (kind : Kind) (n : ℕ) → is_xml_text (id_text key kind n) ≡ true
 id_is_allowed key kind n = text_is_allowed (id_text key kind n) (every_id_is_a_name key kind n).text

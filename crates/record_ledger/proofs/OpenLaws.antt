@@ -5,7 +5,7 @@ use Rattle.std.proofs.lemmas.Bool.{cases_eq}
 use Rattle.std.proofs.lemmas.Bool.Decides.{nat_tests}
 use Rattle.crash_disk.specs.Disk.{Image, DiskState, MayLeave, image_of}
 use Rattle.crash_disk.specs.declared.file_no.FileNo.TheVariants.{Zero, One}
-use Rattle.crash_disk.specs.Moments.{Leaves, LeavesOnly}
+use Rattle.crash_disk.specs.Moments.{DiskShown, Leaves, LeavesOnly}
 use Rattle.crash_disk.specs.Steps.{weaker}
 use Rattle.gate_journal.specs.Format.{Committed, Kept, Fault, joined, journal, file_of}
 use Rattle.gate_journal.specs.Journal.{IsOldOrNew, made_anew}
@@ -57,10 +57,10 @@ is_ok : {T E : Type 0} (r : Result T E) (x : T) → r ≡ Ok x → IsOk r
 is_ok r x is = rw is refl
 
 -- what a crash might have left since a moment is among it what it may leave now
-pub leaves_now : {D : Type 0} (moment : D → ℕ) (left_since : D → ℕ → Image → Type 0) (told : D → Option DiskState) (old new : D) (P : Image → Type 0)
-    → ((disk : D) (t : ℕ) (image : Image) → t ≤ moment disk → Leaves (told disk) image → left_since disk t image) → LeavesOnly moment left_since old new P
-    → (image : Image) → Leaves (told new) image → P image
-leaves_now moment left_since told old new P counts only image left = only.each image (counts new (moment old) image only.later left)
+pub leaves_now : {D : Type 0} (shows : D → DiskShown) (old new : D) (P : Image → Type 0)
+    → ((disk : D) (t : ℕ) (image : Image) → t ≤ (shows disk).moment → Leaves (shows disk).told image → (shows disk).left_since t image) → LeavesOnly shows old new P
+    → (image : Image) → Leaves (shows new).told image → P image
+leaves_now shows old new P counts only image left = only.each image (counts new (shows old).moment image only.later left)
 
 pub on_err : {T E : Type 0} (result : Result T E) (A B : Type 0) → (A → B) → OnErr result A → OnErr result B
 on_err (Ok x) A B f a = a
@@ -117,12 +117,12 @@ module _ {R : Type 0} (rules : RecordRules R) where
   empty_ok image (inr made) = is_ok (ledger_in rules image) (Some empty_ledger) (ledger_first image made)
 
   -- what a crash leaves while a journal is opened stands for a ledger where each image at the start did
-  pub leaves_ok : {D : Type 0} (moment : D → ℕ) (left_since : D → ℕ → Image → Type 0) (told : Option DiskState) (old new : D)
-      → IfSome told (λ d. LeavesOnly moment left_since old new (Opens d)) → IfNone told (LeavesOnly moment left_since old new IsEmptyOrNone)
-      → ((start : Image) → Leaves told start → IsOk (ledger_in rules start)) → LeavesOnly moment left_since old new (λ image. IsOk (ledger_in rules image))
-  leaves_ok moment left_since None old new some none each = weaker moment left_since old new IsEmptyOrNone (λ image. IsOk (ledger_in rules image)) none empty_ok
-  leaves_ok moment left_since (Some d) old new some none each =
-      weaker moment left_since old new (Opens d) (λ image. IsOk (ledger_in rules image)) some (λ image is. opened_ok d image each (opens_image d image is))
+  pub leaves_ok : {D : Type 0} (shows : D → DiskShown) (told : Option DiskState) (old new : D)
+      → IfSome told (λ d. LeavesOnly shows old new (Opens d)) → IfNone told (LeavesOnly shows old new IsEmptyOrNone)
+      → ((start : Image) → Leaves told start → IsOk (ledger_in rules start)) → LeavesOnly shows old new (λ image. IsOk (ledger_in rules image))
+  leaves_ok shows None old new some none each = weaker shows old new IsEmptyOrNone (λ image. IsOk (ledger_in rules image)) none empty_ok
+  leaves_ok shows (Some d) old new some none each =
+      weaker shows old new (Opens d) (λ image. IsOk (ledger_in rules image)) some (λ image is. opened_ok d image each (opens_image d image is))
 
   -- a broken ledger's disk
   pub own_broken : (told : Option DiskState) → ((image : Image) → Leaves told image → IsOk (ledger_in rules image)) → IfSome told (λ disk. (image : Image) → MayLeave disk image → IsOk (ledger_in rules image))

@@ -2,6 +2,7 @@
 use Rattle.std.specs.Prelude.{ℕ, ◌⊎◌, ◌==◌, if◌then◌else◌, List, [], ◌++◌, Option, None, Some, Result, Ok, Err}
 use Rattle.crash_disk.specs.declared.change.Change.{Change}
 use Rattle.crash_disk.specs.Disk.{Image, DiskState, image_of}
+use Rattle.crash_disk.specs.Moments.{DiskShown}
 use Rattle.crash_disk.specs.Plans.{Follows}
 use Rattle.gate_journal.specs.Format.{Fault}
 use Rattle.gate_journal.specs.Calls as journals
@@ -29,8 +30,8 @@ module _ {R : Type 0} (rules : RecordRules R) where
   committing held r disk = journals.appending (kept_of rules held) (rules.bytes 2 r)
 
   -- No changing call was made, or those of one compaction at a moment, as far as the answer says.
-  abbrev pub FollowsCompaction : {D T E : Type 0} → (D → Option DiskState) → (D → ℕ) → (D → ℕ → Image → Type 0) → (now : ℕ) → Held R →
+  abbrev pub FollowsCompaction : {D T E : Type 0} → (D → DiskShown) → (now : ℕ) → Held R →
       (old new : D) → Result T E → Type 0
-  FollowsCompaction told moment left_since now held old new result =
-      Follows told moment left_since (λ _. []) old new result
-      ⊎ ((made : Held R) × IsCompacted rules now held made × Follows told moment left_since (compacting made) old new result)
+  FollowsCompaction shows now held old new result =
+      Follows shows (λ _. []) old new result
+      ⊎ ((made : Held R) × IsCompacted rules now held made × Follows shows (compacting made) old new result)

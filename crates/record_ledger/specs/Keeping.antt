@@ -1,9 +1,9 @@
 -- How the code keeps a ledger: its journal, and what the records stand for.
 use Rattle.std.specs.Prelude.{◌≡◌, ℕ, Bool, List, [], map, Some, Result, Ok, Err}
 use Rattle.gate_journal.specs.Format.{Committed, Kept}
-use Rattle.gate_journal.specs.Journal.{Opened as OpenedJournal}
+use Rattle.gate_journal.specs.Journal.{OpenedJournal}
 use Rattle.record_ledger.specs.Rules.{RecordRules, records_of}
-use Rattle.record_ledger.specs.Ledger.{Held, Opened}
+use Rattle.record_ledger.specs.Ledger.{Held, OpenedLedger}
 
 -- the records, none where there is a payload that is none
 abbrev pub ok_records : {R : Type 0} → Result (List R) ℕ → List R
@@ -17,7 +17,7 @@ module _ {R : Type 0} (rules : RecordRules R) where
   abbrev pub held_in : Kept → Held R
   held_in kept = record { file = kept.file; version = kept.holds.version; header = kept.holds.header; records = records_in kept.holds }
 
-  abbrev pub opened_of : {S : Type 0} → OpenedJournal → S → List ℕ → Bool → Opened R S
+  abbrev pub opened_of : {S : Type 0} → OpenedJournal → S → List ℕ → Bool → OpenedLedger R S
   opened_of journal standing key broken = record {
     held = held_in journal.kept;
     key = key;

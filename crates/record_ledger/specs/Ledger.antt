@@ -17,7 +17,7 @@ pub record Held (R : Type 0) : Type 0 where
   pub records : List R
 
 -- an opened ledger
-pub record Opened (R S : Type 0) : Type 0 where
+pub record OpenedLedger (R S : Type 0) : Type 0 where
   pub held : Held R
   -- the key of its IDs
   pub key : List ℕ
@@ -91,7 +91,7 @@ module _ {R : Type 0} (rules : RecordRules R) where
 
   -- The disk is the ledger's own. While it is not broken, a crash leaves what a read gives, which stands for the ledger and is
   -- the journal that the code writes for it. While it is broken, each image that a crash may leave stands for some ledger.
-  abbrev pub IsOwn : {S : Type 0} → Option DiskState → Opened R S → Type 0
+  abbrev pub IsOwn : {S : Type 0} → Option DiskState → OpenedLedger R S → Type 0
   IsOwn told ledger =
       IfSome told (λ disk. MatchBool ledger.broken
       ((image : Image) → MayLeave disk image → IsOk (ledger_in image))
@@ -112,7 +112,7 @@ module _ {R : Type 0} (rules : RecordRules R) where
   LeftByOpening told image = IfSome told (λ disk. IsOpenedFrom disk image)
 
 -- A record can be committed: it is one of the ledger, its numbers were not drawn before, it fits, and there is memory.
-pub record CanCommit {R S : Type 0} (rules : RecordRules R) (row_rules : RowRules R S) (ledger : Opened R S) (r : R) : Type 0 where
+pub record CanCommit {R S : Type 0} (rules : RecordRules R) (row_rules : RowRules R S) (ledger : OpenedLedger R S) (r : R) : Type 0 where
   pub is : rules.is_record ledger.held.records r ≡ true
   pub numbers : All (λ (d : Drawn). next_number rules ledger.held ≤ d.number) (rules.drawn r)
   pub fits : IsFitting rules ledger.held r
@@ -120,6 +120,6 @@ pub record CanCommit {R S : Type 0} (rules : RecordRules R) (row_rules : RowRule
   pub room : row_rules.has_room ledger.standing r
 
 -- No memory that was made ready is given up.
-pub record KeepsSpare {R S : Type 0} (row_rules : RowRules R S) (old new : Opened R S) : Type 0 where
+pub record KeepsSpare {R S : Type 0} (row_rules : RowRules R S) (old new : OpenedLedger R S) : Type 0 where
   pub payload : IfSome old.payload_spare (λ n. IsSomeAnd new.payload_spare (λ m. n ≤ m))
   pub rows : row_rules.keeps_room old.standing new.standing

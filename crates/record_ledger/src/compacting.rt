@@ -103,18 +103,18 @@ impl<S: Standing> RecordLedger<S> {
     /// of faults rose: then the ledger is broken, and the disk stands for it as before or as made anew. It never answers
     /// [`OpenFault::Foreign`].
     pub fn compact<D: Disk>(&mut self, disk: &mut D, now: u64) -> Result<(), OpenFault>
-        requires own { IsOwn S.rules (D.told disk.old) self.old }
+        requires own { IsOwn S.rules (D.shows disk.old).told self.old }
         requires whole { self.old.broken ≡ false }
         ensures ok { OnOk result (Compacts S.rules now self.old.held self.new.held × (self.new.broken ≡ false)) }
         ensures failed { IsErrOf result OpenFault.DiskFault → (self.new.held ≡ self.old.held) × (self.new.broken ≡ true) }
         ensures no_memory { IsErrOf result OpenFault.NoMemory → (self.new ≡ self.old) × (disk.new ≡ disk.old) }
         ensures not_foreign { IfErr result (λ e. open_fault_of e ≡ None) }
         ensures key { self.new.key ≡ self.old.key }
-        ensures own { IsOwn S.rules (D.told disk.new) self.new }
+        ensures own { IsOwn S.rules (D.shows disk.new).told self.new }
         // A crash at any moment of the call leaves the ledger from before it, or the one that is made anew.
-        ensures moments { LeavesOnly D.moment D.left_since disk.old disk.new (IsOldOrCompacted S.rules now self.old.held) }
-        ensures faults { CausesFaults result (D.faults_of disk.old) (D.faults_of disk.new) }
-        ensures calls { FollowsCompaction S.rules D.told D.moment D.left_since now self.old.held disk.old disk.new result }
+        ensures moments { LeavesOnly D.shows disk.old disk.new (IsOldOrCompacted S.rules now self.old.held) }
+        ensures faults { CausesFaults result (D.shows disk.old).faults (D.shows disk.new).faults }
+        ensures calls { FollowsCompaction S.rules D.shows now self.old.held disk.old disk.new result }
     {
         S::laws_hold();
         let header = self.journal.header();

@@ -19,12 +19,12 @@ const AROUND: u64 = 5;
 
 /// A record that was drafted, and its payload. Contracts see it as the record.
 #[derive(Drop)]
-pub struct Drafted<S: Standing> {
+pub struct DraftedRecord<S: Standing> {
     pub(crate) entry: S::Record,
     pub(crate) payload: Blob,
 }
 
-impl<S: Standing> Model for Drafted<S> {
+impl<S: Standing> Model for DraftedRecord<S> {
     ghost use Rattle.record_ledger.specs.Keeping.{IsPayload};
 
     ghost Value = { S.Record };
@@ -34,7 +34,7 @@ impl<S: Standing> Model for Drafted<S> {
     ghost invariant = { λ d. IsPayload S.rules d.payload d.entry };
 }
 
-impl<S: Standing> Drafted<S> {
+impl<S: Standing> DraftedRecord<S> {
     /// The record.
     pub fn entry(&self) -> &S::Record
         ensures { result.now ≡ self.now }
@@ -101,7 +101,7 @@ impl<S: Standing> RecordLedger<S> {
     ///
     /// Errors: [`DraftFault::LedgerFull`] exactly where 65,536 rows of the record's kind are kept or more; else
     /// [`DraftFault::JournalFull`] exactly where the record does not fit; [`DraftFault::NoMemory`].
-    pub fn draft(&mut self, entry: S::Record) -> Result<Drafted<S>, DraftFault>
+    pub fn draft(&mut self, entry: S::Record) -> Result<DraftedRecord<S>, DraftFault>
         requires { IsDraftable S.rules self.old.held entry }
         ensures drafts { Drafts S.rules S.row_rules self.old self.new entry result }
         ensures same { SameLedger self.old self.new }
@@ -113,6 +113,6 @@ impl<S: Standing> RecordLedger<S> {
         }
         let payload = S::payload(&entry, self.alloc)?;
         self.make_room(&entry, payload.len())?;
-        Ok(Drafted { entry, payload })
+        Ok(DraftedRecord { entry, payload })
     }
 }

@@ -7,7 +7,7 @@ ghost use Rattle.record_ledger.specs.Calls.{committing};
 ghost use Rattle.record_ledger.specs.Rules.{AreRecords};
 ghost use Rattle.record_ledger.specs.Ledger.{CanCommit, IsOwn, IsWithOrWithout, held_with, next_number};
 
-use crate::drafting::Drafted;
+use crate::drafting::DraftedRecord;
 use crate::standing::Standing;
 use gate_journal::{Disk, Failed, Header, Journal};
 use std::alloc::Global;
@@ -25,11 +25,11 @@ pub struct RecordLedger<S: Standing> {
 
 impl<S: Standing> Model for RecordLedger<S> {
     ghost use Rattle.std.specs.Prelude.{◌≡◌, false};
-    ghost use Rattle.record_ledger.specs.Ledger.{Opened};
+    ghost use Rattle.record_ledger.specs.Ledger.{OpenedLedger};
     ghost use Rattle.record_ledger.specs.Keeping.{opened_of, StandsFor};
     ghost use Rattle.record_ledger.specs.Rules.{StandReady};
 
-    ghost Value = { Opened S.Record S };
+    ghost Value = { OpenedLedger S.Record S };
 
     ghost view = { λ l. opened_of S.rules l.journal l.standing l.key l.broken };
 
@@ -88,21 +88,21 @@ impl<S: Standing> RecordLedger<S> {
 
     /// Adds the record of a draft. It takes no memory. At `Failed` the ledger is broken, and has to be opened again; the
     /// disk then stands for the records with the new one or without.
-    pub fn commit<D: Disk>(&mut self, disk: &mut D, draft: Drafted<S>) -> Result<(), Failed>
-        requires own { IsOwn S.rules (D.told disk.old) self.old }
+    pub fn commit<D: Disk>(&mut self, disk: &mut D, draft: DraftedRecord<S>) -> Result<(), Failed>
+        requires own { IsOwn S.rules (D.shows disk.old).told self.old }
         requires whole { self.old.broken ≡ false }
         requires can { CanCommit S.rules S.row_rules self.old draft }
         ensures ok { OnOk result ((self.new.held ≡ held_with draft self.old.held) × (self.new.broken ≡ false)) }
         ensures err { OnErr result ((self.new.held ≡ self.old.held) × (self.new.broken ≡ true)) }
         ensures key { self.new.key ≡ self.old.key }
-        ensures own { IsOwn S.rules (D.told disk.new) self.new }
+        ensures own { IsOwn S.rules (D.shows disk.new).told self.new }
         // A crash at any moment of the call leaves the records from before it, with the new one or without.
-        ensures moments { LeavesOnly D.moment D.left_since disk.old disk.new (IsWithOrWithout S.rules draft self.old.held) }
-        ensures faults { CountsFaults result (D.faults_of disk.old) (D.faults_of disk.new) }
-        ensures calls { Follows D.told D.moment D.left_since (committing S.rules self.old.held draft) disk.old disk.new result }
+        ensures moments { LeavesOnly D.shows disk.old disk.new (IsWithOrWithout S.rules draft self.old.held) }
+        ensures faults { CountsFaults result (D.shows disk.old).faults (D.shows disk.new).faults }
+        ensures calls { Follows D.shows (committing S.rules self.old.held draft) disk.old disk.new result }
     {
         self.journal.records_fit();
-        let Drafted { entry, payload } = draft;
+        let DraftedRecord { entry, payload } = draft;
         self.broken = true;
         self.journal.append(disk, payload.as_slice())?;
         self.standing.put(entry);

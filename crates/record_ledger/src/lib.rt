@@ -45,7 +45,7 @@ mod links;
 mod opening;
 mod standing;
 
-pub use drafting::{Drafted, MOST_ROWS};
+pub use drafting::{DraftedRecord, MOST_ROWS};
 pub use gate_journal::{Disk, Failed, FileNo, Header, OpenFault};
 pub use ledger::RecordLedger;
 pub use ledger_rules::DraftFault;

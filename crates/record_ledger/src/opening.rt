@@ -108,16 +108,16 @@ fn to_version_2<D: Disk>(
     disk: &mut D,
     payloads: &[Blob],
 ) -> Result<(), OpenFault>
-    requires own { IsJournalsOwn (D.told disk.old) journal.old }
+    requires own { IsJournalsOwn (D.shows disk.old).told journal.old }
     requires whole { journal.old.broken ≡ false }
     requires fits { journal.old.kept.holds.version ≡ 1 → Fits payloads.now }
     ensures ok { OnOk result ((journal.new.kept ≡ in_version_2 payloads.now journal.old.kept) × (journal.new.broken ≡ false)) }
     ensures version { OnOk result (IsVersion journal.old.kept.holds.version) }
     ensures no_fault { IfErr result (λ e. IsVersion journal.old.kept.holds.version → open_fault_of e ≡ None) }
-    ensures own { OnOk result (IsJournalsOwn (D.told disk.new) journal.new) }
-    ensures moments { LeavesOnly D.moment D.left_since disk.old disk.new (IsOldOrNew journal.old.kept (in_version_2 payloads.now journal.old.kept)) }
-    ensures faults { CausesFaults result (D.faults_of disk.old) (D.faults_of disk.new) }
-    ensures calls { Follows D.told D.moment D.left_since
+    ensures own { OnOk result (IsJournalsOwn (D.shows disk.new).told journal.new) }
+    ensures moments { LeavesOnly D.shows disk.old disk.new (IsOldOrNew journal.old.kept (in_version_2 payloads.now journal.old.kept)) }
+    ensures faults { CausesFaults result (D.shows disk.old).faults (D.shows disk.new).faults }
+    ensures calls { Follows D.shows
         (to_version_2 payloads.now journal.old.kept) disk.old disk.new result }
 {
     match journal.version() {
@@ -136,15 +136,15 @@ fn take<S: Standing, D: Disk>(
     disk: &mut D,
     mut journal: Journal,
 ) -> Result<(Journal, S), OpenFault>
-    requires own { IsJournalsOwn (D.told disk.old) journal }
+    requires own { IsJournalsOwn (D.shows disk.old).told journal }
     requires whole { journal.broken ≡ false }
     ensures gives { IsVersion journal.kept.holds.version → Gives (λ pair. held_in S.rules pair.0.kept) open_fault_of result (taken (some_held (held_of S.rules journal.kept))) }
     ensures whole { IfOk result (λ pair. (pair.0.broken ≡ false) × StandsFor S.rules (StandReady S.row_rules) pair.0.kept.holds pair.1) }
-    ensures own { IfOk result (λ pair. IsJournalsOwn (D.told disk.new) pair.0) }
-    ensures err { OnErr result ((image : Image) → Leaves (D.told disk.new) image → Leaves (D.told disk.old) image ⊎ IsOk (ledger_in S.rules image)) }
-    ensures moments { LeavesOnly D.moment D.left_since disk.old disk.new (IsTakenFrom S.rules journal.kept) }
-    ensures faults { CausesFaults result (D.faults_of disk.old) (D.faults_of disk.new) }
-    ensures calls { Follows D.told D.moment D.left_since (migrating S.rules (some_held (held_of S.rules journal.kept))) disk.old disk.new result }
+    ensures own { IfOk result (λ pair. IsJournalsOwn (D.shows disk.new).told pair.0) }
+    ensures err { OnErr result ((image : Image) → Leaves (D.shows disk.new).told image → Leaves (D.shows disk.old).told image ⊎ IsOk (ledger_in S.rules image)) }
+    ensures moments { LeavesOnly D.shows disk.old disk.new (IsTakenFrom S.rules journal.kept) }
+    ensures faults { CausesFaults result (D.shows disk.old).faults (D.shows disk.new).faults }
+    ensures calls { Follows D.shows (migrating S.rules (some_held (held_of S.rules journal.kept))) disk.old disk.new result }
 {
     S::laws_hold();
     journal.records_fit();
@@ -155,13 +155,13 @@ fn take<S: Standing, D: Disk>(
 
 /// The journal of a disk, in version 2, and what its payloads stand for.
 fn open_both<S: Standing, D: Disk>(alloc: Global, disk: &mut D) -> Result<(Journal, S), OpenFault>
-    ensures gives { IfSome (D.told disk.old) (λ d. Gives (λ pair. held_in S.rules pair.0.kept) open_fault_of result (taken (ledger_in S.rules (image_of d)))) }
+    ensures gives { IfSome (D.shows disk.old).told (λ d. Gives (λ pair. held_in S.rules pair.0.kept) open_fault_of result (taken (ledger_in S.rules (image_of d)))) }
     ensures whole { IfOk result (λ pair. (pair.0.broken ≡ false) × StandsFor S.rules (StandReady S.row_rules) pair.0.kept.holds pair.1) }
-    ensures own { IfOk result (λ pair. IsJournalsOwn (D.told disk.new) pair.0) }
-    ensures err { OnErr result (((image : Image) → Leaves (D.told disk.old) image → IsOk (ledger_in S.rules image)) → (image : Image) → Leaves (D.told disk.new) image → IsOk (ledger_in S.rules image)) }
-    ensures moments { LeavesOnly D.moment D.left_since disk.old disk.new (LeftByOpening S.rules (D.told disk.old)) }
-    ensures faults { CausesFaults result (D.faults_of disk.old) (D.faults_of disk.new) }
-    ensures calls { Follows D.told D.moment D.left_since (opening S.rules) disk.old disk.new result }
+    ensures own { IfOk result (λ pair. IsJournalsOwn (D.shows disk.new).told pair.0) }
+    ensures err { OnErr result (((image : Image) → Leaves (D.shows disk.old).told image → IsOk (ledger_in S.rules image)) → (image : Image) → Leaves (D.shows disk.new).told image → IsOk (ledger_in S.rules image)) }
+    ensures moments { LeavesOnly D.shows disk.old disk.new (LeftByOpening S.rules (D.shows disk.old).told) }
+    ensures faults { CausesFaults result (D.shows disk.old).faults (D.shows disk.new).faults }
+    ensures calls { Follows D.shows (opening S.rules) disk.old disk.new result }
 {
     let journal = open_journal(alloc, disk)?;
     take::<S, D>(alloc, disk, journal)
@@ -179,13 +179,13 @@ impl<S: Standing> RecordLedger<S> {
         disk: &mut D,
         key: [u8; 32],
     ) -> Result<RecordLedger<S>, OpenFault>
-        ensures gives { IfSome (D.told disk.old) (λ d. Gives (λ l. l.held) open_fault_of result (taken (ledger_in S.rules (image_of d)))) }
+        ensures gives { IfSome (D.shows disk.old).told (λ d. Gives (λ l. l.held) open_fault_of result (taken (ledger_in S.rules (image_of d)))) }
         ensures whole { IfOk result (λ l. (l.broken ≡ false) × (l.key ≡ key)) }
-        ensures own { IfOk result (λ l. IsOwn S.rules (D.told disk.new) l) }
+        ensures own { IfOk result (λ l. IsOwn S.rules (D.shows disk.new).told l) }
         // A crash at any moment of the call leaves what an image at its start stood for, or what is opened from that.
-        ensures moments { LeavesOnly D.moment D.left_since disk.old disk.new (LeftByOpening S.rules (D.told disk.old)) }
-        ensures faults { CausesFaults result (D.faults_of disk.old) (D.faults_of disk.new) }
-        ensures calls { Follows D.told D.moment D.left_since (opening S.rules) disk.old disk.new result }
+        ensures moments { LeavesOnly D.shows disk.old disk.new (LeftByOpening S.rules (D.shows disk.old).told) }
+        ensures faults { CausesFaults result (D.shows disk.old).faults (D.shows disk.new).faults }
+        ensures calls { Follows D.shows (opening S.rules) disk.old disk.new result }
     {
         let (journal, standing) = open_both::<S, D>(alloc, disk)?;
         Ok(RecordLedger {
@@ -199,16 +199,16 @@ impl<S: Standing> RecordLedger<S> {
 
     /// Opens the ledger again, as `start` does. At an error it is broken, and else as it was.
     pub fn reopen<D: Disk>(&mut self, disk: &mut D) -> Result<(), OpenFault>
-        ensures gives { IfSome (D.told disk.old) (λ d. Gives (λ _. self.new.held) open_fault_of result (taken (ledger_in S.rules (image_of d)))) }
+        ensures gives { IfSome (D.shows disk.old).told (λ d. Gives (λ _. self.new.held) open_fault_of result (taken (ledger_in S.rules (image_of d)))) }
         ensures whole { OnOk result (self.new.broken ≡ false) }
-        ensures own { OnOk result (IsOwn S.rules (D.told disk.new) self.new) }
+        ensures own { OnOk result (IsOwn S.rules (D.shows disk.new).told self.new) }
         ensures err { OnErr result ((self.new.held ≡ self.old.held) × (self.new.broken ≡ true)) }
-        ensures own_err { OnErr result (IsOwn S.rules (D.told disk.old) (record self.old { broken = true }) → IsOwn S.rules (D.told disk.new) self.new) }
+        ensures own_err { OnErr result (IsOwn S.rules (D.shows disk.old).told (record self.old { broken = true }) → IsOwn S.rules (D.shows disk.new).told self.new) }
         ensures key { self.new.key ≡ self.old.key }
         // A crash at any moment of the call leaves what an image at its start stood for, or what is opened from that.
-        ensures moments { LeavesOnly D.moment D.left_since disk.old disk.new (LeftByOpening S.rules (D.told disk.old)) }
-        ensures faults { CausesFaults result (D.faults_of disk.old) (D.faults_of disk.new) }
-        ensures calls { Follows D.told D.moment D.left_since (opening S.rules) disk.old disk.new result }
+        ensures moments { LeavesOnly D.shows disk.old disk.new (LeftByOpening S.rules (D.shows disk.old).told) }
+        ensures faults { CausesFaults result (D.shows disk.old).faults (D.shows disk.new).faults }
+        ensures calls { Follows D.shows (opening S.rules) disk.old disk.new result }
     {
         match open_both::<S, D>(self.alloc, disk) {
             Ok((journal, standing)) => {

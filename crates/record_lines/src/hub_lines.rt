@@ -6,7 +6,7 @@ ghost use Rattle.record_lines.specs.Views.{field_view};
 use crate::field::{Field, line_of};
 use crate::lists::Lines;
 use crate::sp_lines::key_number;
-use hub_ledger::Standing;
+use hub_ledger::HubStanding;
 use ledger_records::HubRecord;
 use ledger_records::hub_record::{Backed, Routed, Spoke};
 use owned_values::{Blob, NoMemory};
@@ -58,7 +58,7 @@ fn spoke(r: &Spoke) -> [Field<'_>; 3]
     ]
 }
 
-impl Lines for Standing {
+impl Lines for HubStanding {
     ghost line = { hub_line };
 
     fn line_of(entry: &HubRecord, alloc: Global) -> Result<Blob, NoMemory> {

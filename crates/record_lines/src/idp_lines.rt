@@ -5,7 +5,7 @@ ghost use Rattle.record_lines.specs.Views.{field_view};
 
 use crate::field::{Field, line_of};
 use crate::lists::Lines;
-use idp_ledger::{Noted, Standing};
+use idp_ledger::{IdpStanding, Noted};
 use ledger_records::IdpRecord;
 use ledger_records::idp_record::{Confirmed, Ended, Issued, Left, Pending, Spoke};
 use ledger_records::idp_round::{Round, Told};
@@ -130,7 +130,7 @@ fn line_of_record(alloc: Global, entry: &IdpRecord) -> Result<Blob, NoMemory>
     }
 }
 
-impl Lines for Standing {
+impl Lines for IdpStanding {
     ghost line = { idp_line };
 
     fn line_of(entry: &Noted, alloc: Global) -> Result<Blob, NoMemory> {

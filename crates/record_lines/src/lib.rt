@@ -48,7 +48,7 @@ pub use lists::Lines;
 pub use request_ledger::Marked as SpRows;
 
 /// The rows of an identity provider's records.
-pub use idp_ledger::Standing as IdpRows;
+pub use idp_ledger::IdpStanding;
 
 /// The rows of a hub's records.
-pub use hub_ledger::Standing as HubRows;
+pub use hub_ledger::HubStanding;

@@ -19,7 +19,7 @@ use Rattle.schedule_replay.specs.Asked.{ran_by}
 use Rattle.schedule_replay.specs.Runs.{Ends}
 use Rattle.replay_starts.specs.Replayed.{AReplayIsStarts}
 use Rattle.both_providers.specs.Together.{TheHeadlineHoldsOfBoth}
-use Rattle.replay_runs.specs.Runs.{AreStarted, Begun, Both, Carries, Goes, NotBegun, empty_image, first_of, idp_rules_of, sp_rules}
+use Rattle.replay_runs.specs.Runs.{AreStarted, Begun, Both, Carries, Goes, NotBegun, are_left, empty_image, first_of, idp_rules_of, sp_rules}
 
 -- what two empty files are opened as
 opens_empty : {R : Type 0} (rules : RecordRules R) → taken (ledger_in rules empty_image) ≡ Ok empty_ledger
@@ -45,18 +45,18 @@ module _ (headline : TheHeadlineHoldsOfBoth) where
       ([], [], NotBegun starved refl refl same, headline empty_ledger [] empty_ledger [] tt tt tt)
 
   pub begun : AReplayIsStarts request_rules sp.Answers idp_rules idp.Answers → ImagesHoldRecords request_rules
-      → ImagesHoldRecords idp_rules → (steps : List Step) (quiet : Bool) (both : Both)
+      → ImagesHoldRecords idp_rules → (steps : List Step) (quiet : Bool) (both left : Both)
       (result : Result Tally ReplayFault) (before after : Option (List ℕ)) → AreStarted both
-      → Ends sp_rules idp_rules_of steps quiet (first_of both) result (λ last. Unit {0}) before after
+      → Ends sp_rules idp_rules_of steps quiet (first_of both) result (are_left left) before after
       → Went steps quiet result before after
-  begun law sp_hold idp_hold steps quiet both result before after started ends =
-      let ran = ran_by sp_rules idp_rules_of steps quiet (first_of both) result (λ last. Unit {0}) before after ends in
+  begun law sp_hold idp_hold steps quiet both left result before after started ends =
+      let ran = ran_by sp_rules idp_rules_of steps quiet (first_of both) result (are_left left) before after ends in
       let (sp_starts, idp_starts, are) = law sp_hold idp_hold steps (first_of both) empty_image empty_image
       (record { opened = started.sp.opened; whole = started.sp.whole; own = started.sp.own })
       (record { opened = started.idp.opened; whole = started.idp.whole; own = started.idp.own }) ran in (
         sp_starts,
         idp_starts,
-        Begun both started ends are,
+        Begun both left started ends are,
         headline empty_ledger sp_starts empty_ledger idp_starts tt
             (from_empty request_rules sp.Answers both.sp.ledger.held sp_starts started.sp.opened are.sp.are)
             (from_empty idp_rules idp.Answers both.idp.ledger.held idp_starts started.idp.opened are.idp.are),

@@ -18,7 +18,7 @@ use Rattle.schedule_replay.specs.declared.tally.Tally.{Tally}
 use Rattle.schedule_replay.specs.Asked.{ran_by}
 use Rattle.schedule_replay.specs.Deployments.{Deployment}
 use Rattle.schedule_replay.specs.Hosts.{Rules}
-use Rattle.schedule_replay.specs.Runs.{Ends, alone, beginning}
+use Rattle.schedule_replay.specs.Runs.{AreLeft, Ends, alone, beginning}
 use Rattle.replay_starts.specs.Providers.{provider_rules}
 use Rattle.replay_starts.specs.Replayed.{AreStartsOfBoth}
 use Rattle.both_providers.specs.Together.{Headline}
@@ -61,17 +61,21 @@ pub record AreStarted (both : Both) : Type 0 where
 abbrev pub first_of : Both → Deployment sp.Provider idp.Provider
 first_of both = beginning (alone both.sp both.sp_disk) (alone both.idp both.idp_disk)
 
+-- so a deployment left both providers and their disks
+abbrev pub are_left : Both → Deployment sp.Provider idp.Provider → Type 0
+are_left left last = AreLeft last left.sp left.sp_disk left.idp left.idp_disk
+
 -- How a run of these steps goes, by what was taken of its output before and after: there was no memory to start it, and nothing was
--- printed; or both providers were started, and it is a run of theirs that ends so. These are the starts of either provider in it, with
+-- printed; or both providers were started, and it is a run of theirs that ends so and leaves these. These are the starts of either provider in it, with
 -- the requests that it was asked by the bytes of the schedule's agents.
 pub data Goes (steps : List Step) (quiet : Bool) (sp_starts : List (Start sp.Provider)) (idp_starts : List (Start idp.Provider))
     (result : Result Tally ReplayFault) (before after : Option (List ℕ)) : Type 0 where
   NotBegun : result ≡ Err NoMemory → sp_starts ≡ [] → idp_starts ≡ [] → after ≡ before
       → Goes steps quiet sp_starts idp_starts result before after
-  Begun : (both : Both) → AreStarted both
-      → (ends : Ends sp_rules idp_rules_of steps quiet (first_of both) result (λ last. Unit {0}) before after)
+  Begun : (both left : Both) → AreStarted both
+      → (ends : Ends sp_rules idp_rules_of steps quiet (first_of both) result (are_left left) before after)
       → AreStartsOfBoth request_rules sp.Answers idp_rules idp.Answers steps (first_of both)
-      (ran_by sp_rules idp_rules_of steps quiet (first_of both) result (λ last. Unit {0}) before after ends) sp_starts idp_starts
+      (ran_by sp_rules idp_rules_of steps quiet (first_of both) result (are_left left) before after ends) sp_starts idp_starts
       → Goes steps quiet sp_starts idp_starts result before after
 
 -- What is carried over a run with these starts, which begin with no record: the whole sentence. The service provider opened a session

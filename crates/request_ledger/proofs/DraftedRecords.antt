@@ -20,7 +20,7 @@ use Rattle.request_rows.specs.declared.row.NewSession.{NewSession}
 use Rattle.request_rows.specs.Rows.{asked_row, is_spent, session_row}
 use Rattle.request_ledger.specs.RowsOf.{asked_rows, opened_rows, left_rows}
 use Rattle.request_ledger.specs.Record.{drawn, LAST, of_option, of_attribute, is_asked, AreRecords, request_rules}
-use Rattle.request_ledger.specs.Ledger.{Held, Opened, next_number}
+use Rattle.request_ledger.specs.Ledger.{Held, OpenedLedger, next_number}
 use Rattle.request_ledger.specs.Drafts.{asked, opened, left, ended, confirmed, ending, is_waiting_now, AreSessionTexts, Drafts, IsDraftable}
 use Rattle.record_ledger.proofs.Draftable.{both, id_has_number, id_is_allowed, id_long, HasItsNumber, one_number, one_id}
 use Rattle.request_ledger.proofs.Draftable.{draftable}
@@ -47,7 +47,7 @@ asked_length r =
     omega (arith, length-append r.target (text r.request ++ (text r.relay ++ [])), length-append r.request (text r.relay ++ []), length-append r.relay [])
 
 -- where the next number is the end or greater no record fits, whatever the relay state is
-module _ (old new : Opened) (one other : Asked) where
+module _ (old new : OpenedLedger) (one other : Asked) where
   refused_alike : length (sp_bytes 2 (kinds.Asked one)) ≡ length (sp_bytes 2 (kinds.Asked other))
       → (All (λ (d : Drawn). d.number < NUMBER_END) (drawn (kinds.Asked one)) → ⊥) → (All (λ (d : Drawn). d.number < NUMBER_END) (drawn (kinds.Asked other)) → ⊥)
       → (result : Result SpRecord DraftFault) → Drafts old new (kinds.Asked one) result → Drafts old new (kinds.Asked other) result
@@ -65,7 +65,7 @@ past_end r past all =
     let below : r.first + 1 < NUMBER_END = All-head P two [] (All-tail P one (two ∷ []) all) in
     absurd (omega (arith, past, below))
 
-pub asked_drafts : (old new : Opened) (key : List ℕ) (next now : ℕ) (target relay : List ℕ) (result : Result SpRecord DraftFault) → length relay ≡ 57
+pub asked_drafts : (old new : OpenedLedger) (key : List ℕ) (next now : ℕ) (target relay : List ℕ) (result : Result SpRecord DraftFault) → length relay ≡ 57
     → (next + 1 < NUMBER_END → relay ≡ id_text key Relay (next + 1))
     → Drafts old new (kinds.Asked (record { first = next; moment = now; until = now + 600000; target = target; request = id_text key Request next; relay = relay })) result
     → Drafts old new (asked key next now target) result
@@ -80,7 +80,7 @@ asked_drafts old new key next now target relay result long same is =
           refused_alike old new (with relay) (with id) size (past_end (with relay) past) (past_end (with id) past) result is
     ]
 
-pub drafts_asked : (old new : Opened) (r : Asked) (key : List ℕ) (next now : ℕ) (target : List ℕ) (result : Result SpRecord DraftFault) → r.first ≡ next → r.moment ≡ now → r.until ≡ now + 600000 → r.target ≡ target
+pub drafts_asked : (old new : OpenedLedger) (r : Asked) (key : List ℕ) (next now : ℕ) (target : List ℕ) (result : Result SpRecord DraftFault) → r.first ≡ next → r.moment ≡ now → r.until ≡ now + 600000 → r.target ≡ target
     → r.request ≡ id_text key Request next → length r.relay ≡ 57 → (next + 1 < NUMBER_END → r.relay ≡ id_text key Relay (next + 1))
     → Drafts old new (kinds.Asked r) result → Drafts old new (asked key next now target) result
 drafts_asked old new r key next now target result first moment until goes request long relay is =

@@ -18,7 +18,7 @@ use Rattle.saml_ids.specs.IdText.{id_text}
 use Rattle.saml_ids.specs.declared.Kind.TheVariants.{Request, Relay, Cookie, Message}
 use Rattle.request_ledger.specs.RowsOf.{SpRows, is_among, rows_of_kind}
 use Rattle.request_ledger.specs.Standing.{request_row_rules}
-use Rattle.request_ledger.specs.Ledger.{Held, Opened}
+use Rattle.request_ledger.specs.Ledger.{Held, OpenedLedger}
 pub use Rattle.ledger_rules.specs.Texts.{is_empty}
 pub use Rattle.ledger_rules.specs.Moments.{LIFE}
 
@@ -103,23 +103,23 @@ is_full rows r = any.is_most (rows_of_kind rows r)
 
 -- Why a record is not drafted, the first of these that holds: as many rows of its kind are kept as there may be; it does not
 -- fit. Want of memory may come in place of each.
-abbrev pub IsCause : Opened → SpRecord → DraftFault → Type 0
+abbrev pub IsCause : OpenedLedger → SpRecord → DraftFault → Type 0
 IsCause = any.IsCause request_rules
 
 -- a draft of this record, for which nothing but memory was missing, and which can be committed now
-abbrev pub IsDraftOf : Opened → Opened → SpRecord → SpRecord → Type 0
+abbrev pub IsDraftOf : OpenedLedger → OpenedLedger → SpRecord → SpRecord → Type 0
 IsDraftOf = any.IsDraftOf request_rules request_row_rules
 
 -- what a draft call answers: a draft of this record, or the cause of the refusal
-abbrev pub Drafts : Opened → Opened → SpRecord → Result SpRecord DraftFault → Type 0
+abbrev pub Drafts : OpenedLedger → OpenedLedger → SpRecord → Result SpRecord DraftFault → Type 0
 Drafts = any.Drafts request_rules request_row_rules
 
 -- the same where there may be nothing to record: none exactly there
-abbrev pub DraftsSome : Opened → Opened → (nothing : Bool) → SpRecord → Result (Option SpRecord) DraftFault → Type 0
+abbrev pub DraftsSome : OpenedLedger → OpenedLedger → (nothing : Bool) → SpRecord → Result (Option SpRecord) DraftFault → Type 0
 DraftsSome = any.DraftsSome request_rules request_row_rules
 
 -- a draft call changes nothing but the memory that is ready
-abbrev pub SameLedger : Opened → Opened → Type 0
+abbrev pub SameLedger : OpenedLedger → OpenedLedger → Type 0
 SameLedger = any.SameLedger
 
 -- A record that may be drafted: one of the ledger where its numbers are below the end, and these were not drawn before.

@@ -32,10 +32,10 @@ abbrev pub taken : Result (Option Held) Fault → Result Held Fault
 taken = any.taken
 
 -- an opened ledger
-abbrev pub Opened : Type 0
-Opened = any.Opened SpRecord StandingView
+abbrev pub OpenedLedger : Type 0
+OpenedLedger = any.OpenedLedger SpRecord StandingView
 
-abbrev pub rows_in : Opened → SpRows
+abbrev pub rows_in : OpenedLedger → SpRows
 rows_in ledger = rows_of ledger.held.records
 
 -- The next number to be drawn: the larger of the header's and one more than the greatest number that a record drew.
@@ -52,11 +52,11 @@ abbrev pub IsFitting : Held → SpRecord → Type 0
 IsFitting = any.IsFitting request_rules
 
 -- A record can be committed: it is one of the ledger, its numbers were not drawn before, it fits, and there is memory.
-abbrev pub CanCommit : Opened → SpRecord → Type 0
+abbrev pub CanCommit : OpenedLedger → SpRecord → Type 0
 CanCommit = any.CanCommit request_rules request_row_rules
 
 -- No memory that was made ready is given up.
-abbrev pub KeepsSpare : Opened → Opened → Type 0
+abbrev pub KeepsSpare : OpenedLedger → OpenedLedger → Type 0
 KeepsSpare = any.KeepsSpare request_row_rules
 
 -- a ledger with one record more
@@ -69,7 +69,7 @@ kept_of = any.kept_of request_rules
 
 -- The disk is the ledger's own. While it is not broken, a crash leaves what a read gives, which stands for the ledger and is
 -- the journal that the code writes for it. While it is broken, each image that a crash may leave stands for some ledger.
-abbrev pub IsOwn : Option DiskState → Opened → Type 0
+abbrev pub IsOwn : Option DiskState → OpenedLedger → Type 0
 IsOwn = any.IsOwn request_rules
 
 -- The image stands for this ledger, or for it with the one record more.

@@ -3,14 +3,14 @@ ghost use Rattle.std.specs.Prelude.{◌≡◌, Some};
 ghost use Rattle.request_ledger.specs.Draft.{IsDrawn, drawn_id};
 
 use crate::marked::Marked;
-use record_ledger::Drafted;
+use record_ledger::DraftedRecord;
 use saml_ids::Id;
 use std::marker::Model;
 
 /// A record that was drafted, and the IDs that it draws. Contracts see it as the record.
 #[derive(Drop)]
 pub struct Draft {
-    pub(crate) drafted: Drafted<Marked>,
+    pub(crate) drafted: DraftedRecord<Marked>,
     pub(crate) ids: [Option<Id>; 2],
 }
 

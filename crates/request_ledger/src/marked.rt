@@ -4,7 +4,7 @@ ghost use Rattle.request_ledger.specs.RowsOf.{rows_of_kind};
 ghost use Rattle.request_ledger.specs.Record.{is_next};
 ghost use Rattle.request_ledger.specs.Standing.{rows_in, marked_spare, HasMark, HasRoom, KeepsMarks, KeepsRoom, KnowsSpent, KnowsSpentAfter, AreFew, IsAfter};
 
-use crate::standing::Standing;
+use crate::standing::RequestStanding;
 use ledger_records::SpRecord;
 use owned_values::NoMemory;
 use request_rows::Rows;
@@ -15,7 +15,7 @@ use std::marker::Model;
 /// rows are gathered no index says this, and none is left when they have their indexes.
 #[derive(Debug, Drop)]
 pub struct Marked {
-    standing: Standing,
+    standing: RequestStanding,
     marks: Option<Vec<bool>>,
 }
 
@@ -46,7 +46,7 @@ fn reserve_mark(marks: &mut Option<Vec<bool>>) -> Result<(), NoMemory>
 }
 
 /// Makes the marks those behind a record that may come next, while there are marks. It takes no memory.
-fn mark_next(standing: &Standing, entry: &SpRecord, marks: &mut Option<Vec<bool>>)
+fn mark_next(standing: &RequestStanding, entry: &SpRecord, marks: &mut Option<Vec<bool>>)
     requires is { is_next standing.now.rows standing.now.next entry.now ≡ true }
     requires room { HasRoom (marked_spare standing.now.spare marks.old) entry.now }
     requires knows { KnowsSpent standing.now marks.old }
@@ -65,7 +65,7 @@ impl Marked {
         ensures next { result.next ≡ 0 }
     {
         Marked {
-            standing: Standing::empty(alloc),
+            standing: RequestStanding::empty(alloc),
             marks: Some(Vec::new(alloc)),
         }
     }

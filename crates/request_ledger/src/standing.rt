@@ -20,7 +20,7 @@ use std::marker::Model;
 
 /// The rows of records, the numbers by which they are found, and the least number above all that were drawn.
 #[derive(Debug, Drop)]
-pub(crate) struct Standing {
+pub(crate) struct RequestStanding {
     rows: KeptRows,
     asked: Numbers,
     opened: Numbers,
@@ -28,7 +28,7 @@ pub(crate) struct Standing {
     next: u64,
 }
 
-impl Model for Standing {
+impl Model for RequestStanding {
     ghost use Rattle.std.specs.Prelude.{◌≤◌, ◌^◌, min, map};
     ghost use Rattle.request_ledger.specs.Standing.{StandingView, rows_in, HaveNumbers, AreCounted};
 
@@ -62,13 +62,13 @@ fn put_mark(spent: &mut Vec<bool>)
     }
 }
 
-impl Standing {
+impl RequestStanding {
     /// What no records stand for. It takes no memory.
-    pub(crate) fn empty(alloc: Global) -> Standing
+    pub(crate) fn empty(alloc: Global) -> RequestStanding
         ensures rows { result.rows ≡ record { asked = []; opened = []; left = [] } }
         ensures next { result.next ≡ 0 }
     {
-        Standing {
+        RequestStanding {
             rows: KeptRows::new(alloc),
             asked: Numbers::new(alloc),
             opened: Numbers::new(alloc),
@@ -78,13 +78,13 @@ impl Standing {
     }
 
     /// The same with indexes of its rows. Where there is no memory all is let go.
-    pub(crate) fn indexed(self, alloc: Global) -> Result<Standing, NoMemory>
+    pub(crate) fn indexed(self, alloc: Global) -> Result<RequestStanding, NoMemory>
         ensures rows { IfOk result (λ standing. standing.rows ≡ self.rows) }
         ensures next { IfOk result (λ standing. standing.next ≡ self.next) }
         ensures indexed { IfOk result (λ standing. standing.is_indexed ≡ true) }
     {
         let rows = self.rows.indexed(alloc)?;
-        Ok(Standing {
+        Ok(RequestStanding {
             rows,
             asked: self.asked,
             opened: self.opened,

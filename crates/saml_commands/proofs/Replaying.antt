@@ -3,7 +3,7 @@ use Rattle.std.proofs.Common.{◌≡◌, ℕ, ◌⊎◌, List, [], Bool, true, f
 use Rattle.saml_outside.specs.Files.{File, Reads}
 use Rattle.saml_outside.specs.declared.reading.FileRead.TheVariants as reads
 use Rattle.crash_disk.specs.Disk.{Image, DiskState}
-use Rattle.crash_disk.specs.Moments.{Leaves, LeavesOnly}
+use Rattle.crash_disk.specs.Moments.{DiskShown, Leaves, LeavesOnly}
 use Rattle.provider_run.specs.Runs.{Outside}
 use Rattle.schedules.specs.Made.{made}
 use Rattle.schedules.specs.Schedules.{schedule}
@@ -51,17 +51,17 @@ carries_make left told logins start here (RanReplay steps quiet sp_starts idp_st
 carries_make left told logins start here (RanSp turns result) did = absurd did
 carries_make left told logins start here (RanIdp turns result) did = absurd did
 
-module _ {D : Type 0} (moment : D → ℕ) (left_since : D → ℕ → Image → Type 0) (told : Option DiskState) (disk : D) where
+module _ {D : Type 0} (shows : D → DiskShown) (told : Option DiskState) (disk : D) where
   -- a disk that nothing was done to leaves what it may leave
-  pub replay_leaves : (steps : List Step) (quiet : Bool) (ran : Ran) → DidReplay steps quiet ran → LeavesOnly moment left_since disk disk (Leaves told) →
-      LeavesOnly moment left_since disk disk (RanLeaves told ran)
+  pub replay_leaves : (steps : List Step) (quiet : Bool) (ran : Ran) → DidReplay steps quiet ran → LeavesOnly shows disk disk (Leaves told) →
+      LeavesOnly shows disk disk (RanLeaves told ran)
   replay_leaves steps quiet Unserved did leaves = leaves
   replay_leaves steps quiet (RanReplay done silent sp_starts idp_starts result) did leaves = leaves
   replay_leaves steps quiet (RanSp turns result) did leaves = absurd did
   replay_leaves steps quiet (RanIdp turns result) did leaves = absurd did
 
-  pub file_leaves : (files : Option (List File)) (file : List ℕ) (ran : Ran) → DidReplayFile files file ran → LeavesOnly moment left_since disk disk (Leaves told) →
-      LeavesOnly moment left_since disk disk (RanLeaves told ran)
+  pub file_leaves : (files : Option (List File)) (file : List ℕ) (ran : Ran) → DidReplayFile files file ran → LeavesOnly shows disk disk (Leaves told) →
+      LeavesOnly shows disk disk (RanLeaves told ran)
   file_leaves files file Unserved did leaves = leaves
   file_leaves files file (RanReplay done silent sp_starts idp_starts result) did leaves = leaves
   file_leaves files file (RanSp turns result) did leaves = absurd did

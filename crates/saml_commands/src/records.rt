@@ -16,7 +16,7 @@ use crate::status::Status;
 use crate::top_call::status_of;
 use crash_disk::FileNo;
 use gate_journal::{FileText, read_text};
-use record_lines::{HubRows, IdpRows, Judged, Lines, SpRows, judge, put_lines};
+use record_lines::{HubStanding, IdpStanding, Judged, Lines, SpRows, judge, put_lines};
 use saml_outside::{Blob, FileRead, Files, NoMemory, ReadStop, Sink};
 use std::alloc::Global;
 
@@ -179,7 +179,7 @@ pub(crate) fn run_records<F: Files, K: Sink>(
 {
     match role {
         Role::Sp => run_first::<SpRows, F, K>(alloc, files, out),
-        Role::Idp => run_first::<IdpRows, F, K>(alloc, files, out),
-        Role::Hub => run_first::<HubRows, F, K>(alloc, files, out),
+        Role::Idp => run_first::<IdpStanding, F, K>(alloc, files, out),
+        Role::Hub => run_first::<HubStanding, F, K>(alloc, files, out),
     }
 }

@@ -86,22 +86,28 @@ pub(crate) fn run_service_provider<L: Link, D: Disk, C: Clock, F: Files, K: Sink
     out: &mut K,
 ) -> Status
     ensures ends { (ran : Ran)
-        × DoesCommand (D.left_since disk.new) (F.holds files.old) (Sp config.now events) (outside (D.told disk.old) (D.faults_of disk.old) (D.moment disk.old) (L.told link.old) (L.faults_of link.old) (L.send_faults_of link.old) (C.to_come clock.old)) ran (outside (D.told disk.new) (D.faults_of disk.new) (D.moment disk.new) (L.told link.new) (L.faults_of link.new) (L.send_faults_of link.new) (C.to_come clock.new))
-        × CommandCarries (D.left_since disk.new) (F.holds files.old) (Sp config.now events) (outside (D.told disk.old) (D.faults_of disk.old) (D.moment disk.old) (L.told link.old) (L.faults_of link.old) (L.send_faults_of link.old) (C.to_come clock.old)) ran (outside (D.told disk.new) (D.faults_of disk.new) (D.moment disk.new) (L.told link.new) (L.faults_of link.new) (L.send_faults_of link.new) (C.to_come clock.new))
+        × DoesCommand (D.shows disk.new).left_since (F.holds files.old) (Sp config.now events)
+        (outside (D.shows disk.old) (L.shows link.old) (C.to_come clock.old)) ran
+        (outside (D.shows disk.new) (L.shows link.new) (C.to_come clock.new))
+        × CommandCarries (D.shows disk.new).left_since (F.holds files.old) (Sp config.now events)
+        (outside (D.shows disk.old) (L.shows link.old) (C.to_come clock.old)) ran
+        (outside (D.shows disk.new) (L.shows link.new) (C.to_come clock.new))
         × EndsAfter ran (OfCommand (F.holds files.old) ran (Sp config.now events)) (K.taken out.old) (K.taken out.new) result
-        × LeavesOnly D.moment D.left_since disk.old disk.new (RanLeaves (D.told disk.old) ran) }
+        × LeavesOnly D.shows disk.old disk.new (RanLeaves (D.shows disk.old).told ran) }
     ensures read_fault { result ≡ Status.ReadFault → Rose (F.faults_of files.old) (F.faults_of files.new) }
     ensures write_fault { result ≡ Status.WriteFault → Rose (K.faults_of out.old) (K.faults_of out.new) }
-    ensures disk_fault { result ≡ Status.DiskFault → Rose (D.faults_of disk.old) (D.faults_of disk.new) }
-    ensures link_fault { result ≡ Status.LinkFault → Rose (L.faults_of link.old) (L.faults_of link.new) }
-    ensures complete { sp.IsRunnable (F.holds files.old) config.now (D.told disk.old) → ¬ (Rose (F.faults_of files.old) (F.faults_of files.new)) →
-        ¬ (Rose (K.faults_of out.old) (K.faults_of out.new)) → ¬ (Rose (L.faults_of link.old) (L.faults_of link.new)) → result ≢ Status.DiskFault →
+    ensures disk_fault { result ≡ Status.DiskFault → Rose (D.shows disk.old).faults (D.shows disk.new).faults }
+    ensures link_fault { result ≡ Status.LinkFault → Rose (L.shows link.old).faults (L.shows link.new).faults }
+    ensures complete { sp.IsRunnable (F.holds files.old) config.now (D.shows disk.old).told →
+        ¬ (Rose (F.faults_of files.old) (F.faults_of files.new)) →
+        ¬ (Rose (K.faults_of out.old) (K.faults_of out.new)) →
+        ¬ (Rose (L.shows link.old).faults (L.shows link.new).faults) → result ≢ Status.DiskFault →
         (result ≡ Status.Done) ⊎ (result ≡ Status.NoMemory) }
     ensures same { F.holds files.new ≡ F.holds files.old }
     ensures files_never_fall { F.faults_of files.old ≤ F.faults_of files.new }
     ensures out_never_falls { K.faults_of out.old ≤ K.faults_of out.new }
-    ensures disk_never_falls { D.faults_of disk.old ≤ D.faults_of disk.new }
-    ensures link_never_falls { L.faults_of link.old ≤ L.faults_of link.new }
+    ensures disk_never_falls { (D.shows disk.old).faults ≤ (D.shows disk.new).faults }
+    ensures link_never_falls { (L.shows link.old).faults ≤ (L.shows link.new).faults }
 {
     match run_sp(alloc, files, config, link, disk, clock, events) {
         Ok(ended) => print_ended(alloc, ended, out),
@@ -121,22 +127,28 @@ pub(crate) fn run_identity_provider<L: Link, D: Disk, C: Clock, F: Files, K: Sin
     out: &mut K,
 ) -> Status
     ensures ends { (ran : Ran)
-        × DoesCommand (D.left_since disk.new) (F.holds files.old) (Idp config.now events) (outside (D.told disk.old) (D.faults_of disk.old) (D.moment disk.old) (L.told link.old) (L.faults_of link.old) (L.send_faults_of link.old) (C.to_come clock.old)) ran (outside (D.told disk.new) (D.faults_of disk.new) (D.moment disk.new) (L.told link.new) (L.faults_of link.new) (L.send_faults_of link.new) (C.to_come clock.new))
-        × CommandCarries (D.left_since disk.new) (F.holds files.old) (Idp config.now events) (outside (D.told disk.old) (D.faults_of disk.old) (D.moment disk.old) (L.told link.old) (L.faults_of link.old) (L.send_faults_of link.old) (C.to_come clock.old)) ran (outside (D.told disk.new) (D.faults_of disk.new) (D.moment disk.new) (L.told link.new) (L.faults_of link.new) (L.send_faults_of link.new) (C.to_come clock.new))
+        × DoesCommand (D.shows disk.new).left_since (F.holds files.old) (Idp config.now events)
+        (outside (D.shows disk.old) (L.shows link.old) (C.to_come clock.old)) ran
+        (outside (D.shows disk.new) (L.shows link.new) (C.to_come clock.new))
+        × CommandCarries (D.shows disk.new).left_since (F.holds files.old) (Idp config.now events)
+        (outside (D.shows disk.old) (L.shows link.old) (C.to_come clock.old)) ran
+        (outside (D.shows disk.new) (L.shows link.new) (C.to_come clock.new))
         × EndsAfter ran (OfCommand (F.holds files.old) ran (Idp config.now events)) (K.taken out.old) (K.taken out.new) result
-        × LeavesOnly D.moment D.left_since disk.old disk.new (RanLeaves (D.told disk.old) ran) }
+        × LeavesOnly D.shows disk.old disk.new (RanLeaves (D.shows disk.old).told ran) }
     ensures read_fault { result ≡ Status.ReadFault → Rose (F.faults_of files.old) (F.faults_of files.new) }
     ensures write_fault { result ≡ Status.WriteFault → Rose (K.faults_of out.old) (K.faults_of out.new) }
-    ensures disk_fault { result ≡ Status.DiskFault → Rose (D.faults_of disk.old) (D.faults_of disk.new) }
-    ensures link_fault { result ≡ Status.LinkFault → Rose (L.faults_of link.old) (L.faults_of link.new) }
-    ensures complete { idp.IsRunnable (F.holds files.old) config.now (D.told disk.old) → ¬ (Rose (F.faults_of files.old) (F.faults_of files.new)) →
-        ¬ (Rose (K.faults_of out.old) (K.faults_of out.new)) → ¬ (Rose (L.faults_of link.old) (L.faults_of link.new)) → result ≢ Status.DiskFault →
+    ensures disk_fault { result ≡ Status.DiskFault → Rose (D.shows disk.old).faults (D.shows disk.new).faults }
+    ensures link_fault { result ≡ Status.LinkFault → Rose (L.shows link.old).faults (L.shows link.new).faults }
+    ensures complete { idp.IsRunnable (F.holds files.old) config.now (D.shows disk.old).told →
+        ¬ (Rose (F.faults_of files.old) (F.faults_of files.new)) →
+        ¬ (Rose (K.faults_of out.old) (K.faults_of out.new)) →
+        ¬ (Rose (L.shows link.old).faults (L.shows link.new).faults) → result ≢ Status.DiskFault →
         (result ≡ Status.Done) ⊎ (result ≡ Status.NoMemory) }
     ensures same { F.holds files.new ≡ F.holds files.old }
     ensures files_never_fall { F.faults_of files.old ≤ F.faults_of files.new }
     ensures out_never_falls { K.faults_of out.old ≤ K.faults_of out.new }
-    ensures disk_never_falls { D.faults_of disk.old ≤ D.faults_of disk.new }
-    ensures link_never_falls { L.faults_of link.old ≤ L.faults_of link.new }
+    ensures disk_never_falls { (D.shows disk.old).faults ≤ (D.shows disk.new).faults }
+    ensures link_never_falls { (L.shows link.old).faults ≤ (L.shows link.new).faults }
 {
     match run_idp(alloc, files, config, link, disk, clock, events) {
         Ok(ended) => print_ended(alloc, ended, out),

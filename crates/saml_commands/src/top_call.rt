@@ -223,23 +223,31 @@ fn run_command<L: Link, D: Disk, C: Clock, F: Files, K: Sink>(
 ) -> Status
     requires { HasMoment command }
     ensures ends { (ran : Ran)
-        × DoesCommand (D.left_since disk.new) (F.holds files.old) (command_view command.entry) (outside (D.told disk.old) (D.faults_of disk.old) (D.moment disk.old) (L.told link.old) (L.faults_of link.old) (L.send_faults_of link.old) (C.to_come clock.old)) ran (outside (D.told disk.new) (D.faults_of disk.new) (D.moment disk.new) (L.told link.new) (L.faults_of link.new) (L.send_faults_of link.new) (C.to_come clock.new))
-        × CommandCarries (D.left_since disk.new) (F.holds files.old) (command_view command.entry) (outside (D.told disk.old) (D.faults_of disk.old) (D.moment disk.old) (L.told link.old) (L.faults_of link.old) (L.send_faults_of link.old) (C.to_come clock.old)) ran (outside (D.told disk.new) (D.faults_of disk.new) (D.moment disk.new) (L.told link.new) (L.faults_of link.new) (L.send_faults_of link.new) (C.to_come clock.new))
+        × DoesCommand (D.shows disk.new).left_since (F.holds files.old) (command_view command.entry)
+        (outside (D.shows disk.old) (L.shows link.old) (C.to_come clock.old)) ran
+        (outside (D.shows disk.new) (L.shows link.new) (C.to_come clock.new))
+        × CommandCarries (D.shows disk.new).left_since (F.holds files.old) (command_view command.entry)
+        (outside (D.shows disk.old) (L.shows link.old) (C.to_come clock.old)) ran
+        (outside (D.shows disk.new) (L.shows link.new) (C.to_come clock.new))
         × EndsAfter ran (OfCommand (F.holds files.old) ran (command_view command.entry)) (K.taken out.old) (K.taken out.new) result
-        × LeavesOnly D.moment D.left_since disk.old disk.new (RanLeaves (D.told disk.old) ran) }
+        × LeavesOnly D.shows disk.old disk.new (RanLeaves (D.shows disk.old).told ran) }
     ensures read_fault { result ≡ Status.ReadFault → Rose (F.faults_of files.old) (F.faults_of files.new) }
     ensures write_fault { result ≡ Status.WriteFault → Rose (K.faults_of out.old) (K.faults_of out.new) }
-    ensures disk_fault { result ≡ Status.DiskFault → DoesServe (Some (command_view command.entry)) × Rose (D.faults_of disk.old) (D.faults_of disk.new) }
-    ensures link_fault { result ≡ Status.LinkFault → DoesServe (Some (command_view command.entry)) × Rose (L.faults_of link.old) (L.faults_of link.new) }
-    ensures complete { IsRunnableBy (F.holds files.old) (D.told disk.old) (command_view command.entry) → ¬ (Rose (F.faults_of files.old) (F.faults_of files.new)) →
-        ¬ (Rose (K.faults_of out.old) (K.faults_of out.new)) → ¬ (Rose (L.faults_of link.old) (L.faults_of link.new)) → result ≢ Status.DiskFault →
+    ensures disk_fault { result ≡ Status.DiskFault →
+        DoesServe (Some (command_view command.entry)) × Rose (D.shows disk.old).faults (D.shows disk.new).faults }
+    ensures link_fault { result ≡ Status.LinkFault →
+        DoesServe (Some (command_view command.entry)) × Rose (L.shows link.old).faults (L.shows link.new).faults }
+    ensures complete { IsRunnableBy (F.holds files.old) (D.shows disk.old).told (command_view command.entry) →
+        ¬ (Rose (F.faults_of files.old) (F.faults_of files.new)) →
+        ¬ (Rose (K.faults_of out.old) (K.faults_of out.new)) →
+        ¬ (Rose (L.shows link.old).faults (L.shows link.new).faults) → result ≢ Status.DiskFault →
         (result ≡ Status.Done) ⊎ (result ≡ Status.NoMemory) }
     ensures untouched { ¬ (DoesServe (Some (command_view command.entry))) → (link.new ≡ link.old) × (disk.new ≡ disk.old) × (clock.new ≡ clock.old) }
     ensures same { F.holds files.new ≡ F.holds files.old }
     ensures files_never_fall { F.faults_of files.old ≤ F.faults_of files.new }
     ensures out_never_falls { K.faults_of out.old ≤ K.faults_of out.new }
-    ensures disk_never_falls { D.faults_of disk.old ≤ D.faults_of disk.new }
-    ensures link_never_falls { L.faults_of link.old ≤ L.faults_of link.new }
+    ensures disk_never_falls { (D.shows disk.old).faults ≤ (D.shows disk.new).faults }
+    ensures link_never_falls { (L.shows link.old).faults ≤ (L.shows link.new).faults }
 {
     match command {
         Command::Canon { file, id } => run_canon(alloc, files, out, file, id),
@@ -278,28 +286,32 @@ pub fn run<L: Link, D: Disk, C: Clock, F: Files, K: Sink>(
     // the disk tells. What was answered is what the words ask for, and a crash at any moment leaves of the disk what one inside the
     // opening of a ledger or inside an answer may leave.
     ensures ends { (ran : Ran)
-        × Does (D.left_since disk.new) words.now (F.holds files.old) (outside (D.told disk.old) (D.faults_of disk.old) (D.moment disk.old) (L.told link.old) (L.faults_of link.old) (L.send_faults_of link.old) (C.to_come clock.old)) ran (outside (D.told disk.new) (D.faults_of disk.new) (D.moment disk.new) (L.told link.new) (L.faults_of link.new) (L.send_faults_of link.new) (C.to_come clock.new))
-        × Carries (D.left_since disk.new) words.now (F.holds files.old) (outside (D.told disk.old) (D.faults_of disk.old) (D.moment disk.old) (L.told link.old) (L.faults_of link.old) (L.send_faults_of link.old) (C.to_come clock.old)) ran (outside (D.told disk.new) (D.faults_of disk.new) (D.moment disk.new) (L.told link.new) (L.faults_of link.new) (L.send_faults_of link.new) (C.to_come clock.new))
+        × Does (D.shows disk.new).left_since words.now (F.holds files.old)
+        (outside (D.shows disk.old) (L.shows link.old) (C.to_come clock.old)) ran
+        (outside (D.shows disk.new) (L.shows link.new) (C.to_come clock.new))
+        × Carries (D.shows disk.new).left_since words.now (F.holds files.old)
+        (outside (D.shows disk.old) (L.shows link.old) (C.to_come clock.old)) ran
+        (outside (D.shows disk.new) (L.shows link.new) (C.to_come clock.new))
         × EndsAfter ran (Answers words.now (F.holds files.old) ran) (K.taken out.old) (K.taken out.new) result
-        × LeavesOnly D.moment D.left_since disk.old disk.new (RanLeaves (D.told disk.old) ran) }
+        × LeavesOnly D.shows disk.old disk.new (RanLeaves (D.shows disk.old).told ran) }
 
     // Each fault has a cause.
     ensures read_fault { result ≡ Status.ReadFault →
         IsSome (command_of words.now) × Rose (F.faults_of files.old) (F.faults_of files.new) }
     ensures write_fault { result ≡ Status.WriteFault → Rose (K.faults_of out.old) (K.faults_of out.new) }
     ensures disk_fault { result ≡ Status.DiskFault →
-        DoesServe (command_of words.now) × Rose (D.faults_of disk.old) (D.faults_of disk.new) }
+        DoesServe (command_of words.now) × Rose (D.shows disk.old).faults (D.shows disk.new).faults }
     ensures link_fault { result ≡ Status.LinkFault →
-        DoesServe (command_of words.now) × Rose (L.faults_of link.old) (L.faults_of link.new) }
+        DoesServe (command_of words.now) × Rose (L.shows link.old).faults (L.shows link.new).faults }
 
     // It does not give up by itself, but for want of memory.
     ensures complete { Accepts words.now (F.holds files.old) →
         ¬ (Rose (F.faults_of files.old) (F.faults_of files.new)) → ¬ (Rose (K.faults_of out.old) (K.faults_of out.new)) →
         (result ≡ Status.Done) ⊎ (result ≡ Status.NoMemory) }
     // Nor where it serves, but where the disk failed while the ledger was opened.
-    ensures complete_serving { AcceptsServing words.now (F.holds files.old) (D.told disk.old) →
+    ensures complete_serving { AcceptsServing words.now (F.holds files.old) (D.shows disk.old).told →
         ¬ (Rose (F.faults_of files.old) (F.faults_of files.new)) → ¬ (Rose (K.faults_of out.old) (K.faults_of out.new)) →
-        ¬ (Rose (L.faults_of link.old) (L.faults_of link.new)) → result ≢ Status.DiskFault →
+        ¬ (Rose (L.shows link.old).faults (L.shows link.new).faults) → result ≢ Status.DiskFault →
         (result ≡ Status.Done) ⊎ (result ≡ Status.NoMemory) }
 
     // Only a command that serves touches the link, the disk and the clock.
@@ -309,8 +321,8 @@ pub fn run<L: Link, D: Disk, C: Clock, F: Files, K: Sink>(
     ensures same { F.holds files.new ≡ F.holds files.old }
     ensures files_never_fall { F.faults_of files.old ≤ F.faults_of files.new }
     ensures out_never_falls { K.faults_of out.old ≤ K.faults_of out.new }
-    ensures disk_never_falls { D.faults_of disk.old ≤ D.faults_of disk.new }
-    ensures link_never_falls { L.faults_of link.old ≤ L.faults_of link.new }
+    ensures disk_never_falls { (D.shows disk.old).faults ≤ (D.shows disk.new).faults }
+    ensures link_never_falls { (L.shows link.old).faults ≤ (L.shows link.new).faults }
 {
     sp_rules::laws::a_form_has_one_verdict();
     sp_setup::laws::a_config_has_one_outcome();

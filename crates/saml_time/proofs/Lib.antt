@@ -3,3 +3,4 @@ pub mod FractionLemmas
 pub mod PieceLemmas
 pub mod WrittenLemmas
 pub mod LawLemmas
+pub mod EveryMoment

@@ -3,6 +3,8 @@
 -- it (SAML Core 2.0, 1.3.3): in UTC, without leap seconds. This project narrows it further: from 1970 to
 -- 9999, always with `Z`, at most nine digits of a fraction, no 24:00:00, and milliseconds in the meaning.
 use Rattle.std.specs.Prelude.{◌≡◌, ℕ, ◌+◌, ◌*◌, ◌/◌, ◌%◌, ◌≤◌, List, [], ◌∷◌, ◌++◌, map, length, slice_index, All, codes, Option, Some, None}
+use Rattle.std.specs.Char.{IsAsciiGraphic}
+use Rattle.saml_time.specs.declared.TheConstants.{LAST}
 use Rattle.saml_time.specs.Calendar.{days_in_month, days_before}
 
 -- a date: `YYYY-MM-DD`
@@ -140,3 +142,7 @@ OneInstant = (bytes : List ℕ) (one other : Instant) → Spells bytes one → S
 -- reading what was written gives the moment: each valid instant that prints it means that moment
 abbrev pub ReadsBack : Type 0
 ReadsBack = (bytes : List ℕ) (ms : ℕ) → TellsInFull bytes ms → (i : Instant) → Spells bytes i → moment i ≡ ms
+
+-- each moment up to the last one is told in full by some text, in graphic characters of ASCII
+abbrev pub EachIsTold : Type 0
+EachIsTold = (ms : ℕ) → ms ≤ LAST → (text : List ℕ) × TellsInFull text ms × All IsAsciiGraphic text

@@ -4,10 +4,11 @@
 //! # What is proved
 //!
 //! Instants: `read_instant` gives the moment exactly where the text has the form, `put_instant` writes the form of the
-//! moment, and what was written is read again (`reading_gives_what_was_written`).
+//! moment, and what was written is read again (`reading_gives_what_was_written`). Each moment up to the last one has a
+//! written form (`each_moment_is_told`).
 #![tactic(auto)]
 
-ghost use Rattle.saml_time.specs.Instant.{OneInstant, ReadsBack};
+ghost use Rattle.saml_time.specs.Instant.{EachIsTold, OneInstant, ReadsBack};
 
 mod read;
 mod write;
@@ -27,4 +28,9 @@ pub fn text_has_one_instant()
 /// spells, it means that moment.
 pub fn reading_gives_what_was_written()
     ensures { ReadsBack }
+{}
+
+/// The law that each moment up to the last one has a written form, in graphic characters of ASCII.
+pub fn each_moment_is_told()
+    ensures { EachIsTold }
 {}

@@ -46,10 +46,10 @@ impl Ids {
             × ((before : List Identifier) → AreIndexed before self.old →
             ¬ (AreOnce (before ++ record { value = string_bytes value; node = node } ∷ []))))) }
     {
-        if self.index.contains_key(value.as_str()) {
+        let before = self.index.insert(value, node)?;
+        if before.is_some() {
             return Err(TreeFault::DuplicateId);
         }
-        self.index.insert(value, node)?;
         Ok(())
     }
 

@@ -1,7 +1,8 @@
 -- What becomes of a node at a piece.
-use Rattle.std.specs.Prelude.{◌≡◌, ℕ, false, List, length, Option, None, Some}
+use Rattle.std.specs.Prelude.{◌≡◌, ℕ, false, List, Option, None, Some}
 use Rattle.std.proofs.Common.{refl, ap, ◌∙◌, arith}
-use Rattle.crash_disk.specs.Memory.{DiskInMemory, LeftSince, state_of}
+use Rattle.crash_disk.specs.InMemory.{shown_in_memory}
+use Rattle.crash_disk.specs.Memory.{DiskInMemory}
 use Rattle.crash_disk.specs.Soundness.{left_now}
 use Rattle.http_wire.specs.Answers.{fixed}
 use Rattle.serve_loop.specs.Serving.{MightLeave}
@@ -32,4 +33,4 @@ sends_page conn code now old new node disk = record { out = Whole refl (omega ar
 pub leaves_same : {N : Type 0} (leaves : NodeLeaves N) (old new : Host N) (turns : List (Turn N)) → new.disk ≡ old.disk →
     Leaving old new (MightLeave leaves (told old) turns)
 leaves_same leaves old new turns same =
-    untouched leaves (λ (disk : DiskInMemory). length disk.log) LeftSince (λ disk. Some (state_of disk)) left_now old.disk new.disk turns same
+    untouched leaves shown_in_memory left_now old.disk new.disk turns same

@@ -2,7 +2,8 @@
 use Rattle.std.specs.Prelude.{◌≡◌, ◌≢◌, ℕ, true, false, List, [], ◌∷◌, length, Option, None, Some, Result, Err}
 use Rattle.std.specs.FinMap as map
 use Rattle.crash_disk.specs.Disk.{Image, DiskState}
-use Rattle.crash_disk.specs.Memory.{DiskInMemory, LeftSince, state_of}
+use Rattle.crash_disk.specs.InMemory.{shown_in_memory}
+use Rattle.crash_disk.specs.Memory.{DiskInMemory, state_of}
 use Rattle.crash_disk.specs.Moments.{LeavesOnly}
 use Rattle.gate_journal.specs.declared.fault.OpenFault.{OpenFault}
 use Rattle.gate_journal.specs.declared.fault.OpenFault.TheVariants as faults
@@ -59,9 +60,10 @@ told host = Some (state_of host.disk)
 abbrev pub world_of : {N : Type 0} → ℕ → Host N → World N
 world_of now host = world host.node (told host) host.disk.faults (length host.disk.log) None 0 (Some (now ∷ []))
 
--- from the one disk to the other a crash leaves only what has P
+-- From the one disk to the other a crash leaves only what has P. Calls made the one of the other, so it failed only where the schedule set
+-- a failure or a stop, or where a call found no memory.
 abbrev pub Leaving : {N : Type 0} → Host N → Host N → (Image → Type 0) → Type 0
-Leaving before after P = LeavesOnly (λ disk. length disk.log) LeftSince before.disk after.disk P
+Leaving before after P = LeavesOnly shown_in_memory before.disk after.disk P
 
 -- its disk is as before, and was started again where it had stopped
 abbrev pub resumed : {N : Type 0} → Host N → Host N

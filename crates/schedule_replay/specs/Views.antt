@@ -19,16 +19,16 @@ abbrev pub kept_by : BTreeMap ℕ State → ℕ → State
 kept_by agents name = unwrap_or (get nat_cmp agents name) fresh
 
 abbrev pub host_in : {N : Type 0} → HeldHost N → Host N
-host_in held = record { node = held.node.now; disk = held.disk.now; kept = held.conns }
+host_in held = record { node = held.node.now; disk = held.disk.now; kept = held.conns.now }
 
 abbrev pub stage_in : {S P : Type 0} → Stage S P → Deployment S P
 stage_in stage = record {
   clock = stage.clock;
   sp = host_in stage.sp;
   idp = host_in stage.idp;
-  agents = kept_by stage.agents.seen;
+  agents = kept_by stage.agents.now.seen;
   tally = stage.tally;
-  lines = stage.lines.items;
+  lines = stage.lines.now.items;
 }
 
 -- it holds the same objects

@@ -61,7 +61,7 @@ fn bytes_of(alloc: Global, answer: Answer) -> Result<Blob, NoMemory>
 pub(crate) struct HeldHost<'n, 'd, N> {
     pub(crate) node: &'n mut N,
     pub(crate) disk: &'d mut MemDisk,
-    pub(crate) conns: Conns,
+    pub(crate) conns: &'d mut Conns,
 }
 
 impl<N: Node> HeldHost<'_, '_, N> {
@@ -72,7 +72,7 @@ impl<N: Node> HeldHost<'_, '_, N> {
         ensures disk { self.new.disk.now ≡ self.old.disk.now }
         ensures objects { SameHost self.old self.new }
     {
-        self.conns = Conns::new(alloc)?;
+        *self.conns = Conns::new(alloc)?;
         Ok(())
     }
 
@@ -94,19 +94,19 @@ impl<N: Node> HeldHost<'_, '_, N> {
 
     /// Asks the node for the answer to the request that a connection has brought; it comes with the request's path.
     fn ask(&mut self, alloc: Global, conn: u32, now: u64) -> Result<(Text, Answer), NoMemory>
-        requires whole { IsSomeAnd (map.get self.old.conns conn) IsWholeRequest }
+        requires whole { IsSomeAnd (map.get self.old.conns.now conn) IsWholeRequest }
         requires own { N.own self.old.node.now (Some (state_of self.old.disk.now)) }
         ensures asked { IfOk result
             (λ (path, answer). (asked : Asked _) × (asked.conn ≡ conn) × (asked.answer ≡ answer) ×
             (asked.request.path ≡ path)
-            × IfSome (map.get self.old.conns conn) (λ bytes. Reads bytes (Whole asked.request))
+            × IfSome (map.get self.old.conns.now conn) (λ bytes. Reads bytes (Whole asked.request))
             × Asks (IsAnswered N.own N.step N.leaves) asked (world_of now (host_in self.old))
             (world_of now (host_in self.new))
             × Leaving (host_in self.old) (host_in self.new)
             (N.leaves asked.node asked.disk asked.request asked.now)) }
         ensures has_bytes { IfOk result (λ (path, answer). HasBytes answer) }
         ensures own { N.own self.new.node.now (Some (state_of self.new.disk.now)) }
-        ensures conns { self.new.conns ≡ self.old.conns }
+        ensures conns { self.new.conns.now ≡ self.old.conns.now }
         ensures objects { SameHost self.old self.new }
     {
         let request = self.conns.request(conn);
@@ -117,12 +117,12 @@ impl<N: Node> HeldHost<'_, '_, N> {
 
     /// Answers the request that a connection has brought, and lets the connection go.
     fn answer(&mut self, alloc: Global, conn: u32, now: u64) -> Result<Reply, NoMemory>
-        requires whole { IsSomeAnd (map.get self.old.conns conn) IsWholeRequest }
+        requires whole { IsSomeAnd (map.get self.old.conns.now conn) IsWholeRequest }
         requires own { N.own self.old.node.now (Some (state_of self.old.disk.now)) }
         ensures answers { IfOk result (λ reply. (asked : Asked _) × (asked.conn ≡ conn)
             × (outcome_view (Some reply) ≡ Sent (Some asked.request.path) (answer_bytes asked.answer))
-            × Answers (IsAnswered N.own N.step N.leaves) self.old.conns
-            (world_of now (host_in self.old)) asked self.new.conns (world_of now (host_in self.new))
+            × Answers (IsAnswered N.own N.step N.leaves) self.old.conns.now
+            (world_of now (host_in self.old)) asked self.new.conns.now (world_of now (host_in self.new))
             × Leaving (host_in self.old) (host_in self.new)
             (N.leaves asked.node asked.disk asked.request asked.now)) }
         ensures own { N.own self.new.node.now (Some (state_of self.new.disk.now)) }
@@ -141,7 +141,7 @@ impl<N: Node> HeldHost<'_, '_, N> {
     fn refuse(&mut self, alloc: Global, conn: u32, status: u16) -> Result<Reply, NoMemory>
         requires { IsTrue (is_fixed status) }
         ensures page { IfOk result (λ reply. outcome_view (Some reply) ≡ Sent None (fixed status)) }
-        ensures gone { OnOk result (self.new.conns ≡ map.remove self.old.conns conn) }
+        ensures gone { OnOk result (self.new.conns.now ≡ map.remove self.old.conns.now conn) }
         ensures node { self.new.node.now ≡ self.old.node.now }
         ensures disk { self.new.disk.now ≡ self.old.disk.now }
         ensures objects { SameHost self.old self.new }

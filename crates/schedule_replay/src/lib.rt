@@ -32,8 +32,8 @@
 //! agent's request comes to its node whole or in pieces that alternate with another's, at the moment of the clock; the
 //! node serves it as serve_loop says; the agent receives what comes back, or it is lost. Where a disk stops, in a
 //! request, a restart or a compaction, nothing of it is known but that the node stopped, and it is started again from
-//! what the disk holds. `Ends` says how the run ended and what was printed: all steps, or some of them, in order.
-//! WriteFault comes only where the sink's count rose.
+//! what the disk holds. `Ends` says how the run ended and what was printed: all steps, or some of them, in order; and
+//! what it leaves of both nodes and their disks (`AreLeft`). WriteFault comes only where the sink's count rose.
 #![tactic(auto)]
 
 mod agents;

@@ -7,7 +7,7 @@ ghost use Rattle.crash_disk.specs.Disk.{DiskState};
 ghost use Rattle.crash_disk.specs.Memory.{state_of};
 ghost use Rattle.saml_outside.specs.Counts.{Rose};
 ghost use Rattle.schedule_replay.specs.Hosts.{rules};
-ghost use Rattle.schedule_replay.specs.Runs.{Ends, alone, beginning, shown};
+ghost use Rattle.schedule_replay.specs.Runs.{AreLeft, Ends, alone, beginning, shown};
 ghost use Rattle.schedule_replay.specs.Steps.{Does, Replays, is_starved};
 ghost use Rattle.schedule_replay.specs.Deployments.{Deployment};
 ghost use Rattle.schedule_replay.specs.Views.{stage_in, HasNodes, OwnsBoth, SameStage};
@@ -194,27 +194,29 @@ pub fn replay<S: Node, P: Node, K: Sink>(
     ensures ends { Ends (rules S.own S.step S.leaves S.reopens S.reopening_leaves S.compacts S.compaction_leaves)
         (rules P.own P.step P.leaves P.reopens P.reopening_leaves P.compacts P.compaction_leaves) schedule.now quiet
         (beginning (alone sp.old sp_disk.old) (alone idp.old idp_disk.old)) result
-        (λ _. Unit {0}) (K.taken out.old) (K.taken out.new) }
+        (λ last. AreLeft last sp.new sp_disk.new idp.new idp_disk.new) (K.taken out.old) (K.taken out.new) }
     ensures write_fault { result ≡ Err ReplayFault.WriteFault → Rose (K.faults_of out.old) (K.faults_of out.new) }
     ensures never_falls { K.faults_of out.old ≤ K.faults_of out.new }
 {
-    let (sp_conns, idp_conns) = no_connections(alloc)?;
+    let (mut sp_conns, mut idp_conns) = no_connections(alloc)?;
+    let mut agents = Agents::new(alloc);
+    let mut lines = Vec::new(alloc);
     let mut stage = Stage {
         alloc,
         clock: 0,
         sp: HeldHost {
             node: sp,
             disk: sp_disk,
-            conns: sp_conns,
+            conns: &mut sp_conns,
         },
         idp: HeldHost {
             node: idp,
             disk: idp_disk,
-            conns: idp_conns,
+            conns: &mut idp_conns,
         },
-        agents: Agents::new(alloc),
+        agents: &mut agents,
         tally: Tally::new(),
-        lines: Vec::new(alloc),
+        lines: &mut lines,
     };
     stage.perform(schedule.steps(), quiet, out)
 }

@@ -32,9 +32,9 @@ pub(crate) struct Stage<'s, 'd, 'p, 'e, S, P> {
     pub(crate) clock: u64,
     pub(crate) sp: HeldHost<'s, 'd, S>,
     pub(crate) idp: HeldHost<'p, 'e, P>,
-    pub(crate) agents: Agents,
+    pub(crate) agents: &'e mut Agents,
     pub(crate) tally: Tally,
-    pub(crate) lines: Vec<u8>,
+    pub(crate) lines: &'e mut Vec<u8>,
 }
 
 /// How many bytes a request has.

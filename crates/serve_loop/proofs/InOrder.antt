@@ -3,20 +3,19 @@ use Rattle.std.specs.Prelude.{◌≡◌, ◌⊎◌, ℕ, ◌≤◌, List, [], �
 use Rattle.std.proofs.Common.{sym, ap, subst, inl, inr, arith, ⊎_elim}
 use Rattle.std.proofs.lemmas.List.Elements.{Contains-append_left, Contains-append_right, Contains-append_cases, Contains-push_cases}
 use Rattle.crash_disk.specs.Disk.{Image, DiskState}
-use Rattle.crash_disk.specs.Moments.{Leaves}
+use Rattle.crash_disk.specs.Moments.{DiskShown, Leaves}
 use Rattle.conn_table.specs.Table.{Table}
 use Rattle.serve_loop.specs.Serving.{LeftInside, LeavesSince, LeavesInOrder}
 use Rattle.serve_loop.specs.Turns.{Asked, Turn, Taken, Full, StarvedStart, Over, Unknown, Waiting, Answered, Refused, StarvedPiece, asked_by, Asks, Does, Run}
 use Rattle.serve_loop.specs.Worlds.{NodeStep, NodeLeaves, World}
 
 -- at the end of a run
-pub at_end : {N D : Type 0} (leaves : NodeLeaves N) (moment : D → ℕ) (left_since : D → ℕ → Image → Type 0) (told : D → Option DiskState)
-    → ((disk : D) (t : ℕ) (image : Image) → t ≤ moment disk → Leaves (told disk) image → left_since disk t image)
-    → ((disk : D) (image : Image) → left_since disk (moment disk) image → Leaves (told disk) image)
-    → (disk : D) (point : World N) → point.disk ≡ told disk → point.moment ≡ moment disk → LeavesSince leaves (left_since disk) point []
-at_end leaves moment left_since told counts_now only_now disk point tells at = record {
+pub at_end : {N D : Type 0} (leaves : NodeLeaves N) (shows : D → DiskShown) → ((disk : D) (t : ℕ) (image : Image) → t ≤ (shows disk).moment → Leaves (shows disk).told image → (shows disk).left_since t image)
+    → ((disk : D) (image : Image) → (shows disk).left_since (shows disk).moment image → Leaves (shows disk).told image)
+    → (disk : D) (point : World N) → point.disk ≡ (shows disk).told → point.moment ≡ (shows disk).moment → LeavesSince leaves (shows disk).left_since point []
+at_end leaves shows counts_now only_now disk point tells at = record {
   here = λ image may. counts_now disk point.moment image (omega (arith, at)) (subst (λ (o : Option DiskState). Leaves o image) tells may);
-  only = λ image left. inl (subst (λ (o : Option DiskState). Leaves o image) (sym tells) (only_now disk image (subst (λ (t : ℕ). left_since disk t image) at left)));
+  only = λ image left. inl (subst (λ (o : Option DiskState). Leaves o image) (sym tells) (only_now disk image (subst (λ (t : ℕ). (shows disk).left_since t image) at left)));
 }
 
 -- no turn goes back in the disk's time

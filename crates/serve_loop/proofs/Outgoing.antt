@@ -3,10 +3,10 @@ use Rattle.std.specs.Prelude.{◌≡◌, ℕ, List, ◌++◌, length, take, Opti
 use Rattle.std.proofs.Common.{sym, ap, ◌∙◌}
 use Rattle.std.proofs.lemmas.List.{take_at}
 use Rattle.crash_disk.specs.Counts.{CountsFaults}
-use Rattle.crash_disk.specs.Disk.{DiskState}
-use Rattle.event_link.specs.Links.{LinkState, Sends}
+use Rattle.crash_disk.specs.Moments.{DiskShown}
+use Rattle.event_link.specs.Links.{LinkShown, LinkState, Sends}
 use Rattle.serve_loop.specs.declared.turns.Serving.{Serving}
-use Rattle.serve_loop.specs.Worlds.{world, GoesOut, Whole, Cut, OnlySends}
+use Rattle.serve_loop.specs.Worlds.{world_at, GoesOut, Whole, Cut, OnlySends}
 use Rattle.serve_loop.specs.Held.{world_in}
 
 -- what a `send` did
@@ -23,15 +23,13 @@ pub front_of : (n : ℕ) (buffer page rest : List ℕ) → buffer ≡ page ++ re
 front_of n buffer page rest is long = ap (take n) is ∙ take_at page rest n (sym long)
 
 -- where all but the link is as it was
-module _ {N L D C : Type 0} (disk : D → Option DiskState) (disk_faults moment : D → ℕ) (link : L → Option LinkState) (send_faults : L → ℕ) (clock : C → Option (List ℕ)) (old new : Serving N L D C) (same_node : new.node.now ≡ old.node.now) (same_disk : new.disk.now ≡ old.disk.now) (same_clock : new.clock.now ≡ old.clock.now) where
-  pub but_the_link : world_in disk disk_faults moment link send_faults clock new ≡ world old.node.now (disk old.disk.now) (disk_faults old.disk.now) (moment old.disk.now) (link new.link.now) (send_faults new.link.now) (clock old.clock.now)
+module _ {N L D C : Type 0} (disk : D → DiskShown) (link : L → LinkShown) (clock : C → Option (List ℕ)) (old new : Serving N L D C) (same_node : new.node.now ≡ old.node.now) (same_disk : new.disk.now ≡ old.disk.now) (same_clock : new.clock.now ≡ old.clock.now) where
+  pub but_the_link : world_in disk link clock new ≡ world_at old.node.now (disk old.disk.now) (link new.link.now) (clock old.clock.now)
   but_the_link =
-      let l = link new.link.now in
-      let s = send_faults new.link.now in
-      ap (λ (n : N). world n (disk new.disk.now) (disk_faults new.disk.now) (moment new.disk.now) l s (clock new.clock.now)) same_node
-      ∙ ap (λ (d : D). world old.node.now (disk d) (disk_faults d) (moment d) l s (clock new.clock.now)) same_disk
-      ∙ ap (λ (c : C). world old.node.now (disk old.disk.now) (disk_faults old.disk.now) (moment old.disk.now) l s (clock c)) same_clock
+      ap (λ (n : N). world_at n (disk new.disk.now) (link new.link.now) (clock new.clock.now)) same_node
+      ∙ ap (λ (d : D). world_at old.node.now (disk d) (link new.link.now) (clock new.clock.now)) same_disk
+      ∙ ap (λ (c : C). world_at old.node.now (disk old.disk.now) (link new.link.now) (clock c)) same_clock
 
-  pub only_sends : (conn : ℕ) (bytes : List ℕ) → GoesOut conn bytes (link old.link.now) (link new.link.now) (send_faults old.link.now) (send_faults new.link.now)
-      → OnlySends conn bytes (world_in disk disk_faults moment link send_faults clock old) (world_in disk disk_faults moment link send_faults clock new)
+  pub only_sends : (conn : ℕ) (bytes : List ℕ) → GoesOut conn bytes (link old.link.now).told (link new.link.now).told (link old.link.now).send_faults (link new.link.now).send_faults
+      → OnlySends conn bytes (world_in disk link clock old) (world_in disk link clock new)
   only_sends conn bytes out = record { out = out; same = but_the_link }

@@ -5,7 +5,7 @@ use Rattle.std.proofs.Common.{refl, sym, subst, ◌∙◌, inl, inr, arith, ◌�
 use Rattle.std.proofs.lemmas.List.Elements.{Contains-append_left, Contains-append_right}
 use Rattle.crash_disk.specs.Counts.{Rose}
 use Rattle.crash_disk.specs.Disk.{Image, DiskState}
-use Rattle.crash_disk.specs.Moments.{Leaves, LeavesOnly}
+use Rattle.crash_disk.specs.Moments.{DiskShown, Leaves, LeavesOnly}
 use Rattle.crash_disk.specs.Steps.{started, then}
 use Rattle.conn_table.specs.Table.{Table}
 use Rattle.serve_loop.specs.declared.served.Served.{Served}
@@ -19,40 +19,40 @@ use Rattle.serve_loop.specs.Serving.{Ends, Serves, MightLeave, LeavesSince, Leav
 use Rattle.serve_loop.proofs.InOrder.{in_order_still}
 use Rattle.serve_loop.proofs.Leaving.{untouched}
 
-pub record Since {N D : Type 0} (step : NodeStep N) (leaves : NodeLeaves N) (moment : D → ℕ) (left_since : D → ℕ → Image → Type 0) (first_disk : D) (first : World N) (count : ℕ) (kept : Table) (disk : D) (now : World N) : Type 0 where
+pub record Since {N D : Type 0} (step : NodeStep N) (leaves : NodeLeaves N) (shows : D → DiskShown) (first_disk : D) (first : World N) (count : ℕ) (kept : Table) (disk : D) (now : World N) : Type 0 where
   pub turns : List (Turn N)
   pub counted : length turns ≡ count
   pub run : Run step first turns kept now
-  pub at : now.moment ≡ moment disk
-  pub in_order : LeavesInOrder step leaves (left_since disk) first turns kept now run []
-  pub moments : LeavesOnly moment left_since first_disk disk (MightLeave leaves first.disk turns)
+  pub at : now.moment ≡ (shows disk).moment
+  pub in_order : LeavesInOrder step leaves (shows disk).left_since first turns kept now run []
+  pub moments : LeavesOnly shows first_disk disk (MightLeave leaves first.disk turns)
 
-module _ {N D : Type 0} (step : NodeStep N) (leaves : NodeLeaves N) (moment : D → ℕ) (left_since : D → ℕ → Image → Type 0) (first_disk : D) (first : World N) where
+module _ {N D : Type 0} (step : NodeStep N) (leaves : NodeLeaves N) (shows : D → DiskShown) (first_disk : D) (first : World N) where
   -- before the first turn
-  pub none_done : (kept : Table) → kept ≡ map.empty → first.moment ≡ moment first_disk → LeavesSince leaves (left_since first_disk) first [] → ((image : Image) → left_since first_disk (moment first_disk) image → Leaves first.disk image)
-      → Since step leaves moment left_since first_disk first 0 kept first_disk first
+  pub none_done : (kept : Table) → kept ≡ map.empty → first.moment ≡ (shows first_disk).moment → LeavesSince leaves (shows first_disk).left_since first [] → ((image : Image) → (shows first_disk).left_since (shows first_disk).moment image → Leaves first.disk image)
+      → Since step leaves shows first_disk first 0 kept first_disk first
   none_done kept none at here only_now = record {
     turns = [];
     counted = refl;
     run = (none, refl);
     at = at;
     in_order = here;
-    moments = started moment left_since first_disk (MightLeave leaves first.disk []) (λ image left. inl (only_now image left));
+    moments = started shows first_disk (MightLeave leaves first.disk []) (λ image left. inl (only_now image left));
   }
 
   -- the points so far, once one more turn is done
-  points_still : (old : Table) (mid disk : D) (before : World N) (turn : Turn N) (turns : List (Turn N)) (run : Run step first turns old before) → before.moment ≡ moment mid
-      → ((t : ℕ) (image : Image) → t ≤ moment mid → Leaves before.disk image → left_since mid t image) → LeavesOnly moment left_since mid disk (MightLeave leaves before.disk (turn ∷ []))
-      → LeavesInOrder step leaves (left_since mid) first turns old before run [] → LeavesInOrder step leaves (left_since disk) first turns old before run (asked_by turn ++ [])
+  points_still : (old : Table) (mid disk : D) (before : World N) (turn : Turn N) (turns : List (Turn N)) (run : Run step first turns old before) → before.moment ≡ (shows mid).moment
+      → ((t : ℕ) (image : Image) → t ≤ (shows mid).moment → Leaves before.disk image → (shows mid).left_since t image) → LeavesOnly shows mid disk (MightLeave leaves before.disk (turn ∷ []))
+      → LeavesInOrder step leaves (shows mid).left_since first turns old before run [] → LeavesInOrder step leaves (shows disk).left_since first turns old before run (asked_by turn ++ [])
   points_still old mid disk before turn turns run at counts_now moments in_order =
-      in_order_still step leaves (left_since mid) (left_since disk) (moment mid) (asked_by turn) moments.keeps
+      in_order_still step leaves (shows mid).left_since (shows disk).left_since (shows mid).moment (asked_by turn) moments.keeps
       (λ t image le left. ⊎_elim inl (⊎_elim (λ may. inl (counts_now t image le may)) inr) (moments.before t image le left))
       [] (asked_by turn ++ []) (λ one none. Contains-append_right (asked_by turn) [] one none) (λ one among. Contains-append_left (asked_by turn) [] one among) first turns old before run (omega (arith, at)) in_order
 
   -- one turn more
-  pub one_more_done : (count : ℕ) (old new : Table) (mid disk : D) (before given now : World N) (turn : Turn N) → Since step leaves moment left_since first_disk first count old mid before
-      → IsNext (Some (event_at turn)) before given → Does step old given turn new now → ((t : ℕ) (image : Image) → t ≤ moment mid → Leaves before.disk image → left_since mid t image)
-      → LeavesOnly moment left_since mid disk (MightLeave leaves before.disk (turn ∷ [])) → now.moment ≡ moment disk → LeavesSince leaves (left_since disk) now [] → Since step leaves moment left_since first_disk first (count + 1) new disk now
+  pub one_more_done : (count : ℕ) (old new : Table) (mid disk : D) (before given now : World N) (turn : Turn N) → Since step leaves shows first_disk first count old mid before
+      → IsNext (Some (event_at turn)) before given → Does step old given turn new now → ((t : ℕ) (image : Image) → t ≤ (shows mid).moment → Leaves before.disk image → (shows mid).left_since t image)
+      → LeavesOnly shows mid disk (MightLeave leaves before.disk (turn ∷ [])) → now.moment ≡ (shows disk).moment → LeavesSince leaves (shows disk).left_since now [] → Since step leaves shows first_disk first (count + 1) new disk now
   one_more_done count old new mid disk before given now turn since next does counts_now moments at here = record {
     turns = turn ∷ since.turns;
     counted = omega (arith, since.counted);
@@ -62,8 +62,8 @@ module _ {N D : Type 0} (step : NodeStep N) (leaves : NodeLeaves N) (moment : D 
     moments =
         let were : (image : Image) → MightLeave leaves first.disk since.turns image → MightLeave leaves first.disk (turn ∷ since.turns) image =
         λ image. ⊎_elim inl (λ found. inr (found.0, Contains-append_left (asked_in since.turns) (asked_by turn) found.0 found.1, found.2)) in
-        then moment left_since first_disk mid disk (MightLeave leaves first.disk since.turns) (MightLeave leaves before.disk (turn ∷ [])) (MightLeave leaves first.disk (turn ∷ since.turns)) since.moments moments were
-        (λ image. ⊎_elim (λ left. were image (since.moments.each image (counts_now (moment first_disk) image since.moments.later left))) (λ found. inr (found.0, Contains-append_right (asked_in since.turns) (asked_by turn) found.0 found.1, found.2)));
+        then shows first_disk mid disk (MightLeave leaves first.disk since.turns) (MightLeave leaves before.disk (turn ∷ [])) (MightLeave leaves first.disk (turn ∷ since.turns)) since.moments moments were
+        (λ image. ⊎_elim (λ left. were image (since.moments.each image (counts_now (shows first_disk).moment image since.moments.later left))) (λ found. inr (found.0, Contains-append_right (asked_in since.turns) (asked_by turn) found.0 found.1, found.2)));
   }
 
 -- the same objects all along
@@ -76,21 +76,20 @@ pub rose_before : (old mid new : ℕ) → old ≤ mid → Rose mid new → Rose 
 rose_before old mid new le rose = omega arith
 
 -- serving that ended
-module _ {N D : Type 0} (step : NodeStep N) (leaves : NodeLeaves N) (moment : D → ℕ) (left_since : D → ℕ → Image → Type 0) (first_disk : D) (first : World N) (count : ℕ) (kept : Table) (disk now_disk : D) (last now : World N) (budget : ℕ) (result : Result Served ServeFault) where
-  pub ended : (since : Since step leaves moment left_since first_disk first count kept disk last) → now_disk ≡ disk → Ends budget since.turns last result now
-      → (turns : List (Turn N)) × Serves step leaves (left_since now_disk) budget turns first result now × LeavesOnly moment left_since first_disk now_disk (MightLeave leaves first.disk turns)
+module _ {N D : Type 0} (step : NodeStep N) (leaves : NodeLeaves N) (shows : D → DiskShown) (first_disk : D) (first : World N) (count : ℕ) (kept : Table) (disk now_disk : D) (last now : World N) (budget : ℕ) (result : Result Served ServeFault) where
+  pub ended : (since : Since step leaves shows first_disk first count kept disk last) → now_disk ≡ disk → Ends budget since.turns last result now
+      → (turns : List (Turn N)) × Serves step leaves (shows now_disk).left_since budget turns first result now × LeavesOnly shows first_disk now_disk (MightLeave leaves first.disk turns)
   ended since same ends = (
     since.turns,
-    subst (λ (d : D). Serves step leaves (left_since d) budget since.turns first result now) (sym same) (record { kept = kept; last = last; run = since.run; in_order = since.in_order; ends = ends }),
-    subst (λ (d : D). LeavesOnly moment left_since first_disk d (MightLeave leaves first.disk since.turns)) (sym same) since.moments,
+    subst (λ (d : D). Serves step leaves (shows d).left_since budget since.turns first result now) (sym same) (record { kept = kept; last = last; run = since.run; in_order = since.in_order; ends = ends }),
+    subst (λ (d : D). LeavesOnly shows first_disk d (MightLeave leaves first.disk since.turns)) (sym same) since.moments,
   )
 
 -- nothing was begun, for want of memory
-pub not_begun : {N D : Type 0} (step : NodeStep N) (leaves : NodeLeaves N) (moment : D → ℕ) (left_since : D → ℕ → Image → Type 0) (told : D → Option DiskState)
-    → ((disk : D) (image : Image) → left_since disk (moment disk) image → Leaves (told disk) image) → (disk : D) (first : World N) (budget : ℕ) (result : Result Served ServeFault) → result ≡ Err NoMemory
-    → LeavesSince leaves (left_since disk) first [] → (turns : List (Turn N)) × Serves step leaves (left_since disk) budget turns first result first × LeavesOnly moment left_since disk disk (MightLeave leaves (told disk) turns)
-not_begun step leaves moment left_since told only_now disk first budget result is here = (
+pub not_begun : {N D : Type 0} (step : NodeStep N) (leaves : NodeLeaves N) (shows : D → DiskShown) → ((disk : D) (image : Image) → (shows disk).left_since (shows disk).moment image → Leaves (shows disk).told image) → (disk : D) (first : World N) (budget : ℕ) (result : Result Served ServeFault) → result ≡ Err NoMemory
+    → LeavesSince leaves (shows disk).left_since first [] → (turns : List (Turn N)) × Serves step leaves (shows disk).left_since budget turns first result first × LeavesOnly shows disk disk (MightLeave leaves (shows disk).told turns)
+not_begun step leaves shows only_now disk first budget result is here = (
   [],
   record { kept = map.empty; last = first; run = (refl, refl); in_order = here; ends = subst (λ (r : Result Served ServeFault). Ends budget [] first r first) (sym is) (refl, refl) },
-  untouched leaves moment left_since told only_now disk disk [] refl,
+  untouched leaves shows only_now disk disk [] refl,
 )

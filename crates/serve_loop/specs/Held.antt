@@ -1,18 +1,14 @@
 -- How the code holds the world, and what its parts do to it.
 use Rattle.std.specs.Prelude.{◌≡◌, ℕ, List, Option}
-use Rattle.crash_disk.specs.Disk.{DiskState}
-use Rattle.event_link.specs.Links.{LinkState}
+use Rattle.crash_disk.specs.Moments.{DiskShown}
+use Rattle.event_link.specs.Links.{LinkShown}
 use Rattle.serve_loop.specs.declared.turns.Serving.{Serving}
-use Rattle.serve_loop.specs.Worlds.{World, world}
+use Rattle.serve_loop.specs.Worlds.{World, world_at}
 
 module _ {N L D C : Type 0} where
   -- the world as the code holds it
-  abbrev pub world_in :
-      (D → Option DiskState) → (D → ℕ) → (D → ℕ) → (L → Option LinkState) → (L → ℕ) → (C → Option (List ℕ)) → Serving N L D C → World N
-  world_in disk disk_faults moment link send_faults clock held =
-      world
-      held.node.now (disk held.disk.now) (disk_faults held.disk.now) (moment held.disk.now) (link held.link.now) (send_faults held.link.now)
-      (clock held.clock.now)
+  abbrev pub world_in : (D → DiskShown) → (L → LinkShown) → (C → Option (List ℕ)) → Serving N L D C → World N
+  world_in disk link clock held = world_at held.node.now (disk held.disk.now) (link held.link.now) (clock held.clock.now)
 
   -- it holds the same objects
   pub record SameObjects (old new : Serving N L D C) : Type 0 where

@@ -4,11 +4,11 @@ use Rattle.std.specs.Option.{option_map}
 use Rattle.saml_time.specs.declared.TheConstants.{LAST}
 use Rattle.crash_disk.specs.Counts.{Rose}
 use Rattle.crash_disk.specs.Disk.{Image, DiskState, MayLeave, image_of}
-use Rattle.crash_disk.specs.Moments.{Leaves}
+use Rattle.crash_disk.specs.Moments.{DiskShown, Leaves}
 use Rattle.event_link.specs.declared.link.LinkEvent.{LinkEvent}
 use Rattle.event_link.specs.declared.link.LinkEvent.TheVariants as events
 use Rattle.event_link.specs.Clocks.{now_of, later_of}
-use Rattle.event_link.specs.Links.{LinkState, IsSent, next_of}
+use Rattle.event_link.specs.Links.{LinkShown, LinkState, IsSent, next_of}
 use Rattle.http_wire.specs.declared.answer.Answer.{Answer}
 use Rattle.http_wire.specs.declared.answer.Answer.TheVariants.{Fixed, Full}
 use Rattle.http_wire.specs.Answers.{is_fixed}
@@ -58,6 +58,10 @@ pub record World (N : Type 0) : Type 0 where
 abbrev pub world : {N : Type 0} → N → Option DiskState → ℕ → ℕ → Option LinkState → ℕ → Option (List ℕ) → World N
 world node disk disk_faults moment link send_faults clock =
     record { node = node; disk = disk; disk_faults = disk_faults; moment = moment; link = link; send_faults = send_faults; clock = clock }
+
+-- the world of a node and of what the disk, the link and the clock show
+abbrev pub world_at : {N : Type 0} → N → DiskShown → LinkShown → Option (List ℕ) → World N
+world_at node disk link clock = world node disk.told disk.faults disk.moment link.told link.send_faults clock
 
 -- An answer that has bytes: a fixed one names a page.
 abbrev pub HasBytes : Answer → Type 0

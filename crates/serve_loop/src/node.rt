@@ -46,30 +46,30 @@ pub trait Node {
     /// Answers a request at a moment.
     fn answer<D: Disk>(&mut self, request: &HttpRequest<'_>, now: u64, disk: &mut D) -> Answer
         requires moment { now ≤ LAST }
-        requires own { own self.old (D.told disk.old) }
-        ensures step { step self.old (D.told disk.old) (request_view request.now) now (D.faults_of disk.old) (D.faults_of disk.new) result self.new (D.told disk.new) }
+        requires own { own self.old (D.shows disk.old).told }
+        ensures step { step self.old (D.shows disk.old).told (request_view request.now) now (D.shows disk.old).faults (D.shows disk.new).faults result self.new (D.shows disk.new).told }
         ensures has_bytes { HasBytes result }
-        ensures own { own self.new (D.told disk.new) }
-        ensures moments { LeavesOnly D.moment D.left_since disk.old disk.new (leaves self.old (D.told disk.old) (request_view request.now) now) }
-        ensures faults { D.faults_of disk.old ≤ D.faults_of disk.new };
+        ensures own { own self.new (D.shows disk.new).told }
+        ensures moments { LeavesOnly D.shows disk.old disk.new (leaves self.old (D.shows disk.old).told (request_view request.now) now) }
+        ensures faults { (D.shows disk.old).faults ≤ (D.shows disk.new).faults };
 
     /// Opens what is kept on the disk again, whatever a crash left there. Where that fails the node goes on owning the disk if
     /// nothing else may be left there than what it can be opened from.
     fn restart<D: Disk>(&mut self, disk: &mut D) -> Result<(), OpenFault>
-        ensures reopens { reopens self.old (D.told disk.old) (D.faults_of disk.old) (D.faults_of disk.new) result self.new (D.told disk.new) }
-        ensures own { OnOk result (own self.new (D.told disk.new)) }
-        ensures own_err { OnErr result (may_open (D.told disk.old) → own self.new (D.told disk.new)) }
-        ensures moments { LeavesOnly D.moment D.left_since disk.old disk.new (reopening_leaves self.old (D.told disk.old)) }
-        ensures faults { CausesFaults result (D.faults_of disk.old) (D.faults_of disk.new) };
+        ensures reopens { reopens self.old (D.shows disk.old).told (D.shows disk.old).faults (D.shows disk.new).faults result self.new (D.shows disk.new).told }
+        ensures own { OnOk result (own self.new (D.shows disk.new).told) }
+        ensures own_err { OnErr result (may_open (D.shows disk.old).told → own self.new (D.shows disk.new).told) }
+        ensures moments { LeavesOnly D.shows disk.old disk.new (reopening_leaves self.old (D.shows disk.old).told) }
+        ensures faults { CausesFaults result (D.shows disk.old).faults (D.shows disk.new).faults };
 
     /// Lets go what is kept on the disk and no longer needed at a moment.
     fn compact<D: Disk>(&mut self, disk: &mut D, now: u64) -> Result<(), OpenFault>
         requires moment { now ≤ LAST }
-        requires own { own self.old (D.told disk.old) }
-        ensures compacts { compacts self.old (D.told disk.old) now (D.faults_of disk.old) (D.faults_of disk.new) result self.new (D.told disk.new) }
-        ensures own { own self.new (D.told disk.new) }
-        ensures moments { LeavesOnly D.moment D.left_since disk.old disk.new (compaction_leaves self.old (D.told disk.old) now) }
-        ensures faults { CausesFaults result (D.faults_of disk.old) (D.faults_of disk.new) };
+        requires own { own self.old (D.shows disk.old).told }
+        ensures compacts { compacts self.old (D.shows disk.old).told now (D.shows disk.old).faults (D.shows disk.new).faults result self.new (D.shows disk.new).told }
+        ensures own { own self.new (D.shows disk.new).told }
+        ensures moments { LeavesOnly D.shows disk.old disk.new (compaction_leaves self.old (D.shows disk.old).told now) }
+        ensures faults { CausesFaults result (D.shows disk.old).faults (D.shows disk.new).faults };
 
     /// Whatever a crash may leave on a disk that is a node's own, a node can be opened from.
     ghost own_may_open: { (node : Self) (disk : Option DiskState) → own node disk → may_open disk };

@@ -34,8 +34,8 @@ pub(crate) struct Serving<'t, 'n, 'l, 'd, 'c, N, L, D, C> {
 impl<N: Node, L: Link, D: Disk, C: Clock> Serving<'_, '_, '_, '_, '_, N, L, D, C> {
     /// Sends all bytes of an answer on a connection, and closes it. A `send` that fails ends this connection alone.
     fn send(&mut self, conn: u32, bytes: &[u8])
-        ensures sends { GoesOut conn bytes.now (L.told self.old.link.now) (L.told self.new.link.now) (L.send_faults_of self.old.link.now) (L.send_faults_of self.new.link.now) }
-        ensures faults { L.faults_of self.new.link.now ≡ L.faults_of self.old.link.now }
+        ensures sends { GoesOut conn bytes.now (L.shows self.old.link.now).told (L.shows self.new.link.now).told (L.shows self.old.link.now).send_faults (L.shows self.new.link.now).send_faults }
+        ensures faults { (L.shows self.new.link.now).faults ≡ (L.shows self.old.link.now).faults }
         ensures conns { self.new.conns.now ≡ self.old.conns.now }
         ensures others { OthersStay self.old self.new }
     {
@@ -46,8 +46,8 @@ impl<N: Node, L: Link, D: Disk, C: Clock> Serving<'_, '_, '_, '_, '_, N, L, D, C
     /// Sends the page of a code on a connection, and closes it.
     fn send_page(&mut self, conn: u32, code: u16)
         requires { IsTrue (is_fixed code) }
-        ensures sends { GoesOut conn (fixed code) (L.told self.old.link.now) (L.told self.new.link.now) (L.send_faults_of self.old.link.now) (L.send_faults_of self.new.link.now) }
-        ensures faults { L.faults_of self.new.link.now ≡ L.faults_of self.old.link.now }
+        ensures sends { GoesOut conn (fixed code) (L.shows self.old.link.now).told (L.shows self.new.link.now).told (L.shows self.old.link.now).send_faults (L.shows self.new.link.now).send_faults }
+        ensures faults { (L.shows self.new.link.now).faults ≡ (L.shows self.old.link.now).faults }
         ensures conns { self.new.conns.now ≡ self.old.conns.now }
         ensures others { OthersStay self.old self.new }
     {
@@ -59,8 +59,8 @@ impl<N: Node, L: Link, D: Disk, C: Clock> Serving<'_, '_, '_, '_, '_, N, L, D, C
     /// Sends an answer on a connection, and closes it.
     fn send_answer(&mut self, conn: u32, answer: &Answer)
         requires { HasBytes answer.now }
-        ensures sends { GoesOut conn (answer_bytes answer.now) (L.told self.old.link.now) (L.told self.new.link.now) (L.send_faults_of self.old.link.now) (L.send_faults_of self.new.link.now) }
-        ensures faults { L.faults_of self.new.link.now ≡ L.faults_of self.old.link.now }
+        ensures sends { GoesOut conn (answer_bytes answer.now) (L.shows self.old.link.now).told (L.shows self.new.link.now).told (L.shows self.old.link.now).send_faults (L.shows self.new.link.now).send_faults }
+        ensures faults { (L.shows self.new.link.now).faults ≡ (L.shows self.old.link.now).faults }
         ensures conns { self.new.conns.now ≡ self.old.conns.now }
         ensures others { OthersStay self.old self.new }
     {
@@ -72,8 +72,8 @@ impl<N: Node, L: Link, D: Disk, C: Clock> Serving<'_, '_, '_, '_, '_, N, L, D, C
 
     /// A connection started: where it was kept it had ended.
     fn start(&mut self, conn: u32)
-        ensures does { (turn : Turn _) × (event_at turn ≡ Started conn) × Does (IsAnswered N.own N.step N.leaves) self.old.conns.now (world_in D.told D.faults_of D.moment L.told L.send_faults_of C.to_come self.old) turn self.new.conns.now (world_in D.told D.faults_of D.moment L.told L.send_faults_of C.to_come self.new) }
-        ensures faults { L.faults_of self.new.link.now ≡ L.faults_of self.old.link.now }
+        ensures does { (turn : Turn _) × (event_at turn ≡ Started conn) × Does (IsAnswered N.own N.step N.leaves) self.old.conns.now (world_in D.shows L.shows C.to_come self.old) turn self.new.conns.now (world_in D.shows L.shows C.to_come self.new) }
+        ensures faults { (L.shows self.new.link.now).faults ≡ (L.shows self.old.link.now).faults }
         ensures others { OthersStay self.old self.new }
     {
         self.conns.gone(conn);
@@ -87,8 +87,8 @@ impl<N: Node, L: Link, D: Disk, C: Clock> Serving<'_, '_, '_, '_, '_, N, L, D, C
     /// Sends the page of a code on a connection, and lets it go.
     fn refuse(&mut self, conn: u32, code: u16)
         requires { IsTrue (is_fixed code) }
-        ensures lets_go { LetsGo conn code self.old.conns.now (world_in D.told D.faults_of D.moment L.told L.send_faults_of C.to_come self.old) self.new.conns.now (world_in D.told D.faults_of D.moment L.told L.send_faults_of C.to_come self.new) }
-        ensures faults { L.faults_of self.new.link.now ≡ L.faults_of self.old.link.now }
+        ensures lets_go { LetsGo conn code self.old.conns.now (world_in D.shows L.shows C.to_come self.old) self.new.conns.now (world_in D.shows L.shows C.to_come self.new) }
+        ensures faults { (L.shows self.new.link.now).faults ≡ (L.shows self.old.link.now).faults }
         ensures others { OthersStay self.old self.new }
     {
         self.send_page(conn, code);
@@ -98,14 +98,14 @@ impl<N: Node, L: Link, D: Disk, C: Clock> Serving<'_, '_, '_, '_, '_, N, L, D, C
     /// Lets the node answer the request that a connection has brought, at one moment.
     fn ask(&mut self, conn: u32) -> Answer
         requires whole { IsSomeAnd (map.get self.old.conns.now conn) IsWholeRequest }
-        requires own { N.own self.old.node.now (D.told self.old.disk.now) }
+        requires own { N.own self.old.node.now (D.shows self.old.disk.now).told }
         ensures asked { (asked : Asked _) × (asked.conn ≡ conn) × (asked.answer ≡ result)
             × IfSome (map.get self.old.conns.now conn) (λ bytes. Reads bytes (Whole asked.request))
-            × Asks (IsAnswered N.own N.step N.leaves) asked (world_in D.told D.faults_of D.moment L.told L.send_faults_of C.to_come self.old) (world_in D.told D.faults_of D.moment L.told L.send_faults_of C.to_come self.new)
-            × LeavesOnly D.moment D.left_since self.old.disk.now self.new.disk.now (N.leaves asked.node asked.disk asked.request asked.now) }
+            × Asks (IsAnswered N.own N.step N.leaves) asked (world_in D.shows L.shows C.to_come self.old) (world_in D.shows L.shows C.to_come self.new)
+            × LeavesOnly D.shows self.old.disk.now self.new.disk.now (N.leaves asked.node asked.disk asked.request asked.now) }
         ensures has_bytes { HasBytes result }
-        ensures own { N.own self.new.node.now (D.told self.new.disk.now) }
-        ensures disk_faults { D.faults_of self.old.disk.now ≤ D.faults_of self.new.disk.now }
+        ensures own { N.own self.new.node.now (D.shows self.new.disk.now).told }
+        ensures disk_faults { (D.shows self.old.disk.now).faults ≤ (D.shows self.new.disk.now).faults }
         ensures link { self.new.link.now ≡ self.old.link.now }
         ensures conns { self.new.conns.now ≡ self.old.conns.now }
         ensures objects { SameObjects self.old self.new }
@@ -117,13 +117,13 @@ impl<N: Node, L: Link, D: Disk, C: Clock> Serving<'_, '_, '_, '_, '_, N, L, D, C
     /// Answers the request that a connection has brought, and lets it go.
     fn answer(&mut self, conn: u32)
         requires whole { IsSomeAnd (map.get self.old.conns.now conn) IsWholeRequest }
-        requires own { N.own self.old.node.now (D.told self.old.disk.now) }
+        requires own { N.own self.old.node.now (D.shows self.old.disk.now).told }
         ensures answers { (asked : Asked _) × (asked.conn ≡ conn)
-            × Answers (IsAnswered N.own N.step N.leaves) self.old.conns.now (world_in D.told D.faults_of D.moment L.told L.send_faults_of C.to_come self.old) asked self.new.conns.now (world_in D.told D.faults_of D.moment L.told L.send_faults_of C.to_come self.new)
-            × LeavesOnly D.moment D.left_since self.old.disk.now self.new.disk.now (N.leaves asked.node asked.disk asked.request asked.now) }
-        ensures own { N.own self.new.node.now (D.told self.new.disk.now) }
-        ensures disk_faults { D.faults_of self.old.disk.now ≤ D.faults_of self.new.disk.now }
-        ensures faults { L.faults_of self.new.link.now ≡ L.faults_of self.old.link.now }
+            × Answers (IsAnswered N.own N.step N.leaves) self.old.conns.now (world_in D.shows L.shows C.to_come self.old) asked self.new.conns.now (world_in D.shows L.shows C.to_come self.new)
+            × LeavesOnly D.shows self.old.disk.now self.new.disk.now (N.leaves asked.node asked.disk asked.request asked.now) }
+        ensures own { N.own self.new.node.now (D.shows self.new.disk.now).told }
+        ensures disk_faults { (D.shows self.old.disk.now).faults ≤ (D.shows self.new.disk.now).faults }
+        ensures faults { (L.shows self.new.link.now).faults ≡ (L.shows self.old.link.now).faults }
         ensures objects { SameObjects self.old self.new }
     {
         let answer = self.ask(conn);
@@ -133,13 +133,13 @@ impl<N: Node, L: Link, D: Disk, C: Clock> Serving<'_, '_, '_, '_, '_, N, L, D, C
 
     /// A connection has brought a piece.
     fn piece(&mut self, conn: u32, bytes: &[u8])
-        requires { N.own self.old.node.now (D.told self.old.disk.now) }
+        requires { N.own self.old.node.now (D.shows self.old.disk.now).told }
         ensures does { (turn : Turn _) × (event_at turn ≡ Piece conn bytes.now)
-            × Does (IsAnswered N.own N.step N.leaves) self.old.conns.now (world_in D.told D.faults_of D.moment L.told L.send_faults_of C.to_come self.old) turn self.new.conns.now (world_in D.told D.faults_of D.moment L.told L.send_faults_of C.to_come self.new)
-            × LeavesOnly D.moment D.left_since self.old.disk.now self.new.disk.now (MightLeave N.leaves (D.told self.old.disk.now) (turn ∷ [])) }
-        ensures own { N.own self.new.node.now (D.told self.new.disk.now) }
-        ensures disk_faults { D.faults_of self.old.disk.now ≤ D.faults_of self.new.disk.now }
-        ensures faults { L.faults_of self.new.link.now ≡ L.faults_of self.old.link.now }
+            × Does (IsAnswered N.own N.step N.leaves) self.old.conns.now (world_in D.shows L.shows C.to_come self.old) turn self.new.conns.now (world_in D.shows L.shows C.to_come self.new)
+            × LeavesOnly D.shows self.old.disk.now self.new.disk.now (MightLeave N.leaves (D.shows self.old.disk.now).told (turn ∷ [])) }
+        ensures own { N.own self.new.node.now (D.shows self.new.disk.now).told }
+        ensures disk_faults { (D.shows self.old.disk.now).faults ≤ (D.shows self.new.disk.now).faults }
+        ensures faults { (L.shows self.new.link.now).faults ≡ (L.shows self.old.link.now).faults }
         ensures objects { SameObjects self.old self.new }
     {
         match self.conns.piece(conn, bytes) {
@@ -153,16 +153,16 @@ impl<N: Node, L: Link, D: Disk, C: Clock> Serving<'_, '_, '_, '_, '_, N, L, D, C
     /// Takes the next event, and does what is to be done at it. It answers whether there was one: false at Stop.
     pub(crate) fn turn(&mut self, into: &mut [u8]) -> Result<bool, Failed>
         requires room { length into.old ≡ PIECE_ROOM }
-        requires own { N.own self.old.node.now (D.told self.old.disk.now) }
+        requires own { N.own self.old.node.now (D.shows self.old.disk.now).told }
         ensures ok { IfOk result (λ more. MatchBool more
-            ((turn : Turn _) × (given : World _) × IsNext (Some (event_at turn)) (world_in D.told D.faults_of D.moment L.told L.send_faults_of C.to_come self.old) given
-            × Does (IsAnswered N.own N.step N.leaves) self.old.conns.now given turn self.new.conns.now (world_in D.told D.faults_of D.moment L.told L.send_faults_of C.to_come self.new)
-            × LeavesOnly D.moment D.left_since self.old.disk.now self.new.disk.now (MightLeave N.leaves (D.told self.old.disk.now) (turn ∷ [])))
-            (IsNext None (world_in D.told D.faults_of D.moment L.told L.send_faults_of C.to_come self.old) (world_in D.told D.faults_of D.moment L.told L.send_faults_of C.to_come self.new) × (self.new.disk.now ≡ self.old.disk.now))) }
-        ensures err { OnErr result ((world_in D.told D.faults_of D.moment L.told L.send_faults_of C.to_come self.new ≡ world_in D.told D.faults_of D.moment L.told L.send_faults_of C.to_come self.old) × (self.new.disk.now ≡ self.old.disk.now)) }
-        ensures own { N.own self.new.node.now (D.told self.new.disk.now) }
-        ensures disk_faults { D.faults_of self.old.disk.now ≤ D.faults_of self.new.disk.now }
-        ensures faults { CountsFaults result (L.faults_of self.old.link.now) (L.faults_of self.new.link.now) }
+            ((turn : Turn _) × (given : World _) × IsNext (Some (event_at turn)) (world_in D.shows L.shows C.to_come self.old) given
+            × Does (IsAnswered N.own N.step N.leaves) self.old.conns.now given turn self.new.conns.now (world_in D.shows L.shows C.to_come self.new)
+            × LeavesOnly D.shows self.old.disk.now self.new.disk.now (MightLeave N.leaves (D.shows self.old.disk.now).told (turn ∷ [])))
+            (IsNext None (world_in D.shows L.shows C.to_come self.old) (world_in D.shows L.shows C.to_come self.new) × (self.new.disk.now ≡ self.old.disk.now))) }
+        ensures err { OnErr result ((world_in D.shows L.shows C.to_come self.new ≡ world_in D.shows L.shows C.to_come self.old) × (self.new.disk.now ≡ self.old.disk.now)) }
+        ensures own { N.own self.new.node.now (D.shows self.new.disk.now).told }
+        ensures disk_faults { (D.shows self.old.disk.now).faults ≤ (D.shows self.new.disk.now).faults }
+        ensures faults { CountsFaults result (L.shows self.old.link.now).faults (L.shows self.new.link.now).faults }
         ensures objects { SameObjects self.old self.new }
     {
         laws::the_bytes_of_a_piece_lie_in_front();
@@ -187,12 +187,12 @@ impl<N: Node, L: Link, D: Disk, C: Clock> Serving<'_, '_, '_, '_, '_, N, L, D, C
     pub(crate) fn run(&mut self, into: &mut [u8], budget: u64) -> Result<Served, ServeFault>
         requires room { length into.old ≡ PIECE_ROOM }
         requires none_kept { self.old.conns.now ≡ map.empty }
-        requires own { N.own self.old.node.now (D.told self.old.disk.now) }
-        ensures serves { (turns : List (Turn _)) × Serves (IsAnswered N.own N.step N.leaves) N.leaves (D.left_since self.new.disk.now) budget turns (world_in D.told D.faults_of D.moment L.told L.send_faults_of C.to_come self.old) result (world_in D.told D.faults_of D.moment L.told L.send_faults_of C.to_come self.new)
-            × LeavesOnly D.moment D.left_since self.old.disk.now self.new.disk.now (MightLeave N.leaves (D.told self.old.disk.now) turns) }
-        ensures own { N.own self.new.node.now (D.told self.new.disk.now) }
-        ensures disk_faults { D.faults_of self.old.disk.now ≤ D.faults_of self.new.disk.now }
-        ensures link_faults { CountsLinkFaults result (L.faults_of self.old.link.now) (L.faults_of self.new.link.now) }
+        requires own { N.own self.old.node.now (D.shows self.old.disk.now).told }
+        ensures serves { (turns : List (Turn _)) × Serves (IsAnswered N.own N.step N.leaves) N.leaves (D.shows self.new.disk.now).left_since budget turns (world_in D.shows L.shows C.to_come self.old) result (world_in D.shows L.shows C.to_come self.new)
+            × LeavesOnly D.shows self.old.disk.now self.new.disk.now (MightLeave N.leaves (D.shows self.old.disk.now).told turns) }
+        ensures own { N.own self.new.node.now (D.shows self.new.disk.now).told }
+        ensures disk_faults { (D.shows self.old.disk.now).faults ≤ (D.shows self.new.disk.now).faults }
+        ensures link_faults { CountsLinkFaults result (L.shows self.old.link.now).faults (L.shows self.new.link.now).faults }
         ensures memory { result ≢ Err ServeFault.NoMemory }
         ensures objects { SameObjects self.old self.new }
     {

@@ -77,7 +77,7 @@ pub fn a_session_is_shown_by_its_row()
 /// session whose answer went out is as it was left. A live session is shown what the policy says of its row,
 /// and the run keeps to its registry, up to the moment at which this ends.
 pub fn a_run_carries_the_headline<D: Disk>()
-    ensures { (disk : D) → ARunCarriesTheHeadline (D.left_since disk) }
+    ensures { (disk : D) → ARunCarriesTheHeadline (D.shows disk).left_since }
 {
     images_hold_records();
     sp_server::laws::a_session_opens_exactly();
@@ -98,7 +98,7 @@ pub fn a_run_carries_the_headline<D: Disk>()
 /// moments may leave is one from which a later start goes on, as behind a start of this run that was cut at that
 /// moment: so runs that a crash cut join into one service, of which the laws of starts speak.
 pub fn each_image_of_a_run_goes_on<D: Disk>()
-    ensures { (disk : D) → EachImageOfARunGoesOn (D.left_since disk) }
+    ensures { (disk : D) → EachImageOfARunGoesOn (D.shows disk).left_since }
 {
     images_hold_records();
 }

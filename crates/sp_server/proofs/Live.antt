@@ -4,7 +4,7 @@ use Rattle.std.proofs.Common.{◌≡◌, ℕ, Bool, true, false, ◌&&◌, if◌
 use Rattle.std.specs.List.{find, list_all}
 use Rattle.std.specs.Option.{ForSome, option_and_then}
 use Rattle.std.proofs.lemmas.Bool.{and_parts}
-use Rattle.xml_chars.proofs.Texts.{text_tested}
+use Rattle.ledger_rules.proofs.Texts.{tested}
 use Rattle.xml_spec.specs.Characters.{IsText}
 use Rattle.ledger_records.specs.declared.sp_record.SpRecord.{SpRecord}
 use Rattle.ledger_records.specs.declared.sp_record.SpRecord.TheVariants as kinds
@@ -20,10 +20,9 @@ use Rattle.http_wire.specs.Cookies.{cookie_value}
 use Rattle.http_wire.specs.Requests.{Request}
 use Rattle.sp_server.specs.Step.{session_for}
 
--- what is UTF-8 and of characters that a document may hold is a text
-pub text_of : (s : List ℕ) → IsUtf8 s → is_xml_text s ≡ true → IsText s
-unfolding is_xml_text
-text_of s utf8 allowed = (text_tested s (is_xml_text s) utf8 refl).0 allowed
+-- what passes the test is a text
+pub text_of : (s : List ℕ) → is_xml_text s ≡ true → IsText s
+text_of s allowed = (tested s).0 allowed
 
 -- ---- each row has texts of such characters
 

@@ -15,7 +15,7 @@ use Rattle.request_rows.specs.declared.row.OpenedRow.{OpenedRow}
 use Rattle.request_rows.specs.Rows.{session_row, visible}
 use Rattle.request_ledger.specs.Drafts.{asked, is_empty, DraftsSome, SameLedger}
 use Rattle.request_ledger.specs.Laws.{AnswerAlike, CompactionsChangeNoAnswer}
-use Rattle.request_ledger.specs.Ledger.{CanCommit, Held, Opened, next_number}
+use Rattle.request_ledger.specs.Ledger.{CanCommit, Held, OpenedLedger, next_number}
 use Rattle.request_ledger.specs.Record.{request_rules}
 use Rattle.request_ledger.specs.RowsOf.{rows_of}
 use Rattle.request_ledger.specs.Standing.{request_row_rules}
@@ -219,7 +219,7 @@ sp_laws setup now law usable compactions = record {
 }
 
 -- what became of a draft
-pub sp_drafted : (setup : Setup) (old new : Opened) (now : ℕ) (reply : Reply) (result : Result (Option SpRecord) DraftFault) → old.key ≡ setup.config.id_key → SameLedger old new
+pub sp_drafted : (setup : Setup) (old new : OpenedLedger) (now : ℕ) (reply : Reply) (result : Result (Option SpRecord) DraftFault) → old.key ≡ setup.config.id_key → SameLedger old new
     → DraftsSome old new (is_nothing setup.config old.held now reply) (record_for old.key setup.config old.held now reply) result
     → IsDrafted request_rules old.held (CanCommit new) (λ d. d) (stands_for setup old.held now reply) (drafted_of result)
 sp_drafted setup old new now reply result key same drafts =

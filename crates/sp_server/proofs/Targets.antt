@@ -1,16 +1,17 @@
 -- A path to which a user can be sent back is a text of XML.
 use Rattle.std.proofs.Common.{◌≡◌, ℕ, ◌<◌, ◌≤◌, Bool, true, false, List, [], ◌∷◌, refl, ap, ◌∙◌, subst, arith}
 use Rattle.std.specs.List.{list_all}
-use Rattle.std.specs.Prelude.{zero, suc, Option, None, Some, if◌then◌else◌}
-use Rattle.std.specs.Str.{chars, IsAscii}
-use Rattle.std.proofs.lemmas.Str.{chars-IsAscii}
+use Rattle.std.specs.Prelude.{nat_lt, Option, None, Some, if◌then◌else◌}
 use Rattle.std.proofs.lemmas.Bool.Decides.{nat_tests}
 use Rattle.xml_spec.specs.Characters.{is_char}
 use Rattle.xml_spec.proofs.Tests.{and_true, both_true}
+use Rattle.xml_chars.specs.AsciiTexts.{is_ascii_char}
+use Rattle.xml_chars.proofs.Texts.{ascii_text}
 use Rattle.http_wire.specs.declared.method.Method.{Method}
 use Rattle.http_wire.specs.Answers.{is_fixed}
 use Rattle.http_wire.specs.Requests.{Request}
 use Rattle.ledger_rules.specs.Numbers.{is_xml_text}
+use Rattle.ledger_rules.proofs.Texts.{tested as xml_tested}
 use Rattle.sp_server.specs.Routes.{Route, Guard, To, Refused, Service, App, Consumer, Metadata, Logout, SingleLogout, at_target, checked, is_guarded, is_method, is_path_byte, is_target, is_typed, route, service_at}
 
 graphic : (b : ℕ) → is_path_byte b ≡ true → (45 ≤ b) × (b < 127)
@@ -19,23 +20,21 @@ graphic b h = grind (arith, nat_tests)
 is_allowed : (b : ℕ) → 45 ≤ b → b < 127 → is_char b ≡ true
 is_allowed b low high = grind (arith, nat_tests)
 
-are_allowed : (path : List ℕ) → list_all is_path_byte path ≡ true → list_all is_char path ≡ true
-are_allowed [] h = refl
-are_allowed (b ∷ path) h =
+is_small : (b : ℕ) → b < 127 → nat_lt b 128 ≡ true
+is_small b high = grind (arith, nat_tests)
+
+are_ascii : (path : List ℕ) → list_all is_path_byte path ≡ true → list_all is_ascii_char path ≡ true
+are_ascii [] h = refl
+are_ascii (b ∷ path) h =
     let both = both_true (is_path_byte b) (list_all is_path_byte path) h in
     let range = graphic b both.0 in
-    and_true (is_char b) (list_all is_char path) (is_allowed b range.0 range.1) (are_allowed path both.1)
-
-are_ascii : (path : List ℕ) → list_all is_path_byte path ≡ true → IsAscii path
-are_ascii [] h i = omega arith
-are_ascii (b ∷ path) h zero = omega (arith, (graphic b (both_true (is_path_byte b) (list_all is_path_byte path) h).0).1)
-are_ascii (b ∷ path) h (suc i) = are_ascii path (both_true (is_path_byte b) (list_all is_path_byte path) h).1 i
+    and_true (is_ascii_char b) (list_all is_ascii_char path)
+    (and_true (nat_lt b 128) (is_char b) (is_small b range.1) (is_allowed b range.0 range.1)) (are_ascii path both.1)
 
 pub target_is_text : (path : List ℕ) → is_target path ≡ true → is_xml_text path ≡ true
-unfolding is_xml_text
 target_is_text path h =
     let all = (both_true (Rattle.std.specs.Prelude.nat_le (Rattle.std.specs.Prelude.length path) 256) (list_all is_path_byte path) h).1 in
-    ap (list_all is_char) (chars-IsAscii path (are_ascii path all)) ∙ are_allowed path all
+    (xml_tested path).1 (ascii_text path (are_ascii path all))
 
 -- the path of a request for a page of the application is one
 tested : (takes typed target : Bool) → (if takes then (if typed then (if target then To App else Refused 404) else Refused 415) else Refused 405) ≡ To App → target ≡ true

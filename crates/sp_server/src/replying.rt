@@ -1,6 +1,5 @@
 //! How a service provider replies: where a request goes, and how a reply is drafted and shown.
 ghost use Rattle.std.specs.Prelude.{◌≡◌, ◌≤◌, ℕ, List};
-ghost use Rattle.saml_time.specs.Instant.{TellsInFull};
 
 use crate::reply::Reply;
 use crate::role::SpRole;
@@ -8,24 +7,14 @@ use crate::route::{Route, route_of};
 use http_wire::{Answer, HttpRequest};
 use logout_answers::laws::each_logout_has_an_answer;
 use owned_values::{Blob, NoMemory};
-use provider_node::{Drafted, Replied, Role};
+use provider_node::{DraftOutcome, Replied, Role};
 use request_ledger::laws::compactions_change_no_answer;
 use request_ledger::{Draft, Ledger};
-use saml_time::{LAST, put_instant};
+use saml_time::{LAST, each_moment_is_told};
 use sp_answers::metadata_answer;
 
 /// The code that is answered where the registry of metadata has ended.
 pub(crate) const REGISTRY_EXPIRED: u16 = 70;
-
-/// That a moment has a written form, so that each request for a login has an answer. It is there for the proof, and
-/// what it writes is let go.
-fn has_instant(now: u64)
-    requires { now ≤ LAST }
-    ensures { (text : List ℕ) × TellsInFull text now }
-{
-    let mut text = [0; 24];
-    put_instant(now, &mut text);
-}
 
 impl Role for SpRole {
     ghost use Rattle.sp_server.specs.Replies.{sp_replies};
@@ -63,8 +52,8 @@ impl Role for SpRole {
         }
     }
 
-    fn draft(&self, reply: &Reply, ledger: &mut Ledger, now: u64) -> Drafted<Draft> {
-        Drafted::of(reply.draft(&self.config, ledger, now))
+    fn draft(&self, reply: &Reply, ledger: &mut Ledger, now: u64) -> DraftOutcome<Draft> {
+        DraftOutcome::of(reply.draft(&self.config, ledger, now))
     }
 
     fn page(&self, reply: &Reply, draft: &Draft, now: u64) -> Result<Blob, NoMemory> {
@@ -78,7 +67,7 @@ impl Role for SpRole {
     fn laws_hold(&self, now: u64) {
         let _usable = &self.config;
         compactions_change_no_answer();
-        each_logout_has_an_answer(now);
-        has_instant(now);
+        each_logout_has_an_answer();
+        each_moment_is_told();
     }
 }

@@ -16,6 +16,7 @@ use Rattle.provider_config.specs.declared.line.TheConstants.{MILLIS, MOST_SKEW}
 use Rattle.request_rows.specs.declared.rows.TheConstants.{ROW_LIMIT}
 use Rattle.sp_rules.specs.declared.config.NextKey.{NextKey}
 use Rattle.sp_rules.specs.declared.config.SpConfig.{SpConfig}
+use Rattle.sp_rules.specs.declared.config.TheConstants.{GREATEST_SKEW}
 use Rattle.sp_setup.specs.declared.loaded.Loaded.{Loaded}
 use Rattle.sp_setup.specs.declared.setup.SetUp.{SetUp}
 use Rattle.sp_setup.specs.Setup.{nothing, Loads, Adds, AreLoaded, next_of, config_of}
@@ -122,14 +123,23 @@ within_bounds lines loaded config is =
     made_of (λ made. (made.skew ≡ lines.skew) × (made.next_in ≡ next_of lines.next_in loaded.next_in)) loaded.idp loaded.key_in loaded.key_out loaded.id_key _ config
     (λ i k o d. (refl, refl)) is
 
+-- the bounds of the lines are those of the config that they make
+pub config_bounds : (lines : Config) (loaded : Loaded) (config : SpConfig) → config_of lines loaded ≡ Some config → lines.skew ≤ MILLIS * MOST_SKEW →
+    IfSome lines.next_in AreInOrder → (config.skew ≤ GREATEST_SKEW) × IfSome config.next_in (λ next. next.from ≤ next.until)
+config_bounds lines loaded config is skew times =
+    let says = within_bounds lines loaded config is in (
+      omega (arith, says.0, skew),
+      subst (λ (next : Option NextKey). IfSome next (λ (n : NextKey). n.from ≤ n.until)) (sym says.1) (next_in_order lines.next_in loaded.next_in times),
+    )
+
 -- what is set up can be judged by
 pub bounds : (told : Option (List File)) (lines : Config) (setup : SetUp) → IsSetUpBy told lines setup →
     lines.skew ≤ MILLIS * MOST_SKEW → IfSome lines.next_in AreInOrder → length lines.asked < ROW_LIMIT → length lines.opened < ROW_LIMIT → IsWithinBounds setup
 bounds told lines setup h skew times asked opened =
-    let says = within_bounds lines h.loaded setup.config h.is.config in
+    let within = config_bounds lines h.loaded setup.config h.is.config skew times in
     record {
-      skew = omega (arith, says.0, skew);
-      times = subst (λ (next : Option NextKey). IfSome next (λ (n : NextKey). n.from ≤ n.until)) (sym says.1) (next_in_order lines.next_in h.loaded.next_in times);
+      skew = within.0;
+      times = within.1;
       asked = subst (λ (rows : List AskedLine). length rows < ROW_LIMIT) (sym h.is.asked) asked;
       opened = subst (λ (rows : List OpenedLine). length rows < ROW_LIMIT) (sym h.is.opened) opened;
     }

@@ -41,7 +41,7 @@ use Rattle.sp_setup.specs.Setup.{limit_of, nothing, Loads, IsUnusable, AddsFile,
 
 -- ---- a file
 
-same_bytes : (files : List File) (name : List ℕ) (limit : ℕ) (one other : List ℕ) →
+pub same_bytes : (files : List File) (name : List ℕ) (limit : ℕ) (one other : List ℕ) →
     Reads (Some files) name limit reads.Whole one → Reads (Some files) name limit reads.Whole other → one ≡ other
 same_bytes files name limit one other a b = let both : Some one ≡ Some other = sym a.1 ∙ b.1 in cc
 
@@ -50,7 +50,7 @@ not_too_long : (found : Option (List ℕ)) (bytes : List ℕ) (limit : ℕ) → 
 not_too_long None bytes limit e fits long = cc
 not_too_long (Some b) bytes limit e fits long = let is : b ≡ bytes = cc in omega (arith, ap length is, fits, long)
 
-read_or_not : (files : List File) (name : List ℕ) (limit : ℕ) (bytes : List ℕ) →
+pub read_or_not : (files : List File) (name : List ℕ) (limit : ℕ) (bytes : List ℕ) →
     Reads (Some files) name limit reads.Whole bytes → IsUnread (Some files) name limit → ⊥
 read_or_not files name limit bytes r (inl absent) = let e : Some bytes ≡ None = sym r.1 ∙ absent.1 in cc
 read_or_not files name limit bytes r (inr long) = not_too_long (bytes_of files name) bytes limit r.1 r.0 long.1
@@ -240,15 +240,15 @@ module _ (one_registry : OneRegistry) (never : NeverRefused) where
 
   -- ---- what a line names
 
-  adds_one : (files : List File) (named : SpFile) (before one other : Loaded) → Adds (Some files) named before one → Adds (Some files) named before other → one ≡ other
+  pub adds_one : (files : List File) (named : SpFile) (before one other : Loaded) → Adds (Some files) named before one → Adds (Some files) named before other → one ≡ other
   adds_one files (names.One named) before one other a b = adds_file_one files named before one other a b
   adds_one files (names.Registry line) before one other a b = adds_registry_one files line before one other a b
 
-  adds_good : (files : List File) (named : SpFile) (file : List ℕ) (line : ℕ) (before after : Loaded) → Adds (Some files) named before after → IsBadAt (Some files) named file line → ⊥
+  pub adds_good : (files : List File) (named : SpFile) (file : List ℕ) (line : ℕ) (before after : Loaded) → Adds (Some files) named before after → IsBadAt (Some files) named file line → ⊥
   adds_good files (names.One named) file line before after a bad = adds_file_good files named line before after a bad.1
   adds_good files (names.Registry registry) file line before after a bad = adds_registry_good files registry file before after a bad.1
 
-  bad_at_one : (files : List File) (named : SpFile) (one other : List ℕ) (line number : ℕ) → IsBadAt (Some files) named one line → IsBadAt (Some files) named other number → (one ≡ other) × (line ≡ number)
+  pub bad_at_one : (files : List File) (named : SpFile) (one other : List ℕ) (line number : ℕ) → IsBadAt (Some files) named one line → IsBadAt (Some files) named other number → (one ≡ other) × (line ≡ number)
   bad_at_one files (names.One named) one other line number a b = (a.0 ∙ sym b.0, bad_file_one files named line number a.1 b.1)
   bad_at_one files (names.Registry registry) one other line number a b = (bad_registry_one files registry one other a.1 b.1, a.0 ∙ sym b.0)
 

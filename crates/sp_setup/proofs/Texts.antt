@@ -19,7 +19,7 @@ use Rattle.provider_config.specs.declared.config.SpFile.TheVariants as names
 use Rattle.sp_rules.specs.declared.config.SpConfig.{SpConfig}
 use Rattle.sp_setup.specs.declared.loaded.Loaded.{Loaded}
 use Rattle.sp_setup.specs.declared.setup.SetUp.{SetUp}
-use Rattle.sp_setup.specs.Setup.{nothing, Loads, Lists, Adds, AreLoaded}
+use Rattle.sp_setup.specs.Setup.{nothing, Loads, Lists, Adds, AreLoaded, config_of}
 use Rattle.sp_setup.specs.Views.{IsSetUpBy, HasTexts}
 use Rattle.tree_read.proofs.WritableTexts.{AreWritable}
 use Rattle.metadata.proofs.PeerTexts.{AreTexts, service_text}
@@ -73,10 +73,15 @@ made_from idp None key_out id_key make config e = absurd (cc)
 made_from idp key_in None id_key make config e = absurd (cc)
 made_from idp key_in key_out None make config e = absurd (cc)
 
+pub config_texts : (told : Option (List File)) (lines : Config) (loaded : Loaded) (config : SpConfig) → AreWritable → FromListed →
+    AreLoaded told lines.files nothing loaded → config_of lines loaded ≡ Some config → IsText lines.entity → IsText lines.base → IsText lines.listen →
+    HasTexts config
+config_texts told lines loaded config law from all is entity base listen =
+    let made = made_from loaded.idp loaded.key_in loaded.key_out loaded.id_key _ config is in
+    let idp : AreTexts made.0 = rw made.4 at (idp_loaded told lines.files nothing loaded law from all tt) in
+    subst HasTexts made.5 (record { entity = entity; base = base; listen = listen; service = idp.service; logout = idp.logout })
+
 pub texts : (told : Option (List File)) (lines : Config) (setup : SetUp) → AreWritable → FromListed → IsSetUpBy told lines setup →
     IsText lines.entity → IsText lines.base → IsText lines.listen → HasTexts setup.config
 texts told lines setup law from h entity base listen =
-    let loaded = h.loaded in
-    let made = made_from loaded.idp loaded.key_in loaded.key_out loaded.id_key _ setup.config h.is.config in
-    let idp : AreTexts made.0 = rw made.4 at (idp_loaded told lines.files nothing loaded law from h.all tt) in
-    subst HasTexts made.5 (record { entity = entity; base = base; listen = listen; service = idp.service; logout = idp.logout })
+    config_texts told lines h.loaded setup.config law from h.all h.is.config entity base listen

@@ -43,7 +43,7 @@ impl From<NoMemory> for SetupFault {
 
 impl SetupFault {
     /// That this line of a file, or with 0 the whole file, can't be used.
-    pub(crate) fn bad_file(alloc: Global, file: &str, line: u64) -> SetupFault
+    pub fn bad_file(alloc: Global, file: &str, line: u64) -> SetupFault
         ensures { IsBad file.now line result }
     {
         match Text::of(alloc, file) {

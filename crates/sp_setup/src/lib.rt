@@ -31,5 +31,6 @@ mod source;
 
 pub use fault::SetupFault;
 pub use limits::{GREATEST_KEY, ID_KEY, LEAST_KEY};
+pub use loaded::Loaded;
 pub use provider_config::{AskedLine, OpenedLine, Purpose};
-pub use setup::{SetUp, set_up};
+pub use setup::{SetUp, config_of, set_up};

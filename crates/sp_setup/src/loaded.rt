@@ -22,7 +22,7 @@ use xml_spec::MAX_DOCUMENT_LENGTH;
 
 /// What the files of a config hold, as far as they were read.
 #[derive(Debug, Drop)]
-pub(crate) struct Loaded {
+pub struct Loaded {
     /// The identity provider.
     pub idp: Option<Peer>,
     /// The key of its messages.
@@ -95,7 +95,7 @@ fn read_key<F: Files>(alloc: Global, files: &mut F, name: &str) -> Result<Vec<u8
 
 impl Loaded {
     /// Nothing is read yet.
-    fn nothing() -> Loaded
+    pub fn nothing() -> Loaded
         ensures { result ≡ nothing }
     {
         Loaded {
@@ -231,7 +231,11 @@ impl Loaded {
     }
 
     /// Reads what a line names and takes what it holds.
-    fn load<F: Files>(
+    ///
+    /// `BadFile` tells the file that can't be used, with the line of a policy that is bad, else 0. `ReadFault` comes only where
+    /// the files' count of faults rose; want of memory may come in place of any other answer. Where it fails, what was read
+    /// before is as it was or lost.
+    pub fn load<F: Files>(
         &mut self,
         alloc: Global,
         files: &mut F,

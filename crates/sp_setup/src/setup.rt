@@ -49,7 +49,7 @@ fn next_of(times: Option<Times>, key: Option<Blob>) -> Option<NextKey>
 }
 
 /// What lines and files say together; none where a file that is needed was not read.
-fn config_of(lines: SpLines, loaded: Loaded) -> Option<SetUp>
+pub fn config_of(lines: SpLines, loaded: Loaded) -> Option<SetUp>
     ensures { MatchOption result (config_of (config_view lines) loaded ≡ None) (IsConfigOf (config_view lines) loaded) }
 {
     let idp = loaded.idp?;

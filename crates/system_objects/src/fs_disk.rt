@@ -151,15 +151,9 @@ impl<'a, R: rt::Files<File = File>> FsDisk<'a, R> {
 }
 
 impl<R: rt::Files<File = File>> Disk for FsDisk<'_, R> {
-    ghost told = { λ _. None };
+    ghost shows = { λ d. record { told = None; faults = d.faults; moment = 0; left_since = λ _ _. ⊥; memory = None } };
 
     ghost tells = { false };
-
-    ghost moment = { λ _. 0 };
-
-    ghost left_since = { λ _ _ _. ⊥ };
-
-    ghost faults_of = { λ d. d.faults };
 
     ghost tells_always = { λ _. refl };
 

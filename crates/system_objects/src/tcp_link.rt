@@ -79,11 +79,7 @@ fn not_listening() -> io::Error {
 }
 
 impl<R: Net + Clock + AllocGlobal> Link for TcpLink<'_, R> {
-    ghost told = { λ _. None };
-
-    ghost faults_of = { λ l. l.faults };
-
-    ghost send_faults_of = { λ l. l.send_faults };
+    ghost shows = { λ l. record { told = None; faults = l.faults; send_faults = l.send_faults } };
 
     /// The address is that of an IP address or a host, with a port, as in `127.0.0.1:8080`; port 0 is any that is free.
     /// It takes the place of the one before.

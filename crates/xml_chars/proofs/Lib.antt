@@ -1,4 +1,5 @@
 pub mod Names
 pub mod Numbers
 pub mod ReferenceKinds
+pub mod Signs
 pub mod Texts

@@ -1,3 +1,4 @@
 mod Examples
 pub mod AsciiTexts
 pub mod Reading
+pub mod Signs

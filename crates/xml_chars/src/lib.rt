@@ -4,8 +4,8 @@
 //! # What is proved
 //!
 //! Exactly the characters, names and texts of XML 1.0 (`is_char`, `is_name_start`, `is_name_char`, `is_name`,
-//! `text_of`), the parts of a qualified name, and references: the character and where the reference ends, none exactly
-//! where none begins (`read_reference`).
+//! `is_text`, `text_of`), the parts of a qualified name, and references: the character and where the reference ends,
+//! none exactly where none begins (`read_reference`).
 #![tactic(auto)]
 
 ghost use Rattle.std.specs.Prelude.{◌↔◌, IsTrue};
@@ -19,7 +19,7 @@ pub use parts::{
     XML_NAMESPACE, XMLNS_NAMESPACE, has_colon, is_white, local_of, prefix_of, split_colon,
 };
 pub use references::read_reference;
-pub use text::text_of;
+pub use text::{is_text, text_of};
 
 /// A range of bytes of a text: from `start` to in front of `end`.
 #[derive(Clone, Copy, Debug, PartialEq, Eq)]

@@ -4,6 +4,7 @@ ghost use Rattle.std.specs.Prelude.{◌≡◌, ◌<◌, ◌≤◌, length, take,
 ghost use Rattle.std.specs.Char.{digit_value};
 ghost use Rattle.std.specs.Str.Parse.{AllDigits, digits_value};
 ghost use Rattle.xml_chars.specs.Reading.{BeginsWithReference, BeginsWithNone, IsEntity, IsDecimal, IsHexadecimal, IsAnyKind, ReadsKind, ReadsNumber};
+ghost use Rattle.xml_chars.specs.Signs.{has_number_sign};
 
 use crate::is_char;
 
@@ -27,13 +28,23 @@ pub fn read_reference(bytes: &[u8], at: usize) -> Option<(char, usize)>
 fn first_reference(bytes: &[u8]) -> Option<(char, usize)>
     ensures { ReadsKind IsAnyKind bytes.now result }
 {
-    if let Some(read) = entity(bytes) {
-        return Some(read);
+    if !has_number_sign(bytes) {
+        return entity(bytes);
     }
     if let Some(read) = decimal(bytes) {
         return Some(read);
     }
     hexadecimal(bytes)
+}
+
+// whether the second byte is a number sign, which it is in references to numbers and in no entity
+fn has_number_sign(bytes: &[u8]) -> bool
+    ensures { result ≡ has_number_sign bytes.now }
+{
+    match bytes {
+        [_, second, ..] => *second == b'#',
+        _ => false,
+    }
 }
 
 // the same for the five entities

@@ -12,14 +12,21 @@ pub fn text_of(bytes: &[u8]) -> Option<&str>
     ensures none { IfNone result (¬ (IsText bytes.now)) }
     ensures some { IfSome result (λ text. (text.now ≡ bytes.now) × IsText text.now) }
 {
-    let Ok(text) = str::from_utf8(bytes) else {
+    let Ok(text) = simdutf8::from_utf8_baseline(bytes) else {
         return None;
     };
+    if is_text(text) { Some(text) } else { None }
+}
+
+/// Whether XML allows each character of a text (XML 1.0, 2.2).
+pub fn is_text(text: &str) -> bool
+    ensures { IsTrue result ↔ IsText text.now }
+{
     // most texts are of ASCII alone, which is told faster
-    if are_ascii_chars(bytes) {
-        return Some(text);
+    if are_ascii_chars(text.as_bytes()) {
+        return true;
     }
-    if are_chars(text) { Some(text) } else { None }
+    are_chars(text)
 }
 
 // Whether the byte is ASCII, and a character that XML allows.

@@ -4,9 +4,9 @@ use Rattle.canon_octets.proofs.tags.put_two.Goals as goal
 
 pub returns-in_err-put-clause-err : goal.returns-in_err-put-clause-err
 returns-in_err-put-clause-err g c =
-    first_err g.met.O.Octets.composes c.from_residual.result c.args.out.now c.put.new.self c.args.first.now c.args.second.now _ refl c.in_err-put.ensures.err
+    first_err g.met.O.Octets.composes c.from_residual.result c.args.out.now c.put-2.new.self c.args.first.now c.args.second.now _ refl c.in_err-put.ensures.err
 
 pub returns-clause-err : goal.returns-clause-err
 returns-clause-err g c =
-    last_err g.met.O.Octets.composes c.put-2.result c.args.out.now c.put.new.self c.put-2.new.self c.args.first.now c.args.second.now _ refl
-    c.in_ok-put.ensures.ok c.put-2.ensures.err
+    last_err g.met.O.Octets.composes c.put-3.result c.args.out.now c.put-2.new.self c.put-3.new.self c.args.first.now c.args.second.now _ refl
+    c.in_ok-put.ensures.ok c.put-3.ensures.err

@@ -1,8 +1,16 @@
-use Rattle.std.proofs.Common.{◌≡◌, ◌+◌, ◌-◌, true, [], get_or, sym, ap, ◌∙◌, arith}
-use Rattle.element_names.specs.Keys.{Key, same_key}
+use Rattle.std.proofs.Common.{◌≡◌, ◌<◌, ◌+◌, ◌-◌, List, [], ◌∷◌, length, true, get_or, refl, sym, ap, ◌∙◌, arith}
+use Rattle.element_names.specs.Keys.{Key, same_key, are_distinct}
 use Rattle.element_names.proofs.Differing.{distinct_moved, sorted_distinct, equal_neighbours}
 use Rattle.element_names.proofs.NameKeys.{order, order_total, equal_keys, keys_distinct}
 use Rattle.element_names.proofs.distinct.are_distinct.Goals as goal
+
+few_distinct : (keys : List Key) → length keys < 2 → are_distinct keys ≡ true
+few_distinct [] few = refl
+few_distinct (key ∷ []) few = refl
+few_distinct (key ∷ other ∷ keys) few = absurd (omega arith)
+
+pub returns-then-keys-lt2 : goal.returns-then-keys-lt2
+returns-then-keys-lt2 c = sym (few_distinct c.args.keys.now c.if-keys-lt2.true)
 
 pub returns-then-eq : goal.returns-then-eq
 returns-then-eq c =

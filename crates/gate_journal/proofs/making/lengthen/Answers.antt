@@ -17,15 +17,15 @@ use Rattle.gate_journal.proofs.making.lengthen.Given.{Over}
 module _ (g : Over) (file : FileNo) (other : List ℕ) where
   -- a run of the calls from the start on
   abbrev Runs : (old now : g.row.D.Denot) → (DiskState → Type 0) → Type 0
-  Runs = Run g.D.Disk.told g.D.Disk.moment g.D.Disk.left_since (IsBlankBeside file other)
+  Runs = Run g.D.Disk.shows (IsBlankBeside file other)
 
   abbrev Changed : List ℕ → DiskState → Type 0
   Changed bytes = Changing (IsBlankBeside file other) file bytes other
 
-  at_start : (disk : g.row.D.Denot) → IfSome (g.D.Disk.told disk) (IsShort file other) → Runs disk disk (IsShort file other)
-  at_start disk short = begins g.D.Disk.told g.D.Disk.moment g.D.Disk.left_since (IsBlankBeside file other) disk (IsShort file other) (g.met.D.Disk.only_now disk) short (short_now file other)
+  at_start : (disk : g.row.D.Denot) → IfSome (g.D.Disk.shows disk).told (IsShort file other) → Runs disk disk (IsShort file other)
+  at_start disk short = begins g.D.Disk.shows (IsBlankBeside file other) disk (IsShort file other) (g.met.D.Disk.only_now disk) short (short_now file other)
 
-was_cut : (g : Over) (c : In_ok-cut g) (other : List ℕ) → IfSome (g.D.Disk.told c.args.disk.now) (IsShort c.args.file other) → Runs g c.args.file other c.args.disk.now c.cut.new.self (Changed g c.args.file other [])
+was_cut : (g : Over) (c : In_ok-cut g) (other : List ℕ) → IfSome (g.D.Disk.shows c.args.disk.now).told (IsShort c.args.file other) → Runs g c.args.file other c.args.disk.now c.cut.new.self (Changed g c.args.file other [])
 was_cut g c other short =
     does c.cut.new.self (at_start g c.args.file other c.args.disk.now short) (Changed g c.args.file other []) (Cut c.args.file 0) c.cut.ensures.time c.in_ok-cut.ensures.changes (g.met.D.Disk.reads_an_image c.args.disk.now)
     (λ d reads is. short_cut c.args.file other d is) (λ d reads is. short_is_cut c.args.file other d is)
@@ -67,13 +67,13 @@ pub returns-clause-ok : goal.returns-clause-ok
 returns-clause-ok g c = on_ok c.sync-2.result _ (λ x is other short.
     let at = goal.at.returns-clause-ok g c in
     let run = was_written g at.In_ok-write_at other (was_synced g at.In_ok-sync other (was_cut g at.In_ok-cut other short)) in
-    done (Sync c.args.file) (g.D.Disk.told c.write_at.new.self) (g.D.Disk.told c.sync-2.new.self) (Changed g c.args.file other c.args.head.now) (IsAt c.args.file c.args.head.now other) (rw is at c.sync-2.ensures.changes)
+    done (Sync c.args.file) (g.D.Disk.shows c.write_at.new.self).told (g.D.Disk.shows c.sync-2.new.self).told (Changed g c.args.file other c.args.head.now) (IsAt c.args.file c.args.head.now other) (rw is at c.sync-2.ensures.changes)
     (g.met.D.Disk.reads_an_image c.write_at.new.self) run.state (λ d reads is. changing-sync (IsBlankBeside c.args.file other) c.args.file c.args.head.now other d is))
 
 -- THE CHANGING CALLS
 
 abbrev Makes : (g : Over) → (DiskState → List Change) → (old new : g.row.D.Denot) → Type 0
-Makes g = calls.Made g.D.Disk.told g.D.Disk.moment g.D.Disk.left_since
+Makes g = calls.Made g.D.Disk.shows
 
 first_made : (g : Over) (c : In_ok-cut g) → Makes g (λ _. Cut c.args.file 0 ∷ []) c.args.disk.now c.cut.new.self
 first_made g c =
@@ -112,3 +112,11 @@ returns-clause-calls g c =
     let d3 = c.write_at.new.self in
     calls.tries (Sync c.args.file) c.sync-2.result (λ _. Cut c.args.file 0 ∷ Sync c.args.file ∷ Write c.args.file 0 c.args.head.now ∷ []) c.args.disk.now d3 c.sync-2.new.self three
     (g.met.D.Disk.only_now d3) (g.met.D.Disk.reads_an_image d3) c.sync-2.ensures.changes c.sync-2.ensures.time
+
+pub returns-in_err-sync-clause-calls : goal.returns-in_err-sync-clause-calls
+returns-in_err-sync-clause-calls g c =
+    let one = first_made g (goal.at.returns-in_err-sync-clause-calls g c).In_ok-cut in
+    let d1 = c.cut.new.self in
+    calls.fails _ c.in_err-sync.field-0.0 c.from_residual-in_err-sync.result (Sync c.args.file) (λ _. Cut c.args.file 0 ∷ [])
+    (λ _. Write c.args.file 0 c.args.head.now ∷ Sync c.args.file ∷ []) c.args.disk.now d1 c.sync.new.self c.from_residual-in_err-sync.ensures.1 one
+    (g.met.D.Disk.only_now d1) (g.met.D.Disk.reads_an_image d1) c.in_err-sync.ensures.changes c.sync.ensures.time

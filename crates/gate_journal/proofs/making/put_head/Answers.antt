@@ -14,16 +14,16 @@ use Rattle.gate_journal.proofs.making.put_head.Goals as goal
 use Rattle.gate_journal.proofs.making.put_head.Goals.{In_ok-lengthen}
 use Rattle.gate_journal.proofs.making.put_head.Given.{Over}
 
-lengthened : (g : Over) (c : In_ok-lengthen g) (other : List ℕ) → IfSome (g.D.Disk.told c.args.disk.now) (IsShort c.args.file other)
-    → Run g.D.Disk.told g.D.Disk.moment g.D.Disk.left_since (IsBlankBeside c.args.file other) c.args.disk.now c.lengthen.new.disk (IsAt c.args.file c.args.head.now other)
+lengthened : (g : Over) (c : In_ok-lengthen g) (other : List ℕ) → IfSome (g.D.Disk.shows c.args.disk.now).told (IsShort c.args.file other)
+    → Run g.D.Disk.shows (IsBlankBeside c.args.file other) c.args.disk.now c.lengthen.new.disk (IsAt c.args.file c.args.head.now other)
 lengthened g c other short = record { moments = c.lengthen.ensures.moments other short; state = c.in_ok-lengthen.ensures.ok other short }
 
 pub write_at-requires : goal.write_at-requires
 write_at-requires g c =
-    let told0 = g.D.Disk.told c.args.disk.now in
+    let told0 = (g.D.Disk.shows c.args.disk.now).told in
     let other = read_of told0 (other_file c.args.file) in
     let run = lengthened g (goal.at.write_at-requires g c).In_ok-lengthen other (beside_told told0 c.args.file (IsShort c.args.file) c.requires.short) in
-    weaken (g.D.Disk.told c.lengthen.new.disk) (IsAt c.args.file c.args.head.now other) (λ d. 71 ≤ length (reads_of d c.args.file)) run.state (λ d is. omega (arith, ap length is.reads, c.requires.head.long))
+    weaken (g.D.Disk.shows c.lengthen.new.disk).told (IsAt c.args.file c.args.head.now other) (λ d. 71 ≤ length (reads_of d c.args.file)) run.state (λ d is. omega (arith, ap length is.reads, c.requires.head.long))
 
 pub returns-clause-moments : goal.returns-clause-moments
 returns-clause-moments g c other short =
@@ -34,7 +34,7 @@ returns-clause-moments g c other short =
 pub returns-clause-ok : goal.returns-clause-ok
 returns-clause-ok g c = on_ok c.write_at.result _ (λ x is other short.
     let run = lengthened g (goal.at.returns-clause-ok g c).In_ok-lengthen other short in
-    done (Write c.args.file 71 (0 ∷ [])) (g.D.Disk.told c.lengthen.new.disk) (g.D.Disk.told c.write_at.new.self) (IsAt c.args.file c.args.head.now other)
+    done (Write c.args.file 71 (0 ∷ [])) (g.D.Disk.shows c.lengthen.new.disk).told (g.D.Disk.shows c.write_at.new.self).told (IsAt c.args.file c.args.head.now other)
     (Changing (IsBlankBeside c.args.file other) c.args.file (overwritten c.args.head.now 71 (0 ∷ [])) other) (rw is at c.write_at.ensures.changes)
     (g.met.D.Disk.reads_an_image c.lengthen.new.disk) run.state (λ d reads is. head_is_written c.args.file other c.args.head.now c.requires.head d is))
 

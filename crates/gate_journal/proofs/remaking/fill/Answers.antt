@@ -55,11 +55,11 @@ module _ (g : Over) (c : After-deref g) where
 
 pub write_at-requires : goal.write_at-requires
 write_at-requires g c =
-    let told0 = g.D.Disk.told c.args.disk.now in
+    let told0 = (g.D.Disk.shows c.args.disk.now).told in
     let a = (goal.at.write_at-requires g c).After-deref in
     let other = read_of told0 (other_file c.args.file) in
     let run = c.loop-record.invariant.written.3 other (beside_told told0 c.args.file (IsClosed c.args.file) c.requires.closed) in
-    weaken (g.D.Disk.told c.loop-record.disk) (IsFilling c.args.file c.args.fields.now (front g a) other) (λ d. c.loop-record.at ≤ length (reads_of d c.args.file)) run.state
+    weaken (g.D.Disk.shows c.loop-record.disk).told (IsFilling c.args.file c.args.fields.now (front g a) other) (λ d. c.loop-record.at ≤ length (reads_of d c.args.file)) run.state
     (λ d is. omega (arith, filling_reads c.args.file c.args.fields.now (front g a) other d is, c.loop-record.invariant.written.2))
 
 pub returns-in_err-write_at-clause-moments : goal.returns-in_err-write_at-clause-moments
@@ -120,7 +120,7 @@ returns-in_err-write_at-clause-calls g c =
     let rest : List Change = writing_bodies c.args.file (c.loop-record.at + (length c.in-Some.record.now + 5)) c.in-Some.rest.now in
     let other = c.from_residual-in_err-write_at.result in
     calls.follows_same other (λ _. front ++ write ∷ [] ++ rest) (λ _. filling c.args.file c.args.fields.now c.args.records.now) d0 new
-    (always (g.D.Disk.told d0) _ (λ d. append_assoc front (write ∷ []) rest ∙ next_calls g a front c.loop-record.invariant.calls.1))
+    (always (g.D.Disk.shows d0).told _ (λ d. append_assoc front (write ∷ []) rest ∙ next_calls g a front c.loop-record.invariant.calls.1))
     (calls.fails _ c.in_err-write_at.field-0.0 other write (λ _. front) (λ _. rest) d0 mid new c.from_residual-in_err-write_at.ensures.1
     c.loop-record.invariant.calls.2 (g.met.D.Disk.only_now mid) (g.met.D.Disk.reads_an_image mid) c.in_err-write_at.ensures.changes c.write_at.ensures.time)
 
@@ -133,7 +133,7 @@ returns-clause-calls g c =
     let are : plan ≡ filling file c.args.fields.now c.args.records.now =
     sym (append-nil plan) ∙ ap (λ (left : List (List ℕ)). plan ++ writing_bodies file c.loop-record.at left) (sym ended) ∙ c.loop-record.invariant.calls.1 in
     calls.answers tt _ d0 c.loop-record.disk
-    (calls.follows_same _ (λ _. plan) (λ _. filling file c.args.fields.now c.args.records.now) d0 c.loop-record.disk (always (g.D.Disk.told d0) _ (λ d. are))
+    (calls.follows_same _ (λ _. plan) (λ _. filling file c.args.fields.now c.args.records.now) d0 c.loop-record.disk (always (g.D.Disk.shows d0).told _ (λ d. are))
     c.loop-record.invariant.calls.2)
 
 pub loop-record-init : goal.loop-record-init

@@ -10,14 +10,14 @@ use Rattle.gate_journal.proofs.remaking.fill.Given as goal
 
 abbrev pub invariant-loop-record : goal.invariant-loop-record
 invariant-loop-record g l = record {
-  written : (front : List ℕ) × (front ++ bodies_of l.left ≡ bodies_of l.records) × (l.at ≡ 72 + length front) × ((other : List ℕ) → IfSome (g.D.Disk.told l.fn.disk) (IsClosed l.file other)
-      → Run g.D.Disk.told g.D.Disk.moment g.D.Disk.left_since (IsBlankBeside l.file other) l.fn.disk l.disk (IsFilling l.file l.fields front other));
+  written : (front : List ℕ) × (front ++ bodies_of l.left ≡ bodies_of l.records) × (l.at ≡ 72 + length front) × ((other : List ℕ) → IfSome (g.D.Disk.shows l.fn.disk).told (IsClosed l.file other)
+      → Run g.D.Disk.shows (IsBlankBeside l.file other) l.fn.disk l.disk (IsFilling l.file l.fields front other));
   calls : (front : List Change) × (front ++ writing_bodies l.file l.at l.left ≡ filling l.file l.fields l.records)
-      × Made g.D.Disk.told g.D.Disk.moment g.D.Disk.left_since (λ _. front) l.fn.disk l.disk;
+      × Made g.D.Disk.shows (λ _. front) l.fn.disk l.disk;
   each : All (λ payload. length payload ≤ 1048576) l.left;
   room : All (λ payload. length payload + 5 ≤ vec_capacity l.body) l.left;
-  never_falls : g.D.Disk.faults_of l.fn.disk ≤ g.D.Disk.faults_of l.disk;
-  in_range : g.D.Disk.faults_of l.disk < 2 ^ 64;
+  never_falls : (g.D.Disk.shows l.fn.disk).faults ≤ (g.D.Disk.shows l.disk).faults;
+  in_range : (g.D.Disk.shows l.disk).faults < 2 ^ 64;
 }
 
 abbrev pub decreases-loop-record : goal.decreases-loop-record

@@ -20,21 +20,21 @@ use Rattle.gate_journal.proofs.remaking.make_beside.Given.{Over}
 
 pub fill-requires-clause-closed : goal.fill-requires-clause-closed
 fill-requires-clause-closed g c =
-    let told0 = g.D.Disk.told c.args.disk.now in
+    let told0 = (g.D.Disk.shows c.args.disk.now).told in
     let holding = holding_told told0 c.args.file c.requires.holding in
-    weaken (g.D.Disk.told c.clear.new.disk) (IsClosed c.args.file (read_of told0 (other_file c.args.file))) _ (c.in_ok-clear.ensures.ok holding.0 (read_of told0 (other_file c.args.file)) holding.1)
+    weaken (g.D.Disk.shows c.clear.new.disk).told (IsClosed c.args.file (read_of told0 (other_file c.args.file))) _ (c.in_ok-clear.ensures.ok holding.0 (read_of told0 (other_file c.args.file)) holding.1)
     (λ d is. record { quiet = is.quiet; head = is.head; closed = is.closed; beside = refl })
 
 module _ (g : Over) (before : Option Committed) (holds : Committed) (other : List ℕ) where
-  cleared : (c : In_ok-clear g) → IfSome (g.D.Disk.told c.args.disk.now) (IsHolding c.args.file before other)
-      → Run g.D.Disk.told g.D.Disk.moment g.D.Disk.left_since (IsBeforeOrMade c.args.file before holds other) c.args.disk.now c.clear.new.disk (IsClosed c.args.file other)
+  cleared : (c : In_ok-clear g) → IfSome (g.D.Disk.shows c.args.disk.now).told (IsHolding c.args.file before other)
+      → Run g.D.Disk.shows (IsBeforeOrMade c.args.file before holds other) c.args.disk.now c.clear.new.disk (IsClosed c.args.file other)
   cleared c holding = record {
-    moments = weaker g.D.Disk.moment g.D.Disk.left_since c.args.disk.now c.clear.new.disk (IsBeforeOrBlank c.args.file before other) (IsBeforeOrMade c.args.file before holds other) (c.clear.ensures.moments before other holding) (before_or_made c.args.file before holds other);
+    moments = weaker g.D.Disk.shows c.args.disk.now c.clear.new.disk (IsBeforeOrBlank c.args.file before other) (IsBeforeOrMade c.args.file before holds other) (c.clear.ensures.moments before other holding) (before_or_made c.args.file before holds other);
     state = c.in_ok-clear.ensures.ok before other holding;
   }
 
-  filled : (c : In_ok-fill g) → Run g.D.Disk.told g.D.Disk.moment g.D.Disk.left_since (IsBeforeOrMade c.args.file before holds other) c.args.disk.now c.clear.new.disk (IsClosed c.args.file other)
-      → Run g.D.Disk.told g.D.Disk.moment g.D.Disk.left_since (IsBeforeOrMade c.args.file before holds other) c.args.disk.now c.fill.new.disk (IsFilling c.args.file c.args.fields.now (bodies_of c.args.records.now) other)
+  filled : (c : In_ok-fill g) → Run g.D.Disk.shows (IsBeforeOrMade c.args.file before holds other) c.args.disk.now c.clear.new.disk (IsClosed c.args.file other)
+      → Run g.D.Disk.shows (IsBeforeOrMade c.args.file before holds other) c.args.disk.now c.fill.new.disk (IsFilling c.args.file c.args.fields.now (bodies_of c.args.records.now) other)
   filled c run = record {
     moments = joins c.fill.new.disk run (IsBlankBeside c.args.file other) (c.fill.ensures.moments other run.state) (blank_or_made c.args.file before holds other);
     state = c.in_ok-fill.ensures.ok other run.state;
@@ -42,15 +42,15 @@ module _ (g : Over) (before : Option Committed) (holds : Committed) (other : Lis
 
 -- all but the commit was written
 all_written : (g : Over) (c : In_ok-fill g) (header : Header) (other : List ℕ) → c.args.fields.now ≡ fields_bytes header (gate_of c.args.records.now) → IsWritable header
-    → IfSome (g.D.Disk.told c.fill.new.disk) (IsFilling c.args.file c.args.fields.now (bodies_of c.args.records.now) other)
-    → IfSome (g.D.Disk.told c.fill.new.disk) (IsWritten c.args.file (record { version = 2; header = header; payloads = c.args.records.now }) other)
+    → IfSome (g.D.Disk.shows c.fill.new.disk).told (IsFilling c.args.file c.args.fields.now (bodies_of c.args.records.now) other)
+    → IfSome (g.D.Disk.shows c.fill.new.disk).told (IsWritten c.args.file (record { version = 2; header = header; payloads = c.args.records.now }) other)
 all_written g c header other fields_are writable filling =
-    weaken (g.D.Disk.told c.fill.new.disk) (IsFilling c.args.file c.args.fields.now (bodies_of c.args.records.now) other) (IsWritten c.args.file (record { version = 2; header = header; payloads = c.args.records.now }) other) filling
+    weaken (g.D.Disk.shows c.fill.new.disk).told (IsFilling c.args.file c.args.fields.now (bodies_of c.args.records.now) other) (IsWritten c.args.file (record { version = 2; header = header; payloads = c.args.records.now }) other) filling
     (λ d is. filled_written c.args.file c.args.fields.now other d header c.args.records.now fields_are c.requires.fits writable is)
 
 pub returns-in_err-clear-clause-moments : goal.returns-in_err-clear-clause-moments
 returns-in_err-clear-clause-moments g c before header other fields_are writable holding =
-    weaker g.D.Disk.moment g.D.Disk.left_since c.args.disk.now c.clear.new.disk (IsBeforeOrBlank c.args.file before other) _ (c.clear.ensures.moments before other holding) (before_or_made c.args.file before _ other)
+    weaker g.D.Disk.shows c.args.disk.now c.clear.new.disk (IsBeforeOrBlank c.args.file before other) _ (c.clear.ensures.moments before other holding) (before_or_made c.args.file before _ other)
 
 pub returns-in_err-fill-clause-moments : goal.returns-in_err-fill-clause-moments
 returns-in_err-fill-clause-moments g c before header other fields_are writable holding =
@@ -76,7 +76,7 @@ returns-clause-ok g c = on_ok c.commit.result _ (λ x is before header other fie
 
 module _ (g : Over) where
   abbrev Makes : (DiskState → List Change) → (old new : g.row.D.Denot) → Type 0
-  Makes = calls.Made g.D.Disk.told g.D.Disk.moment g.D.Disk.left_since
+  Makes = calls.Made g.D.Disk.shows
 
   clear_made : (c : In_ok-clear g) → Makes (λ d. clearing c.args.file c.args.head.now (reads_of d c.args.file)) c.args.disk.now c.clear.new.disk
   clear_made c =
@@ -100,7 +100,7 @@ returns-in_err-clear-clause-calls g c =
     let plan : DiskState → List Change = λ d. clearing file c.args.head.now (reads_of d file) in
     let filled : List Change = filling file c.args.fields.now c.args.records.now in
     calls.follows_same other (λ d. plan d ++ (filled ++ committing file)) (λ d. making_beside file c.args.head.now c.args.fields.now c.args.records.now (reads_of d file)) d0 d1
-    (always (g.D.Disk.told d0) _ (λ d. sym (append_assoc (plan d) filled (committing file))))
+    (always (g.D.Disk.shows d0).told _ (λ d. sym (append_assoc (plan d) filled (committing file))))
     (calls.breaks_off {T = Unit {0}} _ c.in_err-clear.field-0.0 other plan (λ _. filled ++ committing file) d0 d1 c.from_residual.ensures.1
     c.in_err-clear.ensures.calls)
 

@@ -21,4 +21,4 @@ returns g c = λ disk.
       stay = c.sessions_stay_in_a_service.ensures;
       as_left = c.what_was_begun_is_as_left.ensures;
       starved = c.what_is_visible_stays.ensures;
-    }) (g.D.Disk.left_since disk)
+    }) (g.D.Disk.shows disk).left_since

@@ -8,4 +8,4 @@ use Rattle.idp_runs.proofs.laws.each_image_of_a_run_goes_on.Goals as goal
 pub returns : goal.returns
 returns g c =
     λ disk. each_image_of_a_run_goes_on IsSetUp IsBadSetUp key idp_rules Answers c.images_hold_records.ensures
-    (g.D.Disk.left_since disk)
+    (g.D.Disk.shows disk).left_since

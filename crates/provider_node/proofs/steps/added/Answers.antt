@@ -32,23 +32,23 @@ made (Err e) plan told later is ends = cc
 pub returns-then-is_err-clause-adds : goal.returns-then-is_err-clause-adds
 returns-then-is_err-clause-adds g c =
     let is = sym c.is_err.ensures.value ∙ c.if-is_err.true in
-    let of = erred c.commit.result _ (g.D.Disk.faults_of c.args.disk.now) (g.D.Disk.faults_of c.commit.new.disk) is
+    let of = erred c.commit.result _ (g.D.Disk.shows c.args.disk.now).faults (g.D.Disk.shows c.commit.new.disk).faults is
     c.commit.ensures.err c.commit.ensures.faults in
     Lost _ (record { bytes = c.in-Ok.bytes; shows = c.in-Ok.ensures; is = refl }) of.1 refl
     (record { setup = refl; key = c.commit.ensures.key; is_broken = of.0.1 })
-    (begun c.commit.result _ (g.D.Disk.told c.args.disk.now) (g.D.Disk.told c.commit.new.disk) is
+    (begun c.commit.result _ (g.D.Disk.shows c.args.disk.now).told (g.D.Disk.shows c.commit.new.disk).told is
     c.commit.ensures.calls.ends)
 
 pub returns-then-is_err-clause-moments : goal.returns-then-is_err-clause-moments
 returns-then-is_err-clause-moments g c =
-    committing_leaves g.D.Disk.told g.D.Disk.moment g.D.Disk.left_since g.R.KeepsLedger.rules c.args.disk.now
+    committing_leaves g.D.Disk.shows g.R.KeepsLedger.rules c.args.disk.now
     c.commit.new.disk
     (g.R.KeepsLedger.record_of c.args.draft) (g.R.KeepsLedger.seen c.args.ledger.now).held c.commit.result
     c.commit.ensures.moments c.commit.ensures.calls
 
 pub returns-clause-moments : goal.returns-clause-moments
 returns-clause-moments g c =
-    committing_leaves g.D.Disk.told g.D.Disk.moment g.D.Disk.left_since g.R.KeepsLedger.rules c.args.disk.now
+    committing_leaves g.D.Disk.shows g.R.KeepsLedger.rules c.args.disk.now
     c.commit.new.disk
     (g.R.KeepsLedger.record_of c.args.draft) (g.R.KeepsLedger.seen c.args.ledger.now).held c.commit.result
     c.commit.ensures.moments c.commit.ensures.calls

@@ -8,9 +8,9 @@ use Rattle.provider_node.proofs.steps.answer_whole.Goals as goal
 pub returns-in-Ok-Plain-clause-moments : goal.returns-in-Ok-Plain-clause-moments
 returns-in-Ok-Plain-clause-moments g c =
     let old = g.R.KeepsLedger.seen c.args.ledger.now in
-    started g.D.Disk.moment g.D.Disk.left_since c.args.disk.now _
+    started g.D.Disk.shows c.args.disk.now _
     (λ image left. first_leaves g.R.KeepsLedger.rules g.R.Role.answers c.args.role.now old
-    (request_view c.args.request.now) c.args.now (g.D.Disk.told c.args.disk.now)
+    (request_view c.args.request.now) c.args.now (g.D.Disk.shows c.args.disk.now).told
     c.requires.can.whole c.requires.can.own image (g.met.D.Disk.only_now c.args.disk.now image left))
 
 pub returns-in-Err-clause-serves : goal.returns-in-Err-clause-serves
@@ -25,7 +25,7 @@ returns-in-Err-clause-serves g c =
 pub returns-in-Err-clause-moments : goal.returns-in-Err-clause-moments
 returns-in-Err-clause-moments g c =
     let old = g.R.KeepsLedger.seen c.args.ledger.now in
-    started g.D.Disk.moment g.D.Disk.left_since c.args.disk.now _
+    started g.D.Disk.shows c.args.disk.now _
     (λ image left. first_leaves g.R.KeepsLedger.rules g.R.Role.answers c.args.role.now old
-    (request_view c.args.request.now) c.args.now (g.D.Disk.told c.args.disk.now)
+    (request_view c.args.request.now) c.args.now (g.D.Disk.shows c.args.disk.now).told
     c.requires.can.whole c.requires.can.own image (g.met.D.Disk.only_now c.args.disk.now image left))

@@ -21,8 +21,8 @@ pub returns-clause-made : goal.returns-clause-made
 returns-clause-made g c =
     let e = c.compact.ensures in
     made_where g.R.KeepsLedger.rules (g.R.KeepsLedger.seen c.args.ledger.now).held c.args.now
-    (g.D.Disk.told c.args.disk.now) (g.D.Disk.told c.compact.new.disk) c.compact.result
-    (compaction_calls g.D.Disk.told g.D.Disk.moment g.D.Disk.left_since g.R.KeepsLedger.rules c.args.disk.now
+    (g.D.Disk.shows c.args.disk.now).told (g.D.Disk.shows c.compact.new.disk).told c.compact.result
+    (compaction_calls g.D.Disk.shows g.R.KeepsLedger.rules c.args.disk.now
     c.compact.new.disk c.args.now
     (g.R.KeepsLedger.seen c.args.ledger.now).held c.compact.result (λ is. (e.no_memory is).1) e.calls)
 
@@ -36,14 +36,14 @@ returns-clause-serves g c =
     old.held request c.args.reply.now full.r (record { wants = c.requires.wants; is = full.is }) in
     let new = g.R.KeepsLedger.seen c.compact.new.ledger in
     let e = c.compact.ensures in
-    let Risen : Type 0 = Rose (g.D.Disk.faults_of c.args.disk.now) (g.D.Disk.faults_of c.compact.new.disk) in
+    let Risen : Type 0 = Rose (g.D.Disk.shows c.args.disk.now).faults (g.D.Disk.shows c.compact.new.disk).faults in
     serves_unmade g.R.KeepsLedger.rules g.R.Role.answers old.held (provider c.args.role.now old)
     (provider c.args.role.now new) request c.args.now Risen c.compact.result other.0 full.r
-    (g.D.Disk.told c.args.disk.now) (g.D.Disk.told c.compact.new.disk) other.1
+    (g.D.Disk.shows c.args.disk.now).told (g.D.Disk.shows c.compact.new.disk).told other.1
     (compacts_found c.args.now c.compact.result (provider c.args.role.now old) (provider c.args.role.now new)
     c.requires.can.whole refl e.key e.ok e.failed
     (λ is. (e.no_memory is).0) e.not_foreign) e.faults.failed
-    (compaction_calls g.D.Disk.told g.D.Disk.moment g.D.Disk.left_since g.R.KeepsLedger.rules c.args.disk.now
+    (compaction_calls g.D.Disk.shows g.R.KeepsLedger.rules c.args.disk.now
     c.compact.new.disk c.args.now old.held c.compact.result
     (λ is. (e.no_memory is).1) e.calls)
 
@@ -52,13 +52,13 @@ returns-clause-moments g c =
     let old = g.R.KeepsLedger.seen c.args.ledger.now in
     let request = request_view c.args.request.now in
     let full = c.requires.full in
-    let told = g.D.Disk.told c.args.disk.now in
+    let told = (g.D.Disk.shows c.args.disk.now).told in
     let other = answer_of g.R.Role.replies g.R.KeepsLedger.rules g.R.Role.answers c.args.role.now c.args.now
     c.laws_hold.ensures
     old.held request c.args.reply.now full.r (record { wants = c.requires.wants; is = full.is }) in
-    weaker g.D.Disk.moment g.D.Disk.left_since c.args.disk.now c.compact.new.disk
+    weaker g.D.Disk.shows c.args.disk.now c.compact.new.disk
     (CompactingLeaves g.R.KeepsLedger.rules c.args.now old.held told) _
-    (compacting_leaves g.D.Disk.told g.D.Disk.moment g.D.Disk.left_since g.R.KeepsLedger.rules c.args.disk.now
+    (compacting_leaves g.D.Disk.shows g.R.KeepsLedger.rules c.args.disk.now
     c.compact.new.disk c.args.now old.held c.compact.result
     c.compact.ensures.moments c.compact.ensures.calls)
     (room_leaves g.R.KeepsLedger.rules g.R.Role.answers c.args.role.now old.held request c.args.now told full.r other.0

@@ -18,20 +18,20 @@ returns-in-Ready-clause-serves g c =
     old
     (g.R.KeepsLedger.seen c.draft.new.ledger) (g.R.KeepsLedger.seen c.added.new.ledger)
     (request_view c.args.request.now)
-    (Rose (g.D.Disk.faults_of c.args.disk.now) (g.D.Disk.faults_of c.added.new.disk)) c.added.result
-    c.args.reply.now (g.R.KeepsLedger.record_of c.in-Ready.draft) (g.D.Disk.told c.args.disk.now)
-    (g.D.Disk.told c.added.new.disk) c.draft.ensures.same (record { wants = c.requires.wants; is = of.0 }) of.2
+    (Rose (g.D.Disk.shows c.args.disk.now).faults (g.D.Disk.shows c.added.new.disk).faults) c.added.result
+    c.args.reply.now (g.R.KeepsLedger.record_of c.in-Ready.draft) (g.D.Disk.shows c.args.disk.now).told
+    (g.D.Disk.shows c.added.new.disk).told c.draft.ensures.same (record { wants = c.requires.wants; is = of.0 }) of.2
     c.added.ensures.adds
 
 pub returns-in-Ready-clause-moments : goal.returns-in-Ready-clause-moments
 returns-in-Ready-clause-moments g c =
     let old = g.R.KeepsLedger.seen c.args.ledger.now in
     let of = c.in-Ready.ensures.drafts in
-    weaker g.D.Disk.moment g.D.Disk.left_since c.args.disk.now c.added.new.disk _ _ c.added.ensures.moments
+    weaker g.D.Disk.shows c.args.disk.now c.added.new.disk _ _ c.added.ensures.moments
     (reply_leaves g.R.Role.replies g.R.KeepsLedger.rules g.R.Role.answers c.args.role.now c.args.now
     c.laws_hold.ensures old (g.R.KeepsLedger.seen c.draft.new.ledger)
     (request_view c.args.request.now) c.args.reply.now (g.R.KeepsLedger.record_of c.in-Ready.draft)
-    (g.D.Disk.told c.args.disk.now)
+    (g.D.Disk.shows c.args.disk.now).told
     c.draft.ensures.same (record { wants = c.requires.wants; is = of.0 }) of.2)
 
 pub returns-in-Nothing-clause-serves : goal.returns-in-Nothing-clause-serves
@@ -51,9 +51,9 @@ returns-in-Nothing-clause-serves g c =
 pub returns-in-Nothing-clause-moments : goal.returns-in-Nothing-clause-moments
 returns-in-Nothing-clause-moments g c =
     let old = g.R.KeepsLedger.seen c.args.ledger.now in
-    started g.D.Disk.moment g.D.Disk.left_since c.args.disk.now _
+    started g.D.Disk.shows c.args.disk.now _
     (λ image left. first_leaves g.R.KeepsLedger.rules g.R.Role.answers c.args.role.now old
-    (request_view c.args.request.now) c.args.now (g.D.Disk.told c.args.disk.now)
+    (request_view c.args.request.now) c.args.now (g.D.Disk.shows c.args.disk.now).told
     c.requires.can.whole c.requires.can.own image (g.met.D.Disk.only_now c.args.disk.now image left))
 
 pub returns-in-NoMemory-clause-serves : goal.returns-in-NoMemory-clause-serves
@@ -68,9 +68,9 @@ returns-in-NoMemory-clause-serves g c =
 pub returns-in-NoMemory-clause-moments : goal.returns-in-NoMemory-clause-moments
 returns-in-NoMemory-clause-moments g c =
     let old = g.R.KeepsLedger.seen c.args.ledger.now in
-    started g.D.Disk.moment g.D.Disk.left_since c.args.disk.now _
+    started g.D.Disk.shows c.args.disk.now _
     (λ image left. first_leaves g.R.KeepsLedger.rules g.R.Role.answers c.args.role.now old
-    (request_view c.args.request.now) c.args.now (g.D.Disk.told c.args.disk.now)
+    (request_view c.args.request.now) c.args.now (g.D.Disk.shows c.args.disk.now).told
     c.requires.can.whole c.requires.can.own image (g.met.D.Disk.only_now c.args.disk.now image left))
 
 pub serve_again-requires-clause-full : goal.serve_again-requires-clause-full
@@ -83,7 +83,7 @@ pub returns-in-NoPlace-clause-serves : goal.returns-in-NoPlace-clause-serves
 returns-in-NoPlace-clause-serves g c =
     subst (λ (l : Ledger g.row.R-Record.Denot). ServesOnDisk g.R.KeepsLedger.rules g.R.Role.answers l.held
     (request_view c.args.request.now) c.args.now
-    (Rose (g.D.Disk.faults_of c.args.disk.now) (g.D.Disk.faults_of c.serve_again.new.disk)) c.serve_again.result
+    (Rose (g.D.Disk.shows c.args.disk.now).faults (g.D.Disk.shows c.serve_again.new.disk).faults) c.serve_again.result
     (provider c.args.role.now l) (provider c.args.role.now (g.R.KeepsLedger.seen c.serve_again.new.ledger))
-    (g.D.Disk.told c.args.disk.now) (g.D.Disk.told c.serve_again.new.disk)) c.draft.ensures.same
+    (g.D.Disk.shows c.args.disk.now).told (g.D.Disk.shows c.serve_again.new.disk).told) c.draft.ensures.same
     c.serve_again.ensures.serves

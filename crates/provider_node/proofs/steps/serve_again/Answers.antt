@@ -13,11 +13,11 @@ pub returns-in-Err-clause-serves : goal.returns-in-Err-clause-serves
 returns-in-Err-clause-serves g c =
     let old = g.R.KeepsLedger.seen c.args.ledger.now in
     let new = g.R.KeepsLedger.seen c.make_room.new.ledger in
-    let Risen : Type 0 = Rose (g.D.Disk.faults_of c.args.disk.now) (g.D.Disk.faults_of c.make_room.new.disk) in
+    let Risen : Type 0 = Rose (g.D.Disk.shows c.args.disk.now).faults (g.D.Disk.shows c.make_room.new.disk).faults in
     subst (λ (code : ℕ). ServesOnDisk g.R.KeepsLedger.rules g.R.Role.answers old.held (request_view c.args.request.now)
     c.args.now Risen (Fixed code)
-    (provider c.args.role.now old) (provider c.args.role.now new) (g.D.Disk.told c.args.disk.now)
-    (g.D.Disk.told c.make_room.new.disk)) (sym c.code_of.ensures) c.in-Err.ensures.serves
+    (provider c.args.role.now old) (provider c.args.role.now new) (g.D.Disk.shows c.args.disk.now).told
+    (g.D.Disk.shows c.make_room.new.disk).told) (sym c.code_of.ensures) c.in-Err.ensures.serves
 
 pub draft-requires-clause-wanted : goal.draft-requires-clause-wanted
 draft-requires-clause-wanted g c = (request_view c.args.request.now, c.in_default.ensures.again.wants)
@@ -52,15 +52,15 @@ returns-in-Ready-clause-serves g c =
     let r = g.R.KeepsLedger.record_of c.in-Ready.draft in
     let of = c.in-Ready.ensures.drafts in
     serves_again g.R.Role.replies g.R.KeepsLedger.rules g.R.Role.answers c.args.role.now c.args.now c.laws_hold.ensures
-    old anew mid new request _ c.added.result c.args.reply.now r (g.D.Disk.told c.args.disk.now)
-    (g.D.Disk.told c.make_room.new.disk) (g.D.Disk.told c.added.new.disk)
+    old anew mid new request _ c.added.result c.args.reply.now r (g.D.Disk.shows c.args.disk.now).told
+    (g.D.Disk.shows c.make_room.new.disk).told (g.D.Disk.shows c.added.new.disk).told
     c.in_default.ensures.again c.in_default.ensures.made c.draft.ensures.same of.0 of.2
     (adds_more g.R.KeepsLedger.rules (IsPage g.R.Role.replies c.args.role.now c.args.reply.now r c.args.now) r _ _
     c.added.result
-    (provider c.args.role.now mid) (provider c.args.role.now new) (g.D.Disk.told c.make_room.new.disk)
-    (g.D.Disk.told c.added.new.disk)
-    (rose_later (g.D.Disk.faults_of c.args.disk.now) (g.D.Disk.faults_of c.make_room.new.disk)
-    (g.D.Disk.faults_of c.added.new.disk) c.make_room.ensures.faults)
+    (provider c.args.role.now mid) (provider c.args.role.now new) (g.D.Disk.shows c.make_room.new.disk).told
+    (g.D.Disk.shows c.added.new.disk).told
+    (rose_later (g.D.Disk.shows c.args.disk.now).faults (g.D.Disk.shows c.make_room.new.disk).faults
+    (g.D.Disk.shows c.added.new.disk).faults c.make_room.ensures.faults)
     c.added.ensures.adds)
 
 pub returns-in-Ready-clause-moments : goal.returns-in-Ready-clause-moments
@@ -70,12 +70,12 @@ returns-in-Ready-clause-moments g c =
     let mid = g.R.KeepsLedger.seen c.draft.new.ledger in
     let request = request_view c.args.request.now in
     let of = c.in-Ready.ensures.drafts in
-    then g.D.Disk.moment g.D.Disk.left_since c.args.disk.now c.make_room.new.disk c.added.new.disk _ _ _
+    then g.D.Disk.shows c.args.disk.now c.make_room.new.disk c.added.new.disk _ _ _
     c.make_room.ensures.moments c.added.ensures.moments
     (λ image left. left)
     (again_leaves g.R.Role.replies g.R.KeepsLedger.rules g.R.Role.answers c.args.role.now c.args.now c.laws_hold.ensures
-    old anew mid request c.args.reply.now (g.R.KeepsLedger.record_of c.in-Ready.draft) (g.D.Disk.told c.args.disk.now)
-    (g.D.Disk.told c.make_room.new.disk)
+    old anew mid request c.args.reply.now (g.R.KeepsLedger.record_of c.in-Ready.draft) (g.D.Disk.shows c.args.disk.now).told
+    (g.D.Disk.shows c.make_room.new.disk).told
     c.in_default.ensures.again c.in_default.ensures.made c.draft.ensures.same of.0 of.2)
 
 pub returns-in-NoPlace-clause-serves : goal.returns-in-NoPlace-clause-serves
@@ -85,7 +85,7 @@ returns-in-NoPlace-clause-serves g c =
     let mid = g.R.KeepsLedger.seen c.draft.new.ledger in
     let request = request_view c.args.request.now in
     full_again g.R.Role.replies g.R.KeepsLedger.rules g.R.Role.answers c.args.role.now c.args.now c.laws_hold.ensures
-    old anew mid request _ c.args.reply.now (g.D.Disk.told c.args.disk.now) (g.D.Disk.told c.make_room.new.disk)
+    old anew mid request _ c.args.reply.now (g.D.Disk.shows c.args.disk.now).told (g.D.Disk.shows c.make_room.new.disk).told
     c.in_default.ensures.again c.in_default.ensures.made c.draft.ensures.same c.in-NoPlace.ensures.drafts
 
 pub returns-in-NoMemory-clause-serves : goal.returns-in-NoMemory-clause-serves
@@ -95,5 +95,5 @@ returns-in-NoMemory-clause-serves g c =
     let mid = g.R.KeepsLedger.seen c.draft.new.ledger in
     let request = request_view c.args.request.now in
     starved_again g.R.Role.replies g.R.KeepsLedger.rules g.R.Role.answers c.args.role.now c.args.now c.laws_hold.ensures
-    old anew mid request _ c.args.reply.now (g.D.Disk.told c.args.disk.now) (g.D.Disk.told c.make_room.new.disk)
+    old anew mid request _ c.args.reply.now (g.D.Disk.shows c.args.disk.now).told (g.D.Disk.shows c.make_room.new.disk).told
     c.in_default.ensures.again c.in_default.ensures.made c.draft.ensures.same

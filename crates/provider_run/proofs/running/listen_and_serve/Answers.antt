@@ -13,37 +13,30 @@ pub returns-in_err-listen-clause-runs : goal.returns-in_err-listen-clause-runs
 returns-in_err-listen-clause-runs g c =
     let link = c.args.link.now in
     let heard = c.listen.new.self in
-    let told = g.D.Disk.told c.args.disk.now in
-    let count = g.D.Disk.faults_of c.args.disk.now in
-    let moment = g.D.Disk.moment c.args.disk.now in
+    let disk = g.D.Disk.shows c.args.disk.now in
     let clock = g.C.Clock.to_come c.args.clock.now in
-    let opened = outside told count moment (g.L.Link.told link) (g.L.Link.faults_of link) (g.L.Link.send_faults_of link) clock in
+    let opened = outside disk (g.L.Link.shows link) clock in
     let is : c.from_residual.result ≡ Err faults.LinkFault = search rules in
-    let only = only_listened told count moment (g.L.Link.told link) (g.L.Link.told heard) (g.L.Link.faults_of link) (g.L.Link.faults_of heard)
-    (g.L.Link.send_faults_of link) (g.L.Link.send_faults_of heard) clock c.in_err-listen.ensures.same c.in_err-listen.ensures.send_faults in (
+    let only = only_listened disk (g.L.Link.shows link) (g.L.Link.shows heard) clock c.in_err-listen.ensures.same c.in_err-listen.ensures.send_faults in (
       [],
       λ files file before begins. Deaf c.args.node.now opened begins is c.in_err-listen.ensures.faults.failed refl only,
-      started g.D.Disk.moment g.D.Disk.left_since c.args.disk.now (MightLeave (StepLeaves g.R.Role.KeepsLedger.rules g.R.Role.Role.answers) told []) (λ image left. inl (g.met.D.Disk.only_now c.args.disk.now image left)),
+      started g.D.Disk.shows c.args.disk.now (MightLeave (StepLeaves g.R.Role.KeepsLedger.rules g.R.Role.Role.answers) disk.told []) (λ image left. inl (g.met.D.Disk.only_now c.args.disk.now image left)),
     )
 
 pub returns-clause-runs : goal.returns-clause-runs
 returns-clause-runs g c =
     let link = c.args.link.now in
     let heard = c.listen.new.self in
-    let told = g.D.Disk.told c.args.disk.now in
-    let count = g.D.Disk.faults_of c.args.disk.now in
-    let moment = g.D.Disk.moment c.args.disk.now in
+    let disk = g.D.Disk.shows c.args.disk.now in
     let clock = g.C.Clock.to_come c.args.clock.now in
-    let opened = outside told count moment (g.L.Link.told link) (g.L.Link.faults_of link) (g.L.Link.send_faults_of link) clock in
-    let listening = outside told count moment (g.L.Link.told heard) (g.L.Link.faults_of heard) (g.L.Link.send_faults_of heard) clock in
+    let opened = outside disk (g.L.Link.shows link) clock in
+    let listening = outside disk (g.L.Link.shows heard) clock in
     let now = c.serve.new in
-    let after = outside (g.D.Disk.told now.disk) (g.D.Disk.faults_of now.disk) (g.D.Disk.moment now.disk) (g.L.Link.told now.link) (g.L.Link.faults_of now.link)
-    (g.L.Link.send_faults_of now.link) (g.C.Clock.to_come now.clock) in
-    let only = only_listened told count moment (g.L.Link.told link) (g.L.Link.told heard) (g.L.Link.faults_of link) (g.L.Link.faults_of heard)
-    (g.L.Link.send_faults_of link) (g.L.Link.send_faults_of heard) clock c.in_ok-listen.ensures.same c.in_ok-listen.ensures.send_faults in
+    let after = outside (g.D.Disk.shows now.disk) (g.L.Link.shows now.link) (g.C.Clock.to_come now.clock) in
+    let only = only_listened disk (g.L.Link.shows link) (g.L.Link.shows heard) clock c.in_ok-listen.ensures.same c.in_ok-listen.ensures.send_faults in
     let (turns, serves, leaves) = c.serve.ensures.serves in (
       turns,
-      λ files file before begins. served_so (IsProviders g.R.Role.KeepsLedger.rules g.R.Role.Role.answers) (StepLeaves g.R.Role.KeepsLedger.rules g.R.Role.Role.answers) (g.D.Disk.left_since now.disk) (g.R.RunsProvider.is_bad files file)
+      λ files file before begins. served_so (IsProviders g.R.Role.KeepsLedger.rules g.R.Role.Role.answers) (StepLeaves g.R.Role.KeepsLedger.rules g.R.Role.Role.answers) (g.D.Disk.shows now.disk).left_since (g.R.RunsProvider.is_bad files file)
           (IsNotOpened g.R.RunsProvider.sets_up g.R.Role.KeepsLedger.rules files file before) (Begins g.R.RunsProvider.sets_up g.R.Role.Role.key g.R.Role.KeepsLedger.rules files file before) c.args.budget turns c.serve.result c.ended_of.result
           c.args.node.now now.node before opened listening after only serves c.ended_of.ensures begins,
       leaves,

@@ -22,7 +22,7 @@ returns-in-Ok-clause-complete g c = λ can no_read no_link no_disk.
     let result = c.run_by.result in
     let unread : result ≢ Err faults.ReadFault = λ e. c.run_by.ensures.set_up (subst IsNotSetUp (sym e) tt) in
     let unlinked : result ≢ Err faults.LinkFault = λ e. no_link (c.run_by.ensures.link_fault e) in
-    complete g.R.RunsProvider.sets_up g.R.RunsProvider.is_bad g.R.Role.Role.key g.R.Role.KeepsLedger.rules g.R.Role.Role.answers result unread no_disk unlinked c.never_both.ensures (g.D.Disk.left_since c.run_by.new.disk) told c.args.config.now c.args.budget _ _ turns can
+    complete g.R.RunsProvider.sets_up g.R.RunsProvider.is_bad g.R.Role.Role.key g.R.Role.KeepsLedger.rules g.R.Role.Role.answers result unread no_disk unlinked c.never_both.ensures (g.D.Disk.shows c.run_by.new.disk).left_since told c.args.config.now c.args.budget _ _ turns can
     (goes told c.args.config.now from)
 
 pub returns-in-Ok-clause-untouched : goal.returns-in-Ok-clause-untouched
@@ -34,9 +34,9 @@ returns-in-Err-BadFile-clause-runs g c =
     rw c.in-Err-BadFile.field-0-is (
       [],
       BadSetUp c.in-Err-BadFile.file c.in-Err-BadFile.line is refl refl refl,
-      untouched g.D.Disk.moment g.D.Disk.left_since g.D.Disk.told (OpeningLeaves g.R.Role.KeepsLedger.rules)
+      untouched g.D.Disk.shows (OpeningLeaves g.R.Role.KeepsLedger.rules)
           (StepLeaves g.R.Role.KeepsLedger.rules g.R.Role.Role.answers)
-          (λ disk image left. leaves_opening g.R.Role.KeepsLedger.rules (g.D.Disk.told disk) image (g.met.D.Disk.only_now disk image left)) c.args.disk.now [],
+          (λ disk image left. leaves_opening g.R.Role.KeepsLedger.rules (g.D.Disk.shows disk).told image (g.met.D.Disk.only_now disk image left)) c.args.disk.now [],
     )
 
 pub returns-in-Err-BadFile-clause-complete : goal.returns-in-Err-BadFile-clause-complete
@@ -48,16 +48,16 @@ pub returns-in-Err-ReadFault-clause-runs : goal.returns-in-Err-ReadFault-clause-
 returns-in-Err-ReadFault-clause-runs g c = (
   [],
   NotSetUp (inl refl) refl refl,
-  untouched g.D.Disk.moment g.D.Disk.left_since g.D.Disk.told (OpeningLeaves g.R.Role.KeepsLedger.rules)
+  untouched g.D.Disk.shows (OpeningLeaves g.R.Role.KeepsLedger.rules)
       (StepLeaves g.R.Role.KeepsLedger.rules g.R.Role.Role.answers)
-      (λ disk image left. leaves_opening g.R.Role.KeepsLedger.rules (g.D.Disk.told disk) image (g.met.D.Disk.only_now disk image left)) c.args.disk.now [],
+      (λ disk image left. leaves_opening g.R.Role.KeepsLedger.rules (g.D.Disk.shows disk).told image (g.met.D.Disk.only_now disk image left)) c.args.disk.now [],
 )
 
 pub returns-in-Err-NoMemory-clause-runs : goal.returns-in-Err-NoMemory-clause-runs
 returns-in-Err-NoMemory-clause-runs g c = (
   [],
   NotSetUp (inr refl) refl refl,
-  untouched g.D.Disk.moment g.D.Disk.left_since g.D.Disk.told (OpeningLeaves g.R.Role.KeepsLedger.rules)
+  untouched g.D.Disk.shows (OpeningLeaves g.R.Role.KeepsLedger.rules)
       (StepLeaves g.R.Role.KeepsLedger.rules g.R.Role.Role.answers)
-      (λ disk image left. leaves_opening g.R.Role.KeepsLedger.rules (g.D.Disk.told disk) image (g.met.D.Disk.only_now disk image left)) c.args.disk.now [],
+      (λ disk image left. leaves_opening g.R.Role.KeepsLedger.rules (g.D.Disk.shows disk).told image (g.met.D.Disk.only_now disk image left)) c.args.disk.now [],
 )

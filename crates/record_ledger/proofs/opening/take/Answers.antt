@@ -23,7 +23,7 @@ to_version_2-requires-clause-fits g c one =
 
 pub returns-in_err-to_version_2-clause-moments : goal.returns-in_err-to_version_2-clause-moments
 returns-in_err-to_version_2-clause-moments g c =
-    weaker g.D.Disk.moment g.D.Disk.left_since c.args.disk.now c.to_version_2.new.disk (IsOldOrNew c.args.journal.kept (in_version_2 c.deref.result.now c.args.journal.kept)) (IsTakenFrom g.S.Standing.rules c.args.journal.kept) c.to_version_2.ensures.moments
+    weaker g.D.Disk.shows c.args.disk.now c.to_version_2.new.disk (IsOldOrNew c.args.journal.kept (in_version_2 c.deref.result.now c.args.journal.kept)) (IsTakenFrom g.S.Standing.rules c.args.journal.kept) c.to_version_2.ensures.moments
     (λ image is. taken_image g.S.Standing.rules (StandReady g.S.Standing.row_rules) c.args.journal.kept c.in_ok-standing.field-0.standing c.in_ok-standing.field-0.payloads.items c.in_ok-standing.ensures image
     (subst (λ (ps : List (List ℕ)). IsOldOrNew c.args.journal.kept (in_version_2 ps c.args.journal.kept) image) c.deref.ensures.value is))
 
@@ -41,7 +41,7 @@ returns-clause-whole g c = (
 
 pub returns-clause-moments : goal.returns-clause-moments
 returns-clause-moments g c =
-    weaker g.D.Disk.moment g.D.Disk.left_since c.args.disk.now c.to_version_2.new.disk (IsOldOrNew c.args.journal.kept (in_version_2 c.deref.result.now c.args.journal.kept)) (IsTakenFrom g.S.Standing.rules c.args.journal.kept) c.to_version_2.ensures.moments
+    weaker g.D.Disk.shows c.args.disk.now c.to_version_2.new.disk (IsOldOrNew c.args.journal.kept (in_version_2 c.deref.result.now c.args.journal.kept)) (IsTakenFrom g.S.Standing.rules c.args.journal.kept) c.to_version_2.ensures.moments
     (λ image is. taken_image g.S.Standing.rules (StandReady g.S.Standing.row_rules) c.args.journal.kept c.in_ok-standing.field-0.standing c.in_ok-standing.field-0.payloads.items c.in_ok-standing.ensures image
     (subst (λ (ps : List (List ℕ)). IsOldOrNew c.args.journal.kept (in_version_2 ps c.args.journal.kept) image) c.deref.ensures.value is))
 
@@ -49,7 +49,7 @@ pub returns-in_err-to_version_2-clause-err : goal.returns-in_err-to_version_2-cl
 returns-in_err-to_version_2-clause-err g c =
     let kept = c.args.journal.kept in
     at_err c.from_residual-in_err-to_version_2.result _ (λ image left.
-    let is = leaves_now g.D.Disk.moment g.D.Disk.left_since g.D.Disk.told c.args.disk.now c.to_version_2.new.disk (IsOldOrNew kept (in_version_2 c.deref.result.now kept)) g.met.D.Disk.counts_now c.to_version_2.ensures.moments image left in
+    let is = leaves_now g.D.Disk.shows c.args.disk.now c.to_version_2.new.disk (IsOldOrNew kept (in_version_2 c.deref.result.now kept)) g.met.D.Disk.counts_now c.to_version_2.ensures.moments image left in
     inr (taken_ok g.S.Standing.rules (StandReady g.S.Standing.row_rules) kept c.in_ok-standing.field-0.standing c.in_ok-standing.field-0.payloads.items c.in_ok-standing.ensures image (taken_image g.S.Standing.rules (StandReady g.S.Standing.row_rules) kept c.in_ok-standing.field-0.standing c.in_ok-standing.field-0.payloads.items c.in_ok-standing.ensures image
     (subst (λ (ps : List (List ℕ)). IsOldOrNew kept (in_version_2 ps kept) image) c.deref.ensures.value is))))
 
@@ -71,7 +71,7 @@ returns-in_err-to_version_2-clause-calls g c =
     let new = c.to_version_2.new.disk in
     let other = c.from_residual-in_err-to_version_2.result in
     let plan = to_version_2 c.deref.result.now kept in
-    calls.follows_same other plan (migrating g.S.Standing.rules (some_held (held_of g.S.Standing.rules kept))) d0 new (always (g.D.Disk.told d0) _ (planned g a))
+    calls.follows_same other plan (migrating g.S.Standing.rules (some_held (held_of g.S.Standing.rules kept))) d0 new (always (g.D.Disk.shows d0).told _ (planned g a))
     (calls.hands_on {T = Unit {0}} _ c.in_err-to_version_2.field-0.0 other plan d0 new c.from_residual-in_err-to_version_2.ensures.1
     c.in_err-to_version_2.ensures.calls)
 
@@ -84,5 +84,5 @@ returns-clause-calls g c =
     let plan = to_version_2 c.deref.result.now kept in
     let goes = migrating g.S.Standing.rules (some_held (held_of g.S.Standing.rules kept)) in
     calls.answers _ goes d0 new
-    (calls.follows_same _ plan goes d0 new (always (g.D.Disk.told d0) _ (planned g a))
+    (calls.follows_same _ plan goes d0 new (always (g.D.Disk.shows d0).told _ (planned g a))
     (calls.made c.in_ok-to_version_2.field-0 plan d0 new c.in_ok-to_version_2.ensures.calls))

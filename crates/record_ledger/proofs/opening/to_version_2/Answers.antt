@@ -13,4 +13,4 @@ returns-in-1-clause-calls g c =
     let payloads = c.args.payloads.now in
     let d0 = c.args.disk.now in
     calls.follows_same c.migrate.result (remaking (made_anew payloads kept.holds.header.horizon kept.holds.header.next kept)) (to_version_2 payloads kept) d0
-    c.migrate.new.disk (always (g.D.Disk.told d0) _ (λ d. version_one payloads kept (sym c.version.ensures ∙ c.in-1.is) d)) c.migrate.ensures.calls
+    c.migrate.new.disk (always (g.D.Disk.shows d0).told _ (λ d. version_one payloads kept (sym c.version.ensures ∙ c.in-1.is) d)) c.migrate.ensures.calls

@@ -10,7 +10,7 @@ use Rattle.saml_commands.proofs.top_call.run.Goals as goal
 pub returns-in-Some-clause-ends : goal.returns-in-Some-clause-ends
 returns-in-Some-clause-ends g c =
     let words = c.args.words.now in
-    let left = g.D.Disk.left_since c.run_command.new.disk in
+    let left = (g.D.Disk.shows c.run_command.new.disk).left_since in
     let told = g.F.Files.holds c.args.files.now in
     let old = g.K.Sink.taken c.args.out.now in
     let new = g.K.Sink.taken c.run_command.new.out in
@@ -32,7 +32,7 @@ returns-in-Some-clause-complete g c = λ accepted no_read no_write.
       never_both = c.a_config_has_one_outcome.ensures.never_both;
     } in
     let words = c.args.words.now in
-    let left = g.D.Disk.left_since c.run_command.new.disk in
+    let left = (g.D.Disk.shows c.run_command.new.disk).left_since in
     let told = g.F.Files.holds c.args.files.now in
     let old = g.K.Sink.taken c.args.out.now in
     let new = g.K.Sink.taken c.run_command.new.out in

@@ -1,12 +1,12 @@
-use Rattle.std.proofs.Common.{◌≡◌, [], ap, refl, sym, subst, rules, Err, List, Result}
+use Rattle.std.proofs.Common.{◌≡◌, ◌∙◌, [], ap, refl, sym, subst, rules, Err, List, Result}
 use Rattle.conn_table.specs.Table.{Table}
 use Rattle.schedules.specs.declared.step.Step.{Step}
 use Rattle.schedule_replay.specs.declared.fault.ReplayFault.{ReplayFault}
 use Rattle.schedule_replay.specs.declared.fault.ReplayFault.TheVariants.{NoMemory}
 use Rattle.schedule_replay.specs.declared.tally.Tally.{Tally}
 use Rattle.schedule_replay.specs.Deployments.{Deployment}
-use Rattle.schedule_replay.specs.Hosts.{rules as node_rules}
-use Rattle.schedule_replay.specs.Runs.{Ends, alone, beginning}
+use Rattle.schedule_replay.specs.Hosts.{Host, rules as node_rules}
+use Rattle.schedule_replay.specs.Runs.{AreLeft, Ends, alone, beginning}
 use Rattle.schedule_replay.specs.Views.{HasNodes, stage_in}
 use Rattle.schedule_replay.proofs.Replaying.{ends_so, is_beginning, printed_none}
 use Rattle.schedule_replay.proofs.running.replay.Goals as goal
@@ -20,7 +20,7 @@ returns-in_err-sp_conns-clause-ends g c =
     let taken = g.K.Sink.taken c.args.out.now in
     subst
     (λ (r : Result Tally ReplayFault). Ends sp idp c.args.schedule.now c.args.quiet first r
-    (λ last. Unit {0}) taken taken)
+    (λ last. AreLeft last c.args.sp.now c.args.sp_disk.now c.args.idp.now c.args.idp_disk.now) taken taken)
     (sym same) (0, [], first, (refl, refl), printed_none c.args.quiet taken)
 
 pub returns-clause-ends : goal.returns-clause-ends
@@ -35,8 +35,15 @@ returns-clause-ends g c =
     let begins = is_beginning _ c.args.sp.now c.args.sp_disk.now c.args.idp.now c.args.idp_disk.now refl
     (ap (λ (t : Table). record (alone c.args.sp.now c.args.sp_disk.now) { kept = t }) c.in_ok-sp_conns.ensures.0)
     (ap (λ (t : Table). record (alone c.args.idp.now c.args.idp_disk.now) { kept = t }) c.in_ok-sp_conns.ensures.1)
-    c.new.ensures c.new-2.ensures c.new-3.ensures.items in
-    ends_so sp idp c.args.schedule.now c.args.quiet first result (λ last. HasNodes last now) (λ last. Unit {0}) before after (λ last has. tt)
+    c.new-agents.ensures c.new.ensures c.new-lines.ensures.items in
+    ends_so sp idp c.args.schedule.now c.args.quiet first result (λ last. HasNodes last now)
+    (λ last. AreLeft last c.sp-1.given.0 c.sp_disk-1.given.0 c.idp-1.given.0 c.idp_disk-1.given.0) before after
+    (λ last has. record {
+      sp = c.sp-1.given.1 (sym c.perform.ensures.sp_node) ∙ ap (λ (host : Host g.row.S.Denot). host.node) has.sp;
+      sp_disk = c.sp_disk-1.given.1 (sym c.perform.ensures.sp_disk) ∙ ap (λ (host : Host g.row.S.Denot). host.disk) has.sp;
+      idp = c.idp-1.given.1 (sym c.perform.ensures.idp_node) ∙ ap (λ (host : Host g.row.P.Denot). host.node) has.idp;
+      idp_disk = c.idp_disk-1.given.1 (sym c.perform.ensures.idp_disk) ∙ ap (λ (host : Host g.row.P.Denot). host.disk) has.idp;
+    })
     (subst (λ (steps : List Step). Ends sp idp steps c.args.quiet first result (λ last. HasNodes last now) before after) c.steps.ensures.steps
     (subst (λ (d : Deployment g.row.S.Denot g.row.P.Denot). Ends sp idp c.steps.result.now c.args.quiet d result (λ last. HasNodes last now) before after)
     begins c.perform.ensures.ends))

@@ -28,4 +28,4 @@ returns g c = λ disk.
       asks = c.a_registry_tells_and_ends.ensures.asks;
       without = c.a_registry_tells_and_ends.ensures.without;
       shown = c.a_session_is_shown_by_its_row.ensures.shown;
-    }) (g.D.Disk.left_since disk)
+    }) (g.D.Disk.shows disk).left_since

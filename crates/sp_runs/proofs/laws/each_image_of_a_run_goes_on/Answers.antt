@@ -7,4 +7,4 @@ use Rattle.sp_runs.proofs.laws.each_image_of_a_run_goes_on.Goals as goal
 pub returns : goal.returns
 returns g c =
     λ disk. each_image_of_a_run_goes_on IsServedBy IsBadFile key request_rules Answers c.images_hold_records.ensures
-    (g.D.Disk.left_since disk)
+    (g.D.Disk.shows disk).left_since

@@ -15,3 +15,6 @@ returns-in-Ok-clause-time c = elapses_in_memory _ _ _ _ c.change.ensures.calls
 
 pub returns-in-Err-clause-changes : goal.returns-in-Err-clause-changes
 returns-in-Err-clause-changes c = changes_in_memory {T = Unit {0}} {E = Failed} (Write c.args.file c.args.at c.args.bytes.now) c.args.self.now c.starve.new.self (Err c.starve.result) (inr c.starve.ensures.starved)
+
+pub returns-in-Err-clause-time : goal.returns-in-Err-clause-time
+returns-in-Err-clause-time c = elapses_in_memory {T = Unit {0}} {E = Failed} (Write c.args.file c.args.at c.args.bytes.now) c.args.self.now c.starve.new.self (Err c.starve.result) (inr c.starve.ensures.starved)

@@ -6,7 +6,7 @@ use Rattle.crash_disk.specs.Moments.{LeavesOnly}
 use Rattle.crash_disk.specs.Torn.{other_file}
 use Rattle.crash_disk.proofs.Following as calls
 use Rattle.gate_journal.specs.Format.{Committed, Kept, journal, gate_of, letters}
-use Rattle.gate_journal.specs.Journal.{Opened, IsOwn, IsOldOrNew, made_anew}
+use Rattle.gate_journal.specs.Journal.{OpenedJournal, IsOwn, IsOldOrNew, made_anew}
 use Rattle.gate_journal.specs.Making.{IsBeforeOrMade, IsHolding, IsMade, fields_bytes, head_bytes}
 use Rattle.gate_journal.proofs.Owning.{own_is, own_broken, left_now_stands, old_or_new_ok}
 use Rattle.gate_journal.proofs.Beside.{holding_own, remade_moments, remade_own}
@@ -20,8 +20,8 @@ use Rattle.gate_journal.proofs.journal.Journal.make_anew.Given.{Over}
 
 pub make_beside-requires-clause-holding : goal.make_beside-requires-clause-holding
 make_beside-requires-clause-holding g c =
-    let told = g.D.Disk.told c.args.disk.now in
-    let file_is : other_file c.args.self.now.kept.file ≡ c.other_of-file.result = sym (c.other_of-file.ensures ∙ ap (λ (j : Opened). other_file j.kept.file) c.self.view_is) in
+    let told = (g.D.Disk.shows c.args.disk.now).told in
+    let file_is : other_file c.args.self.now.kept.file ≡ c.other_of-file.result = sym (c.other_of-file.ensures ∙ ap (λ (j : OpenedJournal). other_file j.kept.file) c.self.view_is) in
     let holds : Committed = record { version = 2; header = c.args.header; payloads = c.args.kept.now } in
     subst (λ (f : FileNo). IfSome told (λ d. (before : Option Committed) × IsHolding f before (reads_of d (other_file f)) d)) file_is
     (holding_own told c.args.self.now.kept holds (g.met.D.Disk.reads_an_image c.args.disk.now) (own_is told c.args.self.now c.requires.whole c.requires.own) (omega (arith, c.requires.generation)))
@@ -34,7 +34,7 @@ module _ (g : Over) (c : After-make_beside g) where
   holds = (made_anew c.args.kept.now c.args.header.horizon c.args.header.next old).holds
 
   file_is : c.other_of-file.result ≡ other_file old.file
-  file_is = c.other_of-file.ensures ∙ ap (λ (j : Opened). other_file j.kept.file) c.self.view_is
+  file_is = c.other_of-file.ensures ∙ ap (λ (j : OpenedJournal). other_file j.kept.file) c.self.view_is
 
   payloads_are : c.deref-6.result.now ≡ c.args.kept.now
   payloads_are = c.deref-6.ensures.value ∙ c.in_ok-records.ensures
@@ -53,14 +53,14 @@ module _ (g : Over) (c : After-make_beside g) where
       ap (λ (ps : List (List ℕ)). record { version = 2; header = c.args.header; payloads = ps }) is
       ∙ ap (λ (n : ℕ). record { version = 2; header = record { generation = n; horizon = c.args.header.horizon; next = c.args.header.next }; payloads = c.args.kept.now }) c.requires.generation
 
-  own_now : IfSome (g.D.Disk.told c.args.disk.now) (λ d. IsSettled d × (journal (image_of d) ≡ Ok (Some old)))
-  own_now = own_is (g.D.Disk.told c.args.disk.now) c.args.self.now c.requires.whole c.requires.own
+  own_now : IfSome (g.D.Disk.shows c.args.disk.now).told (λ d. IsSettled d × (journal (image_of d) ≡ Ok (Some old)))
+  own_now = own_is (g.D.Disk.shows c.args.disk.now).told c.args.self.now c.requires.whole c.requires.own
 
-  moments : LeavesOnly g.D.Disk.moment g.D.Disk.left_since c.args.disk.now c.make_beside.new.disk (IsOldOrNew old (record { file = other_file old.file; holds = holds }))
+  moments : LeavesOnly g.D.Disk.shows c.args.disk.now c.make_beside.new.disk (IsOldOrNew old (record { file = other_file old.file; holds = holds }))
   moments =
-      remade_moments (g.D.Disk.told c.args.disk.now) old holds (g.met.D.Disk.reads_an_image c.args.disk.now) own_now newer g.D.Disk.moment g.D.Disk.left_since c.args.disk.now c.make_beside.new.disk
-      (subst (λ (f : FileNo). (before : Option Committed) (other : List ℕ) → IfSome (g.D.Disk.told c.args.disk.now) (IsHolding f before other) → LeavesOnly g.D.Disk.moment g.D.Disk.left_since c.args.disk.now c.make_beside.new.disk (IsBeforeOrMade f before holds other)) file_is
-      (λ before other holding. subst (λ (h : Committed). LeavesOnly g.D.Disk.moment g.D.Disk.left_since c.args.disk.now c.make_beside.new.disk (IsBeforeOrMade c.other_of-file.result before h other)) (holds_is c.deref-6.result.now payloads_are)
+      remade_moments (g.D.Disk.shows c.args.disk.now).told old holds (g.met.D.Disk.reads_an_image c.args.disk.now) own_now newer g.D.Disk.shows c.args.disk.now c.make_beside.new.disk
+      (subst (λ (f : FileNo). (before : Option Committed) (other : List ℕ) → IfSome (g.D.Disk.shows c.args.disk.now).told (IsHolding f before other) → LeavesOnly g.D.Disk.shows c.args.disk.now c.make_beside.new.disk (IsBeforeOrMade f before holds other)) file_is
+      (λ before other holding. subst (λ (h : Committed). LeavesOnly g.D.Disk.shows c.args.disk.now c.make_beside.new.disk (IsBeforeOrMade c.other_of-file.result before h other)) (holds_is c.deref-6.result.now payloads_are)
       (c.make_beside.ensures.moments before c.args.header other fields_are c.requires.writable holding)))
 
 pub returns-in_err-make_beside-clause-moments : goal.returns-in_err-make_beside-clause-moments
@@ -73,15 +73,15 @@ pub returns-in_err-make_beside-clause-own : goal.returns-in_err-make_beside-clau
 returns-in_err-make_beside-clause-own g c =
     let a = (goal.at.returns-in_err-make_beside-clause-own g c).After-make_beside in
     let now = c.self.inside in
-    own_broken (g.D.Disk.told c.make_beside.new.disk) (record { kept = record { file = now.file; holds = record { version = now.version; header = now.header; payloads = now.records.items } }; spare = now.spare; broken = true }) refl (λ image left.
-    old_or_new_ok (old g a) (record { file = other_file (old g a).file; holds = holds g a }) image (left_now_stands g.D.Disk.moment g.D.Disk.left_since g.D.Disk.told c.args.disk.now c.make_beside.new.disk _ g.met.D.Disk.counts_now (moments g a) image left))
+    own_broken (g.D.Disk.shows c.make_beside.new.disk).told (record { kept = record { file = now.file; holds = record { version = now.version; header = now.header; payloads = now.records.items } }; spare = now.spare; broken = true }) refl (λ image left.
+    old_or_new_ok (old g a) (record { file = other_file (old g a).file; holds = holds g a }) image (left_now_stands g.D.Disk.shows c.args.disk.now c.make_beside.new.disk _ g.met.D.Disk.counts_now (moments g a) image left))
 
 pub returns-clause-own : goal.returns-clause-own
 returns-clause-own g c =
     let a = (goal.at.returns-clause-own g c).After-make_beside in
-    let told = g.D.Disk.told c.args.disk.now in
-    let now = g.D.Disk.told c.make_beside.new.disk in
-    let opened : FileNo → Committed → Opened = λ f h. record { kept = record { file = f; holds = h }; spare = None; broken = false } in
+    let told = (g.D.Disk.shows c.args.disk.now).told in
+    let now = (g.D.Disk.shows c.make_beside.new.disk).told in
+    let opened : FileNo → Committed → OpenedJournal = λ f h. record { kept = record { file = f; holds = h }; spare = None; broken = false } in
     let is : opened c.other_of-file.result (record { version = 2; header = c.args.header; payloads = c.in_ok-records.records.items }) ≡ opened (other_file (old g a).file) (holds g a) =
     ap (λ (f : FileNo). opened f (record { version = 2; header = c.args.header; payloads = c.in_ok-records.records.items })) (file_is g a) ∙ ap (opened (other_file (old g a).file)) (holds_is g a c.in_ok-records.records.items c.in_ok-records.ensures) in
     subst (IsOwn now) (sym (c.drop.view_is ∙ c.of.ensures ∙ is))
@@ -115,9 +115,9 @@ module _ (g : Over) (c : After-make_beside g) where
   abbrev made_plan : DiskState → List Change
   made_plan = remaking (record { file = other_file (old g c).file; holds = holds g c })
 
-  plan_is : IfSome (g.D.Disk.told c.args.disk.now) (λ d. code_plan d ≡ made_plan d)
+  plan_is : IfSome (g.D.Disk.shows c.args.disk.now).told (λ d. code_plan d ≡ made_plan d)
   plan_is =
-      always (g.D.Disk.told c.args.disk.now) (λ d. code_plan d ≡ made_plan d)
+      always (g.D.Disk.shows c.args.disk.now).told (λ d. code_plan d ≡ made_plan d)
       (λ d i. making_beside (file_is g c i) (made_head i) (made_fields i) (payloads_are g c i) (reads_of d (file_is g c i)))
 
 pub returns-in_err-make_beside-clause-calls : goal.returns-in_err-make_beside-clause-calls

@@ -1,14 +1,15 @@
 use Rattle.std.specs.Prelude.{None, Some, IsTrue}
-use Rattle.std.proofs.Common.{◌≡◌, ℕ, List, refl, sym, subst, ap, ◌∙◌}
+use Rattle.std.proofs.Common.{◌≡◌, ℕ, List, min, refl, sym, subst, ap, ◌∙◌, arith}
 use Rattle.http_wire.specs.Answers.{is_fixed}
 use Rattle.http_wire.specs.Views.{request_view}
 use Rattle.http_wire.specs.declared.answer.Answer.TheVariants.{Fixed}
+use Rattle.saml_time.specs.declared.TheConstants.{LAST}
 use Rattle.peer_keys.specs.Peers.{place_of}
 use Rattle.hub_ledger.specs.Finding.{routed_row, routed_view}
 use Rattle.hub_ledger.specs.RowsOf.{rows_of}
 use Rattle.identity_hub.specs.declared.config.HubConfig.{HubConfig}
 use Rattle.identity_hub.specs.Step.{Answers}
-use Rattle.identity_hub.proofs.Forms.{no_peer, no_row, row_there}
+use Rattle.identity_hub.proofs.Forms.{below_stands, no_peer, no_row, row_there}
 use Rattle.identity_hub.proofs.role.HubRole.reply_login.Goals as goal
 
 pub returns-in_default : goal.returns-in_default
@@ -38,12 +39,6 @@ returns-in_default-place_of c =
     (sym c.number-unknown.ensures)
     (no_peer c.args.self.now held request c.args.now c.args.accepted row c.requires.route c.requires.opens found none, refl)
 
-pub can_be_passed-requires-clause-texts : goal.can_be_passed-requires-clause-texts
-can_be_passed-requires-clause-texts c =
-    let held = c.args.ledger.now.held in
-    c.the_texts_of_a_routed_request_may_stand.ensures held c.as_str.result.now c.args.now (routed_view c.in-Some.row)
-    c.holds_records.ensures (sym c.in-Some.ensures)
-
 pub returns : goal.returns
 returns c =
     let held = c.args.ledger.now.held in
@@ -64,6 +59,7 @@ returns c =
       peer = there.0;
       is_for = record { found = found; place = c.in-Some-place_of.peer; known = known; there = there.1 };
       placed = refl;
-      texts = c.can_be_passed.ensures.texts;
-      told = c.can_be_passed.ensures.told;
+      texts = below_stands c.what_is_recorded_may_stand.ensures.texts row.below
+          (c.the_texts_of_a_routed_request_may_stand.ensures held c.as_str.result.now c.args.now row c.holds_records.ensures (sym c.in-Some.ensures));
+      told = c.each_moment_is_told.ensures.assertion c.args.now (min LAST c.args.accepted.session.until) c.requires.moment (omega arith);
     }

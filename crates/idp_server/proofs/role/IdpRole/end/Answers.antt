@@ -37,7 +37,7 @@ returns-in-Some c =
     })) (ending_live held c.args.now name c.args.asked) (
       subst IsText (sym c.in_ok-name.ensures) (all_at IsTextPeer setup.peers c.args.peer peer usable.peers there).entity,
       c.what_an_obeyed_form_says.ensures.id _ _ _ _ _ _ c.args.asked c.args.peer c.args.relay c.requires.obeyed,
-    ) usable.peers c.are_told.ensures by
+    ) usable.peers (c.each_moment_is_told.ensures.assertion c.args.now c.args.now c.requires.moment c.requires.moment) by
 
 pub returns : goal.returns
 returns c =
@@ -55,5 +55,5 @@ returns c =
           (ending_by held c.args.now c.in_ok-name.name c.args.asked)) (sym c.in_ok-name.ensures) ∙ none;
       id_text = c.what_an_obeyed_form_says.ensures.id _ _ _ _ _ _ c.args.asked c.args.peer c.args.relay c.requires.obeyed;
       peers = subst (λ (s : IdpConfig). AllByRecursion IsTextPeer s.peers) c.self.view_is c.self.invariant.peers;
-      told = c.are_told.ensures.issued;
+      told = c.each_moment_is_told.ensures.one c.args.now c.requires.moment;
     }

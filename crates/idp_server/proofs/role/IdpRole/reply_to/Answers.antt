@@ -4,28 +4,9 @@ use Rattle.http_wire.specs.Views.{request_view}
 use Rattle.idp_ledger.specs.Finding.{session_found}
 use Rattle.idp_ledger.specs.RowsOf.{rows_of}
 use Rattle.idp_rules.specs.Config.{IsUsable}
+use Rattle.idp_server.proofs.MayStand.{session_stands}
 use Rattle.idp_server.proofs.Sessions.{asks_for, used_session}
 use Rattle.idp_server.proofs.role.IdpRole.reply_to.Goals as goal
-
-pub can_be_stated-requires-clause-index : goal.can_be_stated-requires-clause-index
-can_be_stated-requires-clause-index c =
-    (used_session c.args.ledger.now.held c.args.asked.force (request_view c.args.request.now) c.args.now c.in-Some.row.now
-    c.holds_records.ensures c.in-Some.ensures).texts.index
-
-pub can_be_stated-requires-clause-user : goal.can_be_stated-requires-clause-user
-can_be_stated-requires-clause-user c =
-    (used_session c.args.ledger.now.held c.args.asked.force (request_view c.args.request.now) c.args.now c.in-Some.row.now
-    c.holds_records.ensures c.in-Some.ensures).texts.user
-
-pub can_be_stated-requires-clause-attributes : goal.can_be_stated-requires-clause-attributes
-can_be_stated-requires-clause-attributes c =
-    (used_session c.args.ledger.now.held c.args.asked.force (request_view c.args.request.now) c.args.now c.in-Some.row.now
-    c.holds_records.ensures c.in-Some.ensures).texts.attributes
-
-pub can_be_stated-requires-clause-until : goal.can_be_stated-requires-clause-until
-can_be_stated-requires-clause-until c =
-    (used_session c.args.ledger.now.held c.args.asked.force (request_view c.args.request.now) c.args.now c.in-Some.row.now
-    c.holds_records.ensures c.in-Some.ensures).texts.until
 
 pub returns-in-Some : goal.returns-in-Some
 returns-in-Some c =
@@ -45,8 +26,8 @@ returns-in-Some c =
       used = sym c.in-Some.ensures;
       found = subst (λ (cookie : List ℕ). session_found (rows_of c.args.ledger.now.held.records).sessions cookie c.args.now c.args.ledger.now.held.header.horizon ≡ Some row)
           (sym c.in_ok-cookie.ensures) used.found;
-      texts = c.can_be_stated.ensures.texts;
-      told = c.can_be_stated.ensures.told;
+      texts = session_stands c.what_is_recorded_may_stand.ensures.texts c.what_is_recorded_may_stand.ensures.attributes row used.texts;
+      told = c.each_moment_is_told.ensures.assertion c.args.now row.until c.requires.moment used.texts.until;
     }
 
 pub returns-then-passive : goal.returns-then-passive
@@ -55,7 +36,7 @@ returns-then-passive c =
     let usable = subst IsUsable c.self.view_is c.self.invariant in
     let asks = asks_for old (request_view c.args.request.now) c.in_ok-ask.ask c.args.asked c.the_texts_of_a_request_are_texts.ensures usable.peers c.requires.route c.requires.asked
     c.in_ok-ask.ensures in
-    record { asked = c.args.asked; peer = asks.0; asks = asks.1; none = sym c.in_default.ensures; passive_is = c.if-passive.true; told = c.is_told.ensures }
+    record { asked = c.args.asked; peer = asks.0; asks = asks.1; none = sym c.in_default.ensures; passive_is = c.if-passive.true; told = c.each_moment_is_told.ensures.one c.args.now c.requires.moment }
 
 pub returns-else-passive : goal.returns-else-passive
 returns-else-passive c =
@@ -63,4 +44,4 @@ returns-else-passive c =
     let usable = subst IsUsable c.self.view_is c.self.invariant in
     let asks = asks_for old (request_view c.args.request.now) c.in_ok-ask.ask c.args.asked c.the_texts_of_a_request_are_texts.ensures usable.peers c.requires.route c.requires.asked
     c.in_ok-ask.ensures in
-    record { asked = c.args.asked; peer = asks.0; asks = asks.1; none = sym c.in_default.ensures; passive_is = c.if-passive.false; told = c.is_told.ensures }
+    record { asked = c.args.asked; peer = asks.0; asks = asks.1; none = sym c.in_default.ensures; passive_is = c.if-passive.false; told = c.each_moment_is_told.ensures.one c.args.now c.requires.moment }

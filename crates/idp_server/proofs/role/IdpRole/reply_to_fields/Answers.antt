@@ -1,5 +1,5 @@
 use Rattle.std.specs.Prelude.{None, Some}
-use Rattle.std.proofs.Common.{◌≡◌, ℕ, List, [], ◌∷◌, refl, sym, subst, ap, ◌∙◌}
+use Rattle.std.proofs.Common.{◌≡◌, ℕ, ◌+◌, min, List, [], ◌∷◌, refl, sym, subst, ap, ◌∙◌, arith}
 use Rattle.std.specs.List.{AllByRecursion}
 use Rattle.xml_spec.specs.Characters.{IsText}
 use Rattle.owned_values.specs.declared.attributes.Attribute.{Attribute}
@@ -8,6 +8,8 @@ use Rattle.http_wire.specs.Views.{request_view}
 use Rattle.http_wire.specs.declared.answer.Answer.TheVariants.{Fixed}
 use Rattle.peer_keys.specs.Peers.{place_of}
 use Rattle.user_store.specs.Store.{checked}
+use Rattle.saml_time.specs.declared.TheConstants.{LAST}
+use Rattle.idp_ledger.specs.Drafts.{SESSION_LIFE}
 use Rattle.idp_ledger.specs.Finding.{pending_found}
 use Rattle.idp_ledger.specs.RowsOf.{rows_of}
 use Rattle.idp_ledger.proofs.RowTexts.{row_there}
@@ -15,6 +17,7 @@ use Rattle.idp_rules.specs.declared.config.IdpConfig.{IdpConfig}
 use Rattle.idp_server.specs.Replies.{LogsIn}
 use Rattle.idp_server.specs.Step.{Answers}
 use Rattle.idp_server.proofs.Fields.{all_statable, are_fields, field_at, no_peer, no_pending, no_user, pending_xml}
+use Rattle.idp_server.proofs.MayStand.{pending_stands}
 use Rattle.idp_server.proofs.Sessions.{user_texts}
 use Rattle.idp_server.proofs.role.IdpRole.reply_to_fields.Goals as goal
 
@@ -52,18 +55,6 @@ returns-in_default-check-clause-refused c =
     (ap (λ (e : List ℕ). place_of e n.config.peers) (sym c.as_str-2.ensures) ∙ sym c.in-Some-place_of.ensures.place) c.in-Some-place_of.ensures.there
     (ap (λ (u : List ℕ). checked n.config.users u f.t.password) (sym user_is) ∙ ap (checked n.config.users c.as_str-4.result.now) (sym password_is) ∙ sym c.in_default-check.ensures))
 
-pub can_be_answered-requires-clause-request : goal.can_be_answered-requires-clause-request
-can_be_answered-requires-clause-request c =
-    (pending_xml c.args.ledger.now.held c.as_str.result.now c.args.now c.in-Some.row.now c.holds_records.ensures (sym c.in-Some.ensures)).request
-
-pub can_be_answered-requires-clause-peer : goal.can_be_answered-requires-clause-peer
-can_be_answered-requires-clause-peer c =
-    (pending_xml c.args.ledger.now.held c.as_str.result.now c.args.now c.in-Some.row.now c.holds_records.ensures (sym c.in-Some.ensures)).peer
-
-pub can_be_answered-requires-clause-consumer : goal.can_be_answered-requires-clause-consumer
-can_be_answered-requires-clause-consumer c =
-    (pending_xml c.args.ledger.now.held c.as_str.result.now c.args.now c.in-Some.row.now c.holds_records.ensures (sym c.in-Some.ensures)).consumer
-
 pub returns-clause-reply : goal.returns-clause-reply
 returns-clause-reply c =
     let n = c.self.inside in
@@ -90,9 +81,10 @@ returns-clause-reply c =
       checks = checks;
       user_is = c.in_ok-copy-2.ensures;
       attributes_are = c.in_ok-copy-3.ensures;
-      texts = c.can_be_answered.ensures.texts;
+      texts = pending_stands c.what_is_recorded_may_stand.ensures.texts c.in-Some.row.now
+          (pending_xml c.args.ledger.now.held c.as_str.result.now c.args.now c.in-Some.row.now c.holds_records.ensures (sym c.in-Some.ensures));
       user_text = subst IsText (sym c.in_ok-copy-2.ensures) texts.name;
       stated = subst (λ (attributes : List Attribute). AllByRecursion IsStatable attributes) (sym c.in_ok-copy-3.ensures)
           (all_statable c.in-Some-check.user.now.attributes texts.attributes);
-      told = c.can_be_answered.ensures.told;
+      told = c.each_moment_is_told.ensures.assertion c.args.now (min LAST (c.args.now + SESSION_LIFE)) c.requires.moment (omega arith);
     })

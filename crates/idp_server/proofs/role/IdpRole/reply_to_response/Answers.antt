@@ -15,4 +15,4 @@ returns-in-Some c =
       place = c.args.peer;
       there = subst (λ (s : IdpConfig). slice_get s.peers c.args.peer ≡ Some c.at.result.now) c.self.view_is c.at.ensures;
       obeyed = c.requires.obeyed;
-    }) refl refl (ap not c.is_in_part-partial.ensures) usable.peers c.are_told.ensures by
+    }) refl refl (ap not c.is_in_part-partial.ensures) usable.peers (c.each_moment_is_told.ensures.assertion c.args.now c.args.now c.requires.moment c.requires.moment) by

@@ -20,17 +20,17 @@ returns-then-not-is_broken-clause-step g c =
     let new = provider c.self.inside.role (g.R.KeepsLedger.seen c.answer_whole.new.ledger) in
     let done = c.answer_whole.ensures.serves in
     subst (λ (p : Provider g.row.R.Denot g.row.R-Record.Denot). StepsOnDisk rules g.R.Role.answers p
-    (g.D.Disk.told c.args.disk.now) (request_view c.args.request.now) c.args.now
-    (Rose (g.D.Disk.faults_of c.args.disk.now) (g.D.Disk.faults_of c.answer_whole.new.disk)) c.answer_whole.result new
-    (g.D.Disk.told c.answer_whole.new.disk)) c.self.view_is
+    (g.D.Disk.shows c.args.disk.now).told (request_view c.args.request.now) c.args.now
+    (Rose (g.D.Disk.shows c.args.disk.now).faults (g.D.Disk.shows c.answer_whole.new.disk).faults) c.answer_whole.result new
+    (g.D.Disk.shows c.answer_whole.new.disk).told) c.self.view_is
     (record { step = WithLedger (sym c.if-not-is_broken.ensures) done.serves; calls = done.calls })
 
 pub returns-then-not-is_broken-clause-moments : goal.returns-then-not-is_broken-clause-moments
 returns-then-not-is_broken-clause-moments g c =
     let rules = g.R.KeepsLedger.rules in
     let request = request_view c.args.request.now in
-    let told = g.D.Disk.told c.args.disk.now in
-    weaker g.D.Disk.moment g.D.Disk.left_since c.args.disk.now c.answer_whole.new.disk _
+    let told = (g.D.Disk.shows c.args.disk.now).told in
+    weaker g.D.Disk.shows c.args.disk.now c.answer_whole.new.disk _
     (StepLeaves rules g.R.Role.answers c.args.self.now told request c.args.now) c.answer_whole.ensures.moments
     (λ image left. subst (λ (p : Provider g.row.R.Denot g.row.R-Record.Denot). StepLeaves rules g.R.Role.answers p told
     request c.args.now image) c.self.view_is
@@ -40,11 +40,11 @@ pub returns-in-Err-clause-step : goal.returns-in-Err-clause-step
 returns-in-Err-clause-step g c =
     let rules = g.R.KeepsLedger.rules in
     let request = request_view c.args.request.now in
-    let told = g.D.Disk.told c.args.disk.now in
-    let later = g.D.Disk.told c.reopen.new.disk in
+    let told = (g.D.Disk.shows c.args.disk.now).told in
+    let later = (g.D.Disk.shows c.reopen.new.disk).told in
     let old = provider c.self.inside.role (g.R.KeepsLedger.seen c.self.inside.ledger) in
     let new = provider c.self.inside.role (g.R.KeepsLedger.seen c.reopen.new.ledger) in
-    let Risen : Type 0 = Rose (g.D.Disk.faults_of c.args.disk.now) (g.D.Disk.faults_of c.reopen.new.disk) in
+    let Risen : Type 0 = Rose (g.D.Disk.shows c.args.disk.now).faults (g.D.Disk.shows c.reopen.new.disk).faults in
     let e = c.in-Err.ensures in
     subst (λ (code : ℕ). StepsOnDisk rules g.R.Role.answers c.args.self.now told request c.args.now Risen (Fixed code)
     new later) (sym c.code_of.ensures)
@@ -60,9 +60,9 @@ pub returns-clause-step : goal.returns-clause-step
 returns-clause-step g c =
     let rules = g.R.KeepsLedger.rules in
     let request = request_view c.args.request.now in
-    let told = g.D.Disk.told c.args.disk.now in
-    let opened = g.D.Disk.told c.reopen.new.disk in
-    let later = g.D.Disk.told c.answer_whole-2.new.disk in
+    let told = (g.D.Disk.shows c.args.disk.now).told in
+    let opened = (g.D.Disk.shows c.reopen.new.disk).told in
+    let later = (g.D.Disk.shows c.answer_whole-2.new.disk).told in
     let old = provider c.self.inside.role (g.R.KeepsLedger.seen c.self.inside.ledger) in
     let found = g.R.KeepsLedger.seen c.reopen.new.ledger in
     let new = provider c.self.inside.role (g.R.KeepsLedger.seen c.answer_whole-2.new.ledger) in
@@ -70,12 +70,12 @@ returns-clause-step g c =
     let done = serves_from rules g.R.Role.answers found.held old (provider c.self.inside.role found) new request
     c.args.now _ _ c.answer_whole-2.result opened later
     (record { setup = refl; key = c.reopen.ensures.key })
-    (rose_later (g.D.Disk.faults_of c.args.disk.now) (g.D.Disk.faults_of c.reopen.new.disk)
-    (g.D.Disk.faults_of c.answer_whole-2.new.disk) c.in_default.ensures.faults.never_falls)
+    (rose_later (g.D.Disk.shows c.args.disk.now).faults (g.D.Disk.shows c.reopen.new.disk).faults
+    (g.D.Disk.shows c.answer_whole-2.new.disk).faults c.in_default.ensures.faults.never_falls)
     c.answer_whole-2.ensures.serves in
     subst (λ (p : Provider g.row.R.Denot g.row.R-Record.Denot). StepsOnDisk rules g.R.Role.answers p told request
     c.args.now
-    (Rose (g.D.Disk.faults_of c.args.disk.now) (g.D.Disk.faults_of c.answer_whole-2.new.disk)) c.answer_whole-2.result
+    (Rose (g.D.Disk.shows c.args.disk.now).faults (g.D.Disk.shows c.answer_whole-2.new.disk).faults) c.answer_whole-2.result
     new later) c.self.view_is
     (record {
       step =
@@ -93,15 +93,15 @@ pub returns-clause-moments : goal.returns-clause-moments
 returns-clause-moments g c =
     let rules = g.R.KeepsLedger.rules in
     let request = request_view c.args.request.now in
-    let told = g.D.Disk.told c.args.disk.now in
-    let opened = g.D.Disk.told c.reopen.new.disk in
+    let told = (g.D.Disk.shows c.args.disk.now).told in
+    let opened = (g.D.Disk.shows c.reopen.new.disk).told in
     let found = g.R.KeepsLedger.seen c.reopen.new.ledger in
     let broken : (g.R.KeepsLedger.seen c.self.inside.ledger).broken ≡ true = sym c.if-not-is_broken.ensures in
-    then g.D.Disk.moment g.D.Disk.left_since c.args.disk.now c.reopen.new.disk c.answer_whole-2.new.disk
+    then g.D.Disk.shows c.args.disk.now c.reopen.new.disk c.answer_whole-2.new.disk
     (OpeningLeaves rules told)
     (ServingLeaves rules g.R.Role.answers c.self.inside.role found.held request c.args.now opened)
     (StepLeaves rules g.R.Role.answers c.args.self.now told request c.args.now)
-    (opening_leaves g.D.Disk.told g.D.Disk.moment g.D.Disk.left_since rules c.args.disk.now c.reopen.new.disk _
+    (opening_leaves g.D.Disk.shows rules c.args.disk.now c.reopen.new.disk _
     c.in_default.ensures.moments c.in_default.ensures.calls)
     c.answer_whole-2.ensures.moments
     (λ image left. subst (λ (p : Provider g.row.R.Denot g.row.R-Record.Denot). StepLeaves rules g.R.Role.answers p told

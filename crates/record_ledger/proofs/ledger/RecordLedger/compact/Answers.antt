@@ -3,9 +3,9 @@ use Rattle.crash_disk.specs.Disk.{Image, DiskState}
 use Rattle.crash_disk.specs.Steps.{weaker}
 use Rattle.crash_disk.proofs.Following as calls
 use Rattle.gate_journal.specs.declared.header.Header.{Header}
-use Rattle.gate_journal.specs.Journal.{Opened as OpenedJournal, Fits, IsOldOrNew, made_anew}
+use Rattle.gate_journal.specs.Journal.{OpenedJournal, Fits, IsOldOrNew, made_anew}
 use Rattle.gate_journal.proofs.Owning.{left_now_stands}
-use Rattle.record_ledger.specs.Ledger.{Held, Opened, next_number}
+use Rattle.record_ledger.specs.Ledger.{Held, OpenedLedger, next_number}
 use Rattle.record_ledger.specs.Keeping.{held_in, opened_of, StandsFor}
 use Rattle.record_ledger.specs.Compacting.{IsCompacted, IsOldOrCompacted}
 use Rattle.record_ledger.proofs.Committing.{ledgers_own, journals_own, own_broken, its_kept}
@@ -28,9 +28,9 @@ choose-requires g c = its_read g.S.Standing.rules (StandReady g.S.Standing.row_r
 
 pub compact-requires-clause-own : goal.compact-requires-clause-own
 compact-requires-clause-own g c =
-    let held = ap (λ (l : Opened g.row.S-Record.Denot g.row.S.Denot). l.held) c.self.view_is in
-    let broken = ap (λ (l : Opened g.row.S-Record.Denot g.row.S.Denot). l.broken) c.self.view_is ∙ c.requires.whole in
-    ledgers_own g.S.Standing.rules (StandReady g.S.Standing.row_rules) (g.D.Disk.told c.args.disk.now) c.self.inside.journal c.self.inside.standing c.args.self.now c.self.invariant.0 held (c.self.invariant.1 broken) c.requires.whole c.requires.own
+    let held = ap (λ (l : OpenedLedger g.row.S-Record.Denot g.row.S.Denot). l.held) c.self.view_is in
+    let broken = ap (λ (l : OpenedLedger g.row.S-Record.Denot g.row.S.Denot). l.broken) c.self.view_is ∙ c.requires.whole in
+    ledgers_own g.S.Standing.rules (StandReady g.S.Standing.row_rules) (g.D.Disk.shows c.args.disk.now).told c.self.inside.journal c.self.inside.standing c.args.self.now c.self.invariant.0 held (c.self.invariant.1 broken) c.requires.whole c.requires.own
 
 pub compact-requires-clause-fits : goal.compact-requires-clause-fits
 compact-requires-clause-fits g c = subst Fits (sym c.deref.ensures.value) c.in_ok-payloads.ensures.fits
@@ -54,7 +54,7 @@ returns-in-Ok-clause-ok g c =
     let horizon = c.max-horizon.result in
     let next = c.next_number-next.result in
     let anew = c.in-Ok.ensures.ok ∙ ap (λ (ps : List (List ℕ)). record { kept = made_anew ps horizon next kept; spare = None; broken = false }) c.deref.ensures.value in
-    let held : held_in g.S.Standing.rules kept ≡ c.args.self.now.held = ap (λ (l : Opened g.row.S-Record.Denot g.row.S.Denot). l.held) c.self.view_is in
+    let held : held_in g.S.Standing.rules kept ≡ c.args.self.now.held = ap (λ (l : OpenedLedger g.row.S-Record.Denot g.row.S.Denot). l.held) c.self.view_is in
     let at : horizon ≡ max kept.holds.header.horizon c.args.now = c.max-horizon.ensures ∙ ap (λ (h : Header). max h.horizon c.args.now) c.header-header.ensures in
     let is = compacted g.S.Standing.rules (StandReady g.S.Standing.row_rules) (kept_are_records g.S.Standing.rules c.laws_hold.ensures.kept) c.args.now kept c.self.inside.standing c.self.invariant.0 chosen.payloads.items chosen.standing c.in_ok-payloads.ensures horizon next at (c.next_number-next.ensures ∙ sym (ap (next_number g.S.Standing.rules) held)) in (
       inr (
@@ -62,7 +62,7 @@ returns-in-Ok-clause-ok g c =
         subst (λ (h : Held g.row.S-Record.Denot). IsCompacted g.S.Standing.rules c.args.now h (held_in g.S.Standing.rules c.compact.new.self.kept)) held
             (subst (λ (j : OpenedJournal). IsCompacted g.S.Standing.rules c.args.now (held_in g.S.Standing.rules kept) (held_in g.S.Standing.rules j.kept)) (sym anew) is),
       ),
-      ap (λ (l : Opened g.row.S-Record.Denot g.row.S.Denot). l.broken) c.self.view_is ∙ c.requires.whole,
+      ap (λ (l : OpenedLedger g.row.S-Record.Denot g.row.S.Denot). l.broken) c.self.view_is ∙ c.requires.whole,
     )
 
 pub returns-in-Ok-clause-own : goal.returns-in-Ok-clause-own
@@ -74,56 +74,56 @@ returns-in-Ok-clause-own g c =
     let anew = c.in-Ok.ensures.ok ∙ ap (λ (ps : List (List ℕ)). record { kept = made_anew ps horizon next kept; spare = None; broken = false }) c.deref.ensures.value in
     let stands = subst (λ (j : OpenedJournal). StandsFor g.S.Standing.rules (StandReady g.S.Standing.row_rules) j.kept.holds chosen.standing) (sym anew)
     (stands_anew g.S.Standing.rules (StandReady g.S.Standing.row_rules) (kept_are_records g.S.Standing.rules c.laws_hold.ensures.kept) c.args.now kept c.self.inside.standing c.self.invariant.0 chosen.payloads.items chosen.standing c.in_ok-payloads.ensures horizon next) in
-    journals_own g.S.Standing.rules (StandReady g.S.Standing.row_rules) (g.D.Disk.told c.compact.new.disk) c.compact.new.self chosen.standing (opened_of g.S.Standing.rules c.compact.new.self chosen.standing c.self.inside.key c.self.inside.broken) stands refl
-    (ap (λ (j : OpenedJournal). j.broken) anew) (ap (λ (l : Opened g.row.S-Record.Denot g.row.S.Denot). l.broken) c.self.view_is ∙ c.requires.whole) c.compact.ensures.own
+    journals_own g.S.Standing.rules (StandReady g.S.Standing.row_rules) (g.D.Disk.shows c.compact.new.disk).told c.compact.new.self chosen.standing (opened_of g.S.Standing.rules c.compact.new.self chosen.standing c.self.inside.key c.self.inside.broken) stands refl
+    (ap (λ (j : OpenedJournal). j.broken) anew) (ap (λ (l : OpenedLedger g.row.S-Record.Denot g.row.S.Denot). l.broken) c.self.view_is ∙ c.requires.whole) c.compact.ensures.own
 
 pub returns-in-Ok-clause-moments : goal.returns-in-Ok-clause-moments
 returns-in-Ok-clause-moments g c =
     let kept = c.self.inside.journal.kept in
-    let held : held_in g.S.Standing.rules kept ≡ c.args.self.now.held = ap (λ (l : Opened g.row.S-Record.Denot g.row.S.Denot). l.held) c.self.view_is in
+    let held : held_in g.S.Standing.rules kept ≡ c.args.self.now.held = ap (λ (l : OpenedLedger g.row.S-Record.Denot g.row.S.Denot). l.held) c.self.view_is in
     let horizon = c.max-horizon.result in
     let next = c.next_number-next.result in
-    weaker g.D.Disk.moment g.D.Disk.left_since c.args.disk.now c.compact.new.disk (IsOldOrNew kept (made_anew c.deref.result.now horizon next kept))
+    weaker g.D.Disk.shows c.args.disk.now c.compact.new.disk (IsOldOrNew kept (made_anew c.deref.result.now horizon next kept))
     (IsOldOrCompacted g.S.Standing.rules c.args.now c.args.self.now.held) c.compact.ensures.moments
     (leads g.S.Standing.rules (StandReady g.S.Standing.row_rules) (kept_are_records g.S.Standing.rules c.laws_hold.ensures.kept) c.args.now kept c.self.inside.standing c.self.invariant.0 c.in_ok-payloads.field-0.payloads.items c.in_ok-payloads.field-0.standing c.in_ok-payloads.ensures horizon next
     (c.max-horizon.ensures ∙ ap (λ (h : Header). max h.horizon c.args.now) c.header-header.ensures) (c.next_number-next.ensures ∙ sym (ap (next_number g.S.Standing.rules) held)) (omega (arith, c.if-header.false, ap (λ (h : Header). h.generation) c.header-header.ensures))
-    c.args.self.now.held (ap (λ (l : Opened g.row.S-Record.Denot g.row.S.Denot). l.held) c.self.view_is) c.deref.result.now c.deref.ensures.value)
+    c.args.self.now.held (ap (λ (l : OpenedLedger g.row.S-Record.Denot g.row.S.Denot). l.held) c.self.view_is) c.deref.result.now c.deref.ensures.value)
 
 pub returns-in-Err-NoMemory-clause-moments : goal.returns-in-Err-NoMemory-clause-moments
 returns-in-Err-NoMemory-clause-moments g c =
     let kept = c.self.inside.journal.kept in
-    let held : held_in g.S.Standing.rules kept ≡ c.args.self.now.held = ap (λ (l : Opened g.row.S-Record.Denot g.row.S.Denot). l.held) c.self.view_is in
+    let held : held_in g.S.Standing.rules kept ≡ c.args.self.now.held = ap (λ (l : OpenedLedger g.row.S-Record.Denot g.row.S.Denot). l.held) c.self.view_is in
     let horizon = c.max-horizon.result in
     let next = c.next_number-next.result in
-    weaker g.D.Disk.moment g.D.Disk.left_since c.args.disk.now c.compact.new.disk (IsOldOrNew kept (made_anew c.deref.result.now horizon next kept))
+    weaker g.D.Disk.shows c.args.disk.now c.compact.new.disk (IsOldOrNew kept (made_anew c.deref.result.now horizon next kept))
     (IsOldOrCompacted g.S.Standing.rules c.args.now c.args.self.now.held) c.compact.ensures.moments
     (leads g.S.Standing.rules (StandReady g.S.Standing.row_rules) (kept_are_records g.S.Standing.rules c.laws_hold.ensures.kept) c.args.now kept c.self.inside.standing c.self.invariant.0 c.in_ok-payloads.field-0.payloads.items c.in_ok-payloads.field-0.standing c.in_ok-payloads.ensures horizon next
     (c.max-horizon.ensures ∙ ap (λ (h : Header). max h.horizon c.args.now) c.header-header.ensures) (c.next_number-next.ensures ∙ sym (ap (next_number g.S.Standing.rules) held)) (omega (arith, c.if-header.false, ap (λ (h : Header). h.generation) c.header-header.ensures))
-    c.args.self.now.held (ap (λ (l : Opened g.row.S-Record.Denot g.row.S.Denot). l.held) c.self.view_is) c.deref.result.now c.deref.ensures.value)
+    c.args.self.now.held (ap (λ (l : OpenedLedger g.row.S-Record.Denot g.row.S.Denot). l.held) c.self.view_is) c.deref.result.now c.deref.ensures.value)
 
 pub returns-in-Err-DiskFault-clause-own : goal.returns-in-Err-DiskFault-clause-own
 returns-in-Err-DiskFault-clause-own g c =
     let kept = c.self.inside.journal.kept in
     let horizon = c.max-horizon.result in
     let next = c.next_number-next.result in
-    let held : held_in g.S.Standing.rules kept ≡ c.args.self.now.held = ap (λ (l : Opened g.row.S-Record.Denot g.row.S.Denot). l.held) c.self.view_is in
+    let held : held_in g.S.Standing.rules kept ≡ c.args.self.now.held = ap (λ (l : OpenedLedger g.row.S-Record.Denot g.row.S.Denot). l.held) c.self.view_is in
     let Q : Image → Type 0 = IsOldOrCompacted g.S.Standing.rules c.args.now c.args.self.now.held in
-    let so = weaker g.D.Disk.moment g.D.Disk.left_since c.args.disk.now c.compact.new.disk (IsOldOrNew kept (made_anew c.deref.result.now horizon next kept))
+    let so = weaker g.D.Disk.shows c.args.disk.now c.compact.new.disk (IsOldOrNew kept (made_anew c.deref.result.now horizon next kept))
     Q c.compact.ensures.moments
     (leads g.S.Standing.rules (StandReady g.S.Standing.row_rules) (kept_are_records g.S.Standing.rules c.laws_hold.ensures.kept) c.args.now kept c.self.inside.standing c.self.invariant.0 c.in_ok-payloads.field-0.payloads.items c.in_ok-payloads.field-0.standing c.in_ok-payloads.ensures horizon next
     (c.max-horizon.ensures ∙ ap (λ (h : Header). max h.horizon c.args.now) c.header-header.ensures) (c.next_number-next.ensures ∙ sym (ap (next_number g.S.Standing.rules) held)) (omega (arith, c.if-header.false, ap (λ (h : Header). h.generation) c.header-header.ensures))
     c.args.self.now.held held c.deref.result.now c.deref.ensures.value) in
-    own_broken g.S.Standing.rules (StandReady g.S.Standing.row_rules) (g.D.Disk.told c.compact.new.disk) (opened_of g.S.Standing.rules c.compact.new.self c.self.inside.standing c.self.inside.key true) refl (λ image left.
+    own_broken g.S.Standing.rules (StandReady g.S.Standing.row_rules) (g.D.Disk.shows c.compact.new.disk).told (opened_of g.S.Standing.rules c.compact.new.self c.self.inside.standing c.self.inside.key true) refl (λ image left.
     old_or_compacted_ok g.S.Standing.rules (StandReady g.S.Standing.row_rules) (kept_are_records g.S.Standing.rules c.laws_hold.ensures.kept) c.args.now c.args.self.now.held image
-    (left_now_stands g.D.Disk.moment g.D.Disk.left_since g.D.Disk.told c.args.disk.now c.compact.new.disk Q g.met.D.Disk.counts_now so image left))
+    (left_now_stands g.D.Disk.shows c.args.disk.now c.compact.new.disk Q g.met.D.Disk.counts_now so image left))
 
 pub returns-in-Err-DiskFault-clause-moments : goal.returns-in-Err-DiskFault-clause-moments
 returns-in-Err-DiskFault-clause-moments g c =
     let kept = c.self.inside.journal.kept in
     let horizon = c.max-horizon.result in
     let next = c.next_number-next.result in
-    let held : held_in g.S.Standing.rules kept ≡ c.args.self.now.held = ap (λ (l : Opened g.row.S-Record.Denot g.row.S.Denot). l.held) c.self.view_is in
-    weaker g.D.Disk.moment g.D.Disk.left_since c.args.disk.now c.compact.new.disk (IsOldOrNew kept (made_anew c.deref.result.now horizon next kept))
+    let held : held_in g.S.Standing.rules kept ≡ c.args.self.now.held = ap (λ (l : OpenedLedger g.row.S-Record.Denot g.row.S.Denot). l.held) c.self.view_is in
+    weaker g.D.Disk.shows c.args.disk.now c.compact.new.disk (IsOldOrNew kept (made_anew c.deref.result.now horizon next kept))
     (IsOldOrCompacted g.S.Standing.rules c.args.now c.args.self.now.held) c.compact.ensures.moments
     (leads g.S.Standing.rules (StandReady g.S.Standing.row_rules) (kept_are_records g.S.Standing.rules c.laws_hold.ensures.kept) c.args.now kept c.self.inside.standing c.self.invariant.0 c.in_ok-payloads.field-0.payloads.items c.in_ok-payloads.field-0.standing c.in_ok-payloads.ensures horizon next
     (c.max-horizon.ensures ∙ ap (λ (h : Header). max h.horizon c.args.now) c.header-header.ensures) (c.next_number-next.ensures ∙ sym (ap (next_number g.S.Standing.rules) held)) (omega (arith, c.if-header.false, ap (λ (h : Header). h.generation) c.header-header.ensures))
@@ -144,7 +144,7 @@ module _ (g : Over) (c : After-compact g) where
 
   is_compacted : IsCompacted rules c.args.now c.args.self.now.held (held_in rules anew)
   is_compacted =
-      let held : held_in rules kept ≡ c.args.self.now.held = ap (λ (l : Opened g.row.S-Record.Denot g.row.S.Denot). l.held) c.self.view_is in
+      let held : held_in rules kept ≡ c.args.self.now.held = ap (λ (l : OpenedLedger g.row.S-Record.Denot g.row.S.Denot). l.held) c.self.view_is in
       subst (λ (h : Held g.row.S-Record.Denot). IsCompacted rules c.args.now h (held_in rules anew)) held
       (compacted rules (StandReady g.S.Standing.row_rules) (kept_are_records rules c.laws_hold.ensures.kept) c.args.now kept c.self.inside.standing
       c.self.invariant.0 c.in_ok-payloads.field-0.payloads.items c.in_ok-payloads.field-0.standing c.in_ok-payloads.ensures c.max-horizon.result
@@ -171,7 +171,7 @@ returns-in-Ok-clause-calls g c =
       held_in g.S.Standing.rules (anew g a),
       is_compacted g a,
       calls.answers tt (compacting g.S.Standing.rules (held_in g.S.Standing.rules (anew g a))) d0 new
-          (calls.follows_same _ plan (compacting g.S.Standing.rules (held_in g.S.Standing.rules (anew g a))) d0 new (always (g.D.Disk.told d0) _ (planned g a))
+          (calls.follows_same _ plan (compacting g.S.Standing.rules (held_in g.S.Standing.rules (anew g a))) d0 new (always (g.D.Disk.shows d0).told _ (planned g a))
           (calls.made c.in-Ok.field-0 plan d0 new c.in-Ok.ensures.calls)),
     )
 
@@ -185,6 +185,6 @@ returns-in-Err-DiskFault-clause-calls g c =
     inr (
       held_in g.S.Standing.rules (anew g a),
       is_compacted g a,
-      calls.follows_same failed plan (compacting g.S.Standing.rules (held_in g.S.Standing.rules (anew g a))) d0 new (always (g.D.Disk.told d0) _ (planned g a))
+      calls.follows_same failed plan (compacting g.S.Standing.rules (held_in g.S.Standing.rules (anew g a))) d0 new (always (g.D.Disk.shows d0).told _ (planned g a))
           (calls.hands_on {T = Unit {0}} (λ _. Unit {0}) c.in-Err-DiskFault.field-0 failed plan d0 new tt c.in-Err-DiskFault.ensures.calls),
     )

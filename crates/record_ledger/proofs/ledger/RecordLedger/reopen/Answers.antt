@@ -3,4 +3,4 @@ use Rattle.record_ledger.proofs.ledger.RecordLedger.reopen.Goals as goal
 
 pub returns-in-Err-clause-own_err : goal.returns-in-Err-clause-own_err
 returns-in-Err-clause-own_err g c own =
-    own_broken g.S.Standing.rules (g.D.Disk.told c.open_both.new.disk) (c.in-Err.ensures.err (broken_own g.S.Standing.rules (g.D.Disk.told c.args.disk.now) own))
+    own_broken g.S.Standing.rules (g.D.Disk.shows c.open_both.new.disk).told (c.in-Err.ensures.err (broken_own g.S.Standing.rules (g.D.Disk.shows c.args.disk.now).told own))

@@ -17,13 +17,13 @@ returns-clause-answers g c =
       a.1,
       ap (λ (p : List ℕ). Sent (Some p) c.in_ok-bytes.bytes) (sym a.3) ∙ ap (λ (b : List ℕ). Sent (Some a.0.request.path) b) bytes,
       record {
-        request = subst (λ (n : ℕ). IfSome (map.get c.args.self.now.conns n) (λ bytes. Reads bytes (Whole a.0.request))) (sym a.1) a.4;
+        request = subst (λ (n : ℕ). IfSome (map.get c.args.self.now.conns.now n) (λ bytes. Reads bytes (Whole a.0.request))) (sym a.1) a.4;
         told = world_of c.args.now (host_in c.ask.new.self);
         asks = a.5;
         sends = record { out = WentOut refl (omega arith); same = refl };
         gone =
             c.gone.ensures ∙ ap (λ (t : Table). map.remove t c.args.conn) c.ask.ensures.conns
-            ∙ ap (λ (n : ℕ). map.remove c.args.self.now.conns n) (sym a.1);
+            ∙ ap (λ (n : ℕ). map.remove c.args.self.now.conns.now n) (sym a.1);
       },
       a.6,
     )

@@ -1,5 +1,5 @@
-use Rattle.std.proofs.Common.{refl, ℕ, [], ◌∷◌, subst, sym, ap, inl, inr, length}
-use Rattle.crash_disk.specs.Memory.{DiskInMemory, LeftSince}
+use Rattle.std.proofs.Common.{refl, ℕ, [], ◌∷◌, subst, sym, ap, inl, inr}
+use Rattle.crash_disk.specs.InMemory.{shown_in_memory}
 use Rattle.conn_table.specs.declared.progress.Progress.{Progress}
 use Rattle.conn_table.specs.declared.progress.Progress.TheVariants as progress
 use Rattle.conn_table.specs.Calls.{TakesPiece}
@@ -14,7 +14,7 @@ use Rattle.schedule_replay.proofs.host.HeldHost.take.Goals as goal
 
 pub refuse-requires : goal.refuse-requires
 refuse-requires g c =
-    refused_page c.args.self.now.conns c.args.conn c.args.piece.now c.in-Refused.status c.piece.new.self c.in-Refused.ensures
+    refused_page c.args.self.now.conns.now c.args.conn c.args.piece.now c.in-Refused.status c.piece.new.self c.in-Refused.ensures
 
 pub returns-in-Waiting-clause-serves : goal.returns-in-Waiting-clause-serves
 returns-in-Waiting-clause-serves g c =
@@ -40,7 +40,7 @@ returns-in_ok-answer-in-Ready-clause-serves g c =
       record {
         does = (c.piece.new.self, subst (λ (n : ℕ). TakesPiece host.kept n bytes progress.Ready c.piece.new.self) (sym a.1) c.in-Ready.ensures, a.3);
         leaves =
-            asked_once g.N.Node.leaves (λ (disk : DiskInMemory). length disk.log) LeftSince (told host) host.disk
+            asked_once g.N.Node.leaves shown_in_memory (told host) host.disk
             (host_in c.answer.new.self).disk bytes a.0 a.4;
       },
     )

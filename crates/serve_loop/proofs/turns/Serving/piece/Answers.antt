@@ -19,9 +19,9 @@ returns-in-Waiting-clause-does g c =
     let takes = λ (answer : Progress). TakesPiece c.args.self.now.conns.now conn bytes answer c.piece.new.self in
     elim c.in-Waiting.is [
       | inl is ↦
-          (Waiting conn bytes, refl, (subst takes is c.piece.ensures, refl), untouched g.N.Node.leaves g.D.Disk.moment g.D.Disk.left_since g.D.Disk.told g.met.D.Disk.only_now disk disk (Waiting conn bytes ∷ []) refl)
+          (Waiting conn bytes, refl, (subst takes is c.piece.ensures, refl), untouched g.N.Node.leaves g.D.Disk.shows g.met.D.Disk.only_now disk disk (Waiting conn bytes ∷ []) refl)
       | inr is ↦
-          (Unknown conn bytes, refl, (subst takes is c.piece.ensures, refl), untouched g.N.Node.leaves g.D.Disk.moment g.D.Disk.left_since g.D.Disk.told g.met.D.Disk.only_now disk disk (Unknown conn bytes ∷ []) refl)
+          (Unknown conn bytes, refl, (subst takes is c.piece.ensures, refl), untouched g.N.Node.leaves g.D.Disk.shows g.met.D.Disk.only_now disk disk (Unknown conn bytes ∷ []) refl)
     ]
 
 pub returns-in-Ready-clause-does : goal.returns-in-Ready-clause-does
@@ -31,7 +31,7 @@ returns-in-Ready-clause-does g c =
       Answered bytes a.0,
       ap (λ (n : ℕ). Piece n bytes) a.1,
       (c.piece.new.self, subst (λ (n : ℕ). TakesPiece c.args.self.now.conns.now n bytes progress.Ready c.piece.new.self) (sym a.1) c.in-Ready.ensures, a.2),
-      asked_once g.N.Node.leaves g.D.Disk.moment g.D.Disk.left_since (g.D.Disk.told c.args.self.now.disk.now) c.args.self.now.disk.now c.answer.new.self.disk.now bytes a.0 a.3,
+      asked_once g.N.Node.leaves g.D.Disk.shows (g.D.Disk.shows c.args.self.now.disk.now).told c.args.self.now.disk.now c.answer.new.self.disk.now bytes a.0 a.3,
     )
 
 pub returns-in-Refused-clause-does : goal.returns-in-Refused-clause-does
@@ -40,7 +40,7 @@ returns-in-Refused-clause-does g c =
       turn,
       refl,
       (c.piece.new.self, c.in-Refused.ensures, c.refuse.ensures.lets_go),
-      untouched g.N.Node.leaves g.D.Disk.moment g.D.Disk.left_since g.D.Disk.told g.met.D.Disk.only_now c.args.self.now.disk.now c.refuse.new.self.disk.now (turn ∷ []) c.refuse.ensures.others.disk,
+      untouched g.N.Node.leaves g.D.Disk.shows g.met.D.Disk.only_now c.args.self.now.disk.now c.refuse.new.self.disk.now (turn ∷ []) c.refuse.ensures.others.disk,
     )
 
 pub returns-in-NoMemory-clause-does : goal.returns-in-NoMemory-clause-does
@@ -50,5 +50,5 @@ returns-in-NoMemory-clause-does g c =
       turn,
       refl,
       (c.piece.new.self, c.in-NoMemory.ensures, refuse.ensures.lets_go),
-      untouched g.N.Node.leaves g.D.Disk.moment g.D.Disk.left_since g.D.Disk.told g.met.D.Disk.only_now c.args.self.now.disk.now refuse.new.self.disk.now (turn ∷ []) refuse.ensures.others.disk,
+      untouched g.N.Node.leaves g.D.Disk.shows g.met.D.Disk.only_now c.args.self.now.disk.now refuse.new.self.disk.now (turn ∷ []) refuse.ensures.others.disk,
     )

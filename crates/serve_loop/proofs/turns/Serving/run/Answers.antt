@@ -15,9 +15,9 @@ pub loop-events-init : goal.loop-events-init
 loop-events-init g c =
     let first = c.args.self.now in
     record {
-      since = none_done (IsAnswered g.N.Node.own g.N.Node.step g.N.Node.leaves) g.N.Node.leaves g.D.Disk.moment g.D.Disk.left_since first.disk.now
-          (world_in g.D.Disk.told g.D.Disk.faults_of g.D.Disk.moment g.L.Link.told g.L.Link.send_faults_of g.C.Clock.to_come first) first.conns.now c.requires.none_kept refl
-          (at_end g.N.Node.leaves g.D.Disk.moment g.D.Disk.left_since g.D.Disk.told g.met.D.Disk.counts_now g.met.D.Disk.only_now first.disk.now (world_in g.D.Disk.told g.D.Disk.faults_of g.D.Disk.moment g.L.Link.told g.L.Link.send_faults_of g.C.Clock.to_come first) refl refl)
+      since = none_done (IsAnswered g.N.Node.own g.N.Node.step g.N.Node.leaves) g.N.Node.leaves g.D.Disk.shows first.disk.now
+          (world_in g.D.Disk.shows g.L.Link.shows g.C.Clock.to_come first) first.conns.now c.requires.none_kept refl
+          (at_end g.N.Node.leaves g.D.Disk.shows g.met.D.Disk.counts_now g.met.D.Disk.only_now first.disk.now (world_in g.D.Disk.shows g.L.Link.shows g.C.Clock.to_come first) refl refl)
           (g.met.D.Disk.only_now first.disk.now);
       own = c.requires.own;
       faults = omega arith;
@@ -31,13 +31,13 @@ loop-events-preserved g c =
     let first = c.args.self.now in
     let old = c.loop-events.self in
     let new = c.turn.new.self in
-    let at = λ (held : Serving g.row.N.Denot g.row.L.Denot g.row.D.Denot g.row.C.Denot). world_in g.D.Disk.told g.D.Disk.faults_of g.D.Disk.moment g.L.Link.told g.L.Link.send_faults_of g.C.Clock.to_come held in
+    let at = λ (held : Serving g.row.N.Denot g.row.L.Denot g.row.D.Denot g.row.C.Denot). world_in g.D.Disk.shows g.L.Link.shows g.C.Clock.to_come held in
     let held = c.loop-events.invariant in
     let turn = rw c.if-not-branch.false at c.in_ok-turn.ensures.ok in
     record {
-      since = one_more_done (IsAnswered g.N.Node.own g.N.Node.step g.N.Node.leaves) g.N.Node.leaves g.D.Disk.moment g.D.Disk.left_since first.disk.now (at first) c.loop-events.events old.conns.now new.conns.now old.disk.now new.disk.now (at old) turn.1 (at new) turn.0 held.since turn.2 turn.3
+      since = one_more_done (IsAnswered g.N.Node.own g.N.Node.step g.N.Node.leaves) g.N.Node.leaves g.D.Disk.shows first.disk.now (at first) c.loop-events.events old.conns.now new.conns.now old.disk.now new.disk.now (at old) turn.1 (at new) turn.0 held.since turn.2 turn.3
           (g.met.D.Disk.counts_now old.disk.now) turn.4 refl
-          (at_end g.N.Node.leaves g.D.Disk.moment g.D.Disk.left_since g.D.Disk.told g.met.D.Disk.counts_now g.met.D.Disk.only_now new.disk.now (at new) refl refl);
+          (at_end g.N.Node.leaves g.D.Disk.shows g.met.D.Disk.counts_now g.met.D.Disk.only_now new.disk.now (at new) refl refl);
       own = c.turn.ensures.own;
       faults = omega (arith, held.faults, c.turn.ensures.disk_faults);
       link_faults = omega (arith, held.link_faults, c.turn.ensures.faults.never_falls);
@@ -50,18 +50,18 @@ returns-in_err-turn g c =
     let first = c.args.self.now in
     let old = c.loop-events.self in
     let new = c.turn.new.self in
-    let at = λ (held : Serving g.row.N.Denot g.row.L.Denot g.row.D.Denot g.row.C.Denot). world_in g.D.Disk.told g.D.Disk.faults_of g.D.Disk.moment g.L.Link.told g.L.Link.send_faults_of g.C.Clock.to_come held in
+    let at = λ (held : Serving g.row.N.Denot g.row.L.Denot g.row.D.Denot g.row.C.Denot). world_in g.D.Disk.shows g.L.Link.shows g.C.Clock.to_come held in
     let held = c.loop-events.invariant in
     let same = c.in_err-turn.ensures.err in
     let counts = c.in_err-turn.ensures.faults in
     let fault : c.from_residual.result ≡ Err LinkFault = search rules in
     let more : length held.since.turns < c.args.budget = omega (arith, held.since.counted, c.loop-events-test.true) in
     record {
-      serves = ended (IsAnswered g.N.Node.own g.N.Node.step g.N.Node.leaves) g.N.Node.leaves g.D.Disk.moment g.D.Disk.left_since first.disk.now (at first) c.loop-events.events old.conns.now old.disk.now new.disk.now (at old) (at new) c.args.budget c.from_residual.result held.since same.1
+      serves = ended (IsAnswered g.N.Node.own g.N.Node.step g.N.Node.leaves) g.N.Node.leaves g.D.Disk.shows first.disk.now (at first) c.loop-events.events old.conns.now old.disk.now new.disk.now (at old) (at new) c.args.budget c.from_residual.result held.since same.1
           (subst (λ (r : Result Served ServeFault). Ends c.args.budget held.since.turns (at old) r (at new)) (sym fault) (more, same.0));
       own = c.turn.ensures.own;
       disk_faults = omega (arith, held.faults, c.turn.ensures.disk_faults);
-      link_faults = record { never_falls = omega (arith, held.link_faults, counts.never_falls); failed = λ e. rose_before (g.L.Link.faults_of first.link.now) (g.L.Link.faults_of old.link.now) (g.L.Link.faults_of new.link.now) held.link_faults counts.failed };
+      link_faults = record { never_falls = omega (arith, held.link_faults, counts.never_falls); failed = λ e. rose_before (g.L.Link.shows first.link.now).faults (g.L.Link.shows old.link.now).faults (g.L.Link.shows new.link.now).faults held.link_faults counts.failed };
       memory = λ e. cc (fault);
       objects = same_objects first old new held.objects c.turn.ensures.objects;
     }
@@ -71,13 +71,13 @@ returns-then-not-branch g c =
     let first = c.args.self.now in
     let old = c.loop-events.self in
     let new = c.turn.new.self in
-    let at = λ (held : Serving g.row.N.Denot g.row.L.Denot g.row.D.Denot g.row.C.Denot). world_in g.D.Disk.told g.D.Disk.faults_of g.D.Disk.moment g.L.Link.told g.L.Link.send_faults_of g.C.Clock.to_come held in
+    let at = λ (held : Serving g.row.N.Denot g.row.L.Denot g.row.D.Denot g.row.C.Denot). world_in g.D.Disk.shows g.L.Link.shows g.C.Clock.to_come held in
     let held = c.loop-events.invariant in
     let stop = rw c.if-not-branch.true at c.in_ok-turn.ensures.ok in
     let more : length held.since.turns < c.args.budget = omega (arith, held.since.counted, c.loop-events-test.true) in
     let result : Result Served ServeFault = Ok (record { events = c.loop-events.events; stopped = true }) in
     record {
-      serves = ended (IsAnswered g.N.Node.own g.N.Node.step g.N.Node.leaves) g.N.Node.leaves g.D.Disk.moment g.D.Disk.left_since first.disk.now (at first) c.loop-events.events old.conns.now old.disk.now new.disk.now (at old) (at new) c.args.budget result held.since stop.1
+      serves = ended (IsAnswered g.N.Node.own g.N.Node.step g.N.Node.leaves) g.N.Node.leaves g.D.Disk.shows first.disk.now (at first) c.loop-events.events old.conns.now old.disk.now new.disk.now (at old) (at new) c.args.budget result held.since stop.1
           (sym held.since.counted, (more, stop.0));
       own = c.turn.ensures.own;
       disk_faults = omega (arith, held.faults, c.turn.ensures.disk_faults);
@@ -91,11 +91,11 @@ returns g c =
     let first = c.args.self.now in
     let last = c.loop-events.self in
     let held = c.loop-events.invariant in
-    let at = λ (held : Serving g.row.N.Denot g.row.L.Denot g.row.D.Denot g.row.C.Denot). world_in g.D.Disk.told g.D.Disk.faults_of g.D.Disk.moment g.L.Link.told g.L.Link.send_faults_of g.C.Clock.to_come held in
+    let at = λ (held : Serving g.row.N.Denot g.row.L.Denot g.row.D.Denot g.row.C.Denot). world_in g.D.Disk.shows g.L.Link.shows g.C.Clock.to_come held in
     let all : length held.since.turns ≡ c.args.budget = omega (arith, held.since.counted, c.loop-events-test.false, c.loop-events.auto.events-end) in
     let result : Result Served ServeFault = Ok (record { events = c.args.budget; stopped = false }) in
     record {
-      serves = ended (IsAnswered g.N.Node.own g.N.Node.step g.N.Node.leaves) g.N.Node.leaves g.D.Disk.moment g.D.Disk.left_since first.disk.now (at first) c.loop-events.events last.conns.now last.disk.now last.disk.now (at last) (at last) c.args.budget result held.since refl
+      serves = ended (IsAnswered g.N.Node.own g.N.Node.step g.N.Node.leaves) g.N.Node.leaves g.D.Disk.shows first.disk.now (at first) c.loop-events.events last.conns.now last.disk.now last.disk.now (at last) (at last) c.args.budget result held.since refl
           (sym all, (all, refl));
       own = held.own;
       disk_faults = held.faults;

@@ -8,4 +8,4 @@ pub returns-clause-sends : goal.returns-clause-sends
 returns-clause-sends g c =
     let n = c.put_fixed-end.result in
     let is : take n c.put_fixed-end.new.out ≡ fixed c.args.code = front_of n c.put_fixed-end.new.out (fixed c.args.code) (drop n _) c.put_fixed-end.ensures.text c.put_fixed-end.ensures.length in
-    subst (λ (bytes : List ℕ). GoesOut c.args.conn bytes (g.L.Link.told c.args.self.now.link.now) (g.L.Link.told c.send.new.self.link.now) (g.L.Link.send_faults_of c.args.self.now.link.now) (g.L.Link.send_faults_of c.send.new.self.link.now)) is c.send.ensures.sends
+    subst (λ (bytes : List ℕ). GoesOut c.args.conn bytes (g.L.Link.shows c.args.self.now.link.now).told (g.L.Link.shows c.send.new.self.link.now).told (g.L.Link.shows c.args.self.now.link.now).send_faults (g.L.Link.shows c.send.new.self.link.now).send_faults) is c.send.ensures.sends

@@ -26,7 +26,7 @@ returns-in-TableFull-clause-does g c =
       refl,
       (
         subst (IsStarted (map.remove c.args.self.now.conns.now c.args.conn) c.args.conn start.TableFull) (sym c.send_page.ensures.conns) started,
-        only_sends g.D.Disk.told g.D.Disk.faults_of g.D.Disk.moment g.L.Link.told g.L.Link.send_faults_of g.C.Clock.to_come c.args.self.now c.send_page.new.self
+        only_sends g.D.Disk.shows g.L.Link.shows g.C.Clock.to_come c.args.self.now c.send_page.new.self
             c.send_page.ensures.others.node c.send_page.ensures.others.disk c.send_page.ensures.others.clock
             c.args.conn (fixed 503) c.send_page.ensures.sends,
       ),
@@ -40,7 +40,7 @@ returns-in-NoMemory-clause-does g c =
       refl,
       (
         subst (IsStarted (map.remove c.args.self.now.conns.now c.args.conn) c.args.conn start.NoMemory) (sym page.ensures.conns) started,
-        only_sends g.D.Disk.told g.D.Disk.faults_of g.D.Disk.moment g.L.Link.told g.L.Link.send_faults_of g.C.Clock.to_come c.args.self.now page.new.self
+        only_sends g.D.Disk.shows g.L.Link.shows g.C.Clock.to_come c.args.self.now page.new.self
             page.ensures.others.node page.ensures.others.disk page.ensures.others.clock
             c.args.conn (fixed 52) page.ensures.sends,
       ),

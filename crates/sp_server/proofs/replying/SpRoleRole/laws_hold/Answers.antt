@@ -8,9 +8,10 @@ use Rattle.sp_server.proofs.replying.SpRoleRole.laws_hold.Goals as goal
 
 pub returns : goal.returns
 returns c =
+    let told = c.each_moment_is_told.ensures c.args.now c.requires in
     subst (λ (s : Setup). AreReplies sp_replies request_rules Answers s c.args.now) c.self.view_is
     (sp_laws _ c.args.now (record {
-      asking = c.has_instant.ensures;
-      leaving = c.each_logout_has_an_answer.ensures.leaving;
-      ending = c.each_logout_has_an_answer.ensures.ending;
+      asking = (told.0, told.1);
+      leaving = c.each_logout_has_an_answer.ensures.leaving c.args.now c.requires;
+      ending = c.each_logout_has_an_answer.ensures.ending c.args.now c.requires;
     }) c.self.invariant c.compactions_change_no_answer.ensures)

@@ -1,0 +1,91 @@
+// What the files that a hub's config names hold.
+
+ghost use Rattle.std.specs.Prelude.{◌≡◌, ◌≤◌, IfOk, IfErr, OnOk};
+ghost use Rattle.sp_setup.specs.Faults.{IsFaultOf};
+ghost use Rattle.hub_setup.specs.Setup.{nothing, with_peer, Adds, IsBadFile, AreLoaded, IsFirstBad};
+
+use idp_setup::read_peer_files;
+use peer_keys::{LogoutPeer, Peers};
+use provider_config::HubFile;
+use saml_outside::{Files, NoMemory};
+use sp_setup::SetupFault;
+use std::alloc::Global;
+
+/// What the files of a config hold, as far as they were read.
+#[derive(Debug, Drop)]
+pub(crate) struct Loaded {
+    /// Those that a service provider's config names too.
+    pub above: sp_setup::Loaded,
+    /// The peers, in the order of their lines.
+    pub peers: Peers,
+    /// The line of the first peer that has the name of one before it.
+    pub doubled: Option<u32>,
+}
+
+impl Loaded {
+    /// Nothing is read yet. It takes no memory.
+    fn nothing(alloc: Global) -> Loaded
+        ensures { result ≡ nothing }
+    {
+        Loaded {
+            above: sp_setup::Loaded::nothing(),
+            peers: Peers::new(alloc),
+            doubled: None,
+        }
+    }
+
+    /// Takes the peer of this line.
+    fn take_peer(&mut self, line: u32, peer: LogoutPeer) -> Result<(), NoMemory>
+        ensures { OnOk result (self.new ≡ with_peer line peer self.old) }
+    {
+        if self.doubled.is_none() && self.peers.place_of(peer.peer.entity.as_str()).is_some() {
+            self.doubled = Some(line);
+        }
+        self.peers.push(peer)
+    }
+
+    /// Reads the files that a line names, and takes what they hold.
+    fn load<F: Files>(
+        &mut self,
+        alloc: Global,
+        files: &mut F,
+        named: &HubFile,
+    ) -> Result<(), SetupFault>
+        ensures ok { OnOk result (Adds (F.holds files.old) named.now self.old self.new) }
+        ensures err { IfErr result (IsFaultOf (IsBadFile (F.holds files.old) named.now) (F.faults_of files.old) (F.faults_of files.new)) }
+        ensures same { F.holds files.new ≡ F.holds files.old }
+        ensures never_falls { F.faults_of files.old ≤ F.faults_of files.new }
+    {
+        match named {
+            HubFile::Above(file) => {
+                self.above.load(alloc, files, file)?;
+                Ok(())
+            }
+            HubFile::Peer(names) => {
+                let peer = read_peer_files(alloc, files, names)?;
+                match self.take_peer(names.line, peer) {
+                    Ok(()) => Ok(()),
+                    Err(NoMemory) => Err(SetupFault::NoMemory),
+                }
+            }
+        }
+    }
+
+    /// Reads the files in order and takes what they hold, or tells the first that can't be used.
+    pub(crate) fn of_files<F: Files>(
+        alloc: Global,
+        files: &mut F,
+        named: &[HubFile],
+    ) -> Result<Loaded, SetupFault>
+        ensures ok { IfOk result (AreLoaded (F.holds files.old) named.now nothing) }
+        ensures err { IfErr result (IsFaultOf (IsFirstBad (F.holds files.old) named.now nothing) (F.faults_of files.old) (F.faults_of files.new)) }
+        ensures same { F.holds files.new ≡ F.holds files.old }
+        ensures never_falls { F.faults_of files.old ≤ F.faults_of files.new }
+    {
+        let mut loaded = Loaded::nothing(alloc);
+        for file in named {
+            loaded.load(alloc, files, file)?;
+        }
+        Ok(loaded)
+    }
+}

@@ -1,0 +1,29 @@
+use Rattle.std.proofs.Common.{◌≡◌, ℕ, Ok, Some, ok_or, subst, sym, ap, ◌∙◌, arith}
+use Rattle.provider_config.specs.HubConfig.{hub_config, config_view, complete}
+use Rattle.provider_config.specs.HubDrafts.{config_from}
+use Rattle.provider_config.proofs.HubNaming.{all_named, few_named}
+use Rattle.provider_config.proofs.HubRunning.{at_first}
+use Rattle.provider_config.proofs.Numbers.{AreSmall, small_numbers}
+use Rattle.provider_config.proofs.hub_read.read_hub_config.Goals as goal
+
+pub loop-said-init : goal.loop-said-init
+loop-said-init c = record {
+  config = (λ i. config_from (c.new-draft.ensures i) (c.new-lines.ensures i)) ∙ at_first c.args.text.now;
+  small = subst AreSmall (sym c.new-lines.ensures) (small_numbers c.args.text.now (omega (arith, c.requires)));
+}
+
+pub returns-in-Some-complete-clause-files : goal.returns-in-Some-complete-clause-files
+returns-in-Some-complete-clause-files c =
+    let config = config_view c.in-Some-complete.lines in
+    let found : complete c.loop-said.draft ≡ Some config = sym c.in-Some-complete.ensures.value in
+    let spelled : hub_config c.args.text.now ≡ Ok config =
+    sym c.loop-said.invariant.config ∙ ap (config_from c.loop-said.draft) c.in_default.ensures.0 ∙ ap (λ o. ok_or {E = ℕ} o 0) found in
+    all_named c.args.text.now config spelled
+
+pub returns-in-Some-complete-clause-few : goal.returns-in-Some-complete-clause-few
+returns-in-Some-complete-clause-few c =
+    let config = config_view c.in-Some-complete.lines in
+    let found : complete c.loop-said.draft ≡ Some config = sym c.in-Some-complete.ensures.value in
+    let spelled : hub_config c.args.text.now ≡ Ok config =
+    sym c.loop-said.invariant.config ∙ ap (config_from c.loop-said.draft) c.in_default.ensures.0 ∙ ap (λ o. ok_or {E = ℕ} o 0) found in
+    few_named c.args.text.now config spelled

@@ -1,0 +1,15 @@
+use Rattle.std.proofs.Common.{◌≡◌, length}
+use Rattle.provider_config.specs.HubConfig.{hub_config}
+use Rattle.provider_config.specs.HubDrafts.{config_from}
+use Rattle.provider_config.proofs.Numbers.{AreSmall}
+use Rattle.provider_config.proofs.hub_read.read_hub_config.Given as goal
+
+-- what is found and what is still to be said make the config
+abbrev pub invariant-loop-said : goal.invariant-loop-said
+invariant-loop-said l = record {
+  config : config_from l.draft l.lines ≡ hub_config l.text;
+  small : AreSmall l.lines;
+}
+
+abbrev pub decreases-loop-said : goal.decreases-loop-said
+decreases-loop-said l = length l.lines

@@ -1,0 +1,69 @@
+// A hub's config is read.
+
+ghost use Rattle.std.specs.Prelude.{◌≡◌, ◌<◌, ◌≤◌, ◌*◌, ◌^◌, length, count_by, IfOk, IfSome, IsTrue};
+ghost use Rattle.owned_values.specs.Gives.{Gives};
+ghost use Rattle.xml_spec.specs.Characters.{IsText};
+ghost use Rattle.text_lines.specs.Views.{said_view};
+ghost use Rattle.provider_config.specs.Config.{AreInOrder};
+ghost use Rattle.provider_config.specs.HubConfig.{hub_config, config_view, IsSound, has_files, is_peer_file};
+ghost use Rattle.provider_config.specs.HubDrafts.{next_line};
+ghost use Rattle.provider_config.specs.Shared.{SaysText, fault_of, number_said};
+
+use crate::config::MAX_CONFIG_LENGTH;
+use crate::fault::ConfigFault;
+use crate::hub_config::HubLines;
+use crate::hub_draft::HubDraft;
+use crate::hub_line::{HubLine, line_of};
+use crate::idp_config::MAX_PEERS;
+use crate::line::{MILLIS, MOST_SKEW};
+use std::alloc::Global;
+use text_lines::{Lines, Said};
+
+/// The line that is said next.
+///
+/// # Errors
+///
+/// `Line`, exactly where it is no text, is none of a config, or has a key that was found as often as it may stand.
+fn next_line(alloc: Global, draft: &HubDraft, said: Said<'_>) -> Result<HubLine, ConfigFault>
+    requires number { number_said (said_view said) < 2 ^ 32 }
+    requires text { SaysText (said_view said) }
+    ensures value { Gives (λ line. line) fault_of result (next_line draft.now (said_view said.entry)) }
+    ensures sound { IfOk result IsSound }
+{
+    match said {
+        Said::Line { number, text } => match line_of(alloc, number as u32, text)? {
+            Some(line) if !draft.stands(&line) => Ok(line),
+            _ => Err(ConfigFault::Line(number as u32)),
+        },
+        Said::NoText { number } => Err(ConfigFault::Line(number as u32)),
+    }
+}
+
+/// The lines of a hub's config: those of a service provider's, but for `policy`, `registry` and `guard`, and the peers of an
+/// identity provider's.
+///
+/// # Errors
+///
+/// `Line` with the number of the first line that is no text, is none of a config, has a key that stands in a line before
+/// it, or is one peer more than [`MAX_PEERS`](crate::MAX_PEERS); with 0 where no line is bad and a key is missing.
+/// `NoMemory` may come in place of any answer.
+pub fn read_hub_config(alloc: Global, text: &[u8]) -> Result<HubLines, ConfigFault>
+    requires { length text.now ≤ MAX_CONFIG_LENGTH }
+    ensures value { Gives config_view fault_of result (hub_config text.now) }
+    ensures skew { IfOk result (λ lines. lines.skew ≤ MILLIS * MOST_SKEW) }
+    ensures times { IfOk result (λ lines. IfSome lines.next_in AreInOrder) }
+    ensures texts { IfOk result (λ lines. IsText lines.entity × IsText lines.base × IsText lines.listen) }
+    ensures files { IfOk result (λ lines. IsTrue (has_files lines.files.items)) }
+    ensures few { IfOk result (λ lines. count_by is_peer_file lines.files.items ≤ MAX_PEERS) }
+{
+    let mut draft = HubDraft::new(alloc);
+    let mut lines = Lines::new(text);
+    while let Some(said) = lines.next_said() {
+        let line = next_line(alloc, &draft, said)?;
+        draft.take(line)?;
+    }
+    match draft.complete() {
+        Some(lines) => Ok(lines),
+        None => Err(ConfigFault::Line(0)),
+    }
+}
