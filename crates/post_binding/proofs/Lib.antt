@@ -6,3 +6,4 @@ mod Examples
 mod Markup
 mod Posting
 pub mod Faults
+pub mod Plain

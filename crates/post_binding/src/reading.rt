@@ -1,13 +1,15 @@
 //! A form is read: the message that it carries, or the values of named fields.
 ghost use Rattle.std.specs.Prelude.{◌≡◌, ◌≤◌, length, IfOk};
 ghost use Rattle.owned_values.specs.Gives.{Gives};
-ghost use Rattle.post_binding.specs.Form.{pairs, values, field_name, relay_name, message_of, message_field, relay_field, fault_of, form, the_value, fields};
+ghost use Rattle.base64.specs.Engines.{standard};
+ghost use Rattle.base64.specs.GeneralPurpose.{decode_of};
+ghost use Rattle.post_binding.specs.Form.{pairs, values, field_name, relay_name, message_of, message_field, relay_field, fault_of, form, the_value, fields, within_limit};
 ghost use Rattle.post_binding.specs.Occurrences.{IsOccurrence};
 ghost use Rattle.post_binding.specs.declared.posted.TheConstants.{MESSAGE_LIMIT};
 
 use crate::fault::FormFault;
 use crate::posted::{Field, MESSAGE_LIMIT, Posted, RELAY_LIMIT};
-use crate::text::{decoded, has_replacement, is_name, without_white};
+use crate::text::{decoded, has_replacement, has_white, is_name, without_white};
 use base64::DecodeAllocError;
 use base64::engine::general_purpose::STANDARD;
 use form_urlencoded::raw_pairs;
@@ -41,17 +43,16 @@ fn occurrence_of(alloc: Global, body: &[u8], name: &str) -> Result<Occurrence, N
     }
 }
 
-/// The message that the text of a field stands for.
+/// The message that symbols of base64 stand for.
 ///
 /// # Errors
 ///
-/// `BadBase64` where it is no base64; then `TooLarge` where the message has more than [`MESSAGE_LIMIT`] bytes.
-fn decode_message(alloc: Global, text: &str) -> Result<Blob, FormFault>
-    ensures gives { Gives (λ message. message) fault_of result (message_of text.now) }
+/// `BadBase64` where they are no base64; then `TooLarge` where the message has more than [`MESSAGE_LIMIT`] bytes.
+fn decode_symbols(alloc: Global, symbols: &[u8]) -> Result<Blob, FormFault>
+    ensures gives { Gives (λ message. message) fault_of result (within_limit (decode_of standard symbols.now)) }
     ensures small { IfOk result (λ message. length message ≤ MESSAGE_LIMIT) }
 {
-    let symbols = without_white(alloc, text.as_bytes())?;
-    let message = match STANDARD.decode(alloc, symbols.as_slice()) {
+    let message = match STANDARD.decode(alloc, symbols) {
         Ok(message) => message,
         Err(DecodeAllocError::OutOfMemory) => return Err(FormFault::NoMemory),
         Err(DecodeAllocError::DecodeError(_)) => return Err(FormFault::BadBase64),
@@ -60,6 +61,24 @@ fn decode_message(alloc: Global, text: &str) -> Result<Blob, FormFault>
         return Err(FormFault::TooLarge(message.len() as u64));
     }
     Ok(Blob::of(alloc, message.as_slice())?)
+}
+
+/// The message that the text of a field stands for. Most hold no white space, and are not copied without it.
+///
+/// # Errors
+///
+/// `BadBase64` where it is no base64; then `TooLarge` where the message has more than [`MESSAGE_LIMIT`] bytes.
+#[tactic(auto, using(crate::proofs::Plain::all_kept))]
+fn decode_message(alloc: Global, text: &str) -> Result<Blob, FormFault>
+    ensures gives { Gives (λ message. message) fault_of result (message_of text.now) }
+    ensures small { IfOk result (λ message. length message ≤ MESSAGE_LIMIT) }
+{
+    let symbols = text.as_bytes();
+    if has_white(symbols) {
+        let bare = without_white(alloc, symbols)?;
+        return decode_symbols(alloc, bare.as_slice());
+    }
+    decode_symbols(alloc, symbols)
 }
 
 /// The one message of a form, as its text, and its field.

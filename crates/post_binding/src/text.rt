@@ -1,5 +1,6 @@
 // Texts of a form's fields.
 ghost use Rattle.std.specs.Prelude.{◌≡◌, not, filter, IfOk};
+ghost use Rattle.std.specs.List.{list_any};
 ghost use Rattle.std.specs.Str.{bytes_eq};
 ghost use Rattle.xml_spec.specs.Syntax.{is_white};
 ghost use Rattle.post_binding.specs.Form.{decoded, has_replacement};
@@ -31,6 +32,10 @@ pub(crate) fn is_name(alloc: Global, encoded: &[u8], name: &str) -> Result<bool,
 pub(crate) fn has_replacement(text: &str) -> bool
     ensures { result ≡ has_replacement text.now }
 {
+    // most texts are of ASCII alone, which is told faster
+    if text.is_ascii() {
+        return false;
+    }
     let mut rest = text.as_bytes();
     while let [_, others @ ..] = rest {
         if rest.starts_with(&REPLACEMENT) {
@@ -46,6 +51,17 @@ fn is_white(byte: u8) -> bool
     ensures { result ≡ is_white byte }
 {
     matches!(byte, b' ' | b'\t' | b'\r' | b'\n')
+}
+
+/// Whether one of the bytes is white space. All are looked at, so that many are at once.
+pub(crate) fn has_white(bytes: &[u8]) -> bool
+    ensures { result ≡ list_any is_white bytes.now }
+{
+    let mut any = false;
+    for byte in bytes {
+        any |= is_white(*byte);
+    }
+    any
 }
 
 /// The bytes that are no white space.

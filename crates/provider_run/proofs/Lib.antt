@@ -4,3 +4,4 @@ pub mod Moments
 pub mod Serving
 pub mod Kept
 pub mod Joining
+pub mod Setups

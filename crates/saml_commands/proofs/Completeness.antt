@@ -30,7 +30,7 @@ use Rattle.schedules.specs.Schedules.{schedule}
 use Rattle.schedules.specs.declared.step.Step.{Step}
 use Rattle.saml_commands.specs.Reading.{OfFile, OfRead}
 use Rattle.saml_commands.specs.Replay.{OfSchedule}
-use Rattle.saml_commands.specs.Running.{Command, Canon, Vouch, Check, Sp, Idp, Replay, Make, command_of, OfCommand, Answers, Accepts, Records}
+use Rattle.saml_commands.specs.Running.{Command, Canon, Vouch, Check, Serve, Replay, Make, command_of, OfCommand, Answers, Accepts, Records}
 use Rattle.saml_commands.specs.Serving.{Unserved}
 use Rattle.saml_commands.proofs.RecordAnswers.{records_alone}
 use Rattle.saml_commands.proofs.Alone.{SaysYesAlone, not_refused_too, not_bad_too, document_alone, element_alone, file_alone}
@@ -122,8 +122,7 @@ command_alone laws files (Vouch file id key_file) =
     (λ bytes. file_alone (OfVouch id key_file bytes) files key_file _ (vouch_alone id key_file bytes))
 command_alone laws files (Check config body now) = check_alone laws files config body now
 command_alone laws files (Records role) = records_alone files role
-command_alone laws files (Sp config events) = λ a b agrees p q. absurd p
-command_alone laws files (Idp config events) = λ a b agrees p q. absurd p
+command_alone laws files (Serve role config events) = λ a b agrees p q. absurd p
 command_alone laws files (Replay file) = file_alone (OfSchedule file) files file _ (schedule_alone file)
 command_alone laws files (Make logins start) = λ a b agrees p q. absurd p
 

@@ -16,7 +16,7 @@ use Rattle.saml_commands.specs.Answers.{Answer, BadFile}
 use Rattle.saml_commands.specs.Reading.{OfFile, OfRead}
 use Rattle.saml_commands.specs.Replay.{DidReplayFile, IsSchedule, OfSchedule, status_of_replay}
 use Rattle.saml_commands.specs.Running.{EndsAfter, EndsWith}
-use Rattle.saml_commands.specs.Serving.{Ran, Unserved, RanSp, RanIdp, RanReplay}
+use Rattle.saml_commands.specs.Serving.{Ran, Unserved, RanProvider, RanReplay}
 use Rattle.saml_commands.proofs.Alone.{some_is_one, none_is_not_some, too_long}
 
 -- the run was done, or there was no memory
@@ -62,8 +62,7 @@ module _ (files : List File) (file bytes : List ℕ) (steps : List Step) (held :
       → (status ≡ statuses.ReadFault → ⊥) → (status ≡ statuses.WriteFault → ⊥) → IsDone status
   after Unserved did old new status e no_read no_write = ends old new status e no_read no_write
   after (RanReplay done quiet sp_starts idp_starts result) did old new status e no_read no_write = replayed result status e.0 no_write
-  after (RanSp turns result) did old new status e no_read no_write = absurd did
-  after (RanIdp turns result) did old new status e no_read no_write = absurd did
+  after (RanProvider role turns result) did old new status e no_read no_write = absurd did
 
 -- The file tells a schedule: it is replayed to its end, but for a fault of reading or writing, or there was no memory.
 pub completes : (told : Option (List File)) (files : List File) (file : List ℕ) (steps : List Step) → told ≡ Some files → IsSchedule told file steps

@@ -13,7 +13,7 @@ use Rattle.saml_commands.specs.declared.status.Status.{Status}
 use Rattle.saml_commands.specs.Answers.{Answer}
 use Rattle.saml_commands.specs.Replay.{DidReplay, DidReplayFile, DidReplayText, OfSchedule}
 use Rattle.saml_commands.specs.Running.{Replay, Make, DoesCommand, CommandCarries, EndsAfter, OfCommand}
-use Rattle.saml_commands.specs.Serving.{Ran, Unserved, RanSp, RanIdp, RanReplay, RanLeaves}
+use Rattle.saml_commands.specs.Serving.{Ran, Unserved, RanProvider, RanReplay, RanLeaves}
 use Rattle.saml_commands.proofs.Answering.{read_whole, weaker}
 
 -- `replay` replayed the schedule of its file, or nothing
@@ -21,16 +21,14 @@ pub does_replay : (left : ℕ → Image → Type 0) (told : Option (List File)) 
     DoesCommand left told (Replay file) outside ran outside
 does_replay left told file outside Unserved did = (refl, refl)
 does_replay left told file outside (RanReplay steps quiet sp_starts idp_starts result) did = (did.0, did.1, refl)
-does_replay left told file outside (RanSp turns result) did = absurd did
-does_replay left told file outside (RanIdp turns result) did = absurd did
+does_replay left told file outside (RanProvider role turns result) did = absurd did
 
 -- `make` the schedule that it made, or nothing
 pub does_make : (left : ℕ → Image → Type 0) (told : Option (List File)) (logins start : ℕ) (outside : Outside) (ran : Ran) → DidReplay (made logins start) true ran →
     DoesCommand left told (Make logins start) outside ran outside
 does_make left told logins start outside Unserved did = (refl, refl)
 does_make left told logins start outside (RanReplay steps quiet sp_starts idp_starts result) did = (did.0, did.1, refl)
-does_make left told logins start outside (RanSp turns result) did = absurd did
-does_make left told logins start outside (RanIdp turns result) did = absurd did
+does_make left told logins start outside (RanProvider role turns result) did = absurd did
 
 -- and over what they replayed the whole sentence is carried
 pub carries_replay : (left : ℕ → Image → Type 0) (told : Option (List File)) (file : List ℕ) (here : Outside) (ran : Ran)
@@ -39,8 +37,7 @@ pub carries_replay : (left : ℕ → Image → Type 0) (told : Option (List File
 carries_replay left told file here Unserved did = (does_replay left told file here Unserved did, tt)
 carries_replay left told file here (RanReplay steps quiet sp_starts idp_starts result) did =
     (does_replay left told file here (RanReplay steps quiet sp_starts idp_starts result) did, did.2)
-carries_replay left told file here (RanSp turns result) did = absurd did
-carries_replay left told file here (RanIdp turns result) did = absurd did
+carries_replay left told file here (RanProvider role turns result) did = absurd did
 
 pub carries_make : (left : ℕ → Image → Type 0) (told : Option (List File)) (logins start : ℕ) (here : Outside) (ran : Ran)
     → DidReplay (made logins start) true ran
@@ -48,8 +45,7 @@ pub carries_make : (left : ℕ → Image → Type 0) (told : Option (List File))
 carries_make left told logins start here Unserved did = (does_make left told logins start here Unserved did, tt)
 carries_make left told logins start here (RanReplay steps quiet sp_starts idp_starts result) did =
     (does_make left told logins start here (RanReplay steps quiet sp_starts idp_starts result) did, did.2)
-carries_make left told logins start here (RanSp turns result) did = absurd did
-carries_make left told logins start here (RanIdp turns result) did = absurd did
+carries_make left told logins start here (RanProvider role turns result) did = absurd did
 
 module _ {D : Type 0} (shows : D → DiskShown) (told : Option DiskState) (disk : D) where
   -- a disk that nothing was done to leaves what it may leave
@@ -57,28 +53,24 @@ module _ {D : Type 0} (shows : D → DiskShown) (told : Option DiskState) (disk 
       LeavesOnly shows disk disk (RanLeaves told ran)
   replay_leaves steps quiet Unserved did leaves = leaves
   replay_leaves steps quiet (RanReplay done silent sp_starts idp_starts result) did leaves = leaves
-  replay_leaves steps quiet (RanSp turns result) did leaves = absurd did
-  replay_leaves steps quiet (RanIdp turns result) did leaves = absurd did
+  replay_leaves steps quiet (RanProvider role turns result) did leaves = absurd did
 
   pub file_leaves : (files : Option (List File)) (file : List ℕ) (ran : Ran) → DidReplayFile files file ran → LeavesOnly shows disk disk (Leaves told) →
       LeavesOnly shows disk disk (RanLeaves told ran)
   file_leaves files file Unserved did leaves = leaves
   file_leaves files file (RanReplay done silent sp_starts idp_starts result) did leaves = leaves
-  file_leaves files file (RanSp turns result) did leaves = absurd did
-  file_leaves files file (RanIdp turns result) did leaves = absurd did
+  file_leaves files file (RanProvider role turns result) did leaves = absurd did
 
 -- the steps of a text are those that were replayed
 pub text_of_steps : (bytes : List ℕ) (steps : List Step) (ran : Ran) → schedule bytes ≡ Ok steps → DidReplay steps false ran → DidReplayText bytes ran
 text_of_steps bytes steps Unserved is did = tt
 text_of_steps bytes steps (RanReplay done silent sp_starts idp_starts result) is did =
     (subst (λ (s : List Step). schedule bytes ≡ Ok s) (sym did.0) is, did.1, did.2)
-text_of_steps bytes steps (RanSp turns result) is did = absurd did
-text_of_steps bytes steps (RanIdp turns result) is did = absurd did
+text_of_steps bytes steps (RanProvider role turns result) is did = absurd did
 
 -- and those of a file are those of its bytes
 pub file_of_text : (told : Option (List File)) (file bytes : List ℕ) (ran : Ran) → Reads told file MAX_SCHEDULE_LENGTH reads.Whole bytes → DidReplayText bytes ran →
     DidReplayFile told file ran
 file_of_text told file bytes Unserved read did = tt
 file_of_text told file bytes (RanReplay steps silent sp_starts idp_starts result) read did = ((bytes, read, did.0), did.1, did.2)
-file_of_text told file bytes (RanSp turns result) read did = absurd did
-file_of_text told file bytes (RanIdp turns result) read did = absurd did
+file_of_text told file bytes (RanProvider role turns result) read did = absurd did

@@ -8,8 +8,8 @@ use Rattle.provider_run.specs.Runs.{Outside, IsServed}
 use Rattle.saml_commands.specs.declared.status.Status.{Status}
 use Rattle.saml_commands.specs.declared.status.Status.TheVariants as statuses
 use Rattle.saml_commands.specs.Answers.{Answer, Printed, Refused, BadFile, Foreign, Usage, status_of, IsYes}
-use Rattle.saml_commands.specs.Running.{Command, Canon, Vouch, Check, Sp, Idp, Replay, Make, command_of, Does, DoesCommand, Carries, CommandCarries, OfCommand, Answers, Prints, EndsWith, EndsAfter, DoesServe, Accepts, AcceptsServing, IsRunnableBy, Records}
-use Rattle.saml_commands.specs.Serving.{Ran, Unserved, RanSp, RanIdp, RanReplay, answer_of}
+use Rattle.saml_commands.specs.Running.{Command, Canon, Vouch, Check, Serve, Replay, Make, command_of, Does, DoesCommand, Carries, CommandCarries, OfCommand, Answers, Prints, EndsWith, EndsAfter, DoesServe, Accepts, AcceptsServing, IsRunnableBy, Records}
+use Rattle.saml_commands.specs.Serving.{Ran, Unserved, RanProvider, RanReplay, answer_of}
 use Rattle.saml_commands.proofs.Answering.{weaker, answered, settled}
 use Rattle.saml_commands.proofs.Completeness.{Laws, accepted_yes, never_yes}
 
@@ -44,10 +44,8 @@ nothing_printed (Some bytes) = ap (λ (b : List ℕ). Some b) (sym (append-nil b
 pub weaker_after : (ran : Ran) (P Q : Answer → Type 0) (old new : Option (List ℕ)) (status : Status) → ((answer : Answer) → P answer → Q answer) →
     EndsAfter ran P old new status → EndsAfter ran Q old new status
 weaker_after Unserved P Q old new status f h = weaker P Q old new status f h
-weaker_after (RanSp turns (Ok ended)) P Q old new status f h = (h.0, weaker P Q old new status f h.1)
-weaker_after (RanSp turns (Err fault)) P Q old new status f h = h
-weaker_after (RanIdp turns (Ok ended)) P Q old new status f h = (h.0, weaker P Q old new status f h.1)
-weaker_after (RanIdp turns (Err fault)) P Q old new status f h = h
+weaker_after (RanProvider role turns (Ok ended)) P Q old new status f h = (h.0, weaker P Q old new status f h.1)
+weaker_after (RanProvider role turns (Err fault)) P Q old new status f h = h
 weaker_after (RanReplay steps quiet sp_starts idp_starts result) P Q old new status f h = h
 
 -- a command of the words is what the program does
@@ -81,8 +79,7 @@ usage_answered words told ran e answer is =
 
 -- a command that neither serves nor replays
 abbrev IsIdle : Command → Type 0
-IsIdle (Sp config events) = ⊥
-IsIdle (Idp config events) = ⊥
+IsIdle (Serve role config events) = ⊥
 IsIdle (Replay file) = ⊥
 IsIdle (Make logins start) = ⊥
 IsIdle command = Unit {0}
@@ -93,8 +90,7 @@ unserved left told (Canon file id) before ran after idle h = h.0
 unserved left told (Vouch file id key_file) before ran after idle h = h.0
 unserved left told (Check config body now) before ran after idle h = h.0
 unserved left told (Records role) before ran after idle h = h.0
-unserved left told (Sp config events) before ran after idle h = absurd idle
-unserved left told (Idp config events) before ran after idle h = absurd idle
+unserved left told (Serve role config events) before ran after idle h = absurd idle
 unserved left told (Replay file) before ran after idle h = absurd idle
 unserved left told (Make logins start) before ran after idle h = absurd idle
 
@@ -103,9 +99,7 @@ accepted_idle words told (Canon file id) e h = tt
 accepted_idle words told (Vouch file id key_file) e h = tt
 accepted_idle words told (Check config body now) e h = tt
 accepted_idle words told (Records role) e h = tt
-accepted_idle words told (Sp config events) e h =
-    subst (λ (o : Option Command). MatchOption o (h.answer ≡ Usage) (λ c. OfCommand (Some h.files) Unserved c h.answer)) e h.answered
-accepted_idle words told (Idp config events) e h =
+accepted_idle words told (Serve role config events) e h =
     subst (λ (o : Option Command). MatchOption o (h.answer ≡ Usage) (λ c. OfCommand (Some h.files) Unserved c h.answer)) e h.answered
 accepted_idle words told (Replay file) e h =
     never_yes file (Some h.files) h.answer h.yes

@@ -10,10 +10,6 @@ use Rattle.saml_time.specs.declared.TheConstants.{LAST}
 use Rattle.text_lines.specs.Numbers.{number_of}
 use Rattle.sp_setup.specs.declared.limits.TheConstants.{GREATEST_KEY}
 use Rattle.provider_run.specs.Runs.{Outside}
-use Rattle.idp_runs.specs.Headline as idp_headline
-use Rattle.idp_runs.specs.Runs as idp
-use Rattle.sp_runs.specs.Headline as sp_headline
-use Rattle.sp_runs.specs.Runs as sp
 use Rattle.saml_commands.specs.declared.limits.TheConstants.{MOST_EVENTS, MOST_START}
 use Rattle.schedules.specs.Made.{made}
 use Rattle.schedules.specs.declared.step.Step.{Step}
@@ -27,7 +23,7 @@ use Rattle.saml_commands.specs.Answers.{Answer, Refused, Usage, status_of, text_
 use Rattle.saml_commands.specs.Canon.{OfCanon}
 use Rattle.saml_commands.specs.Check.{OfCheck}
 use Rattle.saml_commands.specs.Reading.{OfFile}
-use Rattle.saml_commands.specs.Serving.{Ran, Unserved, RanSp, RanIdp, RanReplay, OfRun, status_of_fault}
+use Rattle.saml_commands.specs.Serving.{HeadlineAs, IsRunnableAs, OfRun, Ran, RanProvider, RanReplay, RunsAs, Unserved, status_of_fault}
 use Rattle.saml_commands.specs.Replay.{IsSchedule, OfSchedule, status_of_replay}
 use Rattle.saml_commands.specs.Records.{OfRecords}
 use Rattle.saml_commands.specs.declared.command.Role.{Role}
@@ -36,15 +32,14 @@ use Rattle.saml_commands.specs.Vouch.{OfVouch}
 
 -- what the program is asked for: the canonical form of the element of a file that has this ID, or of the root; whether the
 -- element of a file that has this ID is vouched for with the key in another file; what a provider with this config says at this
--- moment to the form in another file; the records of the journal in the folder, as those of this role; that a service provider or
--- an identity provider with this config serves, until so many events were taken
+-- moment to the form in another file; the records of the journal in the folder, as those of this role; that a provider of this role
+-- with this config serves, until so many events were taken; that a schedule is replayed, the one in a file or one that is made
 pub data Command : Type 0 where
   Canon : (file : List ℕ) (id : Option (List ℕ)) → Command
   Vouch : (file id key_file : List ℕ) → Command
   Check : (config body : List ℕ) (now : ℕ) → Command
   Records : (role : Role) → Command
-  Sp : (config : List ℕ) (events : ℕ) → Command
-  Idp : (config : List ℕ) (events : ℕ) → Command
+  Serve : (role : Role) (config : List ℕ) (events : ℕ) → Command
   Replay : (file : List ℕ) → Command
   Make : (logins start : ℕ) → Command
 
@@ -56,24 +51,23 @@ check_at config body now = option_map (λ moment. Check config body moment) now
 abbrev pub events_of : Option ℕ → Option ℕ
 events_of number = option_and_then (λ count. if nat_le 1 count then Some count else None) number
 
--- `sp CONFIG EVENTS` and `idp CONFIG EVENTS`
-abbrev pub sp_of : List ℕ → Option ℕ → Option Command
-sp_of config number = option_map (λ events. Sp config events) (events_of number)
-
-abbrev pub idp_of : List ℕ → Option ℕ → Option Command
-idp_of config number = option_map (λ events. Idp config events) (events_of number)
-
 -- N is a number from 1 on
 abbrev pub make_of : Option ℕ → Option ℕ → Option Command
 make_of logins start = option_and_then (λ n. option_map (λ from. Make n from) start) (events_of logins)
 
--- `records ROLE`
+-- the role that a word says
 abbrev pub role_of : List ℕ → Option Role
 role_of word =
     if bytes_eq word (codes "sp") then Some roles.Sp
     else if bytes_eq word (codes "idp") then Some roles.Idp
     else if bytes_eq word (codes "hub") then Some roles.Hub else None
 
+-- `sp CONFIG EVENTS`, `idp CONFIG EVENTS` and `hub CONFIG EVENTS`
+abbrev pub serve_of : Option Role → List ℕ → Option ℕ → Option Command
+serve_of role config number =
+    option_and_then (λ role. option_map (λ events. Serve role config events) (events_of number)) role
+
+-- `records ROLE`
 abbrev pub records_of : Option Role → Option Command
 records_of role = option_map Records role
 
@@ -88,9 +82,8 @@ of_one word first =
 abbrev pub of_two : List ℕ → List ℕ → List ℕ → Option Command
 of_two word first second =
     if bytes_eq word (codes "canon") then Some (Canon first (Some second))
-    else if bytes_eq word (codes "sp") then sp_of first (number_of MOST_EVENTS second)
-    else if bytes_eq word (codes "idp") then idp_of first (number_of MOST_EVENTS second)
-    else if bytes_eq word (codes "make") then make_of (number_of MOST_LOGINS first) (number_of MOST_START second) else None
+    else if bytes_eq word (codes "make") then make_of (number_of MOST_LOGINS first) (number_of MOST_START second)
+    else serve_of (role_of word) first (number_of MOST_EVENTS second)
 
 -- three words behind the name of a command
 abbrev pub of_three : List ℕ → List ℕ → List ℕ → List ℕ → Option Command
@@ -99,21 +92,20 @@ of_three word first second third =
     else if bytes_eq word (codes "check") then check_at first second (number_of LAST third) else None
 
 -- the command of the words `canon FILE`, `canon FILE ID`, `vouch FILE ID KEYFILE`, `check CONFIG BODYFILE NOW`, `records ROLE`,
--- `sp CONFIG EVENTS`, `idp CONFIG EVENTS`, `replay SCHEDULE` and `make N START`
+-- `sp CONFIG EVENTS`, `idp CONFIG EVENTS`, `hub CONFIG EVENTS`, `replay SCHEDULE` and `make N START`
 abbrev pub command_of : List (List ℕ) → Option Command
 command_of (word ∷ first ∷ []) = of_one word first
 command_of (word ∷ first ∷ second ∷ []) = of_two word first second
 command_of (word ∷ first ∷ second ∷ third ∷ []) = of_three word first second third
 command_of words = None
 
--- What a command does: `sp` runs a service provider, `idp` an identity provider, and the others leave all that is outside as it is. `left`
--- says of each moment of the disk, seen from the end, what a crash since then might have left. `replay` and `make` replay a schedule, and
--- also leave all that is outside as it is.
+-- What a command does: `sp` runs a service provider, `idp` an identity provider, `hub` a hub, and the others leave all that is outside as
+-- it is. `left` says of each moment of the disk, seen from the end, what a crash since then might have left. `replay` and `make` replay a
+-- schedule, and also leave all that is outside as it is.
 abbrev pub DoesCommand : (left : ℕ → Image → Type 0) → Option (List File) → Command → Outside → Ran → Outside → Type 0
-DoesCommand left told (Sp config events) before (RanSp turns result) after = sp.Runs left told config events before turns result after
-DoesCommand left told (Sp config events) before ran after = ⊥
-DoesCommand left told (Idp config events) before (RanIdp turns result) after = idp.Runs left told config events before turns result after
-DoesCommand left told (Idp config events) before ran after = ⊥
+DoesCommand left told (Serve role config events) before (RanProvider ran turns result) after =
+    (ran ≡ role) × RunsAs ran left told config events before turns result after
+DoesCommand left told (Serve role config events) before ran after = ⊥
 DoesCommand left told (Replay file) before (RanReplay steps quiet sp_starts idp_starts result) after =
     IsSchedule told file steps × (quiet ≡ false) × (after ≡ before)
 DoesCommand left told (Make logins start) before (RanReplay steps quiet sp_starts idp_starts result) after =
@@ -129,11 +121,13 @@ Does left words told before ran after =
 -- one, each of a login that was signed, and no two of one request; and they were closed exactly where their users left them or the
 -- identity provider ended them, for good. Where it ran an identity provider, each Assertion was issued to a user with a password or a
 -- session, each signed element is one of a record that was durable before it was sent, and sessions were ended exactly where their
--- users left them or a peer ended them, for good. What an answer of either acknowledged is from then on, also inside later requests, in
--- every image that a crash might leave. Where it replayed a schedule, over both providers: the whole sentence that joins them.
+-- users left them or a peer ended them, for good. Where it ran a hub, a login from above was passed on exactly where a posted form brings
+-- it for a request of a provider below, with its name and its attributes and to that provider alone, and no request upwards backed two;
+-- and each session below is of a login that the provider above recorded, where nobody else makes HMACs that match. What an answer of any
+-- of them acknowledged is from then on, also inside later requests, in every image that a crash might leave. Where it replayed a schedule,
+-- over both providers: the whole sentence that joins them.
 abbrev pub CommandCarries : (left : ℕ → Image → Type 0) → Option (List File) → Command → Outside → Ran → Outside → Type 0
-CommandCarries left told (Sp config events) before (RanSp turns result) after = sp_headline.Headline left told config before turns after
-CommandCarries left told (Idp config events) before (RanIdp turns result) after = idp_headline.Headline left told config before turns after
+CommandCarries left told (Serve role config events) before (RanProvider ran turns result) after = HeadlineAs ran left told config before turns after
 CommandCarries left told (Replay file) before (RanReplay steps quiet sp_starts idp_starts result) after = replay.Carries sp_starts idp_starts
 CommandCarries left told (Make logins start) before (RanReplay steps quiet sp_starts idp_starts result) after =
     replay.Carries sp_starts idp_starts
@@ -149,8 +143,7 @@ OfCommand told ran (Vouch file id key_file) answer =
     OfFile (λ bytes. OfFile (OfVouch id key_file bytes) told key_file GREATEST_KEY) told file MAX_DOCUMENT_LENGTH answer
 OfCommand told ran (Check config body now) answer = OfCheck told config body now answer
 OfCommand told ran (Records role) answer = OfRecords role told answer
-OfCommand told ran (Sp config events) answer = OfRun ran answer
-OfCommand told ran (Idp config events) answer = OfRun ran answer
+OfCommand told ran (Serve role config events) answer = OfRun ran answer
 OfCommand told ran (Replay file) answer = OfFile (OfSchedule file) told file MAX_SCHEDULE_LENGTH answer
 OfCommand told ran (Make logins start) answer = ⊥
 
@@ -183,17 +176,14 @@ EndsWith meaning old new status =
 -- printed. A replay ends with the status of what it came to, and what is printed is what the steps and their answers print.
 abbrev pub EndsAfter : Ran → (Answer → Type 0) → Option (List ℕ) → Option (List ℕ) → Status → Type 0
 EndsAfter Unserved meaning old new status = EndsWith meaning old new status
-EndsAfter (RanSp turns (Ok ended)) meaning old new status = (status ≢ statuses.ReadFault) × EndsWith meaning old new status
-EndsAfter (RanSp turns (Err fault)) meaning old new status = (status ≡ status_of_fault fault) × Prints old new []
-EndsAfter (RanIdp turns (Ok ended)) meaning old new status = (status ≢ statuses.ReadFault) × EndsWith meaning old new status
-EndsAfter (RanIdp turns (Err fault)) meaning old new status = (status ≡ status_of_fault fault) × Prints old new []
+EndsAfter (RanProvider role turns (Ok ended)) meaning old new status = (status ≢ statuses.ReadFault) × EndsWith meaning old new status
+EndsAfter (RanProvider role turns (Err fault)) meaning old new status = (status ≡ status_of_fault fault) × Prints old new []
 EndsAfter (RanReplay steps quiet sp_starts idp_starts result) meaning old new status =
     (status ≡ status_of_replay result) × Goes steps quiet sp_starts idp_starts result old new
 
 -- the command serves
 abbrev pub DoesServe : Option Command → Type 0
-DoesServe (Some (Sp config events)) = Unit {0}
-DoesServe (Some (Idp config events)) = Unit {0}
+DoesServe (Some (Serve role config events)) = Unit {0}
 DoesServe other = ⊥
 
 -- the files tell, and by what they tell the definition says yes
@@ -205,8 +195,7 @@ pub record Accepts (words : List (List ℕ)) (told : Option (List File)) : Type 
   pub yes : IsYes answer
 
 abbrev pub IsRunnableBy : Option (List File) → Option DiskState → Command → Type 0
-IsRunnableBy told disk (Sp config events) = sp.IsRunnable told config disk
-IsRunnableBy told disk (Idp config events) = idp.IsRunnable told config disk
+IsRunnableBy told disk (Serve role config events) = IsRunnableAs role told config disk
 IsRunnableBy told disk (Replay file) = (files : List File) × (steps : List Step) × (told ≡ Some files) × IsSchedule told file steps
 IsRunnableBy told disk (Make logins start) = Unit {0}
 IsRunnableBy told disk other = ⊥

@@ -1,15 +1,22 @@
--- What `sp CONFIG EVENTS` and `idp CONFIG EVENTS` do, and what they are answered with.
+-- What `sp CONFIG EVENTS`, `idp CONFIG EVENTS` and `hub CONFIG EVENTS` do, and what they are answered with.
 use Rattle.std.specs.Prelude.{◌≡◌, ℕ, Bool, true, false, List, ◌++◌, Option, Result, Ok, Err, codes}
 use Rattle.std.specs.Fmt.{decimal}
 use Rattle.serve_loop.specs.declared.served.Served.{Served}
 use Rattle.serve_loop.specs.Turns.{Turn}
 use Rattle.crash_disk.specs.Disk.{Image, DiskState}
 use Rattle.crash_disk.specs.Moments.{Leaves}
+use Rattle.saml_outside.specs.Files.{File}
+use Rattle.hub_runs.specs.Headline as hub_headline
+use Rattle.hub_runs.specs.Runs as hub
+use Rattle.identity_hub.specs.Step as hub_steps
+use Rattle.idp_runs.specs.Headline as idp_headline
 use Rattle.idp_runs.specs.Runs as idp
 use Rattle.idp_server.specs.Step as idp_steps
+use Rattle.sp_runs.specs.Headline as sp_headline
 use Rattle.sp_runs.specs.Runs as sp
 use Rattle.sp_server.specs.Step as sp_steps
 use Rattle.provider_node.specs.Starts.{Start}
+use Rattle.provider_run.specs.Runs.{Outside}
 use Rattle.provider_run.specs.declared.ended.Ended.{Ended}
 use Rattle.provider_run.specs.declared.ended.Ended.TheVariants as ends
 use Rattle.provider_run.specs.declared.ended.RunFault.{RunFault}
@@ -17,25 +24,57 @@ use Rattle.provider_run.specs.declared.ended.RunFault.TheVariants as faults
 use Rattle.schedules.specs.declared.step.Step.{Step}
 use Rattle.schedule_replay.specs.declared.fault.ReplayFault.{ReplayFault}
 use Rattle.schedule_replay.specs.declared.tally.Tally.{Tally}
+use Rattle.saml_commands.specs.declared.command.Role.{Role}
+use Rattle.saml_commands.specs.declared.command.Role.TheVariants as roles
 use Rattle.saml_commands.specs.declared.status.Status.{Status}
 use Rattle.saml_commands.specs.declared.status.Status.TheVariants as statuses
 use Rattle.saml_commands.specs.Answers.{Answer, Printed, BadFile, Foreign}
 
--- What the program did beside its answer: nothing was served, or a service provider or an identity provider was run, with these
--- turns, and came to this; or a schedule of these steps was replayed over two providers, which are these starts of either, and came to
--- that.
+-- the turns of a provider of each role
+abbrev pub TurnsOf : Role → Type 0
+TurnsOf roles.Sp = List (Turn sp_steps.Provider)
+TurnsOf roles.Idp = List (Turn idp_steps.Provider)
+TurnsOf roles.Hub = List (Turn hub_steps.Provider)
+
+-- how a run of one goes, by the config in a file, with a budget of events; `left` says of each moment, seen from the end of the run,
+-- what a crash since then might have left
+abbrev pub RunsAs : (role : Role) → (left : ℕ → Image → Type 0) → Option (List File) → (config : List ℕ) → (events : ℕ)
+    → (before : Outside) → TurnsOf role → Result Ended RunFault → (after : Outside) → Type 0
+RunsAs roles.Sp = sp.Runs
+RunsAs roles.Idp = idp.Runs
+RunsAs roles.Hub = hub.Runs
+
+-- what is carried over it
+abbrev pub HeadlineAs : (role : Role) → (left : ℕ → Image → Type 0) → Option (List File) → (config : List ℕ)
+    → (before : Outside) → TurnsOf role → (after : Outside) → Type 0
+HeadlineAs roles.Sp = sp_headline.Headline
+HeadlineAs roles.Idp = idp_headline.Headline
+HeadlineAs roles.Hub = hub_headline.Headline
+
+-- what a crash at a moment of it may leave
+abbrev pub RunLeavesAs : (role : Role) → Option DiskState → TurnsOf role → Image → Type 0
+RunLeavesAs roles.Sp = sp.RunLeaves
+RunLeavesAs roles.Idp = idp.RunLeaves
+RunLeavesAs roles.Hub = hub.RunLeaves
+
+-- and when one can be run
+abbrev pub IsRunnableAs : Role → Option (List File) → (config : List ℕ) → Option DiskState → Type 0
+IsRunnableAs roles.Sp = sp.IsRunnable
+IsRunnableAs roles.Idp = idp.IsRunnable
+IsRunnableAs roles.Hub = hub.IsRunnable
+
+-- What the program did beside its answer: nothing was served, or a provider of this role was run, with these turns, and came to this; or
+-- a schedule of these steps was replayed over two providers, which are these starts of either, and came to that.
 pub data Ran : Type 0 where
   Unserved : Ran
-  RanSp : (turns : List (Turn sp_steps.Provider)) (result : Result Ended RunFault) → Ran
-  RanIdp : (turns : List (Turn idp_steps.Provider)) (result : Result Ended RunFault) → Ran
+  RanProvider : (role : Role) (turns : TurnsOf role) (result : Result Ended RunFault) → Ran
   RanReplay : (steps : List Step) (quiet : Bool) (sp_starts : List (Start sp_steps.Provider)) (idp_starts : List (Start idp_steps.Provider))
       (result : Result Tally ReplayFault) → Ran
 
 -- What a crash at a moment of that may leave of the disk: what it might leave before, or what one inside the run of the provider may.
 abbrev pub RanLeaves : Option DiskState → Ran → Image → Type 0
 RanLeaves disk Unserved image = Leaves disk image
-RanLeaves disk (RanSp turns result) image = sp.RunLeaves disk turns image
-RanLeaves disk (RanIdp turns result) image = idp.RunLeaves disk turns image
+RanLeaves disk (RanProvider role turns result) image = RunLeavesAs role disk turns image
 RanLeaves disk (RanReplay steps quiet sp_starts idp_starts result) image = Leaves disk image
 
 -- why serving ended: the link gave Stop, or the budget was used up
@@ -56,10 +95,8 @@ answer_of (ends.Served served) = Printed (served_line served)
 -- a run that ended early is answered with nothing
 abbrev pub OfRun : Ran → Answer → Type 0
 OfRun Unserved answer = ⊥
-OfRun (RanSp turns (Ok ended)) answer = answer ≡ answer_of ended
-OfRun (RanSp turns (Err fault)) answer = ⊥
-OfRun (RanIdp turns (Ok ended)) answer = answer ≡ answer_of ended
-OfRun (RanIdp turns (Err fault)) answer = ⊥
+OfRun (RanProvider role turns (Ok ended)) answer = answer ≡ answer_of ended
+OfRun (RanProvider role turns (Err fault)) answer = ⊥
 OfRun (RanReplay steps quiet sp_starts idp_starts result) answer = ⊥
 
 -- the status of such a run

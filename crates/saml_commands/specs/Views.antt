@@ -16,8 +16,7 @@ command_view (commands.Canon file id) = running.Canon file.now (option_map (λ t
 command_view (commands.Vouch file id key_file) = running.Vouch file.now id.now key_file.now
 command_view (commands.Check config body now) = running.Check config.now body.now now
 command_view (commands.Records role) = running.Records role
-command_view (commands.Sp config events) = running.Sp config.now events
-command_view (commands.Idp config events) = running.Idp config.now events
+command_view (commands.Serve role config events) = running.Serve role config.now events
 command_view (commands.Replay file) = running.Replay file.now
 command_view (commands.Make logins start) = running.Make logins start
 

@@ -3,7 +3,7 @@
 ghost use Rattle.std.specs.Prelude.{◌≡◌, ◌≤◌, IfSome};
 ghost use Rattle.std.specs.Option.{option_map};
 ghost use Rattle.text_lines.specs.Numbers.{number_of};
-ghost use Rattle.saml_commands.specs.Running.{check_at, events_of, sp_of, idp_of, make_of, of_one, of_two, of_three, command_of, role_of, records_of};
+ghost use Rattle.saml_commands.specs.Running.{check_at, events_of, serve_of, make_of, of_one, of_two, of_three, command_of, role_of, records_of};
 ghost use Rattle.saml_commands.specs.Views.{command_view, HasMoment};
 
 use crate::limits::{MOST_EVENTS, MOST_START};
@@ -12,14 +12,14 @@ use saml_time::LAST;
 use schedules::MOST_LOGINS;
 use text_lines::number_of;
 
-/// Whose records are printed.
+/// As what a provider serves, or whose records are printed.
 #[derive(Clone, Copy, Debug, PartialEq, Eq)]
 pub(crate) enum Role {
-    /// A service provider's.
+    /// A service provider.
     Sp,
-    /// An identity provider's.
+    /// An identity provider.
     Idp,
-    /// A hub's.
+    /// A hub.
     Hub,
 }
 
@@ -48,13 +48,9 @@ pub(crate) enum Command<'w> {
     Records {
         role: Role,
     },
-    /// That a service provider with this config serves, until so many events were taken.
-    Sp {
-        config: &'w str,
-        events: u64,
-    },
-    /// That an identity provider with this config serves, until so many events were taken.
-    Idp {
+    /// That a provider of this role with this config serves, until so many events were taken.
+    Serve {
+        role: Role,
         config: &'w str,
         events: u64,
     },
@@ -87,24 +83,6 @@ fn events_of(word: &str) -> Option<u64>
         return None;
     }
     Some(events)
-}
-
-/// What `sp CONFIG EVENTS` asks for.
-fn sp_of<'w>(config: &'w str, events: &str) -> Option<Command<'w>>
-    ensures command { option_map command_view result ≡ sp_of config.entry.now (number_of MOST_EVENTS events.now) }
-    ensures moment { IfSome result HasMoment }
-{
-    let events = events_of(events)?;
-    Some(Command::Sp { config, events })
-}
-
-/// What `idp CONFIG EVENTS` asks for.
-fn idp_of<'w>(config: &'w str, events: &str) -> Option<Command<'w>>
-    ensures command { option_map command_view result ≡ idp_of config.entry.now (number_of MOST_EVENTS events.now) }
-    ensures moment { IfSome result HasMoment }
-{
-    let events = events_of(events)?;
-    Some(Command::Idp { config, events })
 }
 
 /// The number of logins that a word says, from 1 on.
@@ -154,6 +132,20 @@ fn role_of(word: &str) -> Option<Role>
     }
 }
 
+/// What `ROLE CONFIG EVENTS` asks for.
+fn serve_of<'w>(word: &str, config: &'w str, events: &str) -> Option<Command<'w>>
+    ensures command { option_map command_view result ≡ serve_of (role_of word.now) config.entry.now (number_of MOST_EVENTS events.now) }
+    ensures moment { IfSome result HasMoment }
+{
+    let role = role_of(word)?;
+    let events = events_of(events)?;
+    Some(Command::Serve {
+        role,
+        config,
+        events,
+    })
+}
+
 /// What `records ROLE` asks for.
 fn records_of<'w>(word: &str) -> Option<Command<'w>>
     ensures command { option_map command_view result ≡ records_of (role_of word.now) }
@@ -189,10 +181,8 @@ fn of_two<'w>(word: &str, first: &'w str, second: &'w str) -> Option<Command<'w>
             file: first,
             id: Some(second),
         }),
-        "sp" => sp_of(first, second),
-        "idp" => idp_of(first, second),
         "make" => make_of(first, second),
-        _ => None,
+        _ => serve_of(word, first, second),
     }
 }
 
@@ -213,7 +203,7 @@ fn of_three<'w>(word: &str, first: &'w str, second: &'w str, third: &'w str) -> 
 }
 
 /// The command of the words `canon FILE`, `canon FILE ID`, `vouch FILE ID KEYFILE`, `check CONFIG BODYFILE NOW`,
-/// `records ROLE`, `sp CONFIG EVENTS`, `idp CONFIG EVENTS`, `replay SCHEDULE` and `make N START`.
+/// `records ROLE`, `sp CONFIG EVENTS`, `idp CONFIG EVENTS`, `hub CONFIG EVENTS`, `replay SCHEDULE` and `make N START`.
 pub(crate) fn command_of(words: &[Text]) -> Option<Command<'_>>
     ensures command { option_map command_view result ≡ command_of words.now }
     ensures moment { IfSome result HasMoment }

@@ -1,19 +1,19 @@
-// What `sp` and `idp` do and print.
+// What `sp`, `idp` and `hub` do and print.
 
-ghost use Rattle.std.specs.Prelude.{◌≡◌, ◌≢◌, ◌≤◌, ◌⊎◌, ℕ, List, Option, Result, IfOk};
+ghost use Rattle.std.specs.Prelude.{◌≡◌, ◌≢◌, ◌≤◌, ◌⊎◌, ℕ, List, Option, Result, Err, IfOk};
 ghost use Rattle.crash_disk.specs.Moments.{LeavesOnly};
 ghost use Rattle.saml_outside.specs.Counts.{Rose};
-ghost use Rattle.provider_run.specs.Runs.{outside};
-ghost use Rattle.idp_runs.specs.Runs as idp;
-ghost use Rattle.sp_runs.specs.Runs as sp;
-ghost use Rattle.saml_commands.specs.Running.{Sp, Idp, DoesCommand, CommandCarries, OfCommand, EndsWith, EndsAfter};
-ghost use Rattle.saml_commands.specs.Serving.{Ran, RanLeaves, why_ended, served_line, answer_of, status_of_fault};
+ghost use Rattle.provider_run.specs.Runs.{IsServed, outside};
+ghost use Rattle.saml_commands.specs.Running.{Serve, DoesCommand, CommandCarries, OfCommand, EndsWith, EndsAfter};
+ghost use Rattle.saml_commands.specs.Serving.{HeadlineAs, IsRunnableAs, Ran, RanLeaves, RunLeavesAs, RunsAs, TurnsOf, why_ended, served_line, answer_of, status_of_fault};
 ghost use Rattle.saml_commands.specs.Views.{answer_view};
 
 use crate::answer::Answer;
+use crate::command::Role;
 use crate::status::Status;
 use crash_disk::Disk;
 use event_link::{Clock, Link};
+use hub_runs::run_hub;
 use idp_runs::run_idp;
 use provider_run::{Ended, RunFault};
 use saml_outside::{Blob, Files, NoMemory, Sink};
@@ -74,50 +74,42 @@ fn status_of_fault(fault: RunFault) -> Status
     }
 }
 
-/// Runs a service provider, and prints what the run came to.
-pub(crate) fn run_service_provider<L: Link, D: Disk, C: Clock, F: Files, K: Sink>(
+/// Runs a provider of this role by the config in a file, until `events` were taken or the link gives Stop.
+fn run_as<F: Files, L: Link, D: Disk, C: Clock>(
     alloc: Global,
+    role: Role,
+    files: &mut F,
     config: &str,
-    events: u64,
     link: &mut L,
     disk: &mut D,
     clock: &mut C,
-    files: &mut F,
-    out: &mut K,
-) -> Status
-    ensures ends { (ran : Ran)
-        × DoesCommand (D.shows disk.new).left_since (F.holds files.old) (Sp config.now events)
-        (outside (D.shows disk.old) (L.shows link.old) (C.to_come clock.old)) ran
-        (outside (D.shows disk.new) (L.shows link.new) (C.to_come clock.new))
-        × CommandCarries (D.shows disk.new).left_since (F.holds files.old) (Sp config.now events)
-        (outside (D.shows disk.old) (L.shows link.old) (C.to_come clock.old)) ran
-        (outside (D.shows disk.new) (L.shows link.new) (C.to_come clock.new))
-        × EndsAfter ran (OfCommand (F.holds files.old) ran (Sp config.now events)) (K.taken out.old) (K.taken out.new) result
-        × LeavesOnly D.shows disk.old disk.new (RanLeaves (D.shows disk.old).told ran) }
-    ensures read_fault { result ≡ Status.ReadFault → Rose (F.faults_of files.old) (F.faults_of files.new) }
-    ensures write_fault { result ≡ Status.WriteFault → Rose (K.faults_of out.old) (K.faults_of out.new) }
-    ensures disk_fault { result ≡ Status.DiskFault → Rose (D.shows disk.old).faults (D.shows disk.new).faults }
-    ensures link_fault { result ≡ Status.LinkFault → Rose (L.shows link.old).faults (L.shows link.new).faults }
-    ensures complete { sp.IsRunnable (F.holds files.old) config.now (D.shows disk.old).told →
-        ¬ (Rose (F.faults_of files.old) (F.faults_of files.new)) →
-        ¬ (Rose (K.faults_of out.old) (K.faults_of out.new)) →
-        ¬ (Rose (L.shows link.old).faults (L.shows link.new).faults) → result ≢ Status.DiskFault →
-        (result ≡ Status.Done) ⊎ (result ≡ Status.NoMemory) }
+    events: u64,
+) -> Result<Ended, RunFault>
+    ensures runs { (turns : TurnsOf role)
+        × RunsAs role (D.shows disk.new).left_since (F.holds files.old) config.now events (outside (D.shows disk.old) (L.shows link.old) (C.to_come clock.old)) turns result (outside (D.shows disk.new) (L.shows link.new) (C.to_come clock.new))
+        × HeadlineAs role (D.shows disk.new).left_since (F.holds files.old) config.now (outside (D.shows disk.old) (L.shows link.old) (C.to_come clock.old)) turns (outside (D.shows disk.new) (L.shows link.new) (C.to_come clock.new))
+        × LeavesOnly D.shows disk.old disk.new (RunLeavesAs role (D.shows disk.old).told turns) }
+    ensures read_fault { result ≡ Err RunFault.ReadFault → Rose (F.faults_of files.old) (F.faults_of files.new) }
+    ensures disk_fault { result ≡ Err RunFault.DiskFault → Rose (D.shows disk.old).faults (D.shows disk.new).faults }
+    ensures link_fault { result ≡ Err RunFault.LinkFault → Rose (L.shows link.old).faults (L.shows link.new).faults }
+    ensures complete { IsRunnableAs role (F.holds files.old) config.now (D.shows disk.old).told → ¬ (Rose (F.faults_of files.old) (F.faults_of files.new)) →
+        ¬ (Rose (L.shows link.old).faults (L.shows link.new).faults) → result ≢ Err RunFault.DiskFault → IsServed result ⊎ (result ≡ Err RunFault.NoMemory) }
     ensures same { F.holds files.new ≡ F.holds files.old }
     ensures files_never_fall { F.faults_of files.old ≤ F.faults_of files.new }
-    ensures out_never_falls { K.faults_of out.old ≤ K.faults_of out.new }
     ensures disk_never_falls { (D.shows disk.old).faults ≤ (D.shows disk.new).faults }
     ensures link_never_falls { (L.shows link.old).faults ≤ (L.shows link.new).faults }
 {
-    match run_sp(alloc, files, config, link, disk, clock, events) {
-        Ok(ended) => print_ended(alloc, ended, out),
-        Err(fault) => status_of_fault(fault),
+    match role {
+        Role::Sp => run_sp(alloc, files, config, link, disk, clock, events),
+        Role::Idp => run_idp(alloc, files, config, link, disk, clock, events),
+        Role::Hub => run_hub(alloc, files, config, link, disk, clock, events),
     }
 }
 
-/// Runs an identity provider, and prints what the run came to.
-pub(crate) fn run_identity_provider<L: Link, D: Disk, C: Clock, F: Files, K: Sink>(
+/// Runs a provider of this role, and prints what the run came to.
+pub(crate) fn run_provider<L: Link, D: Disk, C: Clock, F: Files, K: Sink>(
     alloc: Global,
+    role: Role,
     config: &str,
     events: u64,
     link: &mut L,
@@ -127,22 +119,16 @@ pub(crate) fn run_identity_provider<L: Link, D: Disk, C: Clock, F: Files, K: Sin
     out: &mut K,
 ) -> Status
     ensures ends { (ran : Ran)
-        × DoesCommand (D.shows disk.new).left_since (F.holds files.old) (Idp config.now events)
-        (outside (D.shows disk.old) (L.shows link.old) (C.to_come clock.old)) ran
-        (outside (D.shows disk.new) (L.shows link.new) (C.to_come clock.new))
-        × CommandCarries (D.shows disk.new).left_since (F.holds files.old) (Idp config.now events)
-        (outside (D.shows disk.old) (L.shows link.old) (C.to_come clock.old)) ran
-        (outside (D.shows disk.new) (L.shows link.new) (C.to_come clock.new))
-        × EndsAfter ran (OfCommand (F.holds files.old) ran (Idp config.now events)) (K.taken out.old) (K.taken out.new) result
+        × DoesCommand (D.shows disk.new).left_since (F.holds files.old) (Serve role config.now events) (outside (D.shows disk.old) (L.shows link.old) (C.to_come clock.old)) ran (outside (D.shows disk.new) (L.shows link.new) (C.to_come clock.new))
+        × CommandCarries (D.shows disk.new).left_since (F.holds files.old) (Serve role config.now events) (outside (D.shows disk.old) (L.shows link.old) (C.to_come clock.old)) ran (outside (D.shows disk.new) (L.shows link.new) (C.to_come clock.new))
+        × EndsAfter ran (OfCommand (F.holds files.old) ran (Serve role config.now events)) (K.taken out.old) (K.taken out.new) result
         × LeavesOnly D.shows disk.old disk.new (RanLeaves (D.shows disk.old).told ran) }
     ensures read_fault { result ≡ Status.ReadFault → Rose (F.faults_of files.old) (F.faults_of files.new) }
     ensures write_fault { result ≡ Status.WriteFault → Rose (K.faults_of out.old) (K.faults_of out.new) }
     ensures disk_fault { result ≡ Status.DiskFault → Rose (D.shows disk.old).faults (D.shows disk.new).faults }
     ensures link_fault { result ≡ Status.LinkFault → Rose (L.shows link.old).faults (L.shows link.new).faults }
-    ensures complete { idp.IsRunnable (F.holds files.old) config.now (D.shows disk.old).told →
-        ¬ (Rose (F.faults_of files.old) (F.faults_of files.new)) →
-        ¬ (Rose (K.faults_of out.old) (K.faults_of out.new)) →
-        ¬ (Rose (L.shows link.old).faults (L.shows link.new).faults) → result ≢ Status.DiskFault →
+    ensures complete { IsRunnableAs role (F.holds files.old) config.now (D.shows disk.old).told → ¬ (Rose (F.faults_of files.old) (F.faults_of files.new)) →
+        ¬ (Rose (K.faults_of out.old) (K.faults_of out.new)) → ¬ (Rose (L.shows link.old).faults (L.shows link.new).faults) → result ≢ Status.DiskFault →
         (result ≡ Status.Done) ⊎ (result ≡ Status.NoMemory) }
     ensures same { F.holds files.new ≡ F.holds files.old }
     ensures files_never_fall { F.faults_of files.old ≤ F.faults_of files.new }
@@ -150,7 +136,7 @@ pub(crate) fn run_identity_provider<L: Link, D: Disk, C: Clock, F: Files, K: Sin
     ensures disk_never_falls { (D.shows disk.old).faults ≤ (D.shows disk.new).faults }
     ensures link_never_falls { (L.shows link.old).faults ≤ (L.shows link.new).faults }
 {
-    match run_idp(alloc, files, config, link, disk, clock, events) {
+    match run_as(alloc, role, files, config, link, disk, clock, events) {
         Ok(ended) => print_ended(alloc, ended, out),
         Err(fault) => status_of_fault(fault),
     }

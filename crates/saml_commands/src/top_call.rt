@@ -24,7 +24,7 @@ use crate::command::{Command, command_of};
 use crate::limits::GREATEST_BODY;
 use crate::records::run_records;
 use crate::replay::{run_make, run_replay};
-use crate::serve::{run_identity_provider, run_service_provider};
+use crate::serve::run_provider;
 use crate::status::Status;
 use crate::vouch::vouch;
 use crash_disk::Disk;
@@ -254,12 +254,11 @@ fn run_command<L: Link, D: Disk, C: Clock, F: Files, K: Sink>(
         Command::Vouch { file, id, key_file } => run_vouch(alloc, files, out, file, id, key_file),
         Command::Check { config, body, now } => run_check(alloc, files, out, config, body, now),
         Command::Records { role } => run_records(alloc, role, files, out),
-        Command::Sp { config, events } => run_service_provider(
-            alloc, config, events, link, disk, clock, files, out,
-        ),
-        Command::Idp { config, events } => run_identity_provider(
-            alloc, config, events, link, disk, clock, files, out,
-        ),
+        Command::Serve {
+            role,
+            config,
+            events,
+        } => run_provider(alloc, role, config, events, link, disk, clock, files, out),
         Command::Replay { file } => run_replay(alloc, files, out, file),
         Command::Make { logins, start } => run_make(alloc, out, logins, start),
     }
@@ -267,8 +266,8 @@ fn run_command<L: Link, D: Disk, C: Clock, F: Files, K: Sink>(
 
 /// Runs the program for these words, over this link, disk and clock, these files and this output, and says how it ended.
 ///
-/// The commands `sp` and `idp` run a service provider and an identity provider; they may end early where the disk fails while
-/// the ledger is opened, or the link fails. All other commands leave link, disk and clock as they are.
+/// The commands `sp`, `idp` and `hub` run a service provider, an identity provider and a hub; they may end early where the disk
+/// fails while the ledger is opened, or the link fails. All other commands leave link, disk and clock as they are.
 pub fn run<L: Link, D: Disk, C: Clock, F: Files, K: Sink>(
     alloc: Global,
     words: &[Text],
@@ -280,11 +279,12 @@ pub fn run<L: Link, D: Disk, C: Clock, F: Files, K: Sink>(
 ) -> Status
     // What was done is what the words ask for: a service provider opened sessions exactly where a posted form opens one, each of a
     // login that was signed, and no two of one request; an identity provider issued each Assertion to a user with a password or a
-    // session, and signed nothing but what its durable records stand for. Of a schedule that was replayed the whole sentence holds
-    // that joins both providers. From each point of either's service on, also inside later
-    // requests, each image that a crash might leave has in its history the records for which the answers up to that point stand, where
-    // the disk tells. What was answered is what the words ask for, and a crash at any moment leaves of the disk what one inside the
-    // opening of a ledger or inside an answer may leave.
+    // session, and signed nothing but what its durable records stand for; a hub passed a login from above on exactly where a posted
+    // form brings it for a request of a provider below, and no two for one request upwards. Of a schedule that was replayed the whole
+    // sentence holds that joins both providers. From each point of a service on, also inside later requests, each image that a crash
+    // might leave has in its history the records for which the answers up to that point stand, where the disk tells. What was answered
+    // is what the words ask for, and a crash at any moment leaves of the disk what one inside the opening of a ledger or inside an
+    // answer may leave.
     ensures ends { (ran : Ran)
         × Does (D.shows disk.new).left_since words.now (F.holds files.old)
         (outside (D.shows disk.old) (L.shows link.old) (C.to_come clock.old)) ran

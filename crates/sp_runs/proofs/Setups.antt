@@ -8,9 +8,10 @@ use Rattle.conn_table.specs.Table.{Table}
 use Rattle.http_wire.specs.declared.answer.Answer.{Answer}
 use Rattle.http_wire.specs.Requests.{Request}
 use Rattle.ledger_records.specs.declared.sp_record.SpRecord.{SpRecord}
-use Rattle.serve_loop.specs.Turns.{Asked, Turn, Taken, Full, StarvedStart, Over, Unknown, Waiting, Answered, Refused, StarvedPiece, asked_in, asked_by, Does, Run}
-use Rattle.serve_loop.specs.Worlds.{World, OnlySends}
+use Rattle.serve_loop.specs.Turns.{Asked, Turn, Answered, asked_in, asked_by, Does, Run}
+use Rattle.serve_loop.specs.Worlds.{World}
 use Rattle.request_ledger.specs.Ledger.{Held}
+use Rattle.request_ledger.specs.Record.{request_rules}
 use Rattle.provider_node.specs.Step as any
 use Rattle.provider_node.specs.declared.codes.TheConstants as codes
 use Rattle.sp_server.specs.Step as steps
@@ -20,81 +21,15 @@ use Rattle.sp_server.specs.Histories.{IsProviders, Stands}
 use Rattle.sp_setup.specs.Laws.{ARegistryTellsTheProvider, WithoutARegistryNothingEnds}
 use Rattle.sp_runs.specs.Laws.{ARunUsesWhatItsRegistryLists, EachRequestIsServedByTheSameSetup, AnEndedRegistryRecordsNothing, AnEndedRegistryAsksNothing, AsksAndOpensNothing, WithoutARegistryNothingIsExpired}
 use Rattle.sp_setup.specs.Setup as setups
+use Rattle.provider_run.proofs.Setups.{asked_same}
 use Rattle.provider_run.specs.Runs.{world_of}
 use Rattle.sp_runs.specs.Runs.{served_by}
 use Rattle.sp_runs.proofs.Expired.{step_unexpired}
 use Rattle.sp_runs.proofs.Guarded.{guarded}
 
--- ---- one request
-
-serves_same : (found : Held) (request : Request) (now : ℕ) (Risen : Type 0) (answer : Answer) (old new : Provider) → steps.Serves found request now Risen answer old new → new.setup ≡ old.setup
-serves_same found request now Risen answer old new (any.Plain answers whole) = whole.setup
-serves_same found request now Risen answer old new (any.Recorded r answers place whole) = whole.setup
-serves_same found request now Risen answer old new (any.RecordedAfterCompaction held r room answers place whole) = whole.setup
-serves_same found request now Risen answer old new (any.NoPlace held r another room answers still is whole) = whole.setup
-serves_same found request now Risen answer old new (any.Failed wanted other wants risen is broken) = broken.setup
-serves_same found request now Risen answer old new (any.Starved held which is whole) = whole.setup
-
-step_same : (old : Provider) (disk : Option DiskState) (request : Request) (now : ℕ) (Risen : Type 0) (answer : Answer) (new : Provider) → Steps old disk request now Risen answer new → new.setup ≡ old.setup
-step_same old disk request now Risen answer new (any.WithLedger whole serves) = serves_same _ request now Risen answer old new serves
-step_same old disk request now Risen answer new (any.WithOpened found broken is serves) = serves_same found request now Risen answer old new serves
-step_same old disk request now Risen answer new (any.NotOpened was risen is broken) = broken.setup
-step_same old disk request now Risen answer new (any.Strange was none is broken) = broken.setup
-step_same old disk request now Risen answer new (any.StarvedAtOpening was is broken) = broken.setup
-
--- ---- one turn
-
--- what a world is served by
-abbrev setup_in : World Provider → Setup
-setup_in w = w.node.setup
-
-same_world : (w later : World Provider) → later ≡ w → setup_in later ≡ setup_in w
-same_world w later same = ap setup_in same
-
-sent : (conn : ℕ) (bytes : List ℕ) (w later : World Provider) → OnlySends conn bytes w later → setup_in later ≡ setup_in w
-sent conn bytes w later sends = ap setup_in sends.same
-
-turn_same : (turn : Turn Provider) (old new : Table) (w later : World Provider) → Does IsProviders old w turn new later → setup_in later ≡ setup_in w
-turn_same (Taken conn) old new w later does = same_world w later does.1
-turn_same (Full conn) old new w later does = sent conn _ w later does.1
-turn_same (StarvedStart conn) old new w later does = sent conn _ w later does.1
-turn_same (Over conn) old new w later does = same_world w later does.1
-turn_same (Unknown conn piece) old new w later does = same_world w later does.1
-turn_same (Waiting conn piece) old new w later does = same_world w later does.1
-turn_same (Answered piece one) old new w later (between, takes, answers) =
-    sent one.conn _ answers.told later answers.sends
-    ∙ step_same w.node w.disk one.request one.now (Rose w.disk_faults answers.told.disk_faults) one.answer
-    answers.told.node answers.asks.answers.does.step
-turn_same (Refused conn piece status) old new w later (between, takes, lets) = sent conn _ w later lets.sends
-turn_same (StarvedPiece conn piece) old new w later (between, takes, lets) = sent conn _ w later lets.sends
-
--- the one that is asked is asked by
-asked_here : (turn : Turn Provider) (old new : Table) (w later : World Provider) (asked : Asked Provider) → Does IsProviders old w turn new later → Contains (asked_by turn) asked → asked.node.setup ≡ setup_in w
-asked_here (Answered piece one) old new w later asked (between, takes, answers) (zero, within, is) =
-    ap (λ (a : Asked Provider). a.node.setup) (sym is) ∙ ap (λ (p : Provider). p.setup) answers.asks.node
-asked_here (Answered piece one) old new w later asked does (suc k, within, is) = absurd (omega arith)
-asked_here turn old new w later asked does (k, within, is) = absurd (omega arith)
-
--- ---- all turns
-
-run_same : (first last : World Provider) (turns : List (Turn Provider)) (kept : Table) → Run IsProviders first turns kept last → setup_in last ≡ setup_in first
-run_same first last [] kept run = same_world first last run.1
-run_same first last (turn ∷ past) kept (old, before, given, run, next, does) =
-    turn_same turn old kept given last does ∙ ap setup_in next.same ∙ run_same first before past old run
-
-asked_same : (first last : World Provider) (turns : List (Turn Provider)) (kept : Table) (asked : Asked Provider) → Run IsProviders first turns kept last → Contains (asked_in turns) asked →
-    asked.node.setup ≡ setup_in first
-asked_same first last [] kept asked run (k, within, is) = absurd (omega arith)
-asked_same first last (turn ∷ past) kept asked (old, before, given, run, next, does) there =
-    which (λ earlier. asked_same first before past old asked run earlier) (Contains-append_cases (asked_in past) (asked_by turn) asked there)
-  where
-    which : (Contains (asked_in past) asked → asked.node.setup ≡ setup_in first) → Contains (asked_in past) asked ⊎ Contains (asked_by turn) asked → asked.node.setup ≡ setup_in first
-    which rest (inl earlier) = rest earlier
-    which rest (inr now) = asked_here turn old kept given last asked does now ∙ ap setup_in next.same ∙ run_same first before past old run
-
 pub served_by_one : EachRequestIsServedByTheSameSetup
 served_by_one told file before opened provider turns kept behind asked begins run there =
-    asked_same (world_of provider opened) behind turns kept asked run there ∙ begins.set_up.serves_by
+    asked_same request_rules Answers (world_of provider opened) behind turns kept asked run there ∙ begins.set_up.serves_by
 
 -- ---- registries
 

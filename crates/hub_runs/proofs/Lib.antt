@@ -1,0 +1,6 @@
+pub mod Asking
+pub mod Back
+pub mod Headlines
+pub mod Kept
+pub mod Origins
+pub mod Starving

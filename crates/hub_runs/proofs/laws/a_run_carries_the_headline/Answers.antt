@@ -1,0 +1,23 @@
+use Rattle.hub_runs.proofs.Headlines.{Laws, headline}
+use Rattle.hub_runs.proofs.laws.a_run_carries_the_headline.Goals as goal
+
+pub returns : goal.returns
+returns g c = λ disk.
+    let each : Laws = record {
+      only = c.a_login_is_passed_on_exactly.ensures.only;
+      wherever = c.a_login_is_passed_on_exactly.ensures.wherever;
+      back = c.each_login_goes_back_to_its_request.ensures.goes;
+      signed = c.each_signed_element_is_of_a_record.ensures;
+      recorded = c.what_is_answered_is_recorded.ensures;
+      passive = c.nothing_is_asked_of_a_user_who_may_not_be_asked.ensures;
+      above_signed = c.each_login_is_of_one_above.ensures.signed;
+      above_recorded = c.each_login_is_of_one_above.ensures.recorded;
+      starved = c.what_is_visible_stays.ensures;
+    } in
+    headline (record {
+      each = each;
+      hold = c.images_hold_records.ensures;
+      once = c.what_is_acknowledged_is_kept_once.ensures;
+      in_images = c.each_login_goes_back_to_its_request.ensures.images;
+      below = c.each_session_below_is_of_a_login_above.ensures;
+    }) (g.D.Disk.shows disk).left_since

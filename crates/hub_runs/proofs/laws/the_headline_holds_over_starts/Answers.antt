@@ -1,0 +1,16 @@
+use Rattle.hub_runs.proofs.Headlines.{over_starts}
+use Rattle.hub_runs.proofs.laws.the_headline_holds_over_starts.Goals as goal
+
+pub returns : goal.returns
+returns c =
+    over_starts (record {
+      only = c.a_login_is_passed_on_exactly.ensures.only;
+      wherever = c.a_login_is_passed_on_exactly.ensures.wherever;
+      back = c.each_login_goes_back_to_its_request.ensures.goes;
+      signed = c.each_signed_element_is_of_a_record.ensures;
+      recorded = c.what_is_answered_is_recorded.ensures;
+      passive = c.nothing_is_asked_of_a_user_who_may_not_be_asked.ensures;
+      above_signed = c.each_login_is_of_one_above.ensures.signed;
+      above_recorded = c.each_login_is_of_one_above.ensures.recorded;
+      starved = c.what_is_visible_stays.ensures;
+    }) c.what_is_acknowledged_is_kept_once_over_starts.ensures c.each_session_below_is_of_a_login_above.ensures

@@ -1,0 +1,199 @@
+-- What a run of a hub comes to: a login from above is passed on exactly where a posted form brings it for a request of a
+-- provider below that is known, with its name and its attributes and to that provider alone; each signed element is one of a
+-- record that is durable before it is sent; no request upwards backs two logins, and no request below gets a login but by
+-- the record of the one that was sent upwards for it; and where only the provider above makes HMACs that match, each login
+-- is one that it recorded, and so is each session below.
+use Rattle.std.specs.Prelude.{◌≡◌, ◌⊎◌, ℕ, true, false, List, [], ◌∷◌, Contains, Option, IsSome, Some, Ok, Result}
+use Rattle.std.specs.List.{AllByRecursion}
+use Rattle.saml_outside.specs.Files.{File}
+use Rattle.crash_disk.specs.Counts.{Rose}
+use Rattle.crash_disk.specs.Disk.{Image}
+use Rattle.conn_table.specs.Table.{Table}
+use Rattle.http_wire.specs.declared.answer.Answer.{Answer}
+use Rattle.http_wire.specs.declared.answer.Answer.TheVariants.{Fixed, Full}
+use Rattle.ledger_records.specs.declared.hub_record.Backed.{Backed}
+use Rattle.ledger_records.specs.declared.hub_record.HubRecord.{HubRecord}
+use Rattle.ledger_records.specs.declared.hub_record.HubRecord.TheVariants as kinds
+use Rattle.login_origin.specs.Signed.{Signed, IsSigned}
+use Rattle.login_origin.specs.Premises.{Unforged, NoCollision}
+use Rattle.login_origin.specs.Origin.{IsLoginOf}
+use Rattle.serve_loop.specs.declared.served.Served.{Served}
+use Rattle.serve_loop.specs.declared.served.ServeFault.{ServeFault}
+use Rattle.serve_loop.specs.Serving as node_serving
+use Rattle.serve_loop.specs.Turns.{Asked, Asks, Run, Turn, asked_by, asked_in}
+use Rattle.serve_loop.specs.Worlds.{World}
+use Rattle.peer_keys.specs.declared.peers.LogoutPeer.{LogoutPeer}
+use Rattle.sp_rules.specs.Opening.{Brought}
+use Rattle.idp_rules.specs.declared.asked.Asked.{Asked as AskedLogin}
+use Rattle.idp_rules.specs.declared.config.IdpConfig.{IdpConfig}
+use Rattle.hub_ledger.specs.Laws.{AnswerAlike}
+use Rattle.hub_ledger.specs.Ledger.{Held, ledger_in}
+use Rattle.hub_ledger.specs.Record.{AreRecords, hub_rules}
+use Rattle.hub_ledger.specs.RowsOf.{Route}
+use Rattle.recorded_logins.specs.Recorded.{Added, AreOf}
+use Rattle.passed_logins.specs.Passed.{IsOfARecordedLogin}
+use Rattle.provider_node.specs.declared.codes.TheConstants.{NO_MEMORY}
+use Rattle.provider_node.specs.Added.{IsAddedBy, IsNew}
+use Rattle.provider_node.specs.Lasting.{AreKeptSince}
+use Rattle.provider_node.specs.Starts.{AreStarts, IsServed, Start, asked_over}
+use Rattle.provider_run.specs.Runs.{Outside, world_of}
+use Rattle.provider_run.specs.declared.ended.Ended.{Ended}
+use Rattle.provider_run.specs.declared.ended.RunFault.{RunFault}
+use Rattle.service_routes.specs.declared.route.Route.TheVariants.{To}
+use Rattle.identity_hub.specs.declared.route.Service.TheVariants.{Consumer, SignOn}
+use Rattle.identity_hub.specs.Histories.{AreKeptOnce, AreKeptOnceOver, IsHubs}
+use Rattle.identity_hub.specs.Passing.{CanPassOn, HasRoom, IsPassedOn, IsSpoken, PassesLogin}
+use Rattle.identity_hub.specs.Recorded.{IsRecorded}
+use Rattle.identity_hub.specs.Routes.{route}
+use Rattle.identity_hub.specs.Signed.{Carries}
+use Rattle.identity_hub.specs.Step.{Answers, AsksFor, Provider, Serves, StepLeaves, StepsOnDisk}
+use Rattle.hub_runs.specs.Laws.{EachLoginInAnImageHasItsRequest, GoesBackFrom, SessionsBelowAreOfLoginsAbove}
+use Rattle.hub_runs.specs.Runs.{Begins, Runs}
+
+-- ---- one request, which the hub was asked in one world, and which left another behind
+
+-- A login is recorded as passed on, with whatever answer, only where the posted form brings it, for the request of a
+-- provider below that is known: with the name and the attributes of the login from above, in an Assertion for that provider
+-- alone. It goes back to the request below for which one was sent upwards. And wherever a form brings one, over the ledger
+-- that the step found, where there is room, at once or behind one compaction, and the disk does not fail, it is recorded
+-- and passed on; or there was no memory.
+pub record PassesOnExactly (asked : Asked Provider) (before after : World Provider) : Type 0 where
+  pub only : (held : Held) (answer : Answer) (r : Backed)
+      → Answers asked.node.setup held asked.request asked.now answer (Some (kinds.Backed r))
+      → PassesLogin asked.node.setup held asked.request asked.now (kinds.Backed r) answer
+  pub back : (held : Held) (answer : Answer) (r : Backed)
+      → Answers asked.node.setup held asked.request asked.now answer (Some (kinds.Backed r)) → GoesBackFrom held r
+  pub wherever : (found : Held) (b : Brought) (row : Route) (peer : LogoutPeer)
+      → Serves found asked.request asked.now (Rose before.disk_faults after.disk_faults) asked.answer asked.node
+      after.node
+      → CanPassOn asked.node.setup found asked.request asked.now b row peer → HasRoom asked.node.setup found asked.now b row
+      → ¬ (Rose before.disk_faults after.disk_faults)
+      → (asked.answer ≡ Fixed NO_MEMORY) ⊎ IsPassedOn asked.node.setup found asked.request asked.now b row asked.answer
+      after.node.ledger.held
+
+-- Each signed element in an answer is one that its record stands for: the Assertion of a login that was passed on, or the
+-- request that was sent upwards. And the record of each form that is answered to what is posted is in every image that a
+-- crash may leave once the hub has answered, before a byte is sent.
+pub record SignsOnlyItsRecords (asked : Asked Provider) (after : World Provider) : Type 0 where
+  pub signed : (held : Held) (bytes : List ℕ) (r : HubRecord)
+      → Answers asked.node.setup held asked.request asked.now (Full bytes) (Some r)
+      → Carries asked.node.setup asked.now bytes r
+  pub recorded : (bytes : List ℕ) → asked.answer ≡ Full bytes
+      → (route asked.request ≡ To SignOn) ⊎ (route asked.request ≡ To Consumer)
+      → IsRecorded asked.node.setup asked.request asked.now (Full bytes) after.disk
+
+-- Nobody above is asked where the user of a request below may not be asked: what is recorded with the answer is a Response
+-- without an Assertion.
+abbrev pub AsksNobodyAbove : Asked Provider → Type 0
+AsksNobodyAbove asked =
+    (held : Held) (answer : Answer) (r : HubRecord) (login : AskedLogin) (peer : LogoutPeer)
+    → AsksFor asked.node.setup asked.request login peer → login.passive ≡ true
+    → Answers asked.node.setup held asked.request asked.now answer (Some r)
+    → IsSpoken asked.node.setup login asked.now r answer
+
+-- Where no HMAC in the posted form is made by anybody but the provider above, and no hash collides: each login that is passed
+-- on, with whatever answer, is one that this signed; and where it is an identity provider of some setup, which signed these
+-- elements for these records, one that it recorded for the hub.
+pub record IsOfALoginFromAbove (asked : Asked Provider) : Type 0 where
+  pub signed : (issued : List Signed) (held : Held) (answer : Answer) (r : HubRecord) → AllByRecursion IsSigned issued
+      → Unforged issued asked.node.setup.upstream asked.now asked.request.body
+      → NoCollision issued asked.request.body
+      → (passes : PassesLogin asked.node.setup held asked.request asked.now r answer)
+      → IsLoginOf issued passes.brought.login
+  pub recorded : (above : IdpConfig) (added : List Added) (issued : List Signed) (r : Backed) → AreOf above added issued
+      → Unforged issued asked.node.setup.upstream asked.now asked.request.body
+      → NoCollision issued asked.request.body
+      → IsAddedBy Answers asked.node.setup asked.request asked.now (kinds.Backed r)
+      → IsOfARecordedLogin above added asked.node.setup r
+
+-- Each record that stands in an image which a crash inside the answer may leave, or one behind it, be it behind page 50, and
+-- stood nowhere before is one that the request adds over some ledger with some answer, so that it is of it what is said of
+-- these.
+abbrev pub AddsOnlyItsOwn : Asked Provider → Type 0
+AddsOnlyItsOwn asked =
+    (image : Image) (held : Held) (r : HubRecord) → IsSome asked.disk
+    → StepLeaves asked.node asked.disk asked.request asked.now image
+    → ledger_in image ≡ Ok (Some held) → Contains held.records r → IsNew hub_rules asked.node asked.disk r
+    → IsAddedBy Answers asked.node.setup asked.request asked.now r
+
+-- Where there was no memory and the ledger was not broken, all that may be asked of its rows at the moment of the request is
+-- answered behind it as before.
+abbrev pub KeepsWhatIsVisible : (asked : Asked Provider) → (after : World Provider) → Type 0
+KeepsWhatIsVisible asked after =
+    AreRecords asked.node.ledger.held.records → asked.node.ledger.broken ≡ false → asked.answer ≡ Fixed NO_MEMORY
+    → AnswerAlike asked.now after.node.ledger.held asked.node.ledger.held
+
+-- ---- the run
+
+-- a request is answered by one step, and so it is of it, whatever the worlds are in which the hub was asked
+pub record GoesExactly (asked : Asked Provider) : Type 0 where
+  pub steps : (before after : World Provider) → Asks IsHubs asked before after
+      → StepsOnDisk asked.node asked.disk asked.request asked.now
+      (Rose before.disk_faults after.disk_faults) asked.answer after.node after.disk
+  pub passes : (before after : World Provider) → Asks IsHubs asked before after → PassesOnExactly asked before after
+  pub signs : (before after : World Provider) → Asks IsHubs asked before after → SignsOnlyItsRecords asked after
+  pub passive : AsksNobodyAbove asked
+  pub from_above : IsOfALoginFromAbove asked
+  pub added : (before after : World Provider) → Asks IsHubs asked before after → AddsOnlyItsOwn asked
+  pub starved : (before after : World Provider) → Asks IsHubs asked before after → KeepsWhatIsVisible asked after
+
+-- and of each request that the hub was asked
+abbrev pub EachGoesExactly : List (Turn Provider) → Type 0
+EachGoesExactly [] = Unit {0}
+EachGoesExactly (turn ∷ past) = AllByRecursion GoesExactly (asked_by turn) × EachGoesExactly past
+
+-- A run that served nothing, or one that served: each request, all of them served by what the hub was set up with, passed
+-- logins on exactly, and was answered once its record was durable; where the disk tells, what the answers acknowledged is
+-- in the history of every ledger that a crash may leave behind the run, and no request upwards backs two logins, those at
+-- the start and those that were let go included; from each point of the run on, also inside later requests, what was
+-- acknowledged by then is in the history of every ledger that a crash might leave; in each of these images each login that
+-- was passed on has its request upwards, and goes back to the one below for which that was sent; and each session that a
+-- provider below opens is of a login that the provider above recorded for the hub, or of a record that this had at the
+-- start, where nobody else makes HMACs that match and no hash collides. `left` says of each moment, seen from the end of
+-- the run, what a crash since then might have left.
+pub data Headline (left : ℕ → Image → Type 0) (told : Option (List File)) (file : List ℕ) (before : Outside)
+    (turns : List (Turn Provider)) (after : Outside) : Type 0 where
+  ServedNothing : turns ≡ [] → Headline left told file before turns after
+  ServedSo : (provider last : Provider) (opened : Outside) (budget : ℕ) (served : Result Served ServeFault)
+      → Begins told file before provider opened
+      → (serves : node_serving.Serves IsHubs StepLeaves left budget turns (world_of provider opened) served
+      (world_of last after))
+      → ((asked : Asked Provider) → Contains (asked_in turns) asked → asked.node.setup ≡ provider.setup)
+      → EachGoesExactly turns
+      → (IsSome before.disk → AreKeptOnce (world_of provider opened) (world_of last after) turns)
+      → (IsSome before.disk → AreKeptSince hub_rules Answers left
+      (world_of provider opened) turns serves.kept serves.last serves.run)
+      → EachLoginInAnImageHasItsRequest
+      → SessionsBelowAreOfLoginsAbove provider.ledger.held.records (asked_in turns)
+      → Headline left told file before turns after
+
+-- The headline holds of each run.
+abbrev pub ARunCarriesTheHeadline : (left : ℕ → Image → Type 0) → Type 0
+ARunCarriesTheHeadline left =
+    (told : Option (List File)) (file : List ℕ) (budget : ℕ) (before : Outside) (turns : List (Turn Provider))
+    (result : Result Ended RunFault) (after : Outside)
+    → Runs left told file budget before turns result after → Headline left told file before turns after
+
+-- ---- over runs
+
+-- A run that served, on a disk that tells, is a start of the hub: its ledger was opened from what the disk held, and then
+-- its turns were done. So what several runs acknowledged, each on what a crash of the one before it may have left, is kept
+-- once, by the laws of starts.
+abbrev pub ARunIsAStart : Type 0
+ARunIsAStart =
+    (told : Option (List File)) (file : List ℕ) (before opened : Outside) (provider : Provider)
+    (turns : List (Turn Provider)) (kept : Table) (behind : World Provider)
+    → IsSome before.disk → Begins told file before provider opened
+    → Run IsHubs (world_of provider opened) turns kept behind
+    → IsServed hub_rules Answers before.disk (world_of provider opened) turns kept behind
+
+-- The same sentence over starts, each of which opens what a crash of the one before it may have left.
+pub record HeadlineOver (start : Held) (starts : List (Start Provider)) : Type 0 where
+  pub goes : (asked : Asked Provider) → Contains (asked_over starts) asked → GoesExactly asked
+  pub once : AreKeptOnceOver start starts
+  pub below : SessionsBelowAreOfLoginsAbove start.records (asked_over starts)
+
+abbrev pub TheHeadlineHoldsOverStarts : Type 0
+TheHeadlineHoldsOverStarts =
+    (start : Held) (starts : List (Start Provider)) → AreRecords start.records
+    → AreStarts hub_rules Answers start starts → HeadlineOver start starts

@@ -1,0 +1,4 @@
+pub mod Headline
+pub mod Joining
+pub mod Laws
+pub mod Runs
