@@ -41,7 +41,9 @@ use Rattle.idp_server.specs.Issues.{IsOfUser, IsRecorded}
 use Rattle.idp_server.specs.Logouts.{Ends, EndsOver, IsOfLogoutIfEnding, LeavesOver, ending_record, leaving_record}
 use Rattle.idp_server.specs.Messages.{AsksFirst}
 use Rattle.idp_server.specs.Outcomes.{IsOutcome}
-use Rattle.idp_server.specs.Routes.{Login, Logout, SignOn, SingleLogout, To, route}
+use Rattle.service_routes.specs.declared.route.Route.TheVariants.{To}
+use Rattle.idp_server.specs.declared.route.Service.TheVariants.{Login, Logout, SignOn, SingleLogout}
+use Rattle.idp_server.specs.Routes.{route}
 use Rattle.idp_server.specs.Signed.{Carries}
 use Rattle.idp_server.specs.Staying.{SessionsStay, WhatWasBegunIsAsLeft}
 use Rattle.idp_server.specs.Step.{Provider, Answers, HasPlace, Serves, StepLeaves, StepsOnDisk, ending_by}

@@ -13,7 +13,9 @@ use Rattle.idp_ledger.specs.Finding.{is_empty}
 use Rattle.idp_ledger.specs.Ledger.{Held}
 use Rattle.idp_rules.specs.Config.{logout}
 use Rattle.idp_rules.specs.declared.config.IdpConfig.{IdpConfig}
-use Rattle.idp_server.specs.Routes.{SingleLogout, To, route}
+use Rattle.service_routes.specs.declared.route.Route.TheVariants.{To}
+use Rattle.idp_server.specs.declared.route.Service.TheVariants.{SingleLogout}
+use Rattle.idp_server.specs.Routes.{route}
 use Rattle.idp_server.specs.Step.{Answers, AsksToEnd, ByNothingToEnd, ByUnknownLogout, IsObeyed, IsPeer, RepliesTo, ending_by, is_awaited}
 use Rattle.idp_server.specs.Rounds.{round_waiting}
 use Rattle.idp_server.proofs.Peers.{place_names}

@@ -20,8 +20,9 @@ use Rattle.idp_ledger.specs.RowsOf.{rows_of}
 use Rattle.idp_ledger.proofs.RowTexts.{found_pending, pendings_allowed, row_there}
 use Rattle.idp_rules.specs.Config.{IsTextAttribute}
 use Rattle.idp_rules.specs.declared.config.IdpConfig.{IdpConfig}
-use Rattle.idp_server.specs.Routes as routes
-use Rattle.idp_server.specs.Routes.{To, route}
+use Rattle.idp_server.specs.declared.route.Service.TheVariants as routes
+use Rattle.service_routes.specs.declared.route.Route.TheVariants.{To}
+use Rattle.idp_server.specs.Routes.{route}
 use Rattle.idp_server.specs.Step.{Answers, ByNoPending, ByPassword, Typed, typed, typed_in}
 use Rattle.idp_server.proofs.Issues.{followed}
 

@@ -29,7 +29,9 @@ use Rattle.idp_rules.specs.declared.config.IdpConfig.{IdpConfig}
 use Rattle.provider_node.specs.Step as shared
 use Rattle.provider_node.specs.Step.{IsWhole}
 use Rattle.provider_node.proofs.Serving.{settled}
-use Rattle.idp_server.specs.Routes.{Login, Metadata, SignOn, To, route}
+use Rattle.service_routes.specs.declared.route.Route.TheVariants.{To}
+use Rattle.idp_server.specs.declared.route.Service.TheVariants.{Login, Metadata, SignOn}
+use Rattle.idp_server.specs.Routes.{route}
 use Rattle.idp_server.specs.Step as steps
 use Rattle.idp_server.specs.Step.{Provider, Answers, OwnsDisk, Serves, Steps, ask_of, session_for}
 use Rattle.idp_server.specs.Issues.{AnswersHaveUsers, Anew, IsOfSession, IsOfUser, IsOfUserIfIssued, IsRecorded, LeavesLedger, More, Nothing, ServicesHaveUsers, WhatIsAnsweredIsRecorded}

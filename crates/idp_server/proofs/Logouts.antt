@@ -24,7 +24,9 @@ use Rattle.idp_ledger.specs.Draft.{told_in}
 use Rattle.idp_ledger.specs.Ledger.{Held, next_number}
 use Rattle.idp_rules.specs.declared.config.IdpConfig.{IdpConfig}
 use Rattle.provider_node.specs.Step as shared
-use Rattle.idp_server.specs.Routes.{Logout, Metadata, SingleLogout, To, route}
+use Rattle.service_routes.specs.declared.route.Route.TheVariants.{To}
+use Rattle.idp_server.specs.declared.route.Service.TheVariants.{Logout, Metadata, SingleLogout}
+use Rattle.idp_server.specs.Routes.{route}
 use Rattle.idp_server.specs.Step as steps
 use Rattle.idp_server.specs.Step.{Answers, ask_of, asker_of, ended_by, ending_by, is_in_part, left_by, session_for}
 use Rattle.round_rows.specs.Rounds.{is_turn_left}

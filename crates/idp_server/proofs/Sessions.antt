@@ -22,7 +22,9 @@ use Rattle.idp_rules.specs.declared.asked.Asked.{Asked}
 use Rattle.idp_rules.specs.declared.config.IdpConfig.{IdpConfig}
 use Rattle.idp_server.specs.Replies.{AreTold, AsksFor, IsTextAsk, IsTextSession, Leaves}
 use Rattle.idp_server.specs.Rounds.{asks_others}
-use Rattle.idp_server.specs.Routes.{Logout, SignOn, To, route}
+use Rattle.service_routes.specs.declared.route.Route.TheVariants.{To}
+use Rattle.idp_server.specs.declared.route.Service.TheVariants.{Logout, SignOn}
+use Rattle.idp_server.specs.Routes.{route}
 use Rattle.idp_server.specs.Step.{ask_of, session_for}
 use Rattle.idp_server.proofs.Issues.{followed, found_at, used_is}
 

@@ -31,7 +31,9 @@ use Rattle.idp_ledger.specs.Record.{of_turn}
 use Rattle.idp_ledger.proofs.Draftable.{text_is_allowed}
 use Rattle.idp_rules.specs.Config.{IsTextPeer}
 use Rattle.idp_rules.specs.declared.config.IdpConfig.{IdpConfig}
-use Rattle.idp_server.specs.Routes.{SingleLogout, To, route}
+use Rattle.service_routes.specs.declared.route.Route.TheVariants.{To}
+use Rattle.idp_server.specs.declared.route.Service.TheVariants.{SingleLogout}
+use Rattle.idp_server.specs.Routes.{route}
 use Rattle.idp_server.specs.declared.reply.Reply.{Reply}
 use Rattle.idp_server.specs.declared.reply.Follows.{Follows}
 use Rattle.idp_server.specs.declared.reply.Follows.TheVariants as follows

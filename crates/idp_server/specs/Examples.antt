@@ -7,7 +7,9 @@ use Rattle.element_make.specs.declared.names.Ns.TheVariants.{Ds, Saml}
 use Rattle.element_make.specs.Made.{MadeNodes, NothingMade, MadeElement}
 use Rattle.idp_ledger.specs.declared.row.SessionRow.{SessionRow}
 use Rattle.idp_rules.specs.declared.asked.Asked.{Asked}
-use Rattle.idp_server.specs.Routes.{Login, SignOn, Logout, Metadata, SingleLogout, To, Refused, route, service_at}
+use Rattle.service_routes.specs.declared.route.Route.TheVariants.{To, Refused}
+use Rattle.idp_server.specs.declared.route.Service.TheVariants.{Login, SignOn, Logout, Metadata, SingleLogout}
+use Rattle.idp_server.specs.Routes.{route, service_at}
 use Rattle.idp_server.specs.Signed.{signed_elements}
 use Rattle.protocol_messages.specs.declared.logout.Outcome.TheVariants.{Success, Partial, Other}
 use Rattle.idp_server.specs.Step.{is_in_part, session_used, typed_in}

@@ -19,7 +19,9 @@ use Rattle.idp_ledger.specs.RowsOf.{rows_of}
 use Rattle.idp_ledger.specs.Ledger.{Held, held_with, ledger_in}
 use Rattle.idp_ledger.specs.Compacting.{Compacts}
 use Rattle.idp_rules.specs.declared.config.IdpConfig.{IdpConfig}
-use Rattle.idp_server.specs.Routes.{Login, SignOn, To, route}
+use Rattle.service_routes.specs.declared.route.Route.TheVariants.{To}
+use Rattle.idp_server.specs.declared.route.Service.TheVariants.{Login, SignOn}
+use Rattle.idp_server.specs.Routes.{route}
 use Rattle.idp_server.specs.Step.{Provider, Answers, OwnsDisk, Serves, Steps, Typed, typed}
 
 -- WHY

@@ -9,7 +9,6 @@ pub mod Histories
 pub mod Signed
 pub mod Logouts
 pub mod Outcomes
-pub mod Views
 pub mod Examples
 pub mod Starving
 pub mod Staying

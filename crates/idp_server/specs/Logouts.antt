@@ -27,7 +27,9 @@ use Rattle.idp_rules.specs.declared.config.IdpConfig.{IdpConfig}
 use Rattle.provider_node.specs.declared.codes.TheConstants.{NO_MEMORY}
 use Rattle.idp_server.specs.Histories.{IsEnded}
 use Rattle.idp_server.specs.Issues.{IsRecorded, LeavesLedger}
-use Rattle.idp_server.specs.Routes.{Logout, SingleLogout, To, route}
+use Rattle.service_routes.specs.declared.route.Route.TheVariants.{To}
+use Rattle.idp_server.specs.declared.route.Service.TheVariants.{Logout, SingleLogout}
+use Rattle.idp_server.specs.Routes.{route}
 use Rattle.idp_server.specs.Replies.{OfPeer, OfUser}
 use Rattle.idp_server.specs.Rounds.{asks_others, round_by, round_waiting, skips_for, turns_for}
 use Rattle.idp_server.specs.Step.{Provider, Answers, AsksToEnd, HasPlace, OwnsDisk, RepliesTo, Serves, Steps, asker_of, ended_by, ending_by, is_awaited, is_in_part, left_by, session_for}

@@ -52,8 +52,9 @@ use Rattle.idp_server.specs.declared.reply.Follows.TheVariants as follows
 use Rattle.idp_server.specs.declared.reply.Reply.{Reply}
 use Rattle.idp_server.specs.declared.reply.Reply.TheVariants as replies
 use Rattle.idp_server.specs.Logins.{stated_by}
-use Rattle.idp_server.specs.Routes as routes
-use Rattle.idp_server.specs.Routes.{To, route}
+use Rattle.idp_server.specs.declared.route.Service.TheVariants as routes
+use Rattle.service_routes.specs.declared.route.Route.TheVariants.{To}
+use Rattle.idp_server.specs.Routes.{route}
 use Rattle.idp_server.specs.Messages.{AsksFirst, IsRequestTo, IsRoundEnd}
 use Rattle.idp_server.specs.Rounds.{asks_others, follows_of, round_waiting, skips_for, turns_for}
 use Rattle.idp_server.specs.Step as step

@@ -50,7 +50,9 @@ use Rattle.idp_server.specs.Logins.{login_of}
 pub use Rattle.idp_server.specs.Messages.{IsPeer, IsLeavingAnswer, IsEndingAnswer}
 use Rattle.idp_server.specs.Messages.{AsksFirst, IsToldAnswer}
 use Rattle.idp_server.specs.Rounds.{asks_others, round_by, round_waiting, told_by}
-use Rattle.idp_server.specs.Routes.{SignOn, Login, Metadata, Logout, SingleLogout, To, Refused, route}
+use Rattle.service_routes.specs.declared.route.Route.TheVariants.{To, Refused}
+use Rattle.idp_server.specs.declared.route.Service.TheVariants.{SignOn, Login, Metadata, Logout, SingleLogout}
+use Rattle.idp_server.specs.Routes.{route}
 
 -- a provider: what it is set up with, and its ledger
 abbrev pub Provider : Type 0

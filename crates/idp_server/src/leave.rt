@@ -5,7 +5,9 @@ ghost use Rattle.http_wire.specs.Views.{request_view};
 ghost use Rattle.http_wire.specs.declared.answer.Answer.TheVariants.{Fixed};
 ghost use Rattle.saml_time.specs.declared.TheConstants.{LAST};
 ghost use Rattle.verdict_codes.specs.Codes.{number_of};
-ghost use Rattle.idp_server.specs.Routes.{Logout, To, route};
+ghost use Rattle.service_routes.specs.declared.route.Route.TheVariants.{To};
+ghost use Rattle.idp_server.specs.declared.route.Service.TheVariants.{Logout};
+ghost use Rattle.idp_server.specs.Routes.{route};
 ghost use Rattle.idp_server.specs.Step.{Answers};
 ghost use Rattle.idp_server.specs.Replies.{Wants};
 

@@ -8,7 +8,9 @@ ghost use Rattle.saml_time.specs.declared.TheConstants.{LAST};
 ghost use Rattle.verdict_codes.specs.Codes.{number_of};
 ghost use Rattle.ledger_rules.specs.Numbers.{is_xml_text};
 ghost use Rattle.idp_ledger.specs.Drafts.{SESSION_LIFE};
-ghost use Rattle.idp_server.specs.Routes.{Login, To, route};
+ghost use Rattle.service_routes.specs.declared.route.Route.TheVariants.{To};
+ghost use Rattle.idp_server.specs.declared.route.Service.TheVariants.{Login};
+ghost use Rattle.idp_server.specs.Routes.{route};
 ghost use Rattle.idp_server.specs.Step.{Answers};
 ghost use Rattle.idp_server.specs.Replies.{AreTold, IsTextPending, Wants};
 

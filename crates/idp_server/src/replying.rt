@@ -10,7 +10,7 @@ ghost use Rattle.idp_server.specs.Step.{Answers};
 
 use crate::reply::Reply;
 use crate::role::IdpRole;
-use crate::route::{Route, route_of};
+use crate::route::{Service, service_at};
 use fault_verdicts::Judged;
 use http_wire::{Answer, HttpRequest};
 use idp_answers::laws::each_login_has_an_answer;
@@ -19,6 +19,7 @@ use idp_ledger::laws::compactions_change_no_answer;
 use idp_ledger::{Draft, IdpLedger};
 use owned_values::{Blob, NoMemory};
 use provider_node::{DraftOutcome, Replied, Role};
+use service_routes::{Route, route_to};
 
 impl IdpRole {
     /// A reply, or the code of a refusal.
@@ -75,22 +76,22 @@ impl Role for IdpRole {
         request: &HttpRequest<'_>,
         now: u64,
     ) -> Result<Replied<Reply>, NoMemory> {
-        match route_of(request) {
+        match route_to(request, service_at(request.path)) {
             Route::Refused(status) => Ok(Replied::Plain(Answer::Fixed(status))),
-            Route::Metadata => Ok(Replied::Plain(Answer::Full(self.metadata()?))),
-            Route::SignOn => {
+            Route::To(Service::Metadata) => Ok(Replied::Plain(Answer::Full(self.metadata()?))),
+            Route::To(Service::SignOn) => {
                 let reply = self.sign_on(ledger, request, now);
                 self.replied(ledger, request, now, reply)
             }
-            Route::Login => {
+            Route::To(Service::Login) => {
                 let reply = self.log_in(ledger, request, now);
                 self.replied(ledger, request, now, reply)
             }
-            Route::Logout => {
+            Route::To(Service::Logout) => {
                 let reply = self.leave(ledger, request, now);
                 self.replied(ledger, request, now, reply)
             }
-            Route::SingleLogout => {
+            Route::To(Service::SingleLogout) => {
                 let reply = self.single_logout(ledger, request, now);
                 self.replied(ledger, request, now, reply)
             }

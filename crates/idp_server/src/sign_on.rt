@@ -11,7 +11,9 @@ ghost use Rattle.peer_keys.specs.declared.peers.LogoutPeer.{LogoutPeer};
 ghost use Rattle.idp_rules.specs.Asking.{IsAsked};
 ghost use Rattle.idp_rules.specs.Config.{sign_on};
 ghost use Rattle.idp_rules.specs.Verdict.{IsRefused};
-ghost use Rattle.idp_server.specs.Routes.{SignOn, To, route};
+ghost use Rattle.service_routes.specs.declared.route.Route.TheVariants.{To};
+ghost use Rattle.idp_server.specs.declared.route.Service.TheVariants.{SignOn};
+ghost use Rattle.idp_server.specs.Routes.{route};
 ghost use Rattle.idp_server.specs.Step.{Answers, ask_of, session_for};
 ghost use Rattle.idp_server.specs.Replies.{AreTold, IsTextAsk, IsTextSession, Wants};
 

@@ -31,7 +31,12 @@ use Rattle.sp_rules.specs.declared.config.SpConfig.{SpConfig}
 use Rattle.sp_rules.specs.Meant.{consumer, is_from, is_for, is_sent_to, is_in_time}
 use Rattle.sp_rules.specs.Outstanding.{asked_for, is_outstanding, is_unspent, is_unseen, is_relayed}
 use Rattle.sp_rules.specs.Verdict.{form_refusal, number_refusal, first_failing, IsRefused, by_form, by_document, by_root, by_head, by_signature, by_assertion, by_login}
-use Rattle.sp_server.specs.Routes.{Route, Service, App, Consumer, Metadata, Logout, SingleLogout, Guard, To, Refused, is_guarded, is_target, is_method, is_typed, at_target, checked, service_at}
+use Rattle.service_routes.specs.declared.route.Route.{Route}
+use Rattle.service_routes.specs.declared.route.Route.TheVariants.{To, Refused}
+use Rattle.service_routes.specs.Routes.{is_method, is_typed, checked}
+use Rattle.sp_server.specs.declared.route.Service.{Service}
+use Rattle.sp_server.specs.declared.route.Service.TheVariants.{App, Consumer, Metadata, Logout, SingleLogout, Guard}
+use Rattle.sp_server.specs.Routes.{at_target, is_guarded, is_target, route, service_at}
 use Rattle.sp_server.specs.Peer.{idp_at, logout_address, second_key}
 use Rattle.provider_node.specs.Step as any
 use Rattle.provider_node.specs.declared.codes.TheConstants as codes
@@ -146,28 +151,34 @@ disobeyed_small peers second address skew now body verdict (logouts.by_message c
 -- ---- so has the status of a request that is not served
 
 -- none of the code's number
-abbrev IsOther : Route → Type 0
+abbrev IsOther : Route Service → Type 0
 IsOther (To service) = Unit {0}
-IsOther Guard = Unit {0}
 IsOther (Refused status) = status ≢ 70
 
-chosen : (b : Bool) (one other : Route) → IsOther one → IsOther other → IsOther (if b then one else other)
+chosen : (b : Bool) (one other : Route Service) → IsOther one → IsOther other → IsOther (if b then one else other)
 chosen true one other h k = h
 chosen false one other h k = k
 
-target_other : (path : List ℕ) (service : Service) → IsOther (at_target path service)
-target_other path App = chosen (is_target path) (To App) (Refused 404) tt (λ e. omega (arith, e))
-target_other path Consumer = tt
-target_other path Metadata = tt
-target_other path Logout = tt
-target_other path SingleLogout = tt
+target_other : (path : List ℕ) (to : Route Service) → IsOther to → IsOther (at_target path to)
+target_other path (To App) h = chosen (is_target path) (To App) (Refused 404) tt (λ e. omega (arith, e))
+target_other path (To Consumer) h = tt
+target_other path (To Metadata) h = tt
+target_other path (To Logout) h = tt
+target_other path (To SingleLogout) h = tt
+target_other path (To Guard) h = tt
+target_other path (Refused status) h = h
 
 checked_other : (request : Request) (o : Option (Method × Service)) → IsOther (checked request o)
 checked_other request None = λ e. omega (arith, e)
 checked_other request (Some (method, service)) =
-    chosen (is_method method request.method) (if is_typed method request.content_type then at_target request.path service else Refused 415) (Refused 405)
-    (chosen (is_typed method request.content_type) (at_target request.path service) (Refused 415) (target_other request.path service) (λ e. omega (arith, e)))
+    chosen (is_method method request.method) (if is_typed method request.content_type then To service else Refused 415) (Refused 405)
+    (chosen (is_typed method request.content_type) (To service) (Refused 415) tt (λ e. omega (arith, e)))
     (λ e. omega (arith, e))
+
+route_other : (request : Request) → IsOther (route request)
+route_other request =
+    chosen (is_guarded request.path) (To Guard) (at_target request.path (checked request (service_at request.path))) tt
+    (target_other request.path (checked request (service_at request.path)) (checked_other request (service_at request.path)))
 
 -- ---- an answer
 
@@ -183,7 +194,7 @@ other_code answer n differs is e = differs (number_in n REGISTRY_EXPIRED (sym is
 unexpired : (setup : Setup) (held : Held) (request : Request) (now : ℕ) (answer : Answer) (adds : Option SpRecord) → setup.expiry ≡ None → Answers setup held request now answer adds →
     answer ≡ Fixed REGISTRY_EXPIRED → ⊥
 unexpired setup held request now answer adds none (steps.ByStatus status to is nothing) e =
-    subst IsOther to (chosen (is_guarded request.path) Guard (checked request (service_at request.path)) tt (checked_other request (service_at request.path))) (number_in status REGISTRY_EXPIRED (sym is ∙ e))
+    subst IsOther to (route_other request) (number_in status REGISTRY_EXPIRED (sym is ∙ e))
 unexpired setup held request now answer adds none (steps.ByMetadata to is nothing) e = not_full _ REGISTRY_EXPIRED (sym is ∙ e)
 unexpired setup held request now answer adds none (steps.BySession row to found is nothing) e = not_full _ REGISTRY_EXPIRED (sym is ∙ e)
 unexpired setup held request now answer adds none (steps.ByAsking bytes to out before id relay page is ids shown) e = not_full bytes REGISTRY_EXPIRED (sym shown ∙ e)

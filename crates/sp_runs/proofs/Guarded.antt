@@ -8,7 +8,7 @@ use Rattle.http_wire.specs.declared.method.Method.TheVariants.{Get}
 use Rattle.http_wire.specs.Requests.{Request}
 use Rattle.request_rows.specs.declared.row.OpenedRow.{OpenedRow}
 use Rattle.sp_server.specs.Guard.{guard_answer, path_asked, to_session, vouched_to}
-use Rattle.sp_server.specs.Routes.{is_method}
+use Rattle.service_routes.specs.Routes.{is_method}
 use Rattle.sp_server.specs.Step.{Setup}
 use Rattle.sp_runs.specs.Laws.{AsksAndOpensNothing}
 

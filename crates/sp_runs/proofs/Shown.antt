@@ -9,7 +9,9 @@ use Rattle.http_wire.specs.Requests.{Request}
 use Rattle.ledger_records.specs.declared.sp_record.SpRecord.{SpRecord}
 use Rattle.request_ledger.specs.Ledger.{Held}
 use Rattle.request_rows.specs.declared.row.OpenedRow.{OpenedRow}
-use Rattle.sp_server.specs.Routes.{App, To, route}
+use Rattle.service_routes.specs.declared.route.Route.TheVariants.{To}
+use Rattle.sp_server.specs.declared.route.Service.TheVariants.{App}
+use Rattle.sp_server.specs.Routes.{route}
 use Rattle.provider_node.specs.Step as any
 use Rattle.provider_node.specs.declared.codes.TheConstants.{NO_MEMORY}
 use Rattle.sp_server.specs.Step as steps

@@ -39,7 +39,9 @@ use Rattle.sp_server.specs.Histories.{IsProviders, Stands, AreKeptOnce}
 use Rattle.sp_server.specs.Logouts.{EndsOver, IsClosed, IsClosedWith, IsEndedBy, IsLeftBy, LeavesOver, StayClosed}
 use Rattle.sp_server.specs.Recorded.{IsRecorded, TakesPosts}
 use Rattle.sp_server.specs.Guarding.{AsksGuard, IsVouchedAt, TellsExactly}
-use Rattle.sp_server.specs.Routes.{App, Guard, To, route}
+use Rattle.service_routes.specs.declared.route.Route.TheVariants.{To}
+use Rattle.sp_server.specs.declared.route.Service.TheVariants.{App, Guard}
+use Rattle.sp_server.specs.Routes.{route}
 use Rattle.sp_server.specs.Staying.{SessionsStay, WhatWasOpenedIsAsLeft}
 use Rattle.sp_server.specs.Sessions.{GivesSession, HasRoom, IsOpened, OpensOver}
 use Rattle.provider_node.specs.declared.codes.TheConstants.{NO_MEMORY}
@@ -150,7 +152,7 @@ pub record GuardsExactly (asked : Asked Provider) (before after : World Provider
   pub tells : (found : Held) → AsksGuard asked.node.setup asked.request
       → Serves found asked.request asked.now (Rose before.disk_faults after.disk_faults) asked.answer asked.node after.node
       → ((asked.answer ≡ Fixed NO_MEMORY) ⊎ TellsExactly asked.node.setup found asked.request asked.now asked.answer) × IsWhole asked.node after.node found
-  pub only : route asked.request ≡ Guard → HasStatus 200 (answer_bytes asked.answer)
+  pub only : route asked.request ≡ To Guard → HasStatus 200 (answer_bytes asked.answer)
       → IsVouchedAt asked.node asked.disk asked.request asked.now (answer_bytes asked.answer)
 
 -- Where there was no memory and the ledger was not broken, all that may be asked of its rows at the moment of the

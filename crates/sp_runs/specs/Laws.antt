@@ -25,7 +25,9 @@ use Rattle.request_ledger.specs.Runs.{AreDifferent, requests_opened}
 use Rattle.request_rows.specs.declared.row.OpenedRow.{OpenedRow}
 use Rattle.sp_answers.specs.Answers.{metadata_answer}
 use Rattle.sp_server.specs.Guard.{path_asked, vouched_to}
-use Rattle.sp_server.specs.Routes.{App, To, route}
+use Rattle.service_routes.specs.declared.route.Route.TheVariants.{To}
+use Rattle.sp_server.specs.declared.route.Service.TheVariants.{App}
+use Rattle.sp_server.specs.Routes.{route}
 use Rattle.provider_node.specs.declared.codes.TheConstants.{NO_MEMORY}
 use Rattle.provider_node.specs.Points.{points}
 use Rattle.provider_node.specs.Starts.{IsServed}

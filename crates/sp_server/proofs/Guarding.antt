@@ -25,7 +25,10 @@ use Rattle.sp_answers.specs.Answers.{denied_answer}
 use Rattle.sp_server.proofs.Held.{session_record}
 use Rattle.sp_server.specs.Guard.{decide_plain, guard_answer, is_plain, path_asked, to_session, vouched_by, vouched_to}
 use Rattle.sp_server.specs.Guarding.{AGuardTellsExactly, AsksGuard, EqualRowsAreVouchedForAlike, Finds, IsAllowed, IsVouchedAt, IsVouchedFor, LetsIn, OnlyASessionIsVouchedFor, TellsExactly}
-use Rattle.sp_server.specs.Routes.{Guard, is_method, route}
+use Rattle.service_routes.specs.Routes.{is_method}
+use Rattle.service_routes.specs.declared.route.Route.TheVariants.{To}
+use Rattle.sp_server.specs.declared.route.Service.TheVariants.{Guard}
+use Rattle.sp_server.specs.Routes.{route}
 use Rattle.sp_server.specs.Step as steps
 use Rattle.sp_server.specs.Step.{Setup, Provider, Answers, IsWhole, Serves, Steps, session_for}
 
@@ -36,7 +39,7 @@ record IsGuarded (setup : Setup) (held : Held) (request : Request) (now : ℕ) (
   says : answer ≡ guard_answer setup.guard setup.policy request (session_for held now request)
   nothing : adds ≡ None
 
-guarded : (setup : Setup) (held : Held) (request : Request) (now : ℕ) (answer : Answer) (adds : Option SpRecord) → route request ≡ Guard
+guarded : (setup : Setup) (held : Held) (request : Request) (now : ℕ) (answer : Answer) (adds : Option SpRecord) → route request ≡ To Guard
     → Answers setup held request now answer adds → IsGuarded setup held request now answer adds
 guarded setup held request now answer adds at (steps.ByStatus status to is none) = absurd (let e = sym at ∙ to in cc)
 guarded setup held request now answer adds at (steps.ByMetadata to is none) = absurd (let e = sym at ∙ to in cc)
@@ -57,7 +60,7 @@ guarded setup held request now answer adds at (steps.ByNothingToEnd asked relay 
 guarded setup held request now answer adds at (steps.ByConfirming response to unexpired obeyed waits is what) = absurd (let e = sym at ∙ to in cc)
 guarded setup held request now answer adds at (steps.ByUnknownLogout response to unexpired obeyed unknown is none) = absurd (let e = sym at ∙ to in cc)
 
-no_record : (setup : Setup) (held : Held) (request : Request) (now : ℕ) (answer : Answer) (r : SpRecord) → route request ≡ Guard
+no_record : (setup : Setup) (held : Held) (request : Request) (now : ℕ) (answer : Answer) (r : SpRecord) → route request ≡ To Guard
     → Answers setup held request now answer (Some r) → ⊥
 no_record setup held request now answer r at answers = let e = (guarded setup held request now answer (Some r) at answers).nothing in cc
 
@@ -66,7 +69,7 @@ record IsDone (found : Held) (request : Request) (now : ℕ) (answer : Answer) (
   says : (answer ≡ Fixed NO_MEMORY) ⊎ (answer ≡ guard_answer old.setup.guard old.setup.policy request (session_for found now request))
   whole : IsWhole old new found
 
-done : (found : Held) (request : Request) (now : ℕ) (Risen : Type 0) (answer : Answer) (old new : Provider) → route request ≡ Guard
+done : (found : Held) (request : Request) (now : ℕ) (Risen : Type 0) (answer : Answer) (old new : Provider) → route request ≡ To Guard
     → Serves found request now Risen answer old new → IsDone found request now answer old new
 done found request now Risen answer old new at (any.Plain answers whole) =
     record { says = inr (guarded old.setup found request now answer None at answers).says; whole = whole }
@@ -201,7 +204,7 @@ module _ (laws : AnswerLaws) where
       → HasStatus 200 (answer_bytes answer) → ⊥
   never_code answer code is fixed answered other ok = not_ok code fixed answered other (subst (λ (a : Answer). HasStatus 200 (answer_bytes a)) is ok)
 
-  asks_guard : (setup : Setup) (request : Request) (answer : Answer) (session : Option OpenedRow) (guard : Bool) (method : Method) → route request ≡ Guard
+  asks_guard : (setup : Setup) (request : Request) (answer : Answer) (session : Option OpenedRow) (guard : Bool) (method : Method) → route request ≡ To Guard
       → setup.guard ≡ guard → request.method ≡ method → answer ≡ guard_answer guard setup.policy (record request { method = method }) session
       → HasStatus 200 (answer_bytes answer) → AsksGuard setup request
   asks_guard setup request answer session true Get at on get is ok = record { at = at; guard = on; get = get }
@@ -209,7 +212,7 @@ module _ (laws : AnswerLaws) where
   asks_guard setup request answer session true Other at on get is ok = absurd (never_code answer 405 is refl refl (λ e. omega (arith, e)) ok)
   asks_guard setup request answer session false method at off get is ok = absurd (never_code answer 404 is refl refl (λ e. omega (arith, e)) ok)
 
-  by_serving : (found : Held) (disk : Option DiskState) (request : Request) (now faults later : ℕ) (answer : Answer) (old new : Provider) → route request ≡ Guard
+  by_serving : (found : Held) (disk : Option DiskState) (request : Request) (now faults later : ℕ) (answer : Answer) (old new : Provider) → route request ≡ To Guard
       → Finds old disk found → Serves found request now (Rose faults later) answer old new → HasStatus 200 (answer_bytes answer) → IsVouchedAt old disk request now (answer_bytes answer)
   by_serving found disk request now faults later answer old new at finds serves ok =
       which (done found request now (Rose faults later) answer old new at serves).says

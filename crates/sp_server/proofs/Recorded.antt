@@ -10,7 +10,11 @@ use Rattle.http_wire.specs.Requests.{Request}
 use Rattle.ledger_records.specs.declared.sp_record.SpRecord.{SpRecord}
 use Rattle.request_ledger.specs.Record.{request_rules}
 use Rattle.request_ledger.specs.Ledger.{Held, held_with, ledger_in}
-use Rattle.sp_server.specs.Routes.{App, Guard, Metadata, Route, To, route}
+use Rattle.service_routes.specs.declared.route.Route.{Route}
+use Rattle.service_routes.specs.declared.route.Route.TheVariants.{To}
+use Rattle.sp_server.specs.declared.route.Service.{Service}
+use Rattle.sp_server.specs.declared.route.Service.TheVariants.{App, Guard, Metadata}
+use Rattle.sp_server.specs.Routes.{route}
 use Rattle.provider_node.specs.Step as any
 use Rattle.sp_server.specs.Step as steps
 use Rattle.sp_server.specs.Step.{Setup, Provider, Answers, IsWhole, OwnsDisk, Serves, Steps, session_for}
@@ -18,17 +22,17 @@ use Rattle.sp_server.specs.Recorded.{IsRecorded, TakesPosts, WhatIsAnsweredIsRec
 use Rattle.provider_node.proofs.Serving.{settled}
 
 -- nothing is posted there
-not_posted_app : (to : Route) → to ≡ To App → TakesPosts to → ⊥
+not_posted_app : (to : Route Service) → to ≡ To App → TakesPosts to → ⊥
 not_posted_app to is (inl at) = let e = sym is ∙ at in cc
 not_posted_app to is (inr (inl at)) = let e = sym is ∙ at in cc
 not_posted_app to is (inr (inr at)) = let e = sym is ∙ at in cc
 
-not_posted_metadata : (to : Route) → to ≡ To Metadata → TakesPosts to → ⊥
+not_posted_metadata : (to : Route Service) → to ≡ To Metadata → TakesPosts to → ⊥
 not_posted_metadata to is (inl at) = let e = sym is ∙ at in cc
 not_posted_metadata to is (inr (inl at)) = let e = sym is ∙ at in cc
 not_posted_metadata to is (inr (inr at)) = let e = sym is ∙ at in cc
 
-not_posted_guard : (to : Route) → to ≡ Guard → TakesPosts to → ⊥
+not_posted_guard : (to : Route Service) → to ≡ To Guard → TakesPosts to → ⊥
 not_posted_guard to is (inl at) = let e = sym is ∙ at in cc
 not_posted_guard to is (inr (inl at)) = let e = sym is ∙ at in cc
 not_posted_guard to is (inr (inr at)) = let e = sym is ∙ at in cc

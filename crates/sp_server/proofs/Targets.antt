@@ -12,7 +12,12 @@ use Rattle.http_wire.specs.Answers.{is_fixed}
 use Rattle.http_wire.specs.Requests.{Request}
 use Rattle.ledger_rules.specs.Numbers.{is_xml_text}
 use Rattle.ledger_rules.proofs.Texts.{tested as xml_tested}
-use Rattle.sp_server.specs.Routes.{Route, Guard, To, Refused, Service, App, Consumer, Metadata, Logout, SingleLogout, at_target, checked, is_guarded, is_method, is_path_byte, is_target, is_typed, route, service_at}
+use Rattle.service_routes.specs.declared.route.Route.{Route}
+use Rattle.service_routes.specs.declared.route.Route.TheVariants.{To, Refused}
+use Rattle.service_routes.specs.Routes.{IsAnswered, checked, is_method, is_typed}
+use Rattle.sp_server.specs.declared.route.Service.{Service}
+use Rattle.sp_server.specs.declared.route.Service.TheVariants.{App, Consumer, Metadata, Logout, SingleLogout, Guard}
+use Rattle.sp_server.specs.Routes.{at_target, is_guarded, is_path_byte, is_target, route, service_at}
 
 graphic : (b : ℕ) → is_path_byte b ≡ true → (45 ≤ b) × (b < 127)
 graphic b h = grind (arith, nat_tests)
@@ -37,76 +42,55 @@ target_is_text path h =
     (xml_tested path).1 (ascii_text path (are_ascii path all))
 
 -- the path of a request for a page of the application is one
-tested : (takes typed target : Bool) → (if takes then (if typed then (if target then To App else Refused 404) else Refused 415) else Refused 405) ≡ To App → target ≡ true
-tested true true true is = refl
-tested true true false is = cc
-tested true false target is = cc
-tested false typed target is = cc
+tested : (target : Bool) → ◌≡◌ {A = Route Service} (if target then To App else Refused 404) (To App) → target ≡ true
+tested true is = refl
+tested false is = cc
 
-tested_consumer : (takes typed : Bool) → ¬ ((if takes then (if typed then To Consumer else Refused 415) else Refused 405) ≡ To App)
-tested_consumer true true is = cc
-tested_consumer true false is = cc
-tested_consumer false typed is = cc
+at_app : (path : List ℕ) (to : Route Service) → at_target path to ≡ To App → is_target path ≡ true
+at_app path (To App) is = tested (is_target path) is
+at_app path (To Consumer) is = absurd (cc)
+at_app path (To Metadata) is = absurd (cc)
+at_app path (To Logout) is = absurd (cc)
+at_app path (To SingleLogout) is = absurd (cc)
+at_app path (To Guard) is = absurd (cc)
+at_app path (Refused status) is = absurd (cc)
 
-tested_metadata : (takes typed : Bool) → ¬ ((if takes then (if typed then To Metadata else Refused 415) else Refused 405) ≡ To App)
-tested_metadata true true is = cc
-tested_metadata true false is = cc
-tested_metadata false typed is = cc
+elsewhere : (guarded : Bool) (to : Route Service) → (if guarded then To Guard else to) ≡ To App → to ≡ To App
+elsewhere true to is = absurd (cc)
+elsewhere false to is = is
 
-tested_logout : (takes typed : Bool) → ¬ ((if takes then (if typed then To Logout else Refused 415) else Refused 405) ≡ To App)
-tested_logout true true is = cc
-tested_logout true false is = cc
-tested_logout false typed is = cc
-
-tested_single : (takes typed : Bool) → ¬ ((if takes then (if typed then To SingleLogout else Refused 415) else Refused 405) ≡ To App)
-tested_single true true is = cc
-tested_single true false is = cc
-tested_single false typed is = cc
-
-at_service : (request : Request) (method : Method) (service : Service) → checked request (Some (method, service)) ≡ To App → is_target request.path ≡ true
-at_service request method App is = tested (is_method method request.method) (is_typed method request.content_type) (is_target request.path) is
-at_service request method Consumer is = absurd (tested_consumer (is_method method request.method) (is_typed method request.content_type) is)
-at_service request method Metadata is = absurd (tested_metadata (is_method method request.method) (is_typed method request.content_type) is)
-at_service request method Logout is = absurd (tested_logout (is_method method request.method) (is_typed method request.content_type) is)
-at_service request method SingleLogout is = absurd (tested_single (is_method method request.method) (is_typed method request.content_type) is)
-
-at_any : (request : Request) (at : Option (Method × Service)) → checked request at ≡ To App → is_target request.path ≡ true
-at_any request None is = cc
-at_any request (Some at) is = at_service request at.0 at.1 is
-
-elsewhere : (guarded : Bool) (at : Route) → (if guarded then Guard else at) ≡ To App → at ≡ To App
-elsewhere true at is = absurd (cc)
-elsewhere false at is = is
+-- where it goes by its path and its method
+abbrev goes : Request → Route Service
+goes request = checked request (service_at request.path)
 
 pub path_is_text : (request : Request) → route request ≡ To App → is_xml_text request.path ≡ true
 path_is_text request is =
-    target_is_text request.path (at_any request (service_at request.path) (elsewhere (is_guarded request.path) (checked request (service_at request.path)) is))
+    target_is_text request.path
+    (at_app request.path (goes request) (elsewhere (is_guarded request.path) (at_target request.path (goes request)) is))
 
 -- ---- the status of a request that is not served has a page
 
--- it is one that is answered alone
-abbrev IsAnswered : Route → Type 0
-IsAnswered (To service) = Unit {0}
-IsAnswered Guard = Unit {0}
-IsAnswered (Refused status) = is_fixed status ≡ true
-
-chosen : (b : Bool) (one other : Route) → IsAnswered one → IsAnswered other → IsAnswered (if b then one else other)
+chosen : (b : Bool) (one other : Route Service) → IsAnswered one → IsAnswered other → IsAnswered (if b then one else other)
 chosen true one other h k = h
 chosen false one other h k = k
 
-target_answered : (path : List ℕ) (service : Service) → IsAnswered (at_target path service)
-target_answered path App = chosen (is_target path) (To App) (Refused 404) tt refl
-target_answered path Consumer = tt
-target_answered path Metadata = tt
-target_answered path Logout = tt
-target_answered path SingleLogout = tt
+target_answered : (path : List ℕ) (to : Route Service) → IsAnswered to → IsAnswered (at_target path to)
+target_answered path (To App) h = chosen (is_target path) (To App) (Refused 404) tt refl
+target_answered path (To Consumer) h = tt
+target_answered path (To Metadata) h = tt
+target_answered path (To Logout) h = tt
+target_answered path (To SingleLogout) h = tt
+target_answered path (To Guard) h = tt
+target_answered path (Refused status) h = h
 
 checked_answered : (request : Request) (at : Option (Method × Service)) → IsAnswered (checked request at)
 checked_answered request None = refl
 checked_answered request (Some (method, service)) =
-    chosen (is_method method request.method) (if is_typed method request.content_type then at_target request.path service else Refused 415) (Refused 405)
-    (chosen (is_typed method request.content_type) (at_target request.path service) (Refused 415) (target_answered request.path service) refl) refl
+    chosen (is_method method request.method) (if is_typed method request.content_type then To service else Refused 415) (Refused 405)
+    (chosen (is_typed method request.content_type) (To service) (Refused 415) tt refl) refl
 
 pub refused_answered : (request : Request) (status : ℕ) → route request ≡ Refused status → is_fixed status ≡ true
 refused_answered request status is =
-    subst IsAnswered is (chosen (is_guarded request.path) Guard (checked request (service_at request.path)) tt (checked_answered request (service_at request.path)))
+    subst IsAnswered is
+    (chosen (is_guarded request.path) (To Guard) (at_target request.path (goes request)) tt
+    (target_answered request.path (goes request) (checked_answered request (service_at request.path))))

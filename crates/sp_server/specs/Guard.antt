@@ -12,7 +12,8 @@ use Rattle.http_wire.specs.Requests.{Request}
 use Rattle.http_wire.specs.Vouched.{vouched_answer}
 use Rattle.request_rows.specs.declared.row.OpenedRow.{OpenedRow}
 use Rattle.sp_answers.specs.Answers.{denied_answer}
-use Rattle.sp_server.specs.Routes.{is_app, is_method, is_target}
+use Rattle.service_routes.specs.Routes.{is_method}
+use Rattle.sp_server.specs.Routes.{is_app, is_target}
 
 -- ---- the path
 

@@ -3,11 +3,13 @@ use Rattle.std.specs.Prelude.{◌≡◌, true, false, [], ◌∷◌, codes, None
 use Rattle.http_wire.specs.declared.answer.Answer.TheVariants.{Fixed}
 use Rattle.http_wire.specs.declared.method.Method.TheVariants.{Get, Post}
 use Rattle.sp_server.specs.Guard.{guard_answer, is_plain, path_asked, segments}
-use Rattle.sp_server.specs.Routes.{Guard, Refused, route}
+use Rattle.service_routes.specs.declared.route.Route.TheVariants.{To, Refused}
+use Rattle.sp_server.specs.declared.route.Service.TheVariants.{Guard}
+use Rattle.sp_server.specs.Routes.{route}
 
 -- a path behind /auth is asked for, whatever it is; /auth alone is none
 asked : (path_asked (codes "/auth/app/x") ≡ codes "/app/x") × (path_asked (codes "/auth/%2e%2e/") ≡ codes "/%2e%2e/") × (path_asked (codes "/auth//") ≡ codes "//")
-    × (route (record { method = Post; path = codes "/auth/"; cookie = None; content_type = None; body = [] }) ≡ Guard)
+    × (route (record { method = Post; path = codes "/auth/"; cookie = None; content_type = None; body = [] }) ≡ To Guard)
     × (route (record { method = Get; path = codes "/auth"; cookie = None; content_type = None; body = [] }) ≡ Refused 404)
     × (route (record { method = Get; path = codes "/authapp"; cookie = None; content_type = None; body = [] }) ≡ Refused 404)
 asked = (refl, refl, refl, refl, refl, refl)

@@ -21,12 +21,14 @@ use Rattle.request_ledger.specs.RowsOf.{opened_row}
 use Rattle.request_rows.specs.declared.row.OpenedRow.{OpenedRow}
 use Rattle.sp_answers.specs.Answers.{denied_answer}
 use Rattle.sp_server.specs.Guard.{is_plain, path_asked}
-use Rattle.sp_server.specs.Routes.{Guard, route}
+use Rattle.service_routes.specs.declared.route.Route.TheVariants.{To}
+use Rattle.sp_server.specs.declared.route.Service.TheVariants.{Guard}
+use Rattle.sp_server.specs.Routes.{route}
 use Rattle.sp_server.specs.Step.{Setup, Provider, IsWhole, Serves, Steps, session_for}
 
 -- A proxy asks a guard who a request comes from.
 pub record AsksGuard (setup : Setup) (request : Request) : Type 0 where
-  pub at : route request ≡ Guard
+  pub at : route request ≡ To Guard
   pub guard : setup.guard ≡ true
   pub get : request.method ≡ Get
 
@@ -86,7 +88,7 @@ pub record IsVouchedAt (old : Provider) (disk : Option DiskState) (request : Req
 
 abbrev pub OnlyASessionIsVouchedFor : Type 0
 OnlyASessionIsVouchedFor =
-    (old new : Provider) (disk : Option DiskState) (request : Request) (now faults later : ℕ) (answer : Answer) → route request ≡ Guard
+    (old new : Provider) (disk : Option DiskState) (request : Request) (now faults later : ℕ) (answer : Answer) → route request ≡ To Guard
     → Steps old disk request now (Rose faults later) answer new → HasStatus 200 (answer_bytes answer) → IsVouchedAt old disk request now (answer_bytes answer)
 
 -- Two requests for one path, of which each finds its session in the same row, are answered alike by guards of one policy, whatever else is

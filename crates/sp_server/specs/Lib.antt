@@ -6,7 +6,6 @@ pub mod Peer
 pub mod Step
 pub mod Config
 pub mod Replies
-pub mod Views
 pub mod Histories
 pub mod Sessions
 pub mod Verdicts

@@ -25,7 +25,9 @@ use Rattle.provider_node.specs.Points as any
 use Rattle.provider_node.specs.Points.{Point, points}
 use Rattle.sp_server.specs.Histories.{IsProviders, IsAtStart}
 use Rattle.provider_node.specs.declared.codes.TheConstants.{NO_MEMORY}
-use Rattle.sp_server.specs.Routes.{Logout, SingleLogout, To, route}
+use Rattle.service_routes.specs.declared.route.Route.TheVariants.{To}
+use Rattle.sp_server.specs.declared.route.Service.TheVariants.{Logout, SingleLogout}
+use Rattle.sp_server.specs.Routes.{route}
 use Rattle.sp_server.specs.Peer.{IsObeyed}
 use Rattle.sp_server.specs.Step.{Setup, Provider, Answers, HasPlace, Serves, ended_by, ended_record, is_expired, left_record, session_for}
 

@@ -8,11 +8,15 @@ use Rattle.http_wire.specs.declared.answer.Answer.TheVariants.{Full}
 use Rattle.http_wire.specs.Requests.{Request}
 use Rattle.ledger_records.specs.declared.sp_record.SpRecord.{SpRecord}
 use Rattle.request_ledger.specs.Ledger.{Held, held_with, ledger_in}
-use Rattle.sp_server.specs.Routes.{App, Consumer, Logout, SingleLogout, To, Route, route}
+use Rattle.service_routes.specs.declared.route.Route.{Route}
+use Rattle.service_routes.specs.declared.route.Route.TheVariants.{To}
+use Rattle.sp_server.specs.declared.route.Service.{Service}
+use Rattle.sp_server.specs.declared.route.Service.TheVariants.{App, Consumer, Logout, SingleLogout}
+use Rattle.sp_server.specs.Routes.{route}
 use Rattle.sp_server.specs.Step.{Setup, Provider, Answers, OwnsDisk, Serves, Steps, session_for}
 
 -- a service to which something is posted: a form with a login, that a user leaves, a message of a logout
-abbrev pub TakesPosts : Route → Type 0
+abbrev pub TakesPosts : Route Service → Type 0
 TakesPosts to = (to ≡ To Consumer) ⊎ ((to ≡ To Logout) ⊎ (to ≡ To SingleLogout))
 
 -- the answer stands for a record, and each ledger that a crash may leave has it behind the others

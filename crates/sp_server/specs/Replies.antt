@@ -27,7 +27,9 @@ use Rattle.provider_node.specs.Replies.{IsReplied, ReplyRules}
 use Rattle.provider_node.specs.declared.replied.Replied.{Replied}
 use Rattle.sp_server.specs.declared.reply.Reply.{Reply}
 use Rattle.sp_server.specs.declared.reply.Reply.TheVariants as replies
-use Rattle.sp_server.specs.Routes.{App, Consumer, Logout as ToLogout, SingleLogout, To, route}
+use Rattle.service_routes.specs.declared.route.Route.TheVariants.{To}
+use Rattle.sp_server.specs.declared.route.Service.TheVariants.{App, Consumer, Logout as ToLogout, SingleLogout}
+use Rattle.sp_server.specs.Routes.{route}
 use Rattle.sp_server.specs.Peer.{idp_at, is_partial, IsObeyed}
 use Rattle.sp_server.specs.Step.{Setup, Answers, HasId, HasIds, HasToken, ended_by, is_awaited, is_expired, rows_seen, session_for}
 

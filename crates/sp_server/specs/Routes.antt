@@ -1,25 +1,16 @@
--- Which requests a service provider serves, and what is answered to the others.
-use Rattle.std.specs.Prelude.{ℕ, ◌==◌, nat_eq, nat_le, Bool, true, false, ◌&&◌, ◌||◌, List, codes, length, Option, None, Some, if◌then◌else◌}
+-- Which requests a service provider serves.
+use Rattle.std.specs.Prelude.{ℕ, ◌==◌, nat_eq, nat_le, Bool, ◌&&◌, ◌||◌, List, codes, length, Option, None, Some, if◌then◌else◌}
 use Rattle.std.specs.List.{list_all, starts_with}
 use Rattle.std.specs.Char.{is_ascii_alphanumeric}
 use Rattle.std.specs.Str.{bytes_eq}
 use Rattle.http_wire.specs.declared.method.Method.{Method}
-use Rattle.http_wire.specs.declared.method.Method.TheVariants.{Get, Post, Other}
+use Rattle.http_wire.specs.declared.method.Method.TheVariants.{Get, Post}
 use Rattle.http_wire.specs.Requests.{Request}
-use Rattle.http_wire.specs.Cookies.{is_form_type}
-
--- what is served
-pub data Service : Type 0 where
-  -- a page of the application
-  App : Service
-  -- the address to which responses are posted: SAML Metadata, 2.4.4, AssertionConsumerService
-  Consumer : Service
-  -- the metadata of the provider
-  Metadata : Service
-  -- where a user leaves: SAML Profiles, 4.4.3.1
-  Logout : Service
-  -- the address to which messages of a logout are posted: SAML Metadata, 2.4.2, SingleLogoutService
-  SingleLogout : Service
+use Rattle.service_routes.specs.declared.route.Route.{Route}
+use Rattle.service_routes.specs.declared.route.Route.TheVariants.{To, Refused}
+use Rattle.service_routes.specs.Routes.{checked}
+use Rattle.sp_server.specs.declared.route.Service.{Service}
+use Rattle.sp_server.specs.declared.route.Service.TheVariants.{App, Consumer, Metadata, Logout, SingleLogout, Guard}
 
 -- /auth, and a path behind it
 abbrev pub is_guarded : List ℕ → Bool
@@ -46,39 +37,18 @@ service_at path =
     else if bytes_eq path (codes "/slo") then Some (Post, SingleLogout)
     else None
 
-abbrev pub is_method : Method → Method → Bool
-is_method Get Get = true
-is_method Post Post = true
-is_method _ _ = false
+-- 404 for a path of the application to which no user can be sent back
+abbrev pub at_target : List ℕ → Route Service → Route Service
+at_target path (To App) = if is_target path then To App else Refused 404
+at_target path (To Consumer) = To Consumer
+at_target path (To Metadata) = To Metadata
+at_target path (To Logout) = To Logout
+at_target path (To SingleLogout) = To SingleLogout
+at_target path (To Guard) = To Guard
+at_target path (Refused status) = Refused status
 
--- whether a form is posted where one is taken
-abbrev pub is_typed : Method → Option (List ℕ) → Bool
-is_typed Post None = false
-is_typed Post (Some content_type) = is_form_type content_type
-is_typed Get content_type = true
-is_typed Other content_type = true
-
--- RFC 9110, 15.5: a service, or the status that is answered in its place: 404 where there is none at the path, 405 where it
--- takes another method, 415 where it takes a form and something else is posted, and 404 for a path of the application to which
--- no user can be sent back. Or a proxy asks who a request comes from: what it is answered, and whether it is, the guard says.
-pub data Route : Type 0 where
-  To : Service → Route
-  Guard : Route
-  Refused : ℕ → Route
-
-abbrev pub at_target : List ℕ → Service → Route
-at_target path App = if is_target path then To App else Refused 404
-at_target path Consumer = To Consumer
-at_target path Metadata = To Metadata
-at_target path Logout = To Logout
-at_target path SingleLogout = To SingleLogout
-
-abbrev pub checked : Request → Option (Method × Service) → Route
-checked request None = Refused 404
-checked request (Some (method, service)) =
-    if is_method method request.method
-    then if is_typed method request.content_type then at_target request.path service else Refused 415
-    else Refused 405
-
-abbrev pub route : Request → Route
-route request = if is_guarded request.path then Guard else checked request (service_at request.path)
+-- A request goes to the service of its path. Or a proxy asks who a request comes from: what it is answered, and whether it is,
+-- the guard says.
+abbrev pub route : Request → Route Service
+route request =
+    if is_guarded request.path then To Guard else at_target request.path (checked request (service_at request.path))

@@ -17,7 +17,9 @@ use Rattle.sp_rules.specs.Opening.{Brought, Opens}
 use Rattle.sp_rules.specs.Shown.{session_of}
 use Rattle.sp_answers.specs.Answers.{opened_answer}
 use Rattle.provider_node.specs.declared.codes.TheConstants.{NO_MEMORY}
-use Rattle.sp_server.specs.Routes.{Consumer, To, route}
+use Rattle.service_routes.specs.declared.route.Route.TheVariants.{To}
+use Rattle.sp_server.specs.declared.route.Service.TheVariants.{Consumer}
+use Rattle.sp_server.specs.Routes.{route}
 use Rattle.sp_server.specs.Step.{Setup, Provider, Answers, HasPlace, HasToken, Serves, is_expired, rows_seen}
 
 -- Over a ledger, at a moment, the form that a request posts opens a session: the login that it brings answers this

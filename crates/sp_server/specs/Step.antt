@@ -30,7 +30,9 @@ use Rattle.sp_rules.specs.Shown.{session_of}
 use Rattle.sp_rules.specs.Verdict.{IsRefused}
 use Rattle.sp_answers.specs.Answers.{IsAskAnswer, user_answer, denied_answer, opened_answer, metadata_answer}
 use Rattle.provider_node.specs.Step as any
-use Rattle.sp_server.specs.Routes.{App, Consumer, Metadata, Logout, SingleLogout, Guard, To, Refused, route}
+use Rattle.service_routes.specs.declared.route.Route.TheVariants.{To, Refused}
+use Rattle.sp_server.specs.declared.route.Service.TheVariants.{App, Consumer, Metadata, Logout, SingleLogout, Guard}
+use Rattle.sp_server.specs.Routes.{route}
 use Rattle.sp_server.specs.Guard.{guard_answer}
 use Rattle.sp_server.specs.Peer.{idp_at, is_partial, IsObeyed, IsNotObeyed}
 
@@ -110,7 +112,7 @@ pub data Answers (setup : Setup) (held : Held) (request : Request) (now : ℕ) (
       → adds ≡ Some (asked setup.config.id_key (next_number held) now request.path) → HasIds (asked setup.config.id_key (next_number held) now request.path) id relay
       → answer ≡ Full bytes → Answers setup held request now answer adds
   -- a proxy asks the guard who a request comes from
-  ByGuard : route request ≡ Guard → answer ≡ guard_answer setup.guard setup.policy request (session_for held now request) → adds ≡ None
+  ByGuard : route request ≡ To Guard → answer ≡ guard_answer setup.guard setup.policy request (session_for held now request) → adds ≡ None
       → Answers setup held request now answer adds
   -- a posted form that opens a session
   ByOpening : (b : Brought) (row : AskedRow) → route request ≡ To Consumer → is_expired setup.expiry now ≡ false

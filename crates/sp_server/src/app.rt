@@ -2,7 +2,9 @@
 ghost use Rattle.std.specs.Prelude.{◌≡◌, IfOk, option_copied};
 ghost use Rattle.http_wire.specs.Views.{request_view};
 ghost use Rattle.sp_server.specs.Replies.{RepliesTo};
-ghost use Rattle.sp_server.specs.Routes.{App, To, route};
+ghost use Rattle.service_routes.specs.declared.route.Route.TheVariants.{To};
+ghost use Rattle.sp_server.specs.declared.route.Service.TheVariants.{App};
+ghost use Rattle.sp_server.specs.Routes.{route};
 ghost use Rattle.sp_server.specs.Step.{session_for, shown_to};
 
 use crate::reply::Reply;

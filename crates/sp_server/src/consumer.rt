@@ -2,7 +2,9 @@
 ghost use Rattle.std.specs.Prelude.{◌≡◌, ◌≤◌, IfOk};
 ghost use Rattle.http_wire.specs.Views.{request_view};
 ghost use Rattle.sp_server.specs.Replies.{RepliesTo};
-ghost use Rattle.sp_server.specs.Routes.{Consumer, To, route};
+ghost use Rattle.service_routes.specs.declared.route.Route.TheVariants.{To};
+ghost use Rattle.sp_server.specs.declared.route.Service.TheVariants.{Consumer};
+ghost use Rattle.sp_server.specs.Routes.{route};
 
 use crate::reply::Reply;
 use crate::replying::REGISTRY_EXPIRED;

@@ -4,7 +4,9 @@ ghost use Rattle.access_policy.specs.Decide.{decision_view};
 ghost use Rattle.http_wire.specs.Views.{request_view};
 ghost use Rattle.sp_server.specs.Guard as spec;
 ghost use Rattle.sp_server.specs.Replies.{RepliesTo};
-ghost use Rattle.sp_server.specs.Routes as routes;
+ghost use Rattle.service_routes.specs.declared.route.Route.TheVariants.{To};
+ghost use Rattle.sp_server.specs.declared.route.Service.TheVariants.{Guard};
+ghost use Rattle.sp_server.specs.Routes.{route};
 
 use crate::app::session_for;
 use crate::reply::Reply;
@@ -101,7 +103,7 @@ impl SpRole {
         request: &HttpRequest<'_>,
         now: u64,
     ) -> Result<Replied<Reply>, NoMemory>
-        requires { routes.route (request_view request.now) ≡ routes.Guard }
+        requires { route (request_view request.now) ≡ To Guard }
         ensures { IfOk result (RepliesTo self.now ledger.now.held (request_view request.now) now) }
     {
         if !self.guard {

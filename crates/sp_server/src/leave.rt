@@ -6,7 +6,9 @@ ghost use Rattle.xml_spec.specs.Characters.{IsText};
 ghost use Rattle.http_wire.specs.Views.{request_view};
 ghost use Rattle.ledger_rules.specs.Numbers.{is_xml_text};
 ghost use Rattle.sp_server.specs.Replies.{Leaves, RepliesTo};
-ghost use Rattle.sp_server.specs.Routes.{Logout, To, route};
+ghost use Rattle.service_routes.specs.declared.route.Route.TheVariants.{To};
+ghost use Rattle.sp_server.specs.declared.route.Service.TheVariants.{Logout};
+ghost use Rattle.sp_server.specs.Routes.{route};
 
 use crate::app::session_for;
 use crate::reply::Reply;

@@ -3,7 +3,7 @@ ghost use Rattle.std.specs.Prelude.{◌≡◌, ◌≤◌, ℕ, List};
 
 use crate::reply::Reply;
 use crate::role::SpRole;
-use crate::route::{Route, route_of};
+use crate::route::{Service, route_of};
 use http_wire::{Answer, HttpRequest};
 use logout_answers::laws::each_logout_has_an_answer;
 use owned_values::{Blob, NoMemory};
@@ -11,6 +11,7 @@ use provider_node::{DraftOutcome, Replied, Role};
 use request_ledger::laws::compactions_change_no_answer;
 use request_ledger::{Draft, Ledger};
 use saml_time::{LAST, each_moment_is_told};
+use service_routes::Route;
 use sp_answers::metadata_answer;
 
 /// The code that is answered where the registry of metadata has ended.
@@ -40,15 +41,15 @@ impl Role for SpRole {
     ) -> Result<Replied<Reply>, NoMemory> {
         match route_of(request) {
             Route::Refused(status) => Ok(Replied::Plain(Answer::Fixed(status))),
-            Route::Metadata => {
+            Route::To(Service::Metadata) => {
                 let bytes = metadata_answer(self.alloc, &self.config)?;
                 Ok(Replied::Plain(Answer::Full(bytes)))
             }
-            Route::App => self.reply_app(ledger, request, now),
-            Route::Consumer => self.reply_form(ledger, request, now),
-            Route::Logout => self.reply_leave(ledger, request, now),
-            Route::SingleLogout => self.reply_logout(ledger, request, now),
-            Route::Guard => self.reply_guard(ledger, request, now),
+            Route::To(Service::App) => self.reply_app(ledger, request, now),
+            Route::To(Service::Consumer) => self.reply_form(ledger, request, now),
+            Route::To(Service::Logout) => self.reply_leave(ledger, request, now),
+            Route::To(Service::SingleLogout) => self.reply_logout(ledger, request, now),
+            Route::To(Service::Guard) => self.reply_guard(ledger, request, now),
         }
     }
 

@@ -1,22 +1,27 @@
 //! Which requests are served.
-ghost use Rattle.std.specs.Prelude.{◌≡◌, if◌then◌else◌};
+ghost use Rattle.std.specs.Prelude.{◌≡◌};
 ghost use Rattle.std.specs.List.{list_all};
 ghost use Rattle.http_wire.specs.Views.{request_view};
 ghost use Rattle.sp_server.specs.Routes as spec;
-ghost use Rattle.sp_server.specs.Views.{route_view};
 
-use http_wire::{HttpRequest, Method, is_form_type};
+use http_wire::{HttpRequest, Method};
+use service_routes::{Route, route_to};
 
-/// What is served, or the status that is answered in its place.
+/// A service of a service provider.
 #[derive(Clone, Copy, Debug, PartialEq, Eq)]
-pub(crate) enum Route {
+pub(crate) enum Service {
+    /// A page of the application.
     App,
+    /// The address to which responses are posted (SAML Metadata, 2.4.4, AssertionConsumerService).
     Consumer,
+    /// The metadata of the provider.
     Metadata,
+    /// Where a user leaves (SAML Profiles, 4.4.3.1).
     Logout,
+    /// The address to which messages of a logout are posted (SAML Metadata, 2.4.2, SingleLogoutService).
     SingleLogout,
+    /// Where a proxy asks who a request comes from.
     Guard,
-    Refused(u16),
 }
 
 /// The longest path to which a user can be sent back, in bytes.
@@ -57,50 +62,41 @@ fn is_guarded(path: &str) -> bool
     path.starts_with("/auth/")
 }
 
-/// Where a request goes whose path takes the form of a service.
-fn form_route(request: &HttpRequest<'_>, service: Route) -> Route
-    ensures { result ≡ (if spec.is_method Method.Post (request_view request.now).method then (if spec.is_typed Method.Post (request_view request.now).content_type then service else Route.Refused 415) else Route.Refused 405) }
+/// The service of a path, and the method that it takes.
+fn service_at(path: &str) -> Option<(Method, Service)>
+    ensures { result ≡ spec.service_at path.now }
 {
-    if request.method != Method::Post {
-        Route::Refused(405)
-    } else if request
-        .content_type
-        .is_some_and(|content_type| is_form_type(content_type))
-    {
-        service
+    if is_app(path) {
+        Some((Method::Get, Service::App))
+    } else if path == "/acs" {
+        Some((Method::Post, Service::Consumer))
+    } else if path == "/metadata" {
+        Some((Method::Get, Service::Metadata))
+    } else if path == "/logout" {
+        Some((Method::Post, Service::Logout))
+    } else if path == "/slo" {
+        Some((Method::Post, Service::SingleLogout))
     } else {
-        Route::Refused(415)
+        None
+    }
+}
+
+/// Where a request for a path goes that is one to which a user can be sent back, or not.
+fn at_target(path: &str, route: Route<Service>) -> Route<Service>
+    ensures { result ≡ spec.at_target path.now route }
+{
+    match route {
+        Route::To(Service::App) if !is_target(path) => Route::Refused(404),
+        route => route,
     }
 }
 
 /// Where a request goes.
-pub(crate) fn route_of(request: &HttpRequest<'_>) -> Route
-    ensures { route_view result ≡ spec.route (request_view request.now) }
+pub(crate) fn route_of(request: &HttpRequest<'_>) -> Route<Service>
+    ensures { result ≡ spec.route (request_view request.now) }
 {
-    let path = request.path;
-    if is_guarded(path) {
-        Route::Guard
-    } else if is_app(path) {
-        if request.method != Method::Get {
-            Route::Refused(405)
-        } else if is_target(path) {
-            Route::App
-        } else {
-            Route::Refused(404)
-        }
-    } else if path == "/acs" {
-        form_route(request, Route::Consumer)
-    } else if path == "/metadata" {
-        if request.method == Method::Get {
-            Route::Metadata
-        } else {
-            Route::Refused(405)
-        }
-    } else if path == "/logout" {
-        form_route(request, Route::Logout)
-    } else if path == "/slo" {
-        form_route(request, Route::SingleLogout)
-    } else {
-        Route::Refused(404)
+    if is_guarded(request.path) {
+        return Route::To(Service::Guard);
     }
+    at_target(request.path, route_to(request, service_at(request.path)))
 }

@@ -4,7 +4,9 @@ ghost use Rattle.fault_verdicts.specs.Judging.{IsJudged};
 ghost use Rattle.http_wire.specs.Views.{request_view};
 ghost use Rattle.sp_server.specs.Peer.{IsNotObeyed};
 ghost use Rattle.sp_server.specs.Replies.{IsOfForm, RepliesTo};
-ghost use Rattle.sp_server.specs.Routes.{SingleLogout, To, route};
+ghost use Rattle.service_routes.specs.declared.route.Route.TheVariants.{To};
+ghost use Rattle.sp_server.specs.declared.route.Service.TheVariants.{SingleLogout};
+ghost use Rattle.sp_server.specs.Routes.{route};
 
 use crate::peer::{idp_at, logout_address, second_key};
 use crate::reply::Reply;

@@ -1,19 +1,30 @@
 use Rattle.std.specs.Prelude.{None}
-use Rattle.std.proofs.Common.{rules, refl, sym}
+use Rattle.std.proofs.Common.{◌≡◌, ap, refl, sym, ◌∙◌}
 use Rattle.http_wire.specs.Views.{request_view}
 use Rattle.http_wire.specs.declared.answer.Answer.TheVariants.{Fixed}
 use Rattle.verdict_codes.specs.Codes.{number_of}
 use Rattle.verdict_codes.specs.declared.codes.Verdict.{Verdict}
+use Rattle.service_routes.specs.Routes.{checked}
+use Rattle.service_routes.specs.declared.route.Route.TheVariants.{Refused, To}
+use Rattle.idp_server.specs.declared.route.Service.TheVariants.{SingleLogout}
+use Rattle.idp_server.specs.Routes.{route}
 use Rattle.idp_server.specs.Step.{Answers, ByLogoutVerdict, ByStatus, IsNotObeyed}
 use Rattle.idp_server.proofs.Judged.{refused_for}
 use Rattle.idp_server.proofs.replying.IdpRoleRole.reply.Goals as goal
 
-pub replied-requires-in-SingleLogout-clause-refused : goal.replied-requires-in-SingleLogout-clause-refused
-replied-requires-in-SingleLogout-clause-refused c =
+pub replied-requires-in-To-SingleLogout-clause-refused : goal.replied-requires-in-To-SingleLogout-clause-refused
+replied-requires-in-To-SingleLogout-clause-refused c =
     let request = request_view c.args.request.now in
+    let to : route request ≡ To SingleLogout =
+    ap (checked request) (sym c.service_at.ensures) ∙ sym c.route_to.ensures.routed ∙ c.in-To-SingleLogout.is
+    ∙ ap To c.in-To-SingleLogout.field-0-is in
     refused_for (IsNotObeyed c.args.self.now c.args.now request.body)
     (λ (verdict : Verdict). Answers c.args.self.now c.args.ledger.now.held request c.args.now (Fixed (number_of verdict)) None) c.single_logout-reply.result
-    (λ verdict is. ByLogoutVerdict verdict (sym c.in-SingleLogout.ensures) is refl refl) c.single_logout-reply.ensures.refused
+    (λ verdict is. ByLogoutVerdict verdict to is refl refl) c.single_logout-reply.ensures.refused
 
 pub returns-in-Refused : goal.returns-in-Refused
-returns-in-Refused c = (ByStatus c.in-Refused.status (sym c.in-Refused.ensures) refl refl, search rules)
+returns-in-Refused c =
+    let request = request_view c.args.request.now in
+    let to : route request ≡ Refused c.in-Refused.status =
+    ap (checked request) (sym c.service_at.ensures) ∙ sym c.route_to.ensures.routed ∙ c.in-Refused.is in
+    (ByStatus c.in-Refused.status to refl refl, c.in-Refused.ensures.answered)
