@@ -1,17 +1,13 @@
 -- What is read of the bytes of a connection.
-use Rattle.std.proofs.Common.{◌≡◌, ℕ, false, List, ◌++◌, Result, Ok, Err, if◌then◌else◌}
+use Rattle.std.proofs.Common.{◌≡◌, ℕ, false, List, [], ◌++◌, Result, Ok, Err, refl, subst, arith, if◌then◌else◌}
 use Rattle.std.specs.Result.{is_ok, is_err}
-use Rattle.http_wire.specs.declared.request.HttpRequest.{HttpRequest}
-use Rattle.http_wire.specs.declared.request.Found.{Found}
-use Rattle.http_wire.specs.declared.request.Found.TheVariants as found
-use Rattle.http_wire.specs.Requests.{Request, Whole}
-use Rattle.http_wire.specs.Views.{reading_view}
+use Rattle.http_wire.specs.Requests.{Request, Whole, Reads}
+use Rattle.http_wire.proofs.Deciding.{not_come}
+use Rattle.http_wire.proofs.Keeping.{not_more}
 
--- what is read as a whole request is one
-pub not_another : (read : Found) (request : Request) → reading_view read ≡ Whole request → ((x : HttpRequest) → read ≡ found.Whole x → ⊥) → ⊥
-not_another (found.Whole x) request same other = other x (λ i. found.Whole x)
-not_another found.More request same other = cc
-not_another (found.Refused status) request same other = cc
+-- no bytes are no whole request
+pub nothing_brought : (bytes : List ℕ) (request : Request) → bytes ≡ [] → Reads bytes (Whole request) → ⊥
+nothing_brought bytes request none whole = not_more [] request (not_come [] refl (omega arith)) (subst (λ xs. Reads xs (Whole request)) none whole)
 
 -- what a list is to which others were put, if that did not fail
 pub brought : {E : Type 0} (result : Result (Unit {0}) E) (old new more : List ℕ) → new ≡ (if is_ok result then old ++ more else old) → is_err result ≡ false → new ≡ old ++ more

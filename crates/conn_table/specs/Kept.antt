@@ -2,6 +2,7 @@
 use Rattle.std.specs.Prelude.{◌≡◌, ℕ, ◌≤◌, List, map, filter_map, Option, Some}
 use Rattle.std.specs.FinMap as map
 use Rattle.slab.specs.Slab.{Slab, get}
+use Rattle.http_wire.specs.Awaiting.{Awaited, IsAwaited, KeepsHead}
 use Rattle.conn_table.specs.declared.limits.TheConstants.{CONNECTION_LIMIT}
 use Rattle.conn_table.specs.Table.{Table}
 
@@ -9,6 +10,11 @@ use Rattle.conn_table.specs.Table.{Table}
 pub record Kept : Type 0 where
   pub conn : ℕ
   pub bytes : List ℕ
+
+-- the bytes of a connection were looked at: what is known of them is true, and the head of a whole request is kept
+pub record IsLookedAt (awaited : Awaited) (bytes : List ℕ) : Type 0 where
+  pub known : IsAwaited awaited bytes
+  pub kept : KeepsHead awaited bytes
 
 -- the table of the connections in these slots
 abbrev pub table_of : List (Option Kept) → Table

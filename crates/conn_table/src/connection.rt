@@ -5,7 +5,7 @@ ghost use Rattle.http_wire.specs.Views.{request_view};
 ghost use Rattle.conn_table.specs.Answers.{IsAnswer, IsWholeRequest};
 
 use crate::progress::{Progress, progress_of};
-use http_wire::{Awaited, Found, HttpRequest, laws, request_of};
+use http_wire::{Awaited, HttpRequest, laws};
 use owned_values::NoMemory;
 use std::alloc::Global;
 use std::marker::Model;
@@ -20,14 +20,13 @@ pub(crate) struct Connection {
 }
 
 impl Model for Connection {
-    ghost use Rattle.conn_table.specs.Kept.{Kept};
-    ghost use Rattle.http_wire.specs.Awaiting.{IsAwaited};
+    ghost use Rattle.conn_table.specs.Kept.{Kept, IsLookedAt};
 
     ghost Value = { Kept };
 
     ghost view = { λ c. record { conn = c.conn; bytes = c.buffer.items } };
 
-    ghost invariant = { λ c. IsAwaited c.awaited c.buffer.items };
+    ghost invariant = { λ c. IsLookedAt c.awaited c.buffer.items };
 }
 
 /// Puts a piece behind the bytes of a buffer.
@@ -75,15 +74,11 @@ impl Connection {
         progress_of(self.awaited.look(self.buffer.as_slice()))
     }
 
-    /// The request that its bytes are.
+    /// The request that its bytes are, of what was kept of its head.
     pub(crate) fn request(&self) -> HttpRequest<'_>
         requires { IsWholeRequest self.now.bytes }
         ensures { Reads self.now.bytes (Whole (request_view result)) }
     {
-        laws::bytes_have_one_reading();
-        match request_of(self.buffer.as_slice()) {
-            Found::Whole(request) => request,
-            _ => unreachable!(),
-        }
+        self.awaited.request(self.buffer.as_slice())
     }
 }

@@ -21,8 +21,9 @@
 //! ```
 //!
 //! A contract sees [`Conns`] as a map from the number of each connection that is kept to its bytes. What `http_wire` says of
-//! these bytes is the answer to a piece, however they were cut, and whatever other connections brought. A head that comes
-//! byte by byte is searched for its end once, and a body that comes so costs no look at its head.
+//! these bytes is the answer to a piece, however they were cut, and whatever other connections brought. A head is read once,
+//! when it has come: one that comes byte by byte is searched for its end once, a body that comes so costs no look at its head,
+//! and the request is made of what was kept of it.
 //!
 //! `specs/Events.antt` says for a whole list of events which connections are kept and which requests they complete, with no
 //! table: [`laws::calls_give_completions`] says that the calls, made event by event, complete just these. By the other

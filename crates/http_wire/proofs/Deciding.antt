@@ -1,5 +1,5 @@
 -- What bytes are, once and for all.
-use Rattle.std.proofs.Common.{◌≡◌, ◌≢◌, ℕ, ◌+◌, ◌-◌, ◌<◌, ◌≤◌, inl, inr, Bool, true, false, cond, nat_lt, List, [], ◌∷◌, ◌++◌, length, take, drop, Option, None, Some, IsSome, Result, Ok, Err, codes, refl, sym, ap, subst, ◌∙◌, arith, append-nil}
+use Rattle.std.proofs.Common.{◌≡◌, ◌≢◌, ℕ, ◌+◌, ◌-◌, ◌<◌, ◌≤◌, inl, inr, Bool, true, false, cond, nat_lt, List, [], ◌∷◌, ◌++◌, length, take, drop, Option, None, Some, IsSome, IfSome, Result, Ok, Err, codes, refl, sym, ap, subst, ◌∙◌, arith, append-nil}
 use Rattle.std.specs.Str.Parse.{digits_value}
 use Rattle.std.proofs.lemmas.Bool.Decides.{nat_tests}
 use Rattle.std.proofs.lemmas.List.{take-append-le, drop-append-le, length-append, length-take, length-drop, take_all}
@@ -10,7 +10,8 @@ use Rattle.http_wire.specs.declared.method.Method.TheVariants.{Get, Post, Other}
 use Rattle.http_wire.specs.Lines.{values, size_within, size_unsaid, size_of, is_length}
 use Rattle.http_wire.specs.Heads.{end_of_lines, head_end, IsHead, Parts, parts_of, method_of, lines_of}
 use Rattle.http_wire.specs.Requests.{Request, Reading, Whole, More, Refused, request_of, sized, reading_behind, ReadsHead, ReadsTo, Reads}
-use Rattle.http_wire.specs.Awaiting.{Awaited, IsAwaited}
+use Rattle.http_wire.specs.declared.head.HeadPlaces.{HeadPlaces}
+use Rattle.http_wire.specs.Awaiting.{Awaited, IsKept, IsAwaited}
 use Rattle.http_wire.proofs.Extending.{head_end_within, head_end_append, take_append}
 
 -- ---- one answer
@@ -101,9 +102,9 @@ long_behind parts size n xs is long =
     ap (λ (s : Result ℕ ℕ). sized parts s xs) is ∙ ap (λ t. cond t More (Whole (request_of parts (take n xs)))) test
 
 -- what is known with a head that has come
-pub awaited_body : (a : Awaited) (bytes : List ℕ) (e n : ℕ) (head : RequestHead) → IsAwaited a bytes → head_end bytes ≡ Some e → IsHead (take e bytes) head →
-    (parts_of head).size ≡ Ok n → IsAwaited (record { searched = a.searched; wanted = e + n }) bytes
-awaited_body a bytes e n head known ended is size = record {
+pub awaited_body : (a : Awaited) (bytes : List ℕ) (e n : ℕ) (head : RequestHead) (places : HeadPlaces) → IsAwaited a bytes → head_end bytes ≡ Some e → IsHead (take e bytes) head →
+    (parts_of head).size ≡ Ok n → IsKept bytes (e + n) places → IsAwaited (record { searched = a.searched; wanted = e + n; head = Some places }) bytes
+awaited_body a bytes e n head places known ended is size kept = record {
   brought = known.brought;
   searched = known.searched;
   below = λ more short.
@@ -117,6 +118,7 @@ awaited_body a bytes e n head known ended is size = record {
       let whole = long_behind (parts_of head) (parts_of head).size n (drop e (bytes ++ more)) size (omega arith) in
       let same = reads_one (bytes ++ more) _ More (reads_behind_more bytes more e head ended is) is_more in
       never (sym whole ∙ same));
+  head = kept;
 }
   where
     never : {r : Request} → Whole r ≡ More → ⊥
@@ -170,8 +172,9 @@ nothing_more [] h = refl
 nothing_more (x ∷ xs) h = absurd (omega arith)
 
 -- without a head all bytes were searched, and one more is wanted
-pub awaited_head : (bytes : List ℕ) → head_end bytes ≡ None → length bytes < 16384 → IsAwaited (record { searched = length bytes; wanted = length bytes + 1 }) bytes
-awaited_head bytes none short = record {
+pub awaited_head : (bytes : List ℕ) (h : Option HeadPlaces) → head_end bytes ≡ None → length bytes < 16384 → h ≡ None →
+    IsAwaited (record { searched = length bytes; wanted = length bytes + 1; head = h }) bytes
+awaited_head bytes h none short nothing_kept = record {
   brought = omega (arith, length-take 16384 bytes);
   searched = ap end_of_lines (take_all (length bytes) bytes (omega arith) ∙ sym (take_all 16384 bytes (omega arith))) ∙ none;
   below = λ more few.
@@ -183,6 +186,7 @@ awaited_head bytes none short = record {
       ap (λ n. take n (bytes ++ more)) (let e : length bytes + 1 - 1 ≡ length bytes = omega arith in e)
       ∙ take-append-le (length bytes) bytes more (omega arith) ∙ take_all (length bytes) bytes (omega arith) in
       none_some (subst IsSome (ap head_end same ∙ none) came));
+  head = subst (λ (o : Option HeadPlaces). IfSome o (IsKept bytes (length bytes + 1))) (sym nothing_kept) tt;
 }
 
 -- ---- the size of a body

@@ -1,12 +1,15 @@
 -- Laws of what bytes are.
-use Rattle.std.proofs.Common.{◌≡◌, ◌≢◌, ℕ, ◌+◌, ◌-◌, ◌<◌, ◌≤◌, inl, inr, Bool, true, false, cond, nat_lt, List, ◌++◌, length, take, drop, Option, None, Some, IsSome, Result, Ok, Err, refl, sym, ap, subst, ◌∙◌, arith, append_assoc}
+use Rattle.std.proofs.Common.{◌≡◌, ◌≢◌, ℕ, ◌+◌, ◌-◌, ◌<◌, ◌≤◌, inl, inr, Bool, true, false, cond, nat_lt, List, ◌++◌, length, take, drop, Option, None, Some, IsSome, IfSome, Result, Ok, Err, refl, sym, ap, subst, ◌∙◌, arith, append_assoc}
 use Rattle.std.proofs.lemmas.Bool.Decides.{nat_tests}
 use Rattle.std.proofs.lemmas.List.{take-append-le, length-append, length-take, length-drop, take-take, take-append-drop, drop-take}
 use Rattle.httparse.specs.Grammar.{RequestHead}
+use Rattle.http_wire.specs.declared.head.HeadPlaces.{HeadPlaces}
+use Rattle.http_wire.specs.Awaiting.{IsKept}
 use Rattle.http_wire.specs.Heads.{end_of_lines, head_end, IsHead, Parts, parts_of}
 use Rattle.http_wire.specs.Requests.{Request, Whole, More, Refused, request_of, sized, ReadsTo, Reads}
 use Rattle.http_wire.specs.Laws.{BytesHaveOneReading, MoreBytesChangeNothing, BeginningIsMoreOrTheSame, WholeRequestEndsAtOnePlace, WhatIsKnownStaysTrue}
 use Rattle.http_wire.proofs.Extending.{head_end_within, head_end_append, head_end_front, head_end_limit}
+use Rattle.http_wire.proofs.Keeping.{kept_append}
 use Rattle.http_wire.proofs.Deciding.{reads_one, reads_append, reads_behind, short_behind, long_behind, not_come}
 
 pub bytes_have_one_reading : BytesHaveOneReading
@@ -40,8 +43,13 @@ what_is_known_stays_true a bytes more known = record {
   from = λ others enough came is_more.
       known.from (more ++ others) (by_length' others enough) (by_order' (λ xs. IsSome (head_end (take (a.wanted - 1) xs))) others came)
       (by_order' (λ xs. Reads xs More) others is_more);
+  head = if_kept a.head known.head;
 }
   where
+    if_kept : (o : Option HeadPlaces) → IfSome o (IsKept bytes a.wanted) → IfSome o (IsKept (bytes ++ more) a.wanted)
+    if_kept None kept = tt
+    if_kept (Some places) kept = kept_append bytes more a.wanted places kept
+
     by_order : (P : List ℕ → Type 0) (others : List ℕ) → P (bytes ++ (more ++ others)) → P ((bytes ++ more) ++ others)
     by_order P others p = subst P (sym (append_assoc bytes more others)) p
 

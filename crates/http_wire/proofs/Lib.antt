@@ -5,6 +5,7 @@ pub mod Naming
 pub mod Reading
 pub mod Extending
 pub mod Deciding
+pub mod Keeping
 pub mod Lasting
 pub mod Pairs
 pub mod Table

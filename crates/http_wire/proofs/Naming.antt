@@ -1,5 +1,5 @@
 -- The values of lines of one name, and texts.
-use Rattle.std.proofs.Common.{◌≡◌, ℕ, ◌+◌, ◌<◌, Bool, true, false, cond, List, [], ◌∷◌, ◌++◌, length, take, get_or, map, filter, nat_lt, Option, Some, None, is_some, refl, sym, ap, ◌∙◌, arith, append-nil}
+use Rattle.std.proofs.Common.{◌≡◌, ℕ, ◌+◌, ◌<◌, Bool, true, false, cond, List, [], ◌∷◌, ◌++◌, length, take, get_or, map, filter, nat_lt, Option, Some, None, IfSome, is_some, refl, sym, ap, ◌∙◌, arith, append-nil}
 use Rattle.std.specs.Option.{option_map, option_or}
 use Rattle.std.specs.Str.{IsUtf8, is_utf8, str_to_ascii_lowercase, bytes_eq}
 use Rattle.std.proofs.lemmas.List.{take_more, map-append}
@@ -7,7 +7,6 @@ use Rattle.std.proofs.lemmas.List.Elements.{filter-append}
 use Rattle.std.proofs.lemmas.Bool.Decides.{nat_tests}
 use Rattle.std.proofs.lemmas.Str.{IsUtf8-from_is_utf8, is_utf8-from_IsUtf8}
 use lib.Pointwise.{bytes_decides}
-use denote.Bor.{Bor}
 use Rattle.http_wire.specs.Lines.{Line, is_named, values, first_of, text_of}
 
 pub is_text : (value text : List ℕ) → text ≡ value → IsUtf8 value → Some text ≡ text_of value
@@ -68,40 +67,42 @@ kept_more (w ∷ vs) v = record { first = refl; repeated = more (vs ++ v ∷ [])
     more : (us : List (List ℕ)) → 0 < length us → true ≡ nat_lt 1 (length (w ∷ us))
     more us h = grind (arith, nat_tests)
 
-same_or : (first : Option (Bor (List ℕ))) (value : Bor (List ℕ)) → option_map (λ (v : Bor (List ℕ)). v.now) (option_or first (Some value)) ≡ option_or (option_map (λ (v : Bor (List ℕ)). v.now) first) (Some value.now)
-same_or None value = refl
-same_or (Some first) value = refl
+same_or : {V : Type 0} (text : V → List ℕ) (first : Option V) (value : V) → option_map text (option_or first (Some value)) ≡ option_or (option_map text first) (Some (text value))
+same_or text None value = refl
+same_or text (Some first) value = refl
 
 same_some : {X Y : Type 0} (f : X → Y) (o : Option X) → is_some o ≡ is_some (option_map f o)
 same_some f None = refl
 same_some f (Some x) = refl
 
-abbrev now_of : Option (Bor (List ℕ)) → Option (List ℕ)
-now_of o = option_map (λ (v : Bor (List ℕ)). v.now) o
-
-pub kept_with : {H : Type 0} (name : List ℕ) (read : H → Line) (lines : List H) (i : ℕ) (d : H) (first first' : Option (Bor (List ℕ))) (repeated : Bool) (value : Bor (List ℕ)) →
-    i < length lines → is_named name (read (get_or lines i d)) ≡ true → option_map (λ (v : Bor (List ℕ)). v.now) first ≡ first_of (values name (map read (take i lines)))
-    → value.now ≡ (read (get_or lines i d)).1 → first' ≡ option_or first (Some value) → repeated ≡ is_some first →
-    (option_map (λ (v : Bor (List ℕ)). v.now) first' ≡ first_of (values name (map read (take (i + 1) lines)))) × (repeated ≡ nat_lt 1 (length (values name (map read (take (i + 1) lines)))))
-kept_with name read lines i d first first' repeated value within named kept is_value is_first is_repeated =
+pub kept_with : {H V : Type 0} (name : List ℕ) (read : H → Line) (text : V → List ℕ) (lines : List H) (i : ℕ) (d : H) (first first' : Option V) (repeated : Bool) (value : V) →
+    i < length lines → is_named name (read (get_or lines i d)) ≡ true → option_map text first ≡ first_of (values name (map read (take i lines)))
+    → text value ≡ (read (get_or lines i d)).1 → first' ≡ option_or first (Some value) → repeated ≡ is_some first →
+    (option_map text first' ≡ first_of (values name (map read (take (i + 1) lines)))) × (repeated ≡ nat_lt 1 (length (values name (map read (take (i + 1) lines)))))
+kept_with name read text lines i d first first' repeated value within named kept is_value is_first is_repeated =
     let line = read (get_or lines i d) in
     let vs = values name (map read (take i lines)) in
     let all = values_more name read lines i d true within named in
     let more = kept_more vs line.1 in (
-      ap now_of is_first ∙ same_or first value ∙ (λ k. option_or (kept k) (Some (is_value k))) ∙ more.first ∙ ap first_of (sym all),
-      is_repeated ∙ same_some (λ (v : Bor (List ℕ)). v.now) first ∙ ap is_some kept ∙ more.repeated ∙ ap (λ us. nat_lt 1 (length us)) (sym all),
+      ap (option_map text) is_first ∙ same_or text first value ∙ (λ k. option_or (kept k) (Some (is_value k))) ∙ more.first ∙ ap first_of (sym all),
+      is_repeated ∙ same_some text first ∙ ap is_some kept ∙ more.repeated ∙ ap (λ us. nat_lt 1 (length us)) (sym all),
     )
 
-pub kept_without : {H : Type 0} (name : List ℕ) (read : H → Line) (lines : List H) (i : ℕ) (d : H) (first first' : Option (Bor (List ℕ))) (repeated repeated' : Bool) →
-    i < length lines → is_named name (read (get_or lines i d)) ≡ false → option_map (λ (v : Bor (List ℕ)). v.now) first ≡ first_of (values name (map read (take i lines)))
+pub kept_without : {H V : Type 0} (name : List ℕ) (read : H → Line) (text : V → List ℕ) (lines : List H) (i : ℕ) (d : H) (first first' : Option V) (repeated repeated' : Bool) →
+    i < length lines → is_named name (read (get_or lines i d)) ≡ false → option_map text first ≡ first_of (values name (map read (take i lines)))
     → repeated ≡ nat_lt 1 (length (values name (map read (take i lines)))) → first' ≡ first → repeated' ≡ repeated →
-    (option_map (λ (v : Bor (List ℕ)). v.now) first' ≡ first_of (values name (map read (take (i + 1) lines)))) × (repeated' ≡ nat_lt 1 (length (values name (map read (take (i + 1) lines)))))
-kept_without name read lines i d first first' repeated repeated' within named kept was is_first is_repeated =
+    (option_map text first' ≡ first_of (values name (map read (take (i + 1) lines)))) × (repeated' ≡ nat_lt 1 (length (values name (map read (take (i + 1) lines)))))
+kept_without name read text lines i d first first' repeated repeated' within named kept was is_first is_repeated =
     let vs = values name (map read (take i lines)) in
     let all = values_more name read lines i d false within named ∙ append-nil vs in (
-      ap now_of is_first ∙ kept ∙ ap first_of (sym all),
+      ap (option_map text) is_first ∙ kept ∙ ap first_of (sym all),
       is_repeated ∙ was ∙ ap (λ us. nat_lt 1 (length us)) (sym all),
     )
+
+-- the first value that is kept lies where values lie
+pub first_within : {V : Type 0} (P : V → Type 0) (first : Option V) (value : V) → IfSome first P → P value → IfSome (option_or first (Some value)) P
+first_within P None value was is = is
+first_within P (Some first) value was is = was
 
 pub false_true : {t : Bool} → t ≡ false → t ≡ true → ⊥
 false_true f t = cc

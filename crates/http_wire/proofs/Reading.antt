@@ -15,7 +15,9 @@ use Rattle.httparse.specs.declared.spans.RequestSpans.{RequestSpans}
 use Rattle.httparse.specs.Grammar.{RequestHead, ReadsRequest, Field}
 use Rattle.httparse.specs.Spans.{span_bytes, header_bytes, name_and_value, IsRequestAt}
 use Rattle.xml_spec.proofs.Tests.{both_true, and_true}
-use Rattle.http_wire.specs.Heads.{IsHead, Parts, parts_by, parts_of, path_of}
+use Rattle.http_wire.specs.declared.head.HeadPlaces.{HeadPlaces}
+use Rattle.http_wire.specs.Heads.{parts_by, path_of}
+use Rattle.http_wire.specs.Places.{parts_at, AreWithin, IsReadFrom}
 
 -- ---- visible characters
 
@@ -53,21 +55,25 @@ few_lines : (bytes : List ℕ) (headers : List HeaderSpan) (count : ℕ) (fields
 few_lines bytes headers count fields same few =
     omega (arith, ap length same, length-map (take count headers) (header_bytes bytes), length-map fields name_and_value, length-take count headers)
 
-pub whole_head : (bytes : List ℕ) (headers : List HeaderSpan) (spans : RequestSpans) (h : RequestHead) (parts : Parts) (method target path : List ℕ) →
-    IsRequestAt bytes headers spans h → spans.len ≡ length bytes → length headers ≤ 64 → list_all is_ascii_graphic target ≡ true → target ≡ span_bytes bytes spans.path →
-    parts ≡ parts_by method path (map (header_bytes bytes) (take spans.headers headers)) → method ≡ span_bytes bytes spans.method → path ≡ path_of target →
-    (head : RequestHead) × IsHead bytes head × (parts ≡ parts_of head)
-whole_head bytes headers spans h parts method target path found end few visible is_target made is_method is_path =
-    let same_target : target ≡ h.target = is_target ∙ found.path in (
-      h,
-      record {
-        read = subst (λ (rest : List ℕ). ReadsRequest bytes h rest) (nothing_behind bytes spans.len end) found.reads;
-        lines = few_lines bytes headers spans.headers h.fields found.fields few;
-        target = is_true (ap (list_all is_ascii_graphic) (sym same_target) ∙ visible);
-      },
-      made
-          ∙ (λ i. parts_by ((is_method ∙ found.method) i) ((is_path ∙ ap path_of same_target) i) (found.fields i)),
-    )
+pub whole_head : (bytes : List ℕ) (headers : List HeaderSpan) (spans : RequestSpans) (h : RequestHead) (places : HeadPlaces) (method path : List ℕ) →
+    IsRequestAt bytes headers spans h → spans.len ≡ length bytes → length headers ≤ 64 → list_all is_ascii_graphic (span_bytes bytes spans.path) ≡ true →
+    parts_at bytes places ≡ parts_by method path (map (header_bytes bytes) (take spans.headers headers)) → method ≡ span_bytes bytes spans.method → path ≡ path_of (span_bytes bytes spans.path) →
+    AreWithin (length bytes) places → places.end ≡ length bytes → IsReadFrom bytes places
+whole_head bytes headers spans h places method path found end few visible made is_method is_path within ends =
+    record {
+      end = ends;
+      within = within;
+      says = (
+        h,
+        record {
+          read = subst (λ (rest : List ℕ). ReadsRequest bytes h rest) (nothing_behind bytes spans.len end) found.reads;
+          lines = few_lines bytes headers spans.headers h.fields found.fields few;
+          target = is_true (ap (list_all is_ascii_graphic) (sym found.path) ∙ visible);
+        },
+        made
+            ∙ (λ i. parts_by ((is_method ∙ found.method) i) ((is_path ∙ ap path_of found.path) i) (found.fields i)),
+      );
+    }
   where
     is_true : {t : Bool} → t ≡ true → IsTrue t
     is_true e = e

@@ -6,6 +6,7 @@ pub mod Examples
 pub mod Heads
 pub mod Laws
 pub mod Lines
+pub mod Places
 pub mod Requests
 pub mod Statuses
 pub mod Values

@@ -3,22 +3,11 @@ use Rattle.std.specs.Prelude.{ℕ, List}
 use Rattle.std.specs.Option.{option_map}
 use Rattle.http_wire.specs.declared.answer.Answer.{Answer}
 use Rattle.http_wire.specs.declared.answer.Answer.TheVariants as answers
-use Rattle.http_wire.specs.declared.head.Head.{Head}
 use Rattle.http_wire.specs.declared.request.HttpRequest.{HttpRequest}
 use Rattle.http_wire.specs.declared.request.Found.{Found}
 use Rattle.http_wire.specs.declared.request.Found.TheVariants as found
 use Rattle.http_wire.specs.Answers.{fixed}
-use Rattle.http_wire.specs.Heads.{Parts}
 use Rattle.http_wire.specs.Requests.{Request, Reading, Whole, More, Refused}
-
-abbrev pub parts_view : Head → Parts
-parts_view head = record {
-  method = head.method;
-  path = head.path.now;
-  cookie = option_map (λ text. text.now) head.cookie;
-  content_type = option_map (λ text. text.now) head.content_type;
-  size = head.size;
-}
 
 abbrev pub request_view : HttpRequest → Request
 request_view request = record {

@@ -23,8 +23,9 @@
 //! | 413 | the body is longer than [`BODY_LIMIT`] bytes |
 //!
 //! How the bytes were cut on their way changes nothing, and no bytes behind a whole request or a refusal change it
-//! ([`laws`]). [`Awaited`] remembers how far a connection was looked at, so that a head that comes byte by byte is searched
-//! once, and a body that comes so costs no look at its head.
+//! ([`laws`]). [`Awaited`] keeps how far a connection was searched, and what was read of its head as places in its bytes: a head
+//! is searched once, also where it comes byte by byte, and read once, when it has come. A body costs no look at its head, nor
+//! does [`Awaited::request`].
 //!
 //! [`cookie_of`] and [`is_form_type`] read two of the fields. [`full_answer`] makes an answer around a body, and
 //! [`put_fixed`] writes the one that names a verdict or a status; both write the text that `answer` says, which a client reads
@@ -37,7 +38,8 @@
 //! `request_of` and `Awaited::look`: what the bytes of a connection are, a whole request with its parts, the beginning
 //! of one, or no request with a status, in the order of the definition over `httparse`'s grammar of a head; bytes have
 //! one reading, how they were cut changes nothing, bytes behind a whole request or a refusal change nothing, and the
-//! first of some bytes are More or the same (`laws`). `cookie_of`, `is_form_type`, `full_answer` and `put_fixed` are
+//! first of some bytes are More or the same (`laws`). `Awaited::request`: the same whole request, of what was kept of its
+//! head. `cookie_of`, `is_form_type`, `full_answer` and `put_fixed` are
 //! exact; a client reads an answer as its status, fields and body (`laws::an_answer_is_read_again`), and has one status
 //! (`laws::an_answer_has_one_status`). `vouched_answer` is the answer that names a user: whatever name and values hold,
 //! a client reads just the two lines that do, no byte of which is outside 0x20 to 0x7E, and reads name and values back

@@ -1,13 +1,15 @@
 //! Requests in the bytes that a connection brings.
-ghost use Rattle.std.specs.Prelude.{◌≡◌, ℕ, ◌<◌, ◌≤◌, ◌↔◌, List, ◌++◌, length, take, drop, Some, IsSome};
+ghost use Rattle.std.specs.Prelude.{◌≡◌, ℕ, ◌+◌, ◌<◌, ◌≤◌, ◌↔◌, List, ◌++◌, length, take, drop, None, Some, IsSome};
 ghost use Rattle.httparse.specs.Grammar.{RequestHead};
-ghost use Rattle.http_wire.specs.Awaiting.{IsAwaited};
+ghost use Rattle.http_wire.specs.Awaiting.{IsAwaited, KeepsHead};
 ghost use Rattle.http_wire.specs.Heads.{head_end};
-ghost use Rattle.http_wire.specs.Requests.{Reads, More, reading_behind};
-ghost use Rattle.http_wire.specs.Views.{parts_view, reading_view};
+ghost use Rattle.http_wire.specs.Places.{parts_at, IsReadFrom};
+ghost use Rattle.http_wire.specs.Requests.{Request, Reads, Whole, More, reading_behind, request_of};
+ghost use Rattle.http_wire.specs.Views.{reading_view, request_view};
 
-use crate::head::{Head, end_of_lines, read_head};
+use crate::head::{HeadPlaces, end_of_lines, read_head};
 use crate::limits::HEAD_LIMIT;
+use crate::lines::text_at;
 use crate::method::Method;
 use crate::status::BAD_REQUEST;
 use std::marker::Model;
@@ -36,30 +38,45 @@ pub enum Found<'b> {
     Refused(u16),
 }
 
-/// A head, and the bytes behind it.
-fn found_behind<'b>(head: Head<'b>, behind: &'b [u8]) -> Found<'b>
-    ensures { reading_view result ≡ reading_behind (parts_view head.entry) behind.now }
+/// The request whose head was read in these places, with a body of this size behind it.
+fn request_at<'b>(head: HeadPlaces, bytes: &'b [u8], size: usize) -> HttpRequest<'b>
+    requires read { IsReadFrom (take head.end bytes.now) head }
+    requires within { head.end + size ≤ length bytes.now }
+    ensures { request_view result ≡ request_of (parts_at (take head.end bytes.now) head) (take size (drop head.end bytes.now)) }
+{
+    let (front, behind) = bytes.split_at(head.end);
+    HttpRequest {
+        method: head.method,
+        path: head.path_in(front),
+        cookie: text_at(front, head.cookie),
+        content_type: text_at(front, head.content_type),
+        body: &behind[..size],
+    }
+}
+
+/// What bytes are whose head was read in these places.
+fn found_at<'b>(head: HeadPlaces, bytes: &'b [u8]) -> Found<'b>
+    requires ended { head.end ≤ length bytes.now }
+    requires read { IsReadFrom (take head.end bytes.now) head }
+    ensures { reading_view result ≡ reading_behind (parts_at (take head.end bytes.now) head) (drop head.end bytes.now) }
 {
     match head.size {
         Err(status) => Found::Refused(status),
-        Ok(size) if behind.len() < size => Found::More,
-        Ok(size) => Found::Whole(HttpRequest {
-            method: head.method,
-            path: head.path,
-            cookie: head.cookie,
-            content_type: head.content_type,
-            body: &behind[..size],
-        }),
+        Ok(size) if bytes.len() - head.end < size => Found::More,
+        Ok(size) => Found::Whole(request_at(head, bytes, size)),
     }
 }
 
 /// What is known of the bytes that a connection has brought so far, so that bytes which were looked at are not looked at
-/// again. A contract sees how many bytes were searched for the end of the head, and with how many there may be more to say
-/// than [`Found::More`]. What is known of bytes stays true when others come behind them.
+/// again. A contract sees how many bytes were searched for the end of the head, with how many there may be more to say than
+/// [`Found::More`], and where the parts of the head are once it has come. What is known of bytes stays true when others come
+/// behind them.
 #[derive(Debug, Drop)]
 pub struct Awaited {
     searched: usize,
     wanted: usize,
+    // what was read of the head, where it has come and is one
+    head: Option<HeadPlaces>,
 }
 
 impl Model for Awaited {
@@ -67,7 +84,7 @@ impl Model for Awaited {
 
     ghost Value = { awaiting.Awaited };
 
-    ghost view = { λ a. record { searched = a.searched; wanted = a.wanted } };
+    ghost view = { λ a. record { searched = a.searched; wanted = a.wanted; head = a.head } };
 }
 
 impl Awaited {
@@ -78,6 +95,7 @@ impl Awaited {
         Awaited {
             searched: 0,
             wanted: 0,
+            head: None,
         }
     }
 
@@ -88,40 +106,34 @@ impl Awaited {
         self.wanted
     }
 
-    /// A head that ends there, and what stands behind it.
+    /// Reads a head that ends there, and keeps what it says.
     fn look_behind<'b>(&mut self, buffer: &'b [u8], end: usize) -> Found<'b>
         requires known { IsAwaited self.old buffer.now }
         requires ended { head_end buffer.now ≡ Some end }
         ensures reading { Reads buffer.now (reading_view result) }
         ensures awaited { IsAwaited self.new buffer.now }
         ensures more { reading_view result ≡ More → length buffer.now < self.new.wanted }
+        ensures kept { KeepsHead self.new buffer.now }
     {
-        let (front, behind) = buffer.split_at(end);
-        let Some(head) = read_head(front) else {
+        let Some(head) = read_head(&buffer[..end]) else {
             return Found::Refused(BAD_REQUEST);
         };
         if let Ok(size) = head.size {
             self.wanted = end + size;
         }
-        found_behind(head, behind)
+        self.head = Some(head);
+        found_at(head, buffer)
     }
 
-    /// What the bytes are that a connection has brought so far, as [`request_of`] gives it, where they begin with those that
-    /// were looked at before. Only what is new is searched for the end of the head, and the head is read once when it has
-    /// come and once when its body has.
-    pub fn look<'b>(&mut self, buffer: &'b [u8]) -> Found<'b>
-        requires { IsAwaited self.old buffer.now }
+    /// Looks for the end of a head of which nothing is kept, in what is new.
+    fn look_for_head<'b>(&mut self, buffer: &'b [u8]) -> Found<'b>
+        requires known { IsAwaited self.old buffer.now }
+        requires none { self.old.head ≡ None }
         ensures reading { Reads buffer.now (reading_view result) }
         ensures awaited { IsAwaited self.new buffer.now }
         ensures more { reading_view result ≡ More → length buffer.now < self.new.wanted }
-
-        // where the head has come, the length that is wanted is just that of the whole request
-        ensures exact { Reads buffer.now More → IsSome (head_end buffer.now)
-            → (more : List ℕ) → (length (buffer.now ++ more) < self.new.wanted) ↔ Reads (buffer.now ++ more) More }
+        ensures kept { KeepsHead self.new buffer.now }
     {
-        if buffer.len() < self.wanted {
-            return Found::More;
-        }
         let start = &buffer[..buffer.len().min(HEAD_LIMIT)];
         match end_of_lines(start, self.searched) {
             Some(end) => self.look_behind(buffer, end),
@@ -131,6 +143,46 @@ impl Awaited {
                 Found::More
             }
             None => Found::Refused(BAD_REQUEST),
+        }
+    }
+
+    /// What the bytes are that a connection has brought so far, as [`request_of`] gives it, where they begin with those that
+    /// were looked at before. Only what is new is searched for the end of the head, and the head is read once, when it has
+    /// come. It takes no memory.
+    pub fn look<'b>(&mut self, buffer: &'b [u8]) -> Found<'b>
+        requires { IsAwaited self.old buffer.now }
+        ensures reading { Reads buffer.now (reading_view result) }
+        ensures awaited { IsAwaited self.new buffer.now }
+        ensures more { reading_view result ≡ More → length buffer.now < self.new.wanted }
+        ensures kept { KeepsHead self.new buffer.now }
+
+        // where the head has come, the length that is wanted is just that of the whole request
+        ensures exact { Reads buffer.now More → IsSome (head_end buffer.now)
+            → (more : List ℕ) → (length (buffer.now ++ more) < self.new.wanted) ↔ Reads (buffer.now ++ more) More }
+    {
+        if buffer.len() < self.wanted {
+            return Found::More;
+        }
+        match self.head {
+            Some(head) => found_at(head, buffer),
+            None => self.look_for_head(buffer),
+        }
+    }
+
+    /// The request that the bytes are, where they were looked at. It is made of what was kept of its head, which is not read
+    /// again. It takes no memory.
+    pub fn request<'b>(&self, buffer: &'b [u8]) -> HttpRequest<'b>
+        requires known { IsAwaited self.now buffer.now }
+        requires kept { KeepsHead self.now buffer.now }
+        requires whole { (request : Request) × Reads buffer.now (Whole request) }
+        ensures { Reads buffer.now (Whole (request_view result)) }
+    {
+        let Some(head) = self.head else {
+            unreachable!()
+        };
+        match found_at(head, buffer) {
+            Found::Whole(request) => request,
+            _ => unreachable!(),
         }
     }
 }

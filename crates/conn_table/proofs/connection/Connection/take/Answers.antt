@@ -10,7 +10,7 @@ look-requires c =
     let same : c.as_slice.result.now ≡ c.self.inside.buffer.items ++ c.args.piece.now =
     c.as_slice.ensures.value ∙ brought _ c.self.inside.buffer.items _ c.args.piece.now c.extend.ensures.items (sym c.is_err.ensures.value ∙ c.if-is_err.false) in
     subst (λ xs. IsAwaited c.self.inside.awaited xs) (sym same)
-    (c.what_is_known_stays_true.ensures c.self.inside.awaited c.self.inside.buffer.items c.args.piece.now c.self.invariant)
+    (c.what_is_known_stays_true.ensures c.self.inside.awaited c.self.inside.buffer.items c.args.piece.now c.self.invariant.known)
 
 pub returns-clause-answer : goal.returns-clause-answer
 returns-clause-answer c = λ met.
