@@ -19,6 +19,15 @@ use ledger_rules::{DraftFault, LIFE, TextSet};
 use owned_values::{NoMemory, Text, Texts};
 use saml_ids::{Kind, id_of};
 
+/// The sessions that a logout ends.
+#[derive(Drop)]
+struct Ending {
+    /// Their cookies.
+    cookies: Texts,
+    /// Whether in one of them an assertion was issued to another peer too.
+    partial: bool,
+}
+
 /// A copy of a text, where there is one.
 pub(crate) fn copy_of(text: &Option<Text>) -> Result<Option<Text>, NoMemory>
     ensures { IfOk result (λ copy. copy ≡ text.now) }
@@ -152,22 +161,21 @@ impl IdpLedger {
     {
         self.holds_records();
         let set = TextSet::of(self.ledger.allocator(), indexes)?;
-        let cookies = self.cookies_ending(now, peer, name, indexes, &set)?;
-        if cookies.is_empty() {
+        let ends = self.sessions_ending(now, peer, name, indexes, &set)?;
+        if ends.cookies.is_empty() {
             return Ok(None);
         }
-        let partial = self.is_partial(now, peer, name, indexes, &set);
         let first = self.next_number();
         let key = self.key();
         let message = id_of(key, Kind::Message, first);
         let entry = IdpRecord::Ended(Ended {
             first,
             moment: now,
-            cookies,
+            cookies: ends.cookies,
             message: Text::of(self.ledger.allocator(), message.as_str())?,
             request: Text::of(self.ledger.allocator(), request)?,
             peer: Text::of(self.ledger.allocator(), peer)?,
-            partial,
+            partial: ends.partial,
         });
         Ok(Some(self.draft(entry, [Some(message), None])?))
     }
@@ -205,25 +213,29 @@ impl IdpLedger {
         is_listed(indexes, set, &rows[place].index) && self.is_open_to(place, now, peer, name)
     }
 
-    /// The cookies of these sessions.
-    fn cookies_ending(
+    /// These sessions, by one search.
+    fn sessions_ending(
         &self,
         now: u64,
         peer: &str,
         name: &str,
         indexes: &Texts,
         set: &TextSet,
-    ) -> Result<Texts, NoMemory>
+    ) -> Result<Ending, NoMemory>
         requires { IsSetOf set.now indexes.now }
-        ensures { IfOk result (λ cookies. cookies ≡ ending now self.now.held.header.horizon peer.now name.now indexes.now (rows_in self.now)) }
+        ensures cookies { IfOk result (λ ends. ends.cookies ≡ ending now self.now.held.header.horizon peer.now name.now indexes.now (rows_in self.now)) }
+        ensures partial { IfOk result (λ ends. ends.partial ≡ is_partial now self.now.held.header.horizon peer.now name.now indexes.now (rows_in self.now)) }
     {
+        let standing = self.standing();
         let mut cookies = Texts::new(self.ledger.allocator());
+        let mut partial = false;
         for (place, row) in self.sessions().iter().enumerate() {
             if self.is_ending(place, now, peer, name, indexes, set) {
                 cookies.push(row.cookie.copy()?)?;
+                partial |= standing.has_issued(place, peer, true);
             }
         }
-        Ok(cookies)
+        Ok(Ending { cookies, partial })
     }
 
     /// The cookies of the live sessions of a name in which an assertion was issued to a peer, and whose index is listed, or of
@@ -238,23 +250,8 @@ impl IdpLedger {
         ensures { IfOk result (λ cookies. cookies ≡ ending now self.now.held.header.horizon peer.now name.now indexes.now (rows_in self.now)) }
     {
         let set = TextSet::of(self.ledger.allocator(), indexes)?;
-        self.cookies_ending(now, peer, name, indexes, &set)
-    }
-
-    /// Whether in one of these sessions an assertion was issued to another peer too.
-    fn is_partial(&self, now: u64, peer: &str, name: &str, indexes: &Texts, set: &TextSet) -> bool
-        requires { IsSetOf set.now indexes.now }
-        ensures { result ≡ is_partial now self.now.held.header.horizon peer.now name.now indexes.now (rows_in self.now) }
-    {
-        let standing = self.standing();
-        for place in 0..self.sessions().len() {
-            if self.is_ending(place, now, peer, name, indexes, set)
-                && standing.has_issued(place, peer, true)
-            {
-                return true;
-            }
-        }
-        false
+        let ends = self.sessions_ending(now, peer, name, indexes, &set)?;
+        Ok(ends.cookies)
     }
 
     /// Whether there is a live session of a name in which an assertion was issued to a peer.

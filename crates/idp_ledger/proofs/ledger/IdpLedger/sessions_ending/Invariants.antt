@@ -1,0 +1,11 @@
+use Rattle.std.proofs.Common.{◌≡◌, ◌&&◌, true, take}
+use Rattle.std.specs.List.{list_any}
+use Rattle.idp_ledger.specs.Finding.{is_ending, has_issued}
+use Rattle.idp_ledger.specs.Ledger.{rows_in}
+use Rattle.idp_ledger.proofs.RowTexts.{ending_of}
+use Rattle.idp_ledger.proofs.ledger.IdpLedger.sessions_ending.Given as goal
+
+abbrev pub invariant-loop-place : goal.invariant-loop-place
+invariant-loop-place l =
+    (l.cookies ≡ ending_of l.now l.self.held.header.horizon l.peer l.name l.indexes (rows_in l.self).issues (take l.place l.row-items))
+    × (l.partial ≡ list_any (λ row. is_ending l.now l.self.held.header.horizon l.peer l.name l.indexes (rows_in l.self).issues row && has_issued true (rows_in l.self).issues row.cookie l.peer) (take l.place l.row-items))
