@@ -155,7 +155,10 @@ impl IdpLedger {
         requires moment { now ≤ LAST }
         requires text { is_xml_text request.now ≡ true }
         requires peer { is_xml_text peer.now ≡ true }
-        ensures drafts { DraftsSome self.old self.new (is_empty (ending now self.old.held.header.horizon peer.now name.now indexes.now (rows_in self.old))) (ended self.old.key (next_number self.old.held) now (ending now self.old.held.header.horizon peer.now name.now indexes.now (rows_in self.old)) request.now peer.now (is_partial now self.old.held.header.horizon peer.now name.now indexes.now (rows_in self.old))) result }
+        ensures drafts { DraftsSome self.old self.new (is_empty (ending now self.old.held.header.horizon peer.now
+            name.now indexes.now (rows_in self.old))) (ended self.old.key (next_number self.old.held) now (ending now
+            self.old.held.header.horizon peer.now name.now indexes.now (rows_in self.old)) request.now peer.now
+            (is_partial now self.old.held.header.horizon peer.now name.now indexes.now (rows_in self.old))) result }
         ensures same { SameLedger self.old self.new }
         ensures spare { KeepsSpare self.old self.new }
     {

@@ -103,7 +103,9 @@ impl IdpLedger {
         requires user { is_xml_text user.now ≡ true }
         requires attributes { AreXmlAttributes attributes.now }
         requires unused { IsSome (pending_found (rows_in self.old).pendings pending.now now self.old.held.header.horizon) }
-        ensures drafts { IfSome (pending_found (rows_in self.old).pendings pending.now now self.old.held.header.horizon) (λ row. Drafts self.old self.new (login self.old.key (next_number self.old.held) now row user.now attributes.now) result) }
+        ensures drafts { IfSome (pending_found (rows_in self.old).pendings pending.now now
+            self.old.held.header.horizon) (λ row. Drafts self.old self.new (login self.old.key (next_number
+            self.old.held) now row user.now attributes.now) result) }
         ensures same { SameLedger self.old self.new }
         ensures spare { KeepsSpare self.old self.new }
     {
@@ -134,7 +136,9 @@ impl IdpLedger {
         requires moment { now ≤ LAST }
         requires texts { IsXmlAsk ask.now }
         requires live { IsSome (session_found (rows_in self.old).sessions cookie.now now self.old.held.header.horizon) }
-        ensures drafts { IfSome (session_found (rows_in self.old).sessions cookie.now now self.old.held.header.horizon) (λ row. Drafts self.old self.new (issue self.old.key (next_number self.old.held) now row ask.now) result) }
+        ensures drafts { IfSome (session_found (rows_in self.old).sessions cookie.now now
+            self.old.held.header.horizon) (λ row. Drafts self.old self.new (issue self.old.key (next_number
+            self.old.held) now row ask.now) result) }
         ensures same { SameLedger self.old self.new }
         ensures spare { KeepsSpare self.old self.new }
     {

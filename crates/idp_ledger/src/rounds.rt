@@ -213,7 +213,10 @@ impl IdpLedger {
         confirmed: bool,
     ) -> Result<Option<Draft>, DraftFault>
         requires moment { now ≤ LAST }
-        ensures drafts { DraftsSome self.old self.new (is_none (turn_found (rows_in self.old).rounds request.now peer.now now self.old.held.header.horizon)) (told self.old.key (next_number self.old.held) now request.now confirmed (is_turn_left (turn_found (rows_in self.old).rounds request.now peer.now now self.old.held.header.horizon))) result }
+        ensures drafts { DraftsSome self.old self.new (is_none (turn_found (rows_in self.old).rounds request.now
+            peer.now now self.old.held.header.horizon)) (told self.old.key (next_number self.old.held) now
+            request.now confirmed (is_turn_left (turn_found (rows_in self.old).rounds request.now peer.now now
+            self.old.held.header.horizon))) result }
         ensures same { SameLedger self.old self.new }
         ensures spare { KeepsSpare self.old self.new }
     {

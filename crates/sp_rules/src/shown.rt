@@ -89,7 +89,9 @@ pub(crate) fn accepted_of(
     requires values { value_places cover.now.assertion.document.tree cover.now.assertion.node ≡ places.now.values }
     requires name_element { IsElement cover.now.assertion.document.tree places.now.name.0 }
     requires value_elements { AllByRecursion (λ n. IsElement cover.now.assertion.document.tree n) places.now.values }
-    ensures { IfOk result (λ accepted. (asked : AskedRow) → asked.target ≡ target → IsAcceptedOf config.now now cover.now.assertion.document.text cover.now.assertion.document.tree cover.now.assertion.node cover.now.first.0 cover.now.key login asked accepted) }
+    ensures { IfOk result (λ accepted. (asked : AskedRow) → asked.target ≡ target →
+        IsAcceptedOf config.now now cover.now.assertion.document.text cover.now.assertion.document.tree
+        cover.now.assertion.node cover.now.first.0 cover.now.key login asked accepted) }
 {
     let assertion = cover.assertion.at();
     let doc = assertion.doc;
