@@ -6,4 +6,5 @@ pub mod Checking
 pub mod Completeness
 mod Completing
 mod RecordAnswers
+pub mod Roles
 pub mod Serving
