@@ -1,4 +1,8 @@
 mod Arriving
+mod Calling
+mod Going
 mod Hosting
+mod Passing
 mod Replaying
 mod Rounding
+mod Summing

@@ -1,5 +1,7 @@
 pub mod Counting
 pub mod Deployments
+pub mod Examples
+pub mod Faults
 pub mod Hosts
 pub mod Lines
 pub mod Runs

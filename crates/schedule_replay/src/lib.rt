@@ -19,8 +19,8 @@
 //! (`specs/Hosts.antt`), what each agent keeps, and what was counted. `Does` of `specs/Steps.antt` says what each step of
 //! the grammar does and prints, in the words of the nodes' own contracts and of serve_loop's turns; `Replays` is the run
 //! of the first so many steps, and `Ends` of `specs/Runs.antt` says how [`replay`] ended and what it printed;
-//! `specs/Asked.antt` lists the requests that the nodes were asked in a run. Nothing is assumed of the nodes but their
-//! contract.
+//! `specs/Asked.antt` lists the requests that the nodes were asked in a run, and `specs/Faults.antt` sums the failures
+//! and stops that its steps set ([`laws`]). Nothing is assumed of the nodes but their contract.
 //!
 //! [`replay`] answers [`ReplayFault::WriteFault`] only where the sink's count of faults rose. [`ReplayFault::NoMemory`]
 //! may come in place of any answer; it comes where a disk found no memory, before the lines of that step are printed.
@@ -34,11 +34,17 @@
 //! request, a restart or a compaction, nothing of it is known but that the node stopped, and it is started again from
 //! what the disk holds. `Ends` says how the run ended and what was printed: all steps, or some of them, in order; and
 //! what it leaves of both nodes and their disks (`AreLeft`). WriteFault comes only where the sink's count rose.
+//! `laws::disks_fail_and_stop_where_a_schedule_says`, over all steps of a run: a disk that stopped was started again;
+//! the stops that it took and the one to come are at most those at first and those that steps set; the restarts that are
+//! counted are at most those that steps ask for and those of stops; and the calls that failed and the failure to come
+//! are at most those at first and the failures that steps set, and, where stops were set, those of the steps in which
+//! the disk stopped (`specs/Faults.antt`).
 #![tactic(auto)]
 
 mod agents;
 mod fault;
 mod host;
+pub mod laws;
 mod running;
 mod sending;
 mod stage;
