@@ -10,8 +10,8 @@ use Rattle.assertion_model.specs.Places.{name_place}
 use Rattle.verdict_codes.specs.declared.codes.Verdict.{Verdict}
 use Rattle.verdict_codes.specs.declared.codes.Verdict.TheVariants as verdicts
 use Rattle.sp_rules.specs.declared.config.TheConstants.{FIRST, SECOND}
-use Rattle.sp_rules.specs.declared.cover.Usable.{Usable}
-use Rattle.sp_rules.specs.declared.cover.Usable.TheVariants as kinds
+use Rattle.sp_rules.specs.declared.keys.UsableKeys.{UsableKeys}
+use Rattle.sp_rules.specs.declared.keys.UsableKeys.TheVariants as kinds
 use Rattle.sp_rules.specs.declared.cover.Verified.{Verified}
 use Rattle.sp_rules.specs.declared.cover.Cover.{Cover}
 use Rattle.sp_rules.specs.Keys.{Key}
@@ -23,7 +23,8 @@ first_of bytes = record { number = FIRST; bytes = bytes } ∷ []
 abbrev pub second_of : List ℕ → List Key
 second_of bytes = record { number = SECOND; bytes = bytes } ∷ []
 
-abbrev pub keys_of : Usable → List Key
+-- the keys that are given
+abbrev pub keys_of : UsableKeys → List Key
 keys_of (kinds.First first) = first_of first.now
 keys_of (kinds.Second second) = second_of second.now
 keys_of (kinds.Both first second) = first_of first.now ++ second_of second.now

@@ -9,19 +9,12 @@ ghost use Rattle.sp_rules.specs.Covering.{is_signed, IsUnverified, IsUncovered};
 ghost use Rattle.sp_rules.specs.Views.{first_of, second_of, keys_of, IsVerifiedWith, IsCoverOf};
 
 use crate::config::{FIRST, SECOND, SpConfig};
+use crate::keys::UsableKeys;
 use saml_names::ds;
 use saml_tree::{Doc, NodeNo};
 use sig_reference::{SigFault, Vouched, verify, within};
 use std::alloc::Global;
 use tree_read::{At, ElementChildren};
-
-/// The keys that count at a moment: the first, the second, or both.
-#[derive(Clone, Copy, Drop)]
-enum Usable<'c> {
-    First(&'c [u8]),
-    Second(&'c [u8]),
-    Both(&'c [u8], &'c [u8]),
-}
 
 /// An element that a signature vouches for, and the number of the key that made its tag.
 #[derive(Drop)]
@@ -41,27 +34,6 @@ pub(crate) struct Cover<'d, 'a> {
     pub signature: NodeNo,
     /// The number of the key that made its tag.
     pub key: u8,
-}
-
-/// The keys that count now.
-fn usable_keys<'c>(config: &'c SpConfig, now: u64) -> Usable<'c>
-    requires times { IfSome config.now.next_in (λ next. next.from ≤ next.until) }
-    ensures { keys_of result ≡ usable config.now now }
-{
-    let first = config.key_in.as_slice();
-    match &config.next_in {
-        None => Usable::First(first),
-        Some(next) => {
-            let second = next.key.as_slice();
-            if now >= next.until {
-                Usable::Second(second)
-            } else if now >= next.from {
-                Usable::Both(first, second)
-            } else {
-                Usable::First(first)
-            }
-        }
-    }
 }
 
 /// Verifies an element under a key of this number.
@@ -86,15 +58,15 @@ fn verify_under<'d, 'a>(
 fn verify_by<'d, 'a>(
     alloc: Global,
     at: At<'d, 'a>,
-    keys: &Usable<'_>,
+    keys: &UsableKeys<'_>,
 ) -> Result<Verified<'d, 'a>, SigFault>
     ensures ok { IfOk result (IsVerifiedWith (keys_of keys.now) at.entry.doc.now at.entry.node.0) }
     ensures err { IfErr result (IsUnverified (keys_of keys.now) (tree_of at.entry) at.entry.node.0) }
 {
     match keys {
-        Usable::First(first) => verify_under(alloc, at, first, FIRST),
-        Usable::Second(second) => verify_under(alloc, at, second, SECOND),
-        Usable::Both(first, second) => verify_by_both(alloc, at, first, second),
+        UsableKeys::First(first) => verify_under(alloc, at, first, FIRST),
+        UsableKeys::Second(second) => verify_under(alloc, at, second, SECOND),
+        UsableKeys::Both(first, second) => verify_by_both(alloc, at, first, second),
     }
 }
 
@@ -128,7 +100,7 @@ fn cover_of_response<'d, 'a>(
     alloc: Global,
     root: At<'d, 'a>,
     assertion: At<'d, 'a>,
-    keys: &Usable<'_>,
+    keys: &UsableKeys<'_>,
 ) -> Result<Cover<'d, 'a>, SigFault>
     requires document { assertion.doc.now ≡ root.doc.now }
     requires top { root.node.0 ≡ 0 }
@@ -169,7 +141,7 @@ pub(crate) fn cover_of<'d, 'a>(
     ensures ok { IfOk result (IsCoverOf (usable config.now now) root.entry.doc.now assertion.entry.node.0) }
     ensures err { IfErr result (IsUncovered (usable config.now now) (tree_of root.entry) assertion.entry.node.0) }
 {
-    let keys = usable_keys(config, now);
+    let keys = config.usable_keys(now);
     if is_signed(root) {
         return cover_of_response(alloc, root, assertion, &keys);
     }

@@ -7,7 +7,7 @@ ghost use Rattle.sp_server.specs.Peer as spec;
 use metadata::Peer;
 use owned_values::{Blob, NoMemory, Text};
 use peer_keys::LogoutPeer;
-use sp_rules::SpConfig;
+use sp_rules::{SpConfig, UsableKeys};
 use std::alloc::Global;
 
 /// The first key that counts now for messages of the identity provider.
@@ -15,15 +15,10 @@ fn first_key(config: &SpConfig, now: u64) -> &[u8]
     requires { IfSome config.now.next_in (λ next. next.from ≤ next.until) }
     ensures { result.now ≡ spec.first_bytes config.now.key_in (usable config.now now) }
 {
-    match &config.next_in {
-        None => config.key_in.as_slice(),
-        Some(next) => {
-            if now >= next.until {
-                next.key.as_slice()
-            } else {
-                config.key_in.as_slice()
-            }
-        }
+    match config.usable_keys(now) {
+        UsableKeys::First(first) => first,
+        UsableKeys::Second(second) => second,
+        UsableKeys::Both(first, _) => first,
     }
 }
 
@@ -32,15 +27,9 @@ pub(crate) fn second_key(config: &SpConfig, now: u64) -> Option<&[u8]>
     requires { IfSome config.now.next_in (λ next. next.from ≤ next.until) }
     ensures { option_map (λ key. key.now) result ≡ spec.second_key config.now now }
 {
-    match &config.next_in {
-        None => None,
-        Some(next) => {
-            if next.from <= now && now < next.until {
-                Some(next.key.as_slice())
-            } else {
-                None
-            }
-        }
+    match config.usable_keys(now) {
+        UsableKeys::First(_) | UsableKeys::Second(_) => None,
+        UsableKeys::Both(_, second) => Some(second),
     }
 }
 
