@@ -6,7 +6,7 @@ use http_wire::Method;
 
 /// A service of an identity provider.
 #[derive(Clone, Copy, Debug, PartialEq, Eq)]
-pub(crate) enum Service {
+pub enum Service {
     /// The address to which requests for a login are posted (SAML Metadata, 2.4.3, SingleSignOnService).
     SignOn,
     /// The address to which the page of a pending login is posted.

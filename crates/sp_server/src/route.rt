@@ -9,7 +9,7 @@ use service_routes::{Route, route_to};
 
 /// A service of a service provider.
 #[derive(Clone, Copy, Debug, PartialEq, Eq)]
-pub(crate) enum Service {
+pub enum Service {
     /// A page of the application.
     App,
     /// The address to which responses are posted (SAML Metadata, 2.4.4, AssertionConsumerService).
