@@ -4,6 +4,8 @@
 #[cfg(test)]
 mod hub_setup_tests;
 #[cfg(test)]
+mod identity_hub_tests;
+#[cfg(test)]
 mod idp_answers_tests;
 #[cfg(test)]
 mod idp_server_tests;
