@@ -1,6 +1,6 @@
 // Why the names of an element are refused.
 
-use namespace_scope::NoMemory;
+use owned_values::NoMemory;
 use std::alloc::{AllocError, AllocFailed};
 
 /// Why the names of an element are refused.

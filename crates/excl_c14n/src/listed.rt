@@ -3,7 +3,6 @@ ghost use Rattle.std.specs.Prelude.{◌≡◌, ◌==◌, length, map, codes, IfO
 ghost use Rattle.xml_spec.specs.Canonical.{listed_prefix};
 ghost use Rattle.excl_c14n.specs.Levels.{is_among};
 
-use crate::rendered::kept;
 use namespace_scope::Scope;
 use owned_values::{NoMemory, Texts};
 use std::alloc::Global;
@@ -41,9 +40,9 @@ impl<'d> Listed<'d> {
         ensures { IfOk result (λ listed. listed ≡ tokens.now) }
     {
         let mut prefixes = Scope::new(alloc);
-        kept(prefixes.push())?;
+        prefixes.push()?;
         for i in 0..tokens.len() {
-            kept(prefixes.declare(prefix_of_token(tokens.at(i).as_str()), 0))?;
+            prefixes.declare(prefix_of_token(tokens.at(i).as_str()), 0)?;
         }
         Ok(Listed { tokens, prefixes })
     }

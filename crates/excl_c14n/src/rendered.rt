@@ -1,5 +1,5 @@
 //! The prefixes that the elements around a place have rendered.
-ghost use Rattle.std.specs.Prelude.{◌≡◌, ◌<◌, List, [], ◌∷◌, length, drop, is_ok, IfOk, OnOk};
+ghost use Rattle.std.specs.Prelude.{◌≡◌, ◌<◌, List, [], ◌∷◌, length, drop, IfOk, OnOk};
 ghost use Rattle.xml_spec.specs.Names.{Binding, namespace_of};
 ghost use Rattle.xml_spec.specs.Canonical.{is_rendered_anew};
 ghost use Rattle.saml_tree.specs.NodeNames.{IsNameAt};
@@ -38,16 +38,6 @@ impl<'d, 'a> Model for Rendered<'d, 'a> {
     ghost invariant = { λ r. IsKept r.doc.now.tree r.places.items r.numbers (reverse r.starts.items) };
 }
 
-/// The answer of a call that wants memory, as this crate gives it.
-pub(crate) fn kept(answer: Result<(), namespace_scope::NoMemory>) -> Result<(), NoMemory>
-    ensures { is_ok result ≡ is_ok answer }
-{
-    match answer {
-        Ok(()) => Ok(()),
-        Err(_) => Err(NoMemory),
-    }
-}
-
 impl<'d, 'a> Rendered<'d, 'a> {
     /// Nothing of the document is written.
     pub(crate) fn new(alloc: Global, doc: &'d Doc<'a>) -> Rendered<'d, 'a>
@@ -65,7 +55,7 @@ impl<'d, 'a> Rendered<'d, 'a> {
     pub(crate) fn enter(&mut self) -> Result<(), NoMemory>
         ensures { OnOk result (self.new ≡ record self.old { levels = [] ∷ self.old.levels }) }
     {
-        kept(self.numbers.push())?;
+        self.numbers.push()?;
         if self.starts.push(self.places.len()).is_err() {
             self.numbers.pop();
             return Err(NoMemory);
@@ -97,7 +87,7 @@ impl<'d, 'a> Rendered<'d, 'a> {
             return Err(NoMemory);
         };
         self.places.push(place)?;
-        kept(self.numbers.declare(prefix, number))
+        self.numbers.declare(prefix, number)
     }
 
     /// Whether a prefix that is needed is to be declared here, where this place speaks of its namespace: where that is not

@@ -12,7 +12,7 @@
 //! `laws::pop_undoes_its_level`.
 #![tactic(auto)]
 
-ghost use Rattle.std.specs.Prelude.{◌≡◌, ◌<◌, [], ◌∷◌, Some, length, drop, codes, OnOk, OnErr};
+ghost use Rattle.std.specs.Prelude.{◌≡◌, ◌<◌, [], ◌∷◌, length, drop, OnOk, OnErr};
 ghost use Rattle.namespace_scope.specs.Levels.{declared_in, lookup_of};
 
 mod index;
@@ -21,37 +21,10 @@ mod marks;
 
 use index::restore;
 use marks::{Mark, settle};
-use std::alloc::{AllocError, AllocFailed, Global};
+use owned_values::NoMemory;
+use std::alloc::Global;
 use std::collections::BTreeMap;
-use std::error::Error;
-use std::fmt;
 use std::marker::Model;
-
-/// There was no memory for what a call had to keep.
-#[derive(Debug, Clone, Copy, PartialEq, Eq)]
-pub struct NoMemory;
-
-impl fmt::Display for NoMemory {
-    ghost output = { λ _. Some (codes "out of memory") };
-
-    fn fmt<W: fmt::Write>(&self, f: &mut fmt::Formatter<W>) -> fmt::Result {
-        f.write_str("out of memory")
-    }
-}
-
-impl Error for NoMemory {}
-
-impl From<AllocError> for NoMemory {
-    fn from(_failed: AllocError) -> NoMemory {
-        NoMemory
-    }
-}
-
-impl<T: Drop> From<AllocFailed<T>> for NoMemory {
-    fn from(_failed: AllocFailed<T>) -> NoMemory {
-        NoMemory
-    }
-}
 
 /// The declarations in force: a stack of levels, each with the prefixes that it declares and the
 /// number of each one's namespace.

@@ -1,4 +1,4 @@
-use Rattle.std.proofs.Common.{◌≡◌, length, reverse, sym, subst, rules}
+use Rattle.std.proofs.Common.{◌≡◌, length, refl, reverse, sym, subst, rules}
 use Rattle.saml_tree.specs.NodeNames.{IsNameAt}
 use Rattle.excl_c14n.specs.Levels.{RenderedView}
 use Rattle.excl_c14n.proofs.Answering.{on_ok_too}
@@ -19,7 +19,7 @@ invariant_of-self-2 c =
 pub returns : goal.returns
 returns c =
     let last : c.in-Ok.number ≡ length c.self.inside.places.items = search rules in
-    on_ok_too c.kept.result c.declare.result c.kept.ensures
+    on_ok_too c.declare.result c.declare.result refl
     (one_rendered c.self.inside.doc.now.tree c.self.inside.places.items c.push.new.self.items c.args.place c.self.inside.numbers c.declare.new.self
     c.args.self.now c.args.prefix.now c.in-Ok.number c.self.view_is
     (are_below c.self.inside.doc.now.tree c.self.inside.places.items c.self.inside.numbers (reverse c.self.inside.starts.items) c.self.invariant) c.in_ok-push.ensures.items last)
