@@ -6,4 +6,5 @@ mod Examples
 mod Markup
 mod Posting
 pub mod Faults
+pub mod Noted
 pub mod Plain

@@ -9,3 +9,9 @@ IsOccurrence occurrences.Absent found = found ≡ []
 IsOccurrence (occurrences.Once value) found = found ≡ value ∷ []
 IsOccurrence occurrences.Repeated found =
     (first : List ℕ) × (second : List ℕ) × (others : List (List ℕ)) × (found ≡ first ∷ second ∷ others)
+
+-- how often a name stands that stood so often and stands once more, with this value
+abbrev pub noted : Occurrence → List ℕ → Occurrence
+noted occurrences.Absent value = occurrences.Once value
+noted (occurrences.Once first) value = occurrences.Repeated
+noted occurrences.Repeated value = occurrences.Repeated

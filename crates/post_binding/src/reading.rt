@@ -1,10 +1,11 @@
 //! A form is read: the message that it carries, or the values of named fields.
-ghost use Rattle.std.specs.Prelude.{◌≡◌, ◌≤◌, length, IfOk};
+ghost use Rattle.std.specs.Prelude.{◌≡◌, ℕ, ◌≤◌, List, length, IfOk, OnOk};
 ghost use Rattle.owned_values.specs.Gives.{Gives};
 ghost use Rattle.base64.specs.Engines.{standard};
 ghost use Rattle.base64.specs.GeneralPurpose.{decode_of};
-ghost use Rattle.post_binding.specs.Form.{pairs, values, field_name, relay_name, message_of, message_field, relay_field, fault_of, form, the_value, fields, within_limit};
-ghost use Rattle.post_binding.specs.Occurrences.{IsOccurrence};
+ghost use Rattle.post_binding.specs.Form.{decoded, pairs, values, field_name, relay_name, message_of, message_field};
+ghost use Rattle.post_binding.specs.Form.{relay_field, fault_of, form, the_value, fields, within_limit};
+ghost use Rattle.post_binding.specs.Occurrences.{IsOccurrence, noted};
 ghost use Rattle.post_binding.specs.declared.posted.TheConstants.{MESSAGE_LIMIT};
 
 use crate::fault::FormFault;
@@ -12,7 +13,7 @@ use crate::posted::{Field, MESSAGE_LIMIT, Posted, RELAY_LIMIT};
 use crate::text::{decoded, has_replacement, has_white, is_name, without_white};
 use base64::DecodeAllocError;
 use base64::engine::general_purpose::STANDARD;
-use form_urlencoded::raw_pairs;
+use form_urlencoded::{decode, raw_pairs};
 use owned_values::{Blob, NoMemory, Text, Texts};
 use std::alloc::Global;
 
@@ -24,23 +25,66 @@ enum Occurrence {
     Repeated,
 }
 
+impl Occurrence {
+    /// Notes that the name stands once more, with this value.
+    fn note(&mut self, alloc: Global, encoded_value: &[u8]) -> Result<(), NoMemory>
+        ensures { OnOk result (self.new ≡ noted self.old (decoded encoded_value.now)) }
+    {
+        *self = match self {
+            Occurrence::Absent => Occurrence::Once(decoded(alloc, encoded_value)?),
+            _ => Occurrence::Repeated,
+        };
+        Ok(())
+    }
+}
+
+/// How often each name of the binding stands in a form.
+#[derive(Drop)]
+struct Occurrences {
+    request: Occurrence,
+    response: Occurrence,
+    relay: Occurrence,
+}
+
+/// How often the names of the binding stand in the form, in one pass.
+#[tactic(auto, using(crate::proofs::Noted::is_occurrence))]
+fn occurrences_of(alloc: Global, body: &[u8]) -> Result<Occurrences, NoMemory>
+    ensures request { IfOk result
+        (λ found. IsOccurrence found.request (values (field_name Field.Request) (pairs body.now))) }
+    ensures response { IfOk result
+        (λ found. IsOccurrence found.response (values (field_name Field.Response) (pairs body.now))) }
+    ensures relay { IfOk result (λ found. IsOccurrence found.relay (values relay_name (pairs body.now))) }
+{
+    let mut request = Occurrence::Absent;
+    let mut response = Occurrence::Absent;
+    let mut relay = Occurrence::Absent;
+    for (encoded_name, encoded_value) in raw_pairs(body) {
+        match decode(alloc, encoded_name)?.as_str() {
+            "SAMLRequest" => request.note(alloc, encoded_value)?,
+            "SAMLResponse" => response.note(alloc, encoded_value)?,
+            "RelayState" => relay.note(alloc, encoded_value)?,
+            _ => {}
+        }
+    }
+    Ok(Occurrences {
+        request,
+        response,
+        relay,
+    })
+}
+
 /// How often `name` stands in the form, with its value where it stands once.
+#[tactic(auto, using(crate::proofs::Noted::is_occurrence))]
 fn occurrence_of(alloc: Global, body: &[u8], name: &str) -> Result<Occurrence, NoMemory>
     ensures { IfOk result (λ found. IsOccurrence found (values name.now (pairs body.now))) }
 {
-    let mut found = None;
+    let mut found = Occurrence::Absent;
     for (encoded_name, encoded_value) in raw_pairs(body) {
         if is_name(alloc, encoded_name, name)? {
-            if found.is_some() {
-                return Ok(Occurrence::Repeated);
-            }
-            found = Some(decoded(alloc, encoded_value)?);
+            found.note(alloc, encoded_value)?;
         }
     }
-    match found {
-        None => Ok(Occurrence::Absent),
-        Some(value) => Ok(Occurrence::Once(value)),
-    }
+    Ok(found)
 }
 
 /// The message that symbols of base64 stand for.
@@ -81,16 +125,15 @@ fn decode_message(alloc: Global, text: &str) -> Result<Blob, FormFault>
     decode_symbols(alloc, symbols)
 }
 
-/// The one message of a form, as its text, and its field.
+/// The one message of a form with so many requests and responses, as its text, and its field.
 ///
 /// # Errors
 ///
 /// `BadForm`, exactly where the messages are not one in all, or U+FFFD stands in the text.
-fn read_message_field(alloc: Global, body: &[u8]) -> Result<(Field, Text), FormFault>
-    ensures { Gives (λ found. found) fault_of result (message_field (values (field_name Field.Request) (pairs body.now)) (values (field_name Field.Response) (pairs body.now))) }
+fn message_field(request: Occurrence, response: Occurrence) -> Result<(Field, Text), FormFault>
+    ensures { (requests responses : List (List ℕ)) → IsOccurrence request requests → IsOccurrence response responses
+        → Gives (λ found. found) fault_of result (message_field requests responses) }
 {
-    let request = occurrence_of(alloc, body, Field::Request.name())?;
-    let response = occurrence_of(alloc, body, Field::Response.name())?;
     let (field, text) = match (request, response) {
         (Occurrence::Once(text), Occurrence::Absent) => (Field::Request, text),
         (Occurrence::Absent, Occurrence::Once(text)) => (Field::Response, text),
@@ -102,15 +145,16 @@ fn read_message_field(alloc: Global, body: &[u8]) -> Result<(Field, Text), FormF
     Ok((field, text))
 }
 
-/// The relay of a form, where it has one.
+/// The relay of a form with so many, where it has one.
 ///
 /// # Errors
 ///
 /// `BadForm`, exactly where there are two, or the relay has more than [`RELAY_LIMIT`] bytes, or U+FFFD stands in it.
-fn read_relay(alloc: Global, body: &[u8]) -> Result<Option<Text>, FormFault>
-    ensures { Gives (λ relay. relay) fault_of result (relay_field (values relay_name (pairs body.now))) }
+fn relay_field(relay: Occurrence) -> Result<Option<Text>, FormFault>
+    ensures { (relays : List (List ℕ)) → IsOccurrence relay relays
+        → Gives (λ relay. relay) fault_of result (relay_field relays) }
 {
-    match occurrence_of(alloc, body, "RelayState")? {
+    match relay {
         Occurrence::Absent => Ok(None),
         Occurrence::Once(relay) => {
             if relay.len() > RELAY_LIMIT || has_replacement(relay.as_str()) {
@@ -134,8 +178,9 @@ pub fn read_form(alloc: Global, body: &[u8]) -> Result<Posted, FormFault>
     ensures gives { Gives (λ posted. posted) fault_of result (form body.now) }
     ensures small { IfOk result (λ posted. length posted.message ≤ MESSAGE_LIMIT) }
 {
-    let (field, text) = read_message_field(alloc, body)?;
-    let relay = read_relay(alloc, body)?;
+    let found = occurrences_of(alloc, body)?;
+    let (field, text) = message_field(found.request, found.response)?;
+    let relay = relay_field(found.relay)?;
     let message = decode_message(alloc, text.as_str())?;
     Ok(Posted {
         field,
