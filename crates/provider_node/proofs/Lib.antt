@@ -7,9 +7,16 @@ pub mod Points
 pub mod Runs
 pub mod Starts
 pub mod Added
+pub mod Alike
 pub mod Starving
+pub mod Recorded
+pub mod Told
+pub mod Changes
 pub mod Joining
 pub mod Lasting
 pub mod Staying
+pub mod Sessions
+pub mod StayingShut
+pub mod Wanted
 pub mod Replying
 pub mod Drafting

@@ -12,10 +12,11 @@ use Rattle.record_ledger.specs.Compacting.{Compacts}
 use Rattle.record_ledger.specs.Runs as events
 use Rattle.record_ledger.specs.Runs.{IsVisibleThroughout, Stays, naming}
 use Rattle.record_ledger.proofs.Staying.{visible_records_stay}
-use Rattle.provider_node.specs.Starving.{CodesAddNothing, IsSameOrCompacted, Keeps, WhatIsVisibleStays}
+use Rattle.provider_node.specs.Starving.{CodesAddNothing, IsSameOrCompacted, Keeps, RowsAnswerAsBefore, WhatIsVisibleStays}
 use Rattle.provider_node.specs.Step as steps
 use Rattle.provider_node.specs.Step.{AnswersBy, IsWhole, MakesRoom, Provider, Serves, Steps}
 use Rattle.provider_node.specs.declared.codes.TheConstants.{NO_MEMORY, DISK_FAULT}
+use Rattle.provider_node.proofs.Alike.{CompactionsAnswerAlike, alike}
 
 -- the code of an answer
 abbrev code_in : Answer → ℕ
@@ -112,3 +113,18 @@ pub visible_stays : {Setup R : Type 0} (rules : RecordRules R) (Answers : Answer
 visible_stays rules Answers nothing old new disk request now before after whole steps =
     keeps rules now old.ledger.held new.ledger.held
     (stepped rules Answers nothing old new disk request now _ whole steps)
+
+-- and all that may be asked of the rows is answered as before
+pub rows_as_before : {Setup R : Type 0} (rules : RecordRules R) (Answers : AnswersBy Setup R)
+    (AnswerAlike : (now : ℕ) → (one other : Held R) → Type 0)
+    → ((now : ℕ) (held : Held R) → AnswerAlike now held held)
+    → CompactionsAnswerAlike rules AnswerAlike → CodesAddNothing Answers → RowsAnswerAsBefore rules Answers AnswerAlike
+rows_as_before {Setup} {R} rules Answers AnswerAlike itself law nothing old new disk request now before after are whole
+    steps =
+    of_case (stepped rules Answers nothing old new disk request now _ whole steps)
+  where
+    of_case : IsSameOrCompacted rules now old.ledger.held new.ledger.held
+        → AnswerAlike now new.ledger.held old.ledger.held
+    of_case (inl same) =
+        subst (λ (h : Held R). AnswerAlike now h old.ledger.held) (sym same) (itself now old.ledger.held)
+    of_case (inr made) = alike rules AnswerAlike itself law now old.ledger.held new.ledger.held are made

@@ -6,10 +6,14 @@ use Rattle.crash_disk.specs.Torn.{other_file}
 use Rattle.record_ledger.specs.Rules.{RecordRules}
 use Rattle.record_ledger.specs.Ledger.{Held, held_with}
 use Rattle.record_ledger.specs.Compacting.{Compacts}
+use Rattle.record_ledger.specs.Laws.{ImagesHoldRecords}
 use Rattle.record_ledger.specs.Runs as events
 use Rattle.record_ledger.specs.Runs.{CompactsAt, EndsBehind, Event, Adds, Opens, Leads}
 use Rattle.provider_node.specs.Histories.{Another, CameFrom, CompactsWhere, Includes, This}
-use Rattle.provider_node.specs.Staying.{WasAdded}
+use Rattle.provider_node.specs.Staying.{SessionsStayInAService, SessionsStayOverStarts, WasAdded, WhatWasOpenedIsAsLeft}
+use Rattle.provider_node.specs.Step.{AnswersBy}
+use Rattle.provider_node.proofs.Histories.{DrawsAbove, what_is_kept}
+use Rattle.provider_node.proofs.Starts.{kept_over_at}
 
 module _ {R : Type 0} (rules : RecordRules R) where
   -- with one event more
@@ -150,3 +154,36 @@ stood {R} rules moments start held records r came there =
         each = ends.each;
       };
     }
+
+-- Where a session that was opened is as it was left in each ledger that came by events, it is so in a service and over
+-- starts.
+module _ {Setup R X : Type 0} (rules : RecordRules R) (Opened : List R → X → Type 0)
+    (IsAsLeft : (moments : List ℕ) (start : Held R) → X → Held R → Type 0) (Answers : AnswersBy Setup R)
+    (as_left : (moments : List ℕ) (start held : Held R) (records : List R) (x : X)
+    → CameFrom rules (Contains moments) start records held → Opened records x → IsAsLeft moments start x held) where
+  pub found_as_left : WhatWasOpenedIsAsLeft rules Opened IsAsLeft
+  found_as_left moments start records x image (held, is, came) opened =
+      (held, is, as_left moments start held records x came opened)
+
+  module _ (law : ImagesHoldRecords rules) (numbers : DrawsAbove rules Answers) where
+    pub stay_in_a_service : SessionsStayInAService rules Opened IsAsLeft Answers
+    stay_in_a_service first last turns kept at tells run =
+        let is = what_is_kept rules Answers law numbers first last turns kept at tells run in
+        record {
+          records = is.records;
+          are = is.are;
+          stay =
+              λ x image opened left. found_as_left _ first.node.ledger.held is.records x image (is.kept image left)
+              opened;
+        }
+
+    pub stay_over_starts : SessionsStayOverStarts rules Opened IsAsLeft Answers
+    stay_over_starts moments start starts begun =
+        let is = kept_over_at rules Answers law numbers (Contains moments) start starts begun in
+        record {
+          records = is.records;
+          are = is.are;
+          stay = λ x image opened left.
+              let opens = is.kept image left in
+              (opens.held, opens.opens, as_left moments start opens.held is.records x opens.came opened);
+        }

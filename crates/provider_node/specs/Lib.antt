@@ -13,3 +13,5 @@ pub mod Starving
 pub mod Joining
 pub mod Lasting
 pub mod Staying
+pub mod Recorded
+pub mod Changes

@@ -4,7 +4,7 @@ use Rattle.crash_disk.specs.Counts.{Rose}
 use Rattle.crash_disk.specs.Disk.{DiskState}
 use Rattle.http_wire.specs.declared.answer.Answer.TheVariants.{Fixed}
 use Rattle.http_wire.specs.Requests.{Request}
-use Rattle.record_ledger.specs.Rules.{RecordRules}
+use Rattle.record_ledger.specs.Rules.{RecordRules, AreRecords}
 use Rattle.record_ledger.specs.Ledger.{Held}
 use Rattle.record_ledger.specs.Compacting.{Compacts}
 use Rattle.record_ledger.specs.Runs.{IsVisibleThroughout, Stays}
@@ -36,3 +36,13 @@ WhatIsVisibleStays {Setup} {R} rules Answers =
     (now before after : ℕ) → old.ledger.broken ≡ false
     → Steps rules Answers old disk request now (Rose before after) (Fixed NO_MEMORY) new
     → Keeps rules now old.ledger.held new.ledger.held
+
+-- `AnswerAlike` says that at a moment all that may be asked of the rows of two ledgers is answered alike. It is so of
+-- the ledger behind a request and the one before, where there was no memory and the ledger was not broken.
+abbrev pub RowsAnswerAsBefore : {Setup R : Type 0} → RecordRules R → AnswersBy Setup R
+    → (AnswerAlike : (now : ℕ) → (one other : Held R) → Type 0) → Type 0
+RowsAnswerAsBefore {Setup} {R} rules Answers AnswerAlike =
+    (old new : Provider Setup R) (disk : Option DiskState) (request : Request) (now before after : ℕ)
+    → AreRecords rules old.ledger.held.records → old.ledger.broken ≡ false
+    → Steps rules Answers old disk request now (Rose before after) (Fixed NO_MEMORY) new
+    → AnswerAlike now new.ledger.held old.ledger.held
