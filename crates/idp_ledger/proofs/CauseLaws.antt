@@ -5,10 +5,11 @@ use Rattle.std.proofs.lemmas.Bool.{false≢true, and_parts, or_cases, not-true}
 use Rattle.ledger_records.specs.declared.idp_record.IdpRecord.{IdpRecord}
 use Rattle.ledger_records.specs.declared.idp_record.IdpRecord.TheVariants as kinds
 use Rattle.record_ledger.proofs.Words.{same_text}
-use Rattle.idp_ledger.specs.declared.row.PendingRow.{PendingRow}
-use Rattle.idp_ledger.specs.declared.row.SessionRow.{SessionRow}
-use Rattle.idp_ledger.specs.RowsOf.{rows_of}
-use Rattle.idp_ledger.specs.Record.{is_issue_free, is_record, AreRecordsAfter}
+use Rattle.idp_rows.specs.declared.row.PendingRow.{PendingRow}
+use Rattle.idp_rows.specs.declared.row.SessionRow.{SessionRow}
+use Rattle.idp_rows.specs.RowsOf.{rows_of}
+use Rattle.idp_ledger.specs.Record.{is_record, AreRecordsAfter}
+use Rattle.idp_rows.specs.Record.{is_issue_free}
 use Rattle.idp_ledger.specs.Laws.{HasCause, EachIssueHasItsCause}
 use Rattle.idp_ledger.proofs.LawWords.{parts}
 

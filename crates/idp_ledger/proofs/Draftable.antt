@@ -10,8 +10,9 @@ use Rattle.ledger_records.specs.declared.idp_record.IdpRecord.{IdpRecord}
 use Rattle.ledger_rules.specs.Numbers.{Drawn, are_fresh, is_xml_text}
 use Rattle.record_ledger.proofs.Draftable as any
 use Rattle.record_ledger.proofs.Draftable.{both, BelowEnd, HasItsNumber, fresh_drawn}
-use Rattle.idp_ledger.specs.RowsOf.{rows_of}
-use Rattle.idp_ledger.specs.Record.{drawn, texts, moments, LAST, is_free, next_of, idp_rules}
+use Rattle.idp_rows.specs.RowsOf.{rows_of}
+use Rattle.idp_ledger.specs.Record.{next_of, idp_rules}
+use Rattle.idp_rows.specs.Record.{drawn, texts, moments, LAST, is_free}
 use Rattle.idp_ledger.specs.Ledger.{Held, next_number}
 use Rattle.idp_ledger.specs.Drafts.{IsDraftable}
 use Rattle.idp_ledger.proofs.RowLaws.{is_record-is}

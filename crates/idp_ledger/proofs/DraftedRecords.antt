@@ -16,13 +16,14 @@ use Rattle.ledger_records.specs.Writing.{capped}
 use Rattle.ledger_rules.specs.Numbers.{Drawn, NUMBER_END, has_number, is_xml_text}
 use Rattle.ledger_rules.specs.declared.fault.DraftFault.{DraftFault}
 use Rattle.ledger_rules.specs.declared.fault.DraftFault.TheVariants.{LedgerFull, JournalFull, NoMemory}
-use Rattle.idp_ledger.specs.declared.row.Ask.{Ask}
-use Rattle.idp_ledger.specs.declared.row.PendingRow.{PendingRow}
-use Rattle.idp_ledger.specs.declared.row.SessionRow.{SessionRow}
+use Rattle.idp_ledger.specs.declared.ask.Ask.{Ask}
+use Rattle.idp_rows.specs.declared.row.PendingRow.{PendingRow}
+use Rattle.idp_rows.specs.declared.row.SessionRow.{SessionRow}
 use Rattle.idp_ledger.specs.declared.ids.LoginIds.{LoginIds}
-use Rattle.idp_ledger.specs.RowsOf.{pending_rows, issued_rows, session_rows, left_rows, rows_of}
-use Rattle.idp_ledger.specs.Finding.{pending_found, session_found, ending, is_waiting_now, last_peer}
-use Rattle.idp_ledger.specs.Record.{drawn, LAST, of_attribute, AreRecords, idp_rules}
+use Rattle.idp_rows.specs.RowsOf.{pending_rows, issued_rows, session_rows, left_rows, rows_of}
+use Rattle.idp_rows.specs.Finding.{pending_found, session_found, ending, is_waiting_now, last_peer}
+use Rattle.idp_ledger.specs.Record.{AreRecords, idp_rules}
+use Rattle.idp_rows.specs.Record.{drawn, LAST, of_attribute}
 use Rattle.idp_ledger.specs.Ledger.{Held, OpenedLedger, next_number}
 use Rattle.idp_ledger.specs.Ids.{AreLoginIds, login_ids}
 use Rattle.idp_ledger.specs.Drafts.{ASSERTION_LIFE, SESSION_LIFE, IsXmlAsk, AreXmlAttributes, pending, login, login_with, issue, issue_with, ended, left, confirmed, spoke, Drafts, IsDraftable}
@@ -184,7 +185,7 @@ module _ (held : Held) (key : List ℕ) (ids : LoginIds) (are : AreLoginIds key 
       let found = found_session (session_rows held.records) cookie now held.header.horizon row some (sessions_allowed held.records records) in
       let s = session_texts row found.texts_are in
       let t = ask_texts ask texts in
-      let unended = ap (Rattle.idp_ledger.specs.Record.is_unended (session_rows held.records)) found.is ∙ found.unended in
+      let unended = ap (Rattle.idp_rows.specs.Record.is_unended (session_rows held.records)) found.is ∙ found.unended in
       draftable held (issue_with first now ids row ask) unended
       (All-cons P one (two ∷ []) (omega arith) (All-cons P two [] (omega arith) (All-nil P)))
       (All-cons HasItsNumber one (two ∷ []) has_one (All-cons HasItsNumber two [] has_two (All-nil HasItsNumber)))

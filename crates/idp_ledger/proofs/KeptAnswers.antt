@@ -11,15 +11,15 @@ use Rattle.record_ledger.proofs.Words.{each_weaker, same_text}
 use Rattle.record_ledger.specs.Marks.{all, kept}
 use Rattle.ledger_rules.proofs.Counted.{find_same, any_same_seen, filter_same}
 use Rattle.record_ledger.proofs.KeptFlags.{are_marked}
-use Rattle.idp_ledger.specs.declared.row.PendingRow.{PendingRow}
-use Rattle.idp_ledger.specs.declared.row.IssuedRow.{IssuedRow}
-use Rattle.idp_ledger.specs.declared.row.SessionRow.{SessionRow}
-use Rattle.idp_ledger.specs.declared.row.LeftRow.{LeftRow}
+use Rattle.idp_rows.specs.declared.row.PendingRow.{PendingRow}
+use Rattle.idp_rows.specs.declared.row.IssuedRow.{IssuedRow}
+use Rattle.idp_rows.specs.declared.row.SessionRow.{SessionRow}
+use Rattle.idp_rows.specs.declared.row.LeftRow.{LeftRow}
 use Rattle.round_rows.specs.declared.row.RoundRow.{RoundRow}
 use Rattle.round_rows.specs.Rounds.{waits_for, is_turn_of, round_found, turn_found}
-use Rattle.idp_ledger.specs.RoundsOf.{round_rows}
-use Rattle.idp_ledger.specs.Finding.{visible, pending_found, session_found, is_waiting_now, is_listed, is_ending, ending, is_partial, has_issued, last_peer}
-use Rattle.idp_ledger.specs.RowsOf.{pending_rows, issued_rows, session_rows, left_rows, rows_of}
+use Rattle.idp_rows.specs.RoundsOf.{round_rows}
+use Rattle.idp_rows.specs.Finding.{visible, pending_found, session_found, is_waiting_now, is_listed, is_ending, ending, is_partial, has_issued, last_peer}
+use Rattle.idp_rows.specs.RowsOf.{pending_rows, issued_rows, session_rows, left_rows, rows_of}
 use Rattle.idp_ledger.specs.Record.{AreRecords, idp_rules}
 use Rattle.idp_ledger.specs.Ledger.{Held}
 use Rattle.idp_ledger.specs.Compacting.{AreKept, IsCompacted}

@@ -14,13 +14,14 @@ use Rattle.record_ledger.specs.Marks.{all, kept, KeepsAll}
 use Rattle.record_ledger.proofs.Numbers.{one_number, IsFresh, all_fresh}
 use Rattle.record_ledger.proofs.Words.{each_weaker, each_push, same_text, text_itself}
 use Rattle.record_ledger.proofs.KeptMarks.{all_push, any_same}
-use Rattle.idp_ledger.specs.declared.row.SessionRow.{SessionRow}
-use Rattle.idp_ledger.specs.declared.row.IssuedRow.{IssuedRow}
-use Rattle.idp_ledger.specs.Finding.{is_that_peer, has_issued, last_issue, last_peer, peer_of}
-use Rattle.idp_ledger.specs.RowsOf.{if_pending, issued_row, issued_rows, session_rows, session_row, ends}
-use Rattle.idp_ledger.specs.Record.{drawn, next_of, is_record, AreRecordsAfter, AreRecords, idp_rules}
+use Rattle.idp_rows.specs.declared.row.SessionRow.{SessionRow}
+use Rattle.idp_rows.specs.declared.row.IssuedRow.{IssuedRow}
+use Rattle.idp_rows.specs.Finding.{is_that_peer, has_issued, last_issue, last_peer, peer_of}
+use Rattle.idp_rows.specs.RowsOf.{if_pending, issued_row, issued_rows, session_rows, session_row, ends}
+use Rattle.idp_ledger.specs.Record.{next_of, is_record, AreRecordsAfter, AreRecords, idp_rules}
+use Rattle.idp_rows.specs.Record.{drawn}
 use Rattle.idp_ledger.proofs.LawWords.{Each, parts, next_push}
-use Rattle.idp_ledger.proofs.StandingRows.{above_some, cookie_of, index_of}
+use Rattle.idp_rows.proofs.StandingRows.{above_some, cookie_of, index_of}
 use Rattle.record_ledger.proofs.LinkRows.{only, less_number}
 use Rattle.idp_ledger.specs.Linking.{idp_links}
 use Rattle.idp_ledger.proofs.LinkFree.{began_at, session_has}

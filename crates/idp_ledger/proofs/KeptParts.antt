@@ -1,5 +1,5 @@
 -- A compaction leaves the parts of live sessions as they were.
-use Rattle.std.proofs.Common.{◌≡◌, ℕ, ◌≤◌, Bool, true, false, ◌&&◌, not, cond, List, [], ◌∷◌, Option, None, Some, map, filter, bytes_eq, is_some, refl, sym, ap, ◌∙◌, subst, inl, inr}
+use Rattle.std.proofs.Common.{◌≡◌, ℕ, Bool, true, false, ◌&&◌, not, cond, List, [], ◌∷◌, Option, None, Some, map, filter, bytes_eq, is_some, refl, sym, ap, ◌∙◌, subst, inl, inr}
 use Rattle.std.specs.List.{list_all}
 use Rattle.std.proofs.lemmas.Bool.{false≢true, and_parts, or_cases, false_from_ne_true}
 use Rattle.ledger_records.specs.declared.idp_record.IdpRecord.{IdpRecord}
@@ -8,10 +8,10 @@ use Rattle.logout_turns.specs.declared.part.Part.{Part}
 use Rattle.record_ledger.specs.Marks.{all, kept, KeepsAll}
 use Rattle.record_ledger.proofs.Words.{same_text, other_way}
 use Rattle.record_ledger.proofs.KeptFlags.{are_marked}
-use Rattle.idp_ledger.specs.declared.row.IssuedRow.{IssuedRow}
-use Rattle.idp_ledger.specs.declared.row.SessionRow.{SessionRow}
-use Rattle.idp_ledger.specs.Finding.{part_of, parts_of, session_found, visible}
-use Rattle.idp_ledger.specs.RowsOf.{is_among, issued_row, issued_rows, session_rows}
+use Rattle.idp_rows.specs.declared.row.IssuedRow.{IssuedRow}
+use Rattle.idp_rows.specs.declared.row.SessionRow.{SessionRow}
+use Rattle.idp_rows.specs.Finding.{part_of, parts_of, session_found, visible}
+use Rattle.idp_rows.specs.RowsOf.{is_among, issued_row, issued_rows, session_rows}
 use Rattle.idp_ledger.specs.Record.{AreRecords, idp_rules}
 use Rattle.idp_ledger.specs.Compacting.{AreKept}
 use Rattle.idp_ledger.specs.Drafts.{AreLive}

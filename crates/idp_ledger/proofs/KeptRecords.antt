@@ -11,8 +11,9 @@ use Rattle.idp_ledger.specs.Naming.{names, issue_names, has_cookie, has_pending,
 use Rattle.record_ledger.proofs.Words.{each_weaker, other_way}
 use Rattle.record_ledger.proofs.Numbers.{fresh_below}
 use Rattle.record_ledger.proofs.KeptMarks.{none_kept}
-use Rattle.idp_ledger.specs.RowsOf.{rows_of, if_pending, session_row, pending_rows, session_rows, left_rows, uses, ends, confirms, is_among}
-use Rattle.idp_ledger.specs.Record.{is_unused, is_unended, is_waiting, is_issue_free, is_free, drawn, next_of, idp_rules}
+use Rattle.idp_rows.specs.RowsOf.{rows_of, if_pending, session_row, pending_rows, session_rows, left_rows, uses, ends, confirms, is_among}
+use Rattle.idp_ledger.specs.Record.{next_of, idp_rules}
+use Rattle.idp_rows.specs.Record.{is_unused, is_unended, is_waiting, is_issue_free, is_free, drawn}
 use Rattle.idp_ledger.specs.Laws.{KeptAreRecords}
 use Rattle.idp_ledger.proofs.LawWords.{parts, from_parts}
 use Rattle.idp_ledger.proofs.KeptMarks.{Marked, AreClosed}

@@ -11,10 +11,10 @@ use Rattle.round_rows.specs.Rounds.{is_done, waits_for, current, after_answer, a
 use Rattle.record_ledger.specs.Marks.{all, kept, KeepsAll}
 use Rattle.record_ledger.proofs.Words.{same_text, text_itself}
 use Rattle.record_ledger.proofs.Draftable.{both}
-use Rattle.idp_ledger.specs.Finding.{visible}
-use Rattle.idp_ledger.specs.RoundsOf.{round_row, round_behind, round_rows}
+use Rattle.idp_rows.specs.Finding.{visible}
+use Rattle.idp_rows.specs.RoundsOf.{round_row, round_behind, round_rows}
 use Rattle.idp_ledger.specs.Naming.{has_request, has_visible, is_next_request, names}
-use Rattle.idp_ledger.specs.Record.{fits_where_waiting, is_answer_free}
+use Rattle.idp_rows.specs.Record.{fits_where_waiting, is_answer_free}
 use Rattle.idp_ledger.proofs.KeptMarks.{Marked, NamersOf, AreClosed}
 
 -- a record that made the request for which a round waits is named by the Told that answers it

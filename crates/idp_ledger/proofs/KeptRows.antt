@@ -11,11 +11,11 @@ use Rattle.idp_ledger.specs.Naming.{has_visible, has_session_visible, has_cookie
 use Rattle.record_ledger.specs.Marks.{all, kept, KeepsAll}
 use Rattle.record_ledger.proofs.Words.{each_weaker, other_way}
 use Rattle.record_ledger.proofs.KeptMarks.{any_same}
-use Rattle.idp_ledger.specs.declared.row.PendingRow.{PendingRow}
-use Rattle.idp_ledger.specs.declared.row.SessionRow.{SessionRow}
-use Rattle.idp_ledger.specs.declared.row.LeftRow.{LeftRow}
-use Rattle.idp_ledger.specs.Finding.{visible}
-use Rattle.idp_ledger.specs.RowsOf.{if_pending, pending_rows, session_rows, left_rows, pending_row, session_row, left_row, is_pending, uses, ends, confirms}
+use Rattle.idp_rows.specs.declared.row.PendingRow.{PendingRow}
+use Rattle.idp_rows.specs.declared.row.SessionRow.{SessionRow}
+use Rattle.idp_rows.specs.declared.row.LeftRow.{LeftRow}
+use Rattle.idp_rows.specs.Finding.{visible}
+use Rattle.idp_rows.specs.RowsOf.{if_pending, pending_rows, session_rows, left_rows, pending_row, session_row, left_row, is_pending, uses, ends, confirms}
 use Rattle.idp_ledger.proofs.KeptMarks.{Marked, NamersOf, AreClosed}
 
 -- what uses a login, ends a session or confirms a logout names its record

@@ -6,8 +6,9 @@ use Rattle.ledger_records.specs.declared.idp_record.IdpRecord.{IdpRecord}
 use Rattle.ledger_rules.specs.Numbers.{above, are_fresh, is_xml_text}
 use Rattle.record_ledger.specs.Marks as any
 use Rattle.record_ledger.proofs.Numbers as numbers
-use Rattle.idp_ledger.specs.RowsOf.{rows_of}
-use Rattle.idp_ledger.specs.Record.{LAST, is_free, drawn, texts, moments, next_of, is_record, idp_rules}
+use Rattle.idp_rows.specs.RowsOf.{rows_of}
+use Rattle.idp_ledger.specs.Record.{next_of, is_record, idp_rules}
+use Rattle.idp_rows.specs.Record.{LAST, is_free, drawn, texts, moments}
 
 -- what holds of each
 abbrev pub Each : {X : Type 0} → (X → Type 0) → List X → Type 0

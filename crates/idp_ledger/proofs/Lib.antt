@@ -1,15 +1,8 @@
-pub mod RowPlaces
-pub mod RowOrders
-pub mod IssueLaws
-pub mod StandingRows
 pub mod RoundRows
-pub mod RoundFound
-pub mod RoundStanding
 pub mod RowLaws
 pub mod Draftable
 pub mod RowTexts
 pub mod RoundTexts
-pub mod Endings
 pub mod DraftedRecords
 pub mod RoundDrafts
 pub mod LawWords

@@ -15,12 +15,13 @@ use Rattle.record_ledger.specs.Compacting.{passes}
 use Rattle.record_ledger.specs.Linking as any
 use Rattle.record_ledger.proofs.Words.{same_text, text_itself, other_way}
 use Rattle.record_ledger.proofs.LinkRows.{alone, other_not, among_one, among_itself, none_at}
-use Rattle.idp_ledger.specs.RowsOf.{if_pending, session_row, is_among, is_pending, uses, ends, confirms, pending_rows, session_rows, left_rows, rows_of}
-use Rattle.idp_ledger.specs.Record.{of_option, is_unused, is_unended, is_waiting, is_issue_free, is_record, fits_where_waiting, AreRecords, idp_rules}
+use Rattle.idp_rows.specs.RowsOf.{if_pending, session_row, is_among, is_pending, uses, ends, confirms, pending_rows, session_rows, left_rows, rows_of}
+use Rattle.idp_ledger.specs.Record.{is_record, AreRecords, idp_rules}
+use Rattle.idp_rows.specs.Record.{of_option, is_unused, is_unended, is_waiting, is_issue_free, fits_where_waiting}
 use Rattle.idp_ledger.specs.Naming.{has_cookie, has_pending, has_session, has_logout, has_request, is_next_request, issue_names, names}
 use Rattle.idp_ledger.specs.Linking.{idp_links, named, row_found, next_found, session_found, where_none, within}
 use Rattle.round_rows.specs.Rounds.{waits_for}
-use Rattle.idp_ledger.specs.RoundsOf.{round_rows}
+use Rattle.idp_rows.specs.RoundsOf.{round_rows}
 use Rattle.idp_ledger.proofs.RoundChains.{answers_it, holder_at}
 use Rattle.idp_ledger.proofs.LawWords.{parts}
 

@@ -11,8 +11,9 @@ use Rattle.round_rows.specs.declared.row.RoundRow.{RoundRow}
 use Rattle.round_rows.specs.Rounds.{is_done, is_turn_left, waits_for, current, after_answer, answered_if}
 use Rattle.record_ledger.proofs.Words.{same_text, text_itself}
 use Rattle.record_ledger.proofs.LinkRows.{other_not, at_front, at_last}
-use Rattle.idp_ledger.specs.RoundsOf.{round_row, round_after, round_behind, round_rows}
-use Rattle.idp_ledger.specs.Record.{has_its_next, fits_where_waiting, is_record, AreRecordsAfter}
+use Rattle.idp_rows.specs.RoundsOf.{round_row, round_after, round_behind, round_rows}
+use Rattle.idp_ledger.specs.Record.{is_record, AreRecordsAfter}
+use Rattle.idp_rows.specs.Record.{has_its_next, fits_where_waiting}
 use Rattle.idp_ledger.specs.Naming.{is_next_request, has_request}
 use Rattle.idp_ledger.proofs.LawWords.{parts}
 use Rattle.idp_ledger.proofs.RoundRows.{round_rows-push}

@@ -21,12 +21,13 @@ use Rattle.ledger_rules.specs.declared.fault.DraftFault.TheVariants.{LedgerFull,
 use Rattle.round_rows.specs.declared.row.RoundRow.{RoundRow}
 use Rattle.round_rows.specs.Rounds.{is_turn_left, is_turn_of, waits_for, current, answered_if, turn_found}
 use Rattle.round_rows.specs.Kept.{IsRoundOf}
-use Rattle.idp_ledger.specs.declared.row.SessionRow.{SessionRow}
+use Rattle.idp_rows.specs.declared.row.SessionRow.{SessionRow}
 use Rattle.idp_ledger.specs.declared.ids.RoundIds.{RoundIds}
-use Rattle.idp_ledger.specs.RoundsOf.{round_row, round_behind, round_rows}
-use Rattle.idp_ledger.specs.RowsOf.{session_rows}
-use Rattle.idp_ledger.specs.Finding.{session_found, visible}
-use Rattle.idp_ledger.specs.Record.{LAST, drawn, of_asker, of_option, of_turn, is_unended, is_record, AreRecords, AreRecordsAfter, idp_rules}
+use Rattle.idp_rows.specs.RoundsOf.{round_row, round_behind, round_rows}
+use Rattle.idp_rows.specs.RowsOf.{session_rows}
+use Rattle.idp_rows.specs.Finding.{session_found, visible}
+use Rattle.idp_ledger.specs.Record.{is_record, AreRecords, AreRecordsAfter, idp_rules}
+use Rattle.idp_rows.specs.Record.{LAST, drawn, of_asker, of_option, of_turn, is_unended}
 use Rattle.idp_ledger.specs.Ledger.{Held, OpenedLedger, next_number}
 use Rattle.idp_ledger.specs.Ids.{AreRoundIds, round_ids}
 use Rattle.idp_ledger.specs.Drafts.{round, round_with, told_with, AreLive, AreXmlTurns, IsXmlAsker, Drafts, IsDraftable}
@@ -34,7 +35,7 @@ use Rattle.record_ledger.proofs.Draftable.{both, BelowEnd, id_has_number, id_is_
 use Rattle.idp_ledger.proofs.Draftable.{draftable, one_moment}
 use Rattle.idp_ledger.proofs.DraftedRecords.{front_xml, fields_alike, text_alike}
 use Rattle.idp_ledger.proofs.LawWords.{parts}
-use Rattle.idp_ledger.proofs.RoundFound.{answer_free}
+use Rattle.idp_rows.proofs.RoundFound.{answer_free}
 use Rattle.idp_ledger.proofs.RowTexts.{found_row, found_session, is_session_xml, session_texts, sessions_allowed, some_found}
 
 -- ---- the sessions of a round

@@ -9,7 +9,7 @@ use Rattle.ledger_records.specs.declared.idp_record.IdpRecord.{IdpRecord}
 use Rattle.ledger_records.specs.declared.idp_record.IdpRecord.TheVariants as kinds
 use Rattle.round_rows.specs.declared.row.RoundRow.{RoundRow}
 use Rattle.round_rows.specs.Rounds.{waits_for, answered_if}
-use Rattle.idp_ledger.specs.RoundsOf.{round_row, round_behind, answers, answers_after}
+use Rattle.idp_rows.specs.RoundsOf.{round_row, round_behind, answers, answers_after}
 use Rattle.idp_ledger.specs.Laws.{IsRowOf, RoundsAreCounted, EachRoundHasItsRecord}
 
 -- ---- what is counted

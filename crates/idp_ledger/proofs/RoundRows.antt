@@ -6,7 +6,7 @@ use Rattle.ledger_records.specs.declared.idp_record.IdpRecord.{IdpRecord}
 use Rattle.ledger_records.specs.declared.idp_record.IdpRecord.TheVariants as kinds
 use Rattle.round_rows.specs.declared.row.RoundRow.{RoundRow}
 use Rattle.round_rows.specs.Rounds.{waits_for, answered_if}
-use Rattle.idp_ledger.specs.RoundsOf.{round_row, round_after, round_behind, round_rows}
+use Rattle.idp_rows.specs.RoundsOf.{round_row, round_after, round_behind, round_rows}
 
 -- ---- one record more
 

@@ -1,27 +1,26 @@
 -- The texts of rounds and of the parts of sessions are texts of records, and the counts of a round.
 use Rattle.std.specs.Prelude.{slice_get}
-use Rattle.std.proofs.Common.{◌≡◌, ◌≢◌, ℕ, zero, suc, ◌+◌, ◌≤◌, Bool, true, false, ◌&&◌, if◌then◌else◌, List, [], ◌∷◌, ◌++◌, take, Option, None, Some, refl, sym, ap, ◌∙◌, subst, arith}
+use Rattle.std.proofs.Common.{◌≡◌, ◌≢◌, ℕ, zero, suc, ◌+◌, Bool, true, false, ◌&&◌, List, [], ◌∷◌, ◌++◌, take, Option, Some, refl, sym, ap, ◌∙◌, subst, arith}
 use Rattle.std.specs.List.{list_all, flat_map}
-use Rattle.std.proofs.lemmas.Bool.{false≢true, and_parts}
+use Rattle.std.proofs.lemmas.Bool.{and_parts}
 use Rattle.std.proofs.lemmas.List.Folds.{list_all-append}
 use Rattle.std.proofs.lemmas.Slice.Eq.{bytes_eq-Decides}
-use Rattle.logout_turns.specs.declared.part.Asker.{Asker}
-use Rattle.logout_turns.specs.declared.turns.Turn.{Turn}
 use Rattle.ledger_records.specs.declared.idp_record.Issued.{Issued}
 use Rattle.ledger_records.specs.declared.idp_round.Round.{Round}
 use Rattle.ledger_records.specs.declared.idp_record.IdpRecord.{IdpRecord}
 use Rattle.ledger_records.specs.declared.idp_record.IdpRecord.TheVariants as kinds
 use Rattle.ledger_rules.specs.Numbers.{has_number, is_xml_text, number_text}
 use Rattle.round_rows.specs.declared.row.RoundRow.{RoundRow}
-use Rattle.round_rows.specs.Rounds.{after_answer, answered_if, waits_for}
+use Rattle.round_rows.specs.Rounds.{answered_if, waits_for}
 use Rattle.record_ledger.proofs.Draftable.{both}
-use Rattle.idp_ledger.specs.declared.row.IssuedRow.{IssuedRow}
-use Rattle.idp_ledger.specs.RoundsOf.{round_after, round_behind, round_row, round_rows}
-use Rattle.idp_ledger.specs.RowsOf.{issued_row, issued_rows}
-use Rattle.idp_ledger.specs.Record.{AreRecords, AreRecordsAfter, drawn, is_record, next_of, of_asker, of_attribute, of_option, of_turn, texts}
+use Rattle.idp_rows.specs.declared.row.IssuedRow.{IssuedRow}
+use Rattle.idp_rows.specs.RoundsOf.{round_behind, round_row, round_rows}
+use Rattle.idp_rows.specs.RowsOf.{issued_row, issued_rows}
+use Rattle.idp_ledger.specs.Record.{AreRecords, AreRecordsAfter, is_record, next_of}
+use Rattle.idp_rows.specs.Record.{of_asker, of_attribute, of_option, of_turn}
 use Rattle.idp_ledger.specs.Turns.{AreRoundTexts}
-use Rattle.idp_ledger.proofs.LawWords.{NextParts, parts}
-use Rattle.idp_ledger.proofs.StandingRows.{first_fresh}
+use Rattle.idp_ledger.proofs.LawWords.{parts}
+use Rattle.idp_rows.proofs.StandingRows.{first_fresh}
 
 -- ---- one record
 

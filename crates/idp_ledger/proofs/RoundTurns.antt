@@ -1,9 +1,8 @@
 -- Each provider of a round is asked in its turn, and once.
 use Rattle.std.specs.Prelude.{slice_get, ◌==◌}
-use Rattle.std.proofs.Common.{◌≡◌, ℕ, zero, suc, ◌+◌, nat_lt, Bool, true, false, not, ◌&&◌, ◌||◌, if◌then◌else◌, List, [], ◌∷◌, ◌++◌, length, Option, None, Some, is_some, refl, sym, ap, ◌∙◌, subst, arith, append-nil, append_assoc}
+use Rattle.std.proofs.Common.{◌≡◌, ℕ, zero, suc, ◌+◌, nat_lt, Bool, true, false, not, ◌||◌, if◌then◌else◌, List, [], ◌∷◌, ◌++◌, length, Option, None, Some, is_some, refl, sym, ap, ◌∙◌, subst, arith, append-nil, append_assoc}
 use Rattle.std.specs.List.{flat_map}
-use Rattle.std.proofs.lemmas.Bool.{false≢true, and_parts, not-true}
-use Rattle.ledger_records.specs.declared.idp_round.Round.{Round}
+use Rattle.std.proofs.lemmas.Bool.{and_parts, not-true}
 use Rattle.ledger_records.specs.declared.idp_round.Told.{Told}
 use Rattle.ledger_records.specs.declared.idp_record.IdpRecord.{IdpRecord}
 use Rattle.ledger_records.specs.declared.idp_record.IdpRecord.TheVariants as kinds
@@ -11,8 +10,9 @@ use Rattle.round_rows.specs.declared.row.RoundRow.{RoundRow}
 use Rattle.round_rows.specs.Rounds.{after_answer, answered_if, current, is_done, is_turn_left, waits_for}
 use Rattle.std.specs.Str.{bytes_eq}
 use Rattle.record_ledger.proofs.Words.{same_text}
-use Rattle.idp_ledger.specs.RoundsOf.{answers_after, round_row, round_rows}
-use Rattle.idp_ledger.specs.Record.{AreRecordsAfter, fits_where_waiting, has_its_next, of_option}
+use Rattle.idp_rows.specs.RoundsOf.{answers_after, round_row, round_rows}
+use Rattle.idp_ledger.specs.Record.{AreRecordsAfter}
+use Rattle.idp_rows.specs.Record.{fits_where_waiting, has_its_next, of_option}
 use Rattle.idp_ledger.specs.Turns.{RoundsAskInTurn}
 use Rattle.idp_ledger.proofs.RoundChains.{FitsAll, FitsOne, done_waits, fits_all, last_answer, new_round}
 

@@ -9,12 +9,13 @@ use Rattle.ledger_records.specs.declared.idp_record.IdpRecord.{IdpRecord}
 use Rattle.ledger_records.specs.declared.idp_record.IdpRecord.TheVariants as kinds
 use Rattle.ledger_rules.specs.Numbers.{above}
 use Rattle.record_ledger.proofs.Numbers as any
-use Rattle.idp_ledger.specs.declared.row.PendingRow.{PendingRow}
-use Rattle.idp_ledger.specs.declared.row.SessionRow.{SessionRow}
-use Rattle.idp_ledger.specs.declared.row.LeftRow.{LeftRow}
-use Rattle.idp_ledger.specs.RowsOf.{pending_row, issued_row, session_row, left_row, if_pending, begun, is_among, is_pending, uses, ends, confirms, pending_rows, issued_rows, session_rows, left_rows, rows_of, used_where, ended_where, confirmed_where, rows_after}
-use Rattle.idp_ledger.specs.RoundsOf.{round_row, round_rows}
-use Rattle.idp_ledger.specs.Record.{drawn, next_of, is_next, is_record, idp_rules}
+use Rattle.idp_rows.specs.declared.row.PendingRow.{PendingRow}
+use Rattle.idp_rows.specs.declared.row.SessionRow.{SessionRow}
+use Rattle.idp_rows.specs.declared.row.LeftRow.{LeftRow}
+use Rattle.idp_rows.specs.RowsOf.{pending_row, issued_row, session_row, left_row, if_pending, begun, is_among, is_pending, uses, ends, confirms, pending_rows, issued_rows, session_rows, left_rows, rows_of, used_where, ended_where, confirmed_where, rows_after}
+use Rattle.idp_rows.specs.RoundsOf.{round_row, round_rows}
+use Rattle.idp_ledger.specs.Record.{next_of, is_record, idp_rules}
+use Rattle.idp_rows.specs.Record.{drawn, is_next}
 use Rattle.round_rows.specs.Rounds.{answered}
 use Rattle.idp_ledger.proofs.RoundRows.{round_rows-push, rounds_stay, map_nothing}
 

@@ -13,15 +13,16 @@ use Rattle.ledger_records.specs.declared.idp_record.IdpRecord.{IdpRecord}
 use Rattle.ledger_records.specs.declared.idp_record.IdpRecord.TheVariants as kinds
 use Rattle.ledger_rules.specs.Numbers.{is_xml_text}
 use Rattle.ledger_rules.proofs.Passing.{any_more, any_all}
-use Rattle.idp_ledger.specs.declared.row.PendingRow.{PendingRow}
-use Rattle.idp_ledger.specs.declared.row.IssuedRow.{IssuedRow}
-use Rattle.idp_ledger.specs.declared.row.SessionRow.{SessionRow}
-use Rattle.idp_ledger.specs.declared.row.LeftRow.{LeftRow}
-use Rattle.idp_ledger.specs.RowsOf.{ends, if_pending, session_row, pending_rows, issued_rows, session_rows, left_rows, rows_of}
-use Rattle.idp_ledger.specs.Finding.{visible, pending_found, session_found, is_waiting_now, is_empty, is_listed, is_ending, has_issued, last_issue, last_peer, peer_of}
-use Rattle.idp_ledger.specs.Record.{LAST, of_option, of_attribute, is_unused, is_unended, is_waiting, next_of, is_record, AreRecords, AreRecordsAfter}
+use Rattle.idp_rows.specs.declared.row.PendingRow.{PendingRow}
+use Rattle.idp_rows.specs.declared.row.IssuedRow.{IssuedRow}
+use Rattle.idp_rows.specs.declared.row.SessionRow.{SessionRow}
+use Rattle.idp_rows.specs.declared.row.LeftRow.{LeftRow}
+use Rattle.idp_rows.specs.RowsOf.{ends, if_pending, session_row, pending_rows, issued_rows, session_rows, left_rows, rows_of}
+use Rattle.idp_rows.specs.Finding.{visible, pending_found, session_found, is_waiting_now, is_empty, is_listed, is_ending, has_issued, last_issue, last_peer, peer_of}
+use Rattle.idp_ledger.specs.Record.{next_of, is_record, AreRecords, AreRecordsAfter}
+use Rattle.idp_rows.specs.Record.{LAST, of_option, of_attribute, is_unused, is_unended, is_waiting}
 use Rattle.idp_ledger.proofs.RowLaws.{is_record-is}
-use Rattle.idp_ledger.proofs.StandingRows.{NextParts, next_parts}
+use Rattle.idp_rows.proofs.StandingRows.{NextParts, next_parts}
 use Rattle.record_ledger.proofs.Draftable.{both}
 
 pub row_there : {X : Type 0} (xs : List X) (i : ℕ) → i < length xs → (x : X) × (slice_get xs i ≡ Some x)

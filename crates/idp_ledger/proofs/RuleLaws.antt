@@ -8,15 +8,17 @@ use Rattle.ledger_records.specs.IdpRecord.{idp_bytes}
 use Rattle.ledger_rules.specs.Numbers.{Drawn, above}
 use Rattle.record_ledger.specs.Laws.{AreFreshlyDrawn, AreRowsOfRecords, IsOneByteMore, KeepsItself}
 use Rattle.record_ledger.specs.Linking.{LinkLaws}
-use Rattle.idp_ledger.specs.declared.row.SessionRow.{SessionRow}
-use Rattle.idp_ledger.specs.RowsOf.{if_pending, ends, pending_rows, issued_rows, session_row, session_rows, left_rows, rows_of, rows_after}
-use Rattle.idp_ledger.specs.Record.{drawn, next_drawn, is_next, is_record, idp_rules}
-use Rattle.idp_ledger.specs.Standing.{StandingView, AreFew, AreRowsOf, IsAfter, idp_row_rules}
+use Rattle.idp_rows.specs.declared.row.SessionRow.{SessionRow}
+use Rattle.idp_rows.specs.RowsOf.{if_pending, ends, pending_rows, issued_rows, session_row, session_rows, left_rows, rows_of, rows_after}
+use Rattle.idp_ledger.specs.Record.{is_record, idp_rules}
+use Rattle.idp_rows.specs.Record.{drawn, next_drawn, is_next}
+use Rattle.idp_ledger.specs.Standing.{AreRowsOf, idp_row_rules}
+use Rattle.idp_rows.specs.Kept.{StandingView, AreFew, IsAfter}
 use Rattle.idp_ledger.specs.Linking.{row_found, next_found, session_found, idp_links}
 use Rattle.idp_ledger.proofs.RowLaws.{is_record-is, rows_of-push, next_of-push}
 use Rattle.idp_ledger.proofs.RoundRows.{rounds_few, counted}
 use Rattle.idp_ledger.proofs.LawWords.{parts}
-use Rattle.idp_ledger.proofs.StandingRows.{assertion_of, message_of, cookie_of, index_of}
+use Rattle.idp_rows.proofs.StandingRows.{assertion_of, message_of, cookie_of, index_of}
 use Rattle.idp_ledger.proofs.LinkFree.{names_has, free_row, within_row, within_names, within_none}
 
 no_longer : (n : ℕ) → n ≤ n + 1

@@ -9,12 +9,12 @@ use Rattle.ledger_records.specs.declared.idp_record.IdpRecord.{IdpRecord}
 use Rattle.ledger_records.specs.declared.idp_record.IdpRecord.TheVariants as kinds
 use Rattle.record_ledger.specs.Runs.{added, EndsBehind, IsVisibleThroughout}
 use Rattle.record_ledger.proofs.Staying.{any_joined, visible_records_stay}
-use Rattle.idp_ledger.specs.declared.row.SessionRow.{SessionRow}
-use Rattle.idp_ledger.specs.Finding.{visible}
+use Rattle.idp_rows.specs.declared.row.SessionRow.{SessionRow}
+use Rattle.idp_rows.specs.Finding.{visible}
 use Rattle.idp_ledger.specs.Laws.{SessionsStay}
 use Rattle.idp_ledger.specs.Naming.{has_cookie, has_session_visible, names}
 use Rattle.idp_ledger.specs.Record.{idp_rules}
-use Rattle.idp_ledger.specs.RowsOf.{begun, ended_if, ends, if_pending, session_row, session_rows}
+use Rattle.idp_rows.specs.RowsOf.{begun, ended_if, ends, if_pending, session_row, session_rows}
 
 -- what ends a session names its record
 or_none : (b : Bool) → b ≡ true → (b || false) ≡ true

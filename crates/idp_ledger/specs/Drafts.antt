@@ -14,16 +14,17 @@ use Rattle.saml_ids.specs.IdText.{id_text}
 use Rattle.saml_ids.specs.declared.Kind.TheVariants.{Request, Message, Pending as PendingId}
 use Rattle.round_rows.specs.declared.row.RoundRow.{RoundRow}
 use Rattle.round_rows.specs.Rounds as rounds
-use Rattle.idp_ledger.specs.declared.row.Ask.{Ask}
-use Rattle.idp_ledger.specs.declared.row.PendingRow.{PendingRow}
-use Rattle.idp_ledger.specs.declared.row.SessionRow.{SessionRow}
+use Rattle.idp_ledger.specs.declared.ask.Ask.{Ask}
+use Rattle.idp_rows.specs.declared.row.PendingRow.{PendingRow}
+use Rattle.idp_rows.specs.declared.row.SessionRow.{SessionRow}
 use Rattle.idp_ledger.specs.declared.ids.LoginIds.{LoginIds}
 use Rattle.idp_ledger.specs.declared.ids.RoundIds.{RoundIds}
-use Rattle.idp_ledger.specs.RowsOf.{IdpRows, rows_of_kind}
+use Rattle.idp_rows.specs.RowsOf.{IdpRows, rows_of_kind}
 use Rattle.idp_ledger.specs.Standing.{idp_row_rules}
 use Rattle.idp_ledger.specs.Ids.{login_ids, round_ids}
-use Rattle.idp_ledger.specs.Finding.{session_found}
-use Rattle.idp_ledger.specs.Record.{LAST, of_attribute, of_asker, of_turn, idp_rules}
+use Rattle.idp_rows.specs.Finding.{session_found}
+use Rattle.idp_ledger.specs.Record.{idp_rules}
+use Rattle.idp_rows.specs.Record.{LAST, of_attribute, of_asker, of_turn}
 use Rattle.idp_ledger.specs.Ledger.{Held, OpenedLedger}
 pub use Rattle.ledger_rules.specs.Moments.{LIFE}
 
@@ -204,10 +205,6 @@ Drafts = any.Drafts idp_rules idp_row_rules
 -- the same where there may be nothing to record: none exactly there
 abbrev pub DraftsSome : OpenedLedger → OpenedLedger → (nothing : Bool) → IdpRecord → Result (Option IdpRecord) DraftFault → Type 0
 DraftsSome = any.DraftsSome idp_rules idp_row_rules
-
--- a draft call changes nothing but the memory that is ready
-abbrev pub SameLedger : OpenedLedger → OpenedLedger → Type 0
-SameLedger = any.SameLedger
 
 -- A record that may be drafted: one of the ledger where its numbers are below the end, and these were not drawn before.
 abbrev pub IsDraftable : Held → IdpRecord → Type 0

@@ -5,13 +5,13 @@ use Rattle.ledger_records.specs.declared.idp_round.Round.{Round}
 use Rattle.ledger_records.specs.declared.idp_record.IdpRecord.{IdpRecord}
 use Rattle.ledger_records.specs.declared.idp_record.IdpRecord.TheVariants as kinds
 use Rattle.round_rows.specs.declared.row.RoundRow.{RoundRow}
-use Rattle.idp_ledger.specs.declared.row.PendingRow.{PendingRow}
-use Rattle.idp_ledger.specs.declared.row.SessionRow.{SessionRow}
+use Rattle.idp_rows.specs.declared.row.PendingRow.{PendingRow}
+use Rattle.idp_rows.specs.declared.row.SessionRow.{SessionRow}
 use Rattle.record_ledger.specs.Laws as any
 use Rattle.idp_ledger.specs.Drafts.{AreLive}
-use Rattle.idp_ledger.specs.Finding.{pending_found, session_found, ending, is_partial, last_peer, is_waiting_now, parts_of, round_found, turn_found}
-use Rattle.idp_ledger.specs.RoundsOf.{round_row, round_behind, round_rows, answers, confirmed_all, is_confirmed}
-use Rattle.idp_ledger.specs.RowsOf.{IdpRows, rows_of, session_rows, ended_if, ends}
+use Rattle.idp_rows.specs.Finding.{pending_found, session_found, ending, is_partial, last_peer, is_waiting_now, parts_of, round_found, turn_found}
+use Rattle.idp_rows.specs.RoundsOf.{round_row, round_behind, round_rows, answers, confirmed_all, is_confirmed}
+use Rattle.idp_rows.specs.RowsOf.{IdpRows, rows_of, session_rows, ended_if, ends}
 use Rattle.idp_ledger.specs.Record.{AreRecords, idp_rules}
 use Rattle.idp_ledger.specs.Ledger.{Held}
 use Rattle.idp_ledger.specs.Compacting.{IsCompacted}

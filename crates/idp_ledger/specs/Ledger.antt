@@ -4,9 +4,10 @@ use Rattle.crash_disk.specs.Disk.{Image, DiskState}
 use Rattle.gate_journal.specs.Format.{Kept, Fault}
 use Rattle.ledger_records.specs.declared.idp_record.IdpRecord.{IdpRecord}
 use Rattle.record_ledger.specs.Ledger as any
-use Rattle.idp_ledger.specs.RowsOf.{IdpRows, rows_of}
+use Rattle.idp_rows.specs.RowsOf.{IdpRows, rows_of}
 use Rattle.idp_ledger.specs.Record.{idp_rules}
-use Rattle.idp_ledger.specs.Standing.{StandingView, idp_row_rules}
+use Rattle.idp_ledger.specs.Standing.{idp_row_rules}
+use Rattle.idp_rows.specs.Kept.{StandingView}
 
 -- a journal whose payloads are records of the ledger
 abbrev pub Held : Type 0
@@ -19,17 +20,6 @@ held_of = any.held_of idp_rules
 -- What an image stands for: a ledger, no journal yet, or a fault.
 abbrev pub ledger_in : Image → Result (Option Held) Fault
 ledger_in = any.ledger_in idp_rules
-
--- What a ledger is opened as: what stands there, an empty ledger where there is no journal yet. A journal of version 1 is
--- made anew in version 2: in the other file, with the next generation.
-abbrev pub empty_ledger : Held
-empty_ledger = any.empty_ledger
-
-abbrev pub migrated : Held → Held
-migrated = any.migrated
-
-abbrev pub taken : Result (Option Held) Fault → Result Held Fault
-taken = any.taken
 
 -- an opened ledger
 abbrev pub OpenedLedger : Type 0
@@ -58,10 +48,6 @@ CanCommit = any.CanCommit idp_rules idp_row_rules
 -- No memory that was made ready is given up.
 abbrev pub KeepsSpare : OpenedLedger → OpenedLedger → Type 0
 KeepsSpare = any.KeepsSpare idp_row_rules
-
--- a ledger with one record more
-abbrev pub held_with : IdpRecord → Held → Held
-held_with = any.held_with
 
 -- The journal that the code writes for a ledger.
 abbrev pub kept_of : Held → Kept

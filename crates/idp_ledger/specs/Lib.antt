@@ -1,10 +1,6 @@
-pub mod RoundsOf
-pub mod RowsOf
-pub mod Finding
 pub mod Naming
 pub mod Record
 pub mod Standing
-pub mod Order
 pub mod Ledger
 pub mod Draft
 pub mod Ids
@@ -14,4 +10,3 @@ pub mod Compacting
 pub mod Linking
 pub mod Turns
 pub mod Laws
-pub mod Examples

@@ -4,7 +4,7 @@ use Rattle.ledger_records.specs.declared.idp_record.IdpRecord.{IdpRecord}
 use Rattle.ledger_records.specs.declared.idp_record.IdpRecord.TheVariants as kinds
 use Rattle.ledger_rules.specs.Numbers.{Drawn}
 use Rattle.record_ledger.specs.Linking as any
-use Rattle.idp_ledger.specs.Record.{of_option}
+use Rattle.idp_rows.specs.Record.{of_option}
 
 -- the IDs of the rows whose records are linked to the one that names them
 abbrev pub named : IdpRecord → List (List ℕ)

@@ -3,8 +3,8 @@ use Rattle.std.specs.Prelude.{ℕ, Bool, false, ◌||◌, List, [], ◌∷◌, O
 use Rattle.std.specs.Str.{bytes_eq}
 use Rattle.ledger_records.specs.declared.idp_record.IdpRecord.{IdpRecord}
 use Rattle.ledger_records.specs.declared.idp_record.IdpRecord.TheVariants as kinds
-use Rattle.idp_ledger.specs.Finding.{visible}
-use Rattle.idp_ledger.specs.RowsOf.{is_among}
+use Rattle.idp_rows.specs.Finding.{visible}
+use Rattle.idp_rows.specs.RowsOf.{is_among}
 
 -- whether a row of a record is visible: the pending login, the assertion or the session that began with it, the logout
 abbrev pub has_session_visible : (now horizon : ℕ) → Option (List ℕ) → (session_end : ℕ) → Bool

@@ -1,5 +1,5 @@
 -- What is said of rounds in the records of a ledger.
-use Rattle.std.specs.Prelude.{◌≡◌, ◌≢◌, ℕ, ◌+◌, ◌≤◌, nat_lt, true, List, [], ◌∷◌, ◌++◌, length, Option, Some, slice_get}
+use Rattle.std.specs.Prelude.{◌≡◌, ◌≢◌, ℕ, ◌+◌, ◌≤◌, nat_lt, true, List, [], ◌∷◌, ◌++◌, length, Some, slice_get}
 use Rattle.std.specs.List.{flat_map, list_all}
 use Rattle.std.specs.Option.{is_some}
 use Rattle.ledger_records.specs.declared.idp_round.Round.{Round}
@@ -8,8 +8,9 @@ use Rattle.ledger_records.specs.declared.idp_record.IdpRecord.{IdpRecord}
 use Rattle.ledger_records.specs.declared.idp_record.IdpRecord.TheVariants as kinds
 use Rattle.ledger_rules.specs.Numbers.{is_xml_text}
 use Rattle.round_rows.specs.declared.row.RoundRow.{RoundRow}
-use Rattle.idp_ledger.specs.RoundsOf.{answers}
-use Rattle.idp_ledger.specs.Record.{AreRecords, of_asker, of_option, of_turn}
+use Rattle.idp_rows.specs.RoundsOf.{answers}
+use Rattle.idp_ledger.specs.Record.{AreRecords}
+use Rattle.idp_rows.specs.Record.{of_asker, of_option, of_turn}
 
 -- a document may hold the texts of a round but a relay state, its message has an ID, and no more answers confirm than came
 pub record AreRoundTexts (row : RoundRow) : Type 0 where

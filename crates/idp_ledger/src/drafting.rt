@@ -1,12 +1,12 @@
 //! How records are drafted.
-ghost use Rattle.std.specs.Prelude.{◌≡◌};
 ghost use Rattle.idp_ledger.specs.Ledger.{KeepsSpare};
 ghost use Rattle.idp_ledger.specs.Draft.{HoldsIds};
-ghost use Rattle.idp_ledger.specs.Drafts.{Drafts, IsDraftable, SameLedger};
+ghost use Rattle.idp_ledger.specs.Drafts.{Drafts, IsDraftable};
+ghost use Rattle.record_ledger.specs.Drafts.{SameLedger};
 
 use crate::draft::Draft;
 use crate::ledger::IdpLedger;
-use crate::noted::Noted;
+use idp_rows::Noted;
 use ledger_records::IdpRecord;
 use ledger_rules::DraftFault;
 use saml_ids::Id;

@@ -1,18 +1,19 @@
 //! The drafts of each kind of record.
 ghost use Rattle.std.specs.Prelude.{◌≡◌, ◌<◌, ◌≤◌, ◌&&◌, true, not, [], length, slice_get, Some, IsSome, IfOk};
-ghost use Rattle.std.specs.List.{list_any};
 ghost use Rattle.std.specs.Str.{bytes_eq};
 ghost use Rattle.ledger_rules.specs.Numbers.{is_xml_text};
-ghost use Rattle.idp_ledger.specs.declared.row.SessionRow.{SessionRow};
+ghost use Rattle.idp_rows.specs.declared.row.SessionRow.{SessionRow};
 ghost use Rattle.ledger_rules.specs.Texts.{IsSetOf};
-ghost use Rattle.idp_ledger.specs.Finding.{is_empty, is_ending, is_listed, is_partial, is_waiting_now, ending, last_peer, session_found, visible};
-ghost use Rattle.idp_ledger.specs.Record.{LAST};
+ghost use Rattle.idp_rows.specs.Finding.{is_empty, is_ending, is_listed, is_partial, is_waiting_now, ending, last_peer, session_found, visible};
+ghost use Rattle.idp_rows.specs.Record.{LAST};
 ghost use Rattle.idp_ledger.specs.Ledger.{KeepsSpare, next_number, rows_in};
-ghost use Rattle.idp_ledger.specs.Drafts.{pending, ended, left, confirmed, spoke, IsXmlAsk, Drafts, DraftsSome, SameLedger};
+ghost use Rattle.idp_ledger.specs.Drafts.{pending, ended, left, confirmed, spoke, IsXmlAsk, Drafts, DraftsSome};
+ghost use Rattle.record_ledger.specs.Drafts.{SameLedger};
 
+use crate::ask::Ask;
 use crate::draft::Draft;
 use crate::ledger::IdpLedger;
-use crate::row::{Ask, SessionRow};
+use idp_rows::SessionRow;
 use ledger_records::IdpRecord;
 use ledger_records::idp_record::{Confirmed, Ended, Left, Pending, Spoke};
 use ledger_rules::{DraftFault, LIFE, TextSet};
@@ -255,44 +256,6 @@ impl IdpLedger {
         let set = TextSet::of(self.ledger.allocator(), indexes)?;
         let ends = self.sessions_ending(now, peer, name, indexes, &set)?;
         Ok(ends.cookies)
-    }
-
-    /// Whether there is a live session of a name in which an assertion was issued to a peer.
-    fn has_open(&self, now: u64, peer: &str, name: &str) -> bool
-        ensures { result ≡ list_any (is_ending now self.now.held.header.horizon peer.now name.now [] (rows_in self.now).issues) (rows_in self.now).sessions }
-    {
-        for place in 0..self.sessions().len() {
-            if self.is_open_to(place, now, peer, name) {
-                return true;
-            }
-        }
-        false
-    }
-
-    /// Whether there is one of this index.
-    fn has_open_at(&self, index: &str, now: u64, peer: &str, name: &str) -> bool
-        ensures { result ≡ list_any (λ row. bytes_eq index.now row.index && is_ending now self.now.held.header.horizon peer.now name.now [] (rows_in self.now).issues row) (rows_in self.now).sessions }
-    {
-        match self.standing().place_of_index(index) {
-            Some(place) => self.is_open_to(place, now, peer, name),
-            None => false,
-        }
-    }
-
-    /// Whether there is a live session of a name in which an assertion was issued to a peer, and whose index is listed, or any
-    /// of these where none is listed: one that `draft_end` would end. It takes no memory: each listed index is looked up.
-    pub fn has_ending(&self, now: u64, peer: &str, name: &str, indexes: &Texts) -> bool
-        ensures { result ≡ not (is_empty (ending now self.now.held.header.horizon peer.now name.now indexes.now (rows_in self.now))) }
-    {
-        if indexes.is_empty() {
-            return self.has_open(now, peer, name);
-        }
-        for index in indexes.as_slice() {
-            if self.has_open_at(index.as_str(), now, peer, name) {
-                return true;
-            }
-        }
-        false
     }
 }
 

@@ -7,19 +7,18 @@ ghost use Rattle.crash_disk.specs.Moments.{LeavesOnly};
 ghost use Rattle.crash_disk.specs.Plans.{Follows};
 ghost use Rattle.gate_journal.specs.Opening.{open_fault_of, CausesFaults};
 ghost use Rattle.request_rows.specs.Order.{IsOrder};
-ghost use Rattle.idp_ledger.specs.Order.{keys_of};
-ghost use Rattle.idp_ledger.specs.Finding.{is_waiting_now, pending_found, session_found};
+ghost use Rattle.idp_rows.specs.Order.{keys_of};
+ghost use Rattle.idp_rows.specs.Finding.{is_waiting_now, pending_found, session_found};
 ghost use Rattle.idp_ledger.specs.Record.{AreRecords};
-ghost use Rattle.idp_ledger.specs.RowsOf.{rows_of};
-ghost use Rattle.idp_ledger.specs.Ledger.{CanCommit, IsOwn, IsWithOrWithout, LeftByOpening, held_with, ledger_in, next_number, rows_in, taken};
+ghost use Rattle.idp_ledger.specs.Ledger.{CanCommit, IsOwn, IsWithOrWithout, LeftByOpening, ledger_in, next_number, rows_in};
+ghost use Rattle.record_ledger.specs.Ledger.{held_with, taken};
 ghost use Rattle.idp_ledger.specs.Calls.{committing, opening, FollowsCompaction};
 ghost use Rattle.idp_ledger.specs.Compacting.{Compacts, IsOldOrCompacted};
 
 use crate::draft::Draft;
-use crate::key::IdpKey;
-use crate::row::{IssuedRow, LeftRow, PendingRow, SessionRow};
 use crate::standing::IdpStanding;
 use gate_journal::{Disk, Failed, Header, OpenFault};
+use idp_rows::{IdpKey, IssuedRow, KeptRows, LeftRow, PendingRow, SessionRow};
 use record_ledger::RecordLedger;
 use round_rows::RoundRow;
 use std::alloc::Global;
@@ -81,10 +80,10 @@ impl IdpLedger {
     }
 
     /// The rows.
-    pub(crate) fn standing(&self) -> &IdpStanding
+    pub(crate) fn standing(&self) -> &KeptRows
         ensures { result.now.rows ≡ rows_in self.now }
     {
-        self.ledger.standing()
+        &self.ledger.standing().kept
     }
 
     /// The logins that are pending, in the order of their records, used and past ones too.

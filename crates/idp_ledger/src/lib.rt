@@ -18,8 +18,8 @@
 //! ```
 //!
 //! A contract sees a ledger as its records, the header of its journal, and whether a call failed. Which payloads are records
-//! of a ledger is said in `specs/Record.antt`, for what rows they stand in `specs/RowsOf.antt`, what is looked up in these in
-//! `specs/Finding.antt`, and what two files stand for in `specs/Ledger.antt`. A record is drafted first, which takes all the
+//! of a ledger is said in `specs/Record.antt`, and what two files stand for in `specs/Ledger.antt`; for what rows records
+//! stand, and what is looked up in these, is said below, in `idp_rows`. A record is drafted first, which takes all the
 //! memory that it needs and is refused by name ([`DraftFault`]); to commit it takes none, and only the disk can refuse it
 //! ([`Failed`]). After that the ledger is broken, and is opened again by `reopen`.
 //!
@@ -39,33 +39,26 @@
 //! ledger has a row to the end of the run, open or ended as it was left (`laws::sessions_stay`).
 #![tactic(auto)]
 
+mod ask;
 mod checks;
 mod draft;
 mod drafting;
 mod drafts;
 mod ids;
-mod issues;
-mod key;
 pub mod laws;
 mod ledger;
-mod lefts;
 mod logins;
 mod naming;
-mod noted;
-mod pendings;
 mod rounds;
-mod row;
 mod rules;
-mod sessions;
 mod standing;
 
+pub use ask::Ask;
 pub use draft::Draft;
 pub use gate_journal::{Disk, Failed, FileNo, Header, OpenFault};
-pub use key::IdpKey;
+pub use idp_rows::{IdpKey, IssuedRow, LeftRow, Noted, PendingRow, SessionRow};
 pub use ledger::IdpLedger;
 pub use ledger_rules::DraftFault;
-pub use noted::Noted;
 pub use record_ledger::MOST_ROWS;
 pub use round_rows::RoundRow;
-pub use row::{Ask, IssuedRow, LeftRow, PendingRow, SessionRow};
 pub use standing::IdpStanding;

@@ -1,16 +1,18 @@
 //! The drafts of assertions.
 ghost use Rattle.std.specs.Prelude.{◌≡◌, ◌≤◌, true, IsSome, IfOk, IfSome};
 ghost use Rattle.ledger_rules.specs.Numbers.{is_xml_text};
-ghost use Rattle.idp_ledger.specs.Finding.{pending_found, session_found};
-ghost use Rattle.idp_ledger.specs.Record.{LAST};
+ghost use Rattle.idp_rows.specs.Finding.{pending_found, session_found};
+ghost use Rattle.idp_rows.specs.Record.{LAST};
 ghost use Rattle.idp_ledger.specs.Ledger.{KeepsSpare, next_number, rows_in};
-ghost use Rattle.idp_ledger.specs.Drafts.{login, login_with, issue, issue_with, IsXmlAsk, AreXmlAttributes, Drafts, SameLedger};
+ghost use Rattle.idp_ledger.specs.Drafts.{login, login_with, issue, issue_with, IsXmlAsk, AreXmlAttributes, Drafts};
+ghost use Rattle.record_ledger.specs.Drafts.{SameLedger};
 
+use crate::ask::Ask;
 use crate::draft::Draft;
 use crate::drafts::copy_of;
 use crate::ids::{LoginIds, login_ids};
 use crate::ledger::IdpLedger;
-use crate::row::{Ask, PendingRow, SessionRow};
+use idp_rows::{PendingRow, SessionRow};
 use ledger_records::IdpRecord;
 use ledger_records::idp_record::Issued;
 use ledger_rules::{DraftFault, LAST};

@@ -1,18 +1,19 @@
 //! The rounds of logouts: what a round begins with, and the answers to it.
-ghost use Rattle.std.specs.Prelude.{◌≡◌, ◌≤◌, [], Some, IsSome, IfOk, IfSome, map, option_copied};
+ghost use Rattle.std.specs.Prelude.{◌≡◌, ◌≤◌, [], Some, IsSome, IfOk, IfSome, option_copied};
 ghost use Rattle.std.specs.Option.{is_none};
 ghost use Rattle.round_rows.specs.Kept.{IsRoundOf};
 ghost use Rattle.idp_ledger.specs.Draft.{round_told, told_in};
-ghost use Rattle.idp_ledger.specs.Drafts.{round, round_with, told, told_with, is_turn_left, AreLive, AreXmlTurns, IsXmlAsker, Drafts, DraftsSome, SameLedger};
-ghost use Rattle.idp_ledger.specs.Finding.{part_of, parts_of, round_found, turn_found};
+ghost use Rattle.idp_ledger.specs.Drafts.{round, round_with, told, told_with, is_turn_left, AreLive, AreXmlTurns, IsXmlAsker, Drafts, DraftsSome};
+ghost use Rattle.record_ledger.specs.Drafts.{SameLedger};
+ghost use Rattle.idp_rows.specs.Finding.{part_of, parts_of, round_found, turn_found};
 ghost use Rattle.idp_ledger.specs.Ledger.{CanCommit, KeepsSpare, next_number, rows_in};
-ghost use Rattle.idp_ledger.specs.Record.{LAST};
+ghost use Rattle.idp_rows.specs.Record.{LAST};
 
 use crate::draft::Draft;
 use crate::drafts::copy_of;
 use crate::ids::{RoundIds, round_ids};
 use crate::ledger::IdpLedger;
-use crate::row::IssuedRow;
+use idp_rows::IssuedRow;
 use ledger_records::IdpRecord;
 use ledger_records::idp_round::{Round, Told};
 use ledger_rules::{DraftFault, LIFE, TextSet};

@@ -1,36 +1,16 @@
 //! What a ledger asks of the records of an identity provider, and of their rows.
-ghost use Rattle.std.specs.Prelude.{◌≡◌};
-ghost use Rattle.idp_ledger.specs.RowsOf.{rows_of_kind};
 ghost use Rattle.idp_ledger.specs.Record.{idp_rules};
 ghost use Rattle.idp_ledger.specs.Standing.{idp_row_rules};
 ghost use Rattle.idp_ledger.specs.Linking.{idp_links};
 
 use crate::checks::are_before_end;
 use crate::naming::{has_visible, named, row_number, within};
-use crate::noted::Noted;
 use crate::standing::IdpStanding;
+use idp_rows::{KeptRows, Noted};
 use ledger_records::laws::a_record_is_found_in_its_payload;
 use ledger_records::{IdpRecord, read_idp_record};
 use owned_values::{Blob, NoMemory, Text};
 use std::alloc::Global;
-
-impl IdpStanding {
-    /// How many rows there are of a record's kind, where it has rows.
-    fn kept_of_kind(&self, entry: &IdpRecord) -> Option<usize>
-        ensures { result ≡ rows_of_kind self.now.rows entry.now }
-    {
-        match entry {
-            IdpRecord::Pending(_) => Some(self.pendings().len()),
-            IdpRecord::Issued(_) => Some(self.issues().len()),
-            IdpRecord::Left(_) => Some(self.lefts().len()),
-            IdpRecord::Round(_) => Some(self.rounds().len()),
-            IdpRecord::Ended(_)
-            | IdpRecord::Confirmed(_)
-            | IdpRecord::Spoke(_)
-            | IdpRecord::Told(_) => None,
-        }
-    }
-}
 
 impl record_ledger::Standing for IdpStanding {
     type Record = Noted;
@@ -78,27 +58,29 @@ impl record_ledger::Standing for IdpStanding {
     }
 
     fn new(alloc: Global) -> IdpStanding {
-        IdpStanding::empty(alloc)
+        IdpStanding {
+            kept: KeptRows::new(alloc),
+        }
     }
 
     fn next(&self) -> u64 {
-        self.next_free()
+        self.kept.next_free()
     }
 
     fn rows_of_kind(&self, entry: &Noted) -> Option<usize> {
-        self.kept_of_kind(entry.entry())
+        self.kept.rows_of_kind(entry.entry())
     }
 
     fn is_next(&self, entry: &Noted) -> bool {
-        self.comes_next(entry.entry())
+        self.kept.comes_next(entry.entry())
     }
 
     fn reserve(&mut self, entry: &Noted) -> Result<(), NoMemory> {
-        self.make_room(entry.entry())
+        self.kept.make_room(entry.entry())
     }
 
     fn put(&mut self, entry: Noted) {
-        self.put_entry(entry);
+        self.kept.put_entry(entry);
     }
 
     fn ready(self, _alloc: Global) -> Result<IdpStanding, NoMemory> {

@@ -3,8 +3,8 @@ use Rattle.std.proofs.Common.{◌<◌, ◌∷◌, [], nat_lt, sym, subst}
 use Rattle.std.specs.List.{All}
 use Rattle.ledger_records.specs.declared.idp_record.IdpRecord.{IdpRecord}
 use Rattle.ledger_rules.specs.Numbers.{Drawn, NUMBER_END}
-use Rattle.idp_ledger.specs.RowsOf.{if_pending}
-use Rattle.idp_ledger.specs.Record.{drawn, next_drawn}
+use Rattle.idp_rows.specs.RowsOf.{if_pending}
+use Rattle.idp_rows.specs.Record.{drawn, next_drawn}
 use Rattle.record_ledger.proofs.Draftable.{one_below}
 use Rattle.idp_ledger.proofs.Draftable.{both_below, two_below, four_below, one_of, two_of, three_of, four_of}
 use Rattle.idp_ledger.proofs.checks.are_before_end.Goals as goal

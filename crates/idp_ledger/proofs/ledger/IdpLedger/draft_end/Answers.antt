@@ -4,8 +4,8 @@ use Rattle.saml_ids.specs.IdText.{id_text}
 use Rattle.saml_ids.specs.declared.Kind.TheVariants.{Message}
 use Rattle.ledger_records.specs.declared.idp_record.IdpRecord.{IdpRecord}
 use Rattle.ledger_records.specs.declared.idp_record.IdpRecord.TheVariants as kinds
-use Rattle.idp_ledger.specs.RowsOf.{rows_of}
-use Rattle.idp_ledger.specs.Finding.{ending, is_partial}
+use Rattle.idp_rows.specs.RowsOf.{rows_of}
+use Rattle.idp_rows.specs.Finding.{ending, is_partial}
 use Rattle.idp_ledger.specs.Record.{AreRecords}
 use Rattle.idp_ledger.specs.Drafts.{ended, IsDraftable, IsDraftOf}
 use Rattle.idp_ledger.proofs.DraftedRecords.{ended_draftable}

@@ -1,10 +1,10 @@
 use Rattle.std.proofs.Common.{◌≡◌, ◌∙◌, Some, sym, ap, subst}
 use Rattle.std.specs.Option.{IfSome}
 use Rattle.ledger_records.specs.declared.idp_record.IdpRecord.{IdpRecord}
-use Rattle.idp_ledger.specs.RowsOf.{session_rows}
+use Rattle.idp_rows.specs.RowsOf.{session_rows}
 use Rattle.idp_ledger.specs.Record.{AreRecords}
 use Rattle.idp_ledger.specs.Ledger.{next_number}
-use Rattle.idp_ledger.specs.Finding.{session_found}
+use Rattle.idp_rows.specs.Finding.{session_found}
 use Rattle.idp_ledger.specs.Ids.{AreLoginIds}
 use Rattle.idp_ledger.specs.Drafts.{issue, issue_with, Drafts, IsDraftable}
 use Rattle.idp_ledger.proofs.DraftedRecords.{issue_draftable, issue_drafts}

@@ -2,10 +2,10 @@ use Rattle.std.proofs.Common.{◌≡◌, ◌∙◌, ◌+◌, List, ℕ, Some, No
 use Rattle.std.specs.Option.{IfSome}
 use Rattle.ledger_records.specs.declared.idp_record.IdpRecord.{IdpRecord}
 use Rattle.ledger_records.specs.declared.idp_record.IdpRecord.TheVariants as kinds
-use Rattle.idp_ledger.specs.RowsOf.{IdpRows, issued_rows, session_rows, rows_of}
+use Rattle.idp_rows.specs.RowsOf.{IdpRows, issued_rows, session_rows, rows_of}
 use Rattle.idp_ledger.specs.Record.{AreRecords}
 use Rattle.std.proofs.lemmas.Bool.{true≢false}
-use Rattle.idp_ledger.specs.Finding.{last_peer, session_found}
+use Rattle.idp_rows.specs.Finding.{last_peer, session_found}
 use Rattle.idp_ledger.specs.Drafts.{left, IsDraftable}
 use Rattle.idp_ledger.proofs.RowTexts.{some_found, found_session, sessions_allowed}
 use Rattle.idp_ledger.proofs.DraftedRecords.{left_draftable}

@@ -1,10 +1,10 @@
 use Rattle.std.proofs.Common.{◌≡◌, ◌∙◌, Some, sym, ap, subst}
 use Rattle.std.specs.Option.{IfSome}
 use Rattle.ledger_records.specs.declared.idp_record.IdpRecord.{IdpRecord}
-use Rattle.idp_ledger.specs.RowsOf.{pending_rows}
+use Rattle.idp_rows.specs.RowsOf.{pending_rows}
 use Rattle.idp_ledger.specs.Record.{AreRecords}
 use Rattle.idp_ledger.specs.Ledger.{next_number}
-use Rattle.idp_ledger.specs.Finding.{pending_found}
+use Rattle.idp_rows.specs.Finding.{pending_found}
 use Rattle.idp_ledger.specs.Ids.{AreLoginIds}
 use Rattle.idp_ledger.specs.Drafts.{login, login_with, Drafts, IsDraftable}
 use Rattle.idp_ledger.proofs.DraftedRecords.{login_draftable, login_drafts}

@@ -2,9 +2,9 @@ use Rattle.std.proofs.Common.{◌≡◌, ◌∙◌, ◌&&◌, Bool, true, false,
 use Rattle.std.specs.Str.{bytes_eq}
 use Rattle.std.proofs.lemmas.Option.{get_or_from_slice_get}
 use Rattle.gate_journal.specs.declared.header.Header.{Header}
-use Rattle.idp_ledger.specs.declared.row.SessionRow.{SessionRow}
-use Rattle.idp_ledger.specs.RowsOf.{IdpRows, rows_of}
-use Rattle.idp_ledger.specs.Finding.{visible, has_issued}
+use Rattle.idp_rows.specs.declared.row.SessionRow.{SessionRow}
+use Rattle.idp_rows.specs.RowsOf.{IdpRows, rows_of}
+use Rattle.idp_rows.specs.Finding.{visible, has_issued}
 use Rattle.idp_ledger.specs.Ledger.{rows_in}
 use Rattle.idp_ledger.proofs.ledger.IdpLedger.is_open_to.Goals as goal
 

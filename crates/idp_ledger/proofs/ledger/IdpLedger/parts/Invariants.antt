@@ -1,5 +1,5 @@
 use Rattle.std.proofs.Common.{◌≡◌, take}
-use Rattle.idp_ledger.specs.Finding.{parts_of}
+use Rattle.idp_rows.specs.Finding.{parts_of}
 use Rattle.idp_ledger.proofs.ledger.IdpLedger.parts.Given as goal
 
 -- the parts of the rows before the index

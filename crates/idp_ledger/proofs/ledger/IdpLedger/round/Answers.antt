@@ -4,8 +4,8 @@ use Rattle.gate_journal.specs.declared.header.Header.{Header}
 use Rattle.round_rows.specs.declared.row.RoundRow.{RoundRow}
 use Rattle.round_rows.specs.Rounds.{visible}
 use Rattle.round_rows.specs.Kept.{IsRoundOf}
-use Rattle.idp_ledger.specs.RoundsOf.{round_rows}
-use Rattle.idp_ledger.specs.RowsOf.{IdpRows}
+use Rattle.idp_rows.specs.RoundsOf.{round_rows}
+use Rattle.idp_rows.specs.RowsOf.{IdpRows}
 use Rattle.idp_ledger.proofs.ledger.IdpLedger.round.Goals as goal
 use Rattle.idp_ledger.proofs.ledger.IdpLedger.round.Goals.{After-waiting_round}
 

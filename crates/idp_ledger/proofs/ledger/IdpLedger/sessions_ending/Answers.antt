@@ -4,9 +4,9 @@ use Rattle.std.proofs.Math.Bool.{or-false}
 use Rattle.std.proofs.lemmas.List.{append-nil, take_all}
 use Rattle.std.proofs.lemmas.List.Folds.{list_any_more}
 use Rattle.std.proofs.lemmas.Option.{slice_get_read}
-use Rattle.idp_ledger.specs.declared.row.SessionRow.{SessionRow}
-use Rattle.idp_ledger.specs.RowsOf.{IdpRows, rows_of}
-use Rattle.idp_ledger.specs.Finding.{is_ending, has_issued}
+use Rattle.idp_rows.specs.declared.row.SessionRow.{SessionRow}
+use Rattle.idp_rows.specs.RowsOf.{IdpRows, rows_of}
+use Rattle.idp_rows.specs.Finding.{is_ending, has_issued}
 use Rattle.idp_ledger.specs.Ledger.{rows_in}
 use Rattle.idp_ledger.proofs.RowTexts.{ending_of, ending_more}
 use Rattle.idp_ledger.proofs.ledger.IdpLedger.sessions_ending.Goals as goal

@@ -1,6 +1,6 @@
 use Rattle.std.proofs.Common.{◌≡◌, ◌&&◌, true, take}
 use Rattle.std.specs.List.{list_any}
-use Rattle.idp_ledger.specs.Finding.{is_ending, has_issued}
+use Rattle.idp_rows.specs.Finding.{is_ending, has_issued}
 use Rattle.idp_ledger.specs.Ledger.{rows_in}
 use Rattle.idp_ledger.proofs.RowTexts.{ending_of}
 use Rattle.idp_ledger.proofs.ledger.IdpLedger.sessions_ending.Given as goal

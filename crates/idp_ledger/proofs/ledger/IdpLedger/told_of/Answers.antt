@@ -5,12 +5,13 @@ use Rattle.ledger_records.specs.declared.idp_record.IdpRecord.TheVariants as kin
 use Rattle.round_rows.specs.declared.row.RoundRow.{RoundRow}
 use Rattle.round_rows.specs.Rounds.{waits_for}
 use Rattle.round_rows.specs.Kept.{IsRoundOf}
-use Rattle.idp_ledger.specs.RoundsOf.{round_rows}
-use Rattle.idp_ledger.specs.RowsOf.{IdpRows}
-use Rattle.idp_ledger.specs.Record.{fits_where_waiting, is_record}
+use Rattle.idp_rows.specs.RoundsOf.{round_rows}
+use Rattle.idp_rows.specs.RowsOf.{IdpRows}
+use Rattle.idp_ledger.specs.Record.{is_record}
+use Rattle.idp_rows.specs.Record.{fits_where_waiting}
 use Rattle.idp_ledger.specs.Draft.{round_told}
 use Rattle.idp_ledger.proofs.LawWords.{parts}
-use Rattle.idp_ledger.proofs.RoundFound.{any_waits, found_waits}
+use Rattle.idp_rows.proofs.RoundFound.{any_waits, found_waits}
 use Rattle.idp_ledger.proofs.ledger.IdpLedger.told_of.Goals as goal
 use Rattle.idp_ledger.proofs.ledger.IdpLedger.told_of.Goals.{After-waiting_round}
 

@@ -5,8 +5,8 @@ use Rattle.record_ledger.proofs.Draftable.{both}
 use Rattle.round_rows.specs.declared.row.RoundRow.{RoundRow}
 use Rattle.round_rows.specs.Rounds.{is_turn_of, visible}
 use Rattle.round_rows.specs.Kept.{IsRoundOf}
-use Rattle.idp_ledger.specs.RoundsOf.{round_rows}
-use Rattle.idp_ledger.specs.RowsOf.{IdpRows}
+use Rattle.idp_rows.specs.RoundsOf.{round_rows}
+use Rattle.idp_rows.specs.RowsOf.{IdpRows}
 use Rattle.idp_ledger.proofs.ledger.IdpLedger.turn.Goals as goal
 use Rattle.idp_ledger.proofs.ledger.IdpLedger.turn.Goals.{After-waiting_round, else-max-row-via-then-max-row+else-is_turn_of, else-max-row-via-else-max-row}
 

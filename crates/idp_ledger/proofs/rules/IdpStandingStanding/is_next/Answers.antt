@@ -1,8 +1,12 @@
-use Rattle.std.proofs.Common.{◌∙◌, ap}
-use Rattle.idp_ledger.specs.Record.{is_next}
+use Rattle.std.proofs.Common.{◌∙◌, ap, sym, subst}
+use Rattle.idp_rows.specs.Kept.{StandingView}
+use Rattle.idp_rows.specs.Record.{is_next}
+use Rattle.idp_ledger.specs.Standing.{AreRowsOf}
 use Rattle.idp_ledger.proofs.RuleLaws.{is_behind}
 use Rattle.idp_ledger.proofs.rules.IdpStandingStanding.is_next.Goals as goal
 
 pub returns : goal.returns
 returns c records stand =
-    c.comes_next.ensures ∙ ap (is_next c.args.self.now.rows c.args.self.now.next) c.entry.ensures ∙ is_behind c.args.self.now records c.args.entry.now stand
+    let kept = c.self.inside.kept in
+    let stands = subst (λ (v : StandingView). AreRowsOf v records) (sym c.self.view_is) stand in
+    c.comes_next.ensures ∙ ap (is_next kept.rows kept.next) c.entry.ensures ∙ is_behind kept records c.args.entry.now stands

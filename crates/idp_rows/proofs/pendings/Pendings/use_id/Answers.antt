@@ -1,0 +1,47 @@
+use Rattle.std.proofs.Common.{◌≡◌, ◌∙◌, ◌<◌, ◌&&◌, ◌||◌, not, true, false, Bool, ℕ, List, get_or, length, map, cond, None, Some, sym, ap, refl, subst, arith}
+use Rattle.idp_rows.specs.declared.row.PendingRow.{PendingRow}
+use Rattle.std.specs.List.{list_any}
+use Rattle.std.proofs.Math.Seq.{map-set_same}
+use Rattle.idp_rows.specs.RowsOf.{used_if}
+use Rattle.idp_rows.specs.Kept.{HaveNumbers, ComeInOrder}
+use Rattle.idp_rows.proofs.RowPlaces.{marked_or, unmarked_or, same_so, differs_so, marked_at, marked_nowhere}
+use Rattle.idp_rows.proofs.pendings.Pendings.use_id.Goals as goal
+
+abbrev key : PendingRow → List ℕ
+key row = row.pending
+
+abbrev mark : PendingRow → Bool
+mark row = row.used
+
+-- the row of an ID is marked
+abbrev step : List ℕ → PendingRow → PendingRow
+step id row = used_if (Rattle.std.specs.Str.bytes_eq id (key row)) row
+
+changes : (id : List ℕ) (row : PendingRow) → key row ≡ id → record row { used = true } ≡ step id row
+changes id row same = λ i. record row { used = sym (marked_or row.used (Rattle.std.specs.Str.bytes_eq id (key row)) (same_so id (key row) same)) i }
+
+stays : (id : List ℕ) (row : PendingRow) → (key row ≡ id → ⊥) → step id row ≡ row
+stays id row differs = λ i. record row { used = unmarked_or row.used (Rattle.std.specs.Str.bytes_eq id (key row)) (differs_so id (key row) differs) i }
+
+pub invariant_of-self : goal.invariant_of-self
+invariant_of-self c =
+    let row = c.index_mut.result.now in
+    let same = sym (map-set_same key c.self.inside.rows.items c.in-Some.place (record row { used = true }) row (ap key c.index_mut.ensures.value)) in (
+      subst (HaveNumbers c.self.inside.numbers.listed) same c.self.invariant.0,
+      subst (λ ids. ComeInOrder ids c.self.inside.places.count) same c.self.invariant.1,
+    )
+
+pub returns-in-Some-clause-rows : goal.returns-in-Some-clause-rows
+returns-in-Some-clause-rows c =
+    let row = c.index_mut.result.now in
+    let id = c.args.pending.now in
+    let new = record row { used = true } in
+    let rows = ap (λ v. v.rows) c.self.view_is in
+    let read = c.index_mut.ensures.value ∙ ap (λ rows. get_or rows c.in-Some.place row) rows in
+    ap (λ rows. Rattle.std.proofs.Common.set rows c.in-Some.place new) rows
+    ∙ marked_at key mark c.args.self.now.rows id (step id) c.in-Some.place c.in-Some.ensures.some row new read (changes id row) (stays id)
+
+pub returns-in_default-clause-rows : goal.returns-in_default-clause-rows
+returns-in_default-clause-rows c =
+    let id = c.args.pending.now in
+    sym (marked_nowhere key mark c.args.self.now.rows id (step id) c.in_default.ensures.none (stays id))

@@ -1,0 +1,13 @@
+use Rattle.std.proofs.Common.{ℕ, List, map, ap, subst}
+use Rattle.idp_rows.specs.declared.row.SessionRow.{SessionRow}
+use Rattle.request_rows.specs.Order.{one_text, IsOrder}
+use Rattle.idp_rows.proofs.RowOrders.{order_is}
+use Rattle.idp_rows.proofs.sessions.Sessions.order.Goals as goal
+
+abbrev key : SessionRow → List ℕ
+key row = row.cookie
+
+pub returns : goal.returns
+returns c =
+    subst (λ rows. IsOrder (map (λ row. one_text (key row)) rows) c.as_slice.result.now) (ap (λ v. v.rows) c.self.view_is)
+    (order_is key c.self.inside.rows.items c.self.inside.places.count c.as_slice.result.now c.self.invariant.2 c.as_slice.ensures)
