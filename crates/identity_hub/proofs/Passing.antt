@@ -14,7 +14,8 @@ use Rattle.request_rows.specs.Rows.{RowsView}
 use Rattle.request_rows.specs.declared.row.AskedRow.{AskedRow}
 use Rattle.hub_ledger.specs.Compacting.{Compacts}
 use Rattle.hub_ledger.specs.Laws.{CompactionsChangeNoAnswer}
-use Rattle.hub_ledger.specs.Ledger.{Held, held_with}
+use Rattle.hub_ledger.specs.Ledger.{Held}
+use Rattle.record_ledger.specs.Ledger.{held_with}
 use Rattle.hub_ledger.specs.Record.{AreRecords}
 use Rattle.hub_ledger.specs.RowsOf.{Route, rows_of}
 use Rattle.idp_rules.specs.Asking.{IsAsked}

@@ -9,7 +9,8 @@ use Rattle.http_wire.specs.declared.answer.Answer.TheVariants.{Fixed, Full}
 use Rattle.http_wire.specs.Requests.{Request}
 use Rattle.ledger_records.specs.declared.hub_record.HubRecord.{HubRecord}
 use Rattle.hub_ledger.specs.Record.{hub_rules}
-use Rattle.hub_ledger.specs.Ledger.{Held, held_with, ledger_in}
+use Rattle.hub_ledger.specs.Ledger.{Held, ledger_in}
+use Rattle.record_ledger.specs.Ledger.{held_with}
 use Rattle.metadata.specs.declared.peer.Role.{Role}
 use Rattle.provider_node.specs.Step as any
 use Rattle.provider_node.proofs.Serving.{settled}

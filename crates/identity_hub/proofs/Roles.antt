@@ -3,8 +3,7 @@ use Rattle.std.specs.Prelude.{IfSome, Option, None, Some, Result, is_some}
 use Rattle.std.proofs.Common.{◌≡◌, ℕ, ◌≤◌, true, false, List, sym, subst, ap, ◌∙◌}
 use Rattle.ledger_records.specs.declared.hub_record.HubRecord.{HubRecord}
 use Rattle.ledger_rules.specs.declared.fault.DraftFault.{DraftFault}
-use Rattle.record_ledger.specs.Drafts.{DraftsSome}
-use Rattle.hub_ledger.specs.Drafts.{SameLedger}
+use Rattle.record_ledger.specs.Drafts.{DraftsSome, SameLedger}
 use Rattle.hub_ledger.specs.Laws.{CompactionsChangeNoAnswer}
 use Rattle.hub_ledger.specs.Ledger.{CanCommit, OpenedLedger}
 use Rattle.hub_ledger.specs.Record.{LAST, hub_rules}

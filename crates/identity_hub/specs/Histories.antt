@@ -7,7 +7,8 @@ use Rattle.conn_table.specs.Table.{Table}
 use Rattle.serve_loop.specs.Worlds.{World, NodeStep}
 use Rattle.serve_loop.specs.Turns.{Turn, Run}
 use Rattle.ledger_records.specs.declared.hub_record.HubRecord.{HubRecord}
-use Rattle.hub_ledger.specs.Ledger.{Held, ledger_in, taken}
+use Rattle.hub_ledger.specs.Ledger.{Held, ledger_in}
+use Rattle.record_ledger.specs.Ledger.{taken}
 use Rattle.hub_ledger.specs.Record.{AreRecords, hub_rules}
 use Rattle.hub_ledger.specs.Runs.{AreDifferent, requests_of_run}
 use Rattle.provider_node.specs.Histories as any

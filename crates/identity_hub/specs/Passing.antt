@@ -10,7 +10,8 @@ use Rattle.ledger_records.specs.declared.hub_record.HubRecord.TheVariants as kin
 use Rattle.peer_keys.specs.declared.peers.LogoutPeer.{LogoutPeer}
 use Rattle.request_rows.specs.declared.row.AskedRow.{AskedRow}
 use Rattle.hub_ledger.specs.Compacting.{Compacts}
-use Rattle.hub_ledger.specs.Ledger.{Held, held_with}
+use Rattle.hub_ledger.specs.Ledger.{Held}
+use Rattle.record_ledger.specs.Ledger.{held_with}
 use Rattle.hub_ledger.specs.Record.{AreRecords, LAST}
 use Rattle.hub_ledger.specs.RowsOf.{Route}
 use Rattle.idp_rules.specs.declared.asked.Asked.{Asked}

@@ -7,7 +7,8 @@ use Rattle.http_wire.specs.declared.answer.Answer.{Answer}
 use Rattle.http_wire.specs.declared.answer.Answer.TheVariants.{Full}
 use Rattle.http_wire.specs.Requests.{Request}
 use Rattle.ledger_records.specs.declared.hub_record.HubRecord.{HubRecord}
-use Rattle.hub_ledger.specs.Ledger.{Held, held_with, ledger_in}
+use Rattle.hub_ledger.specs.Ledger.{Held, ledger_in}
+use Rattle.record_ledger.specs.Ledger.{held_with}
 use Rattle.service_routes.specs.declared.route.Route.TheVariants.{To}
 use Rattle.identity_hub.specs.declared.config.HubConfig.{HubConfig}
 use Rattle.identity_hub.specs.declared.route.Service.TheVariants.{SignOn, Consumer}

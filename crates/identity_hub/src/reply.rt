@@ -1,8 +1,7 @@
 //! How a request is replied to with a record.
 ghost use Rattle.std.specs.Prelude.{◌≡◌, ◌≤◌, IfSome, false};
-ghost use Rattle.record_ledger.specs.Drafts.{DraftsSome};
+ghost use Rattle.record_ledger.specs.Drafts.{DraftsSome, SameLedger};
 ghost use Rattle.saml_time.specs.declared.TheConstants.{LAST};
-ghost use Rattle.hub_ledger.specs.Drafts.{SameLedger};
 ghost use Rattle.hub_ledger.specs.Record.{hub_rules};
 ghost use Rattle.hub_ledger.specs.Standing.{hub_row_rules};
 ghost use Rattle.identity_hub.specs.Replies.{CanDraft, record_for};

@@ -22,9 +22,9 @@ use Rattle.provider_run.specs.declared.ended.Ended.{Ended}
 use Rattle.provider_run.specs.declared.ended.RunFault.{RunFault}
 use Rattle.peer_keys.specs.declared.peers.LogoutPeer.{LogoutPeer}
 use Rattle.protocol_messages.specs.declared.logout.LogoutRequest.{LogoutRequest}
-use Rattle.idp_ledger.specs.declared.row.SessionRow.{SessionRow}
+use Rattle.idp_rows.specs.declared.row.SessionRow.{SessionRow}
 use Rattle.idp_ledger.specs.Ledger.{Held, ledger_in}
-use Rattle.idp_ledger.specs.RowsOf.{is_among}
+use Rattle.idp_rows.specs.RowsOf.{is_among}
 use Rattle.provider_node.specs.declared.codes.TheConstants.{NO_MEMORY}
 use Rattle.serve_loop.specs.Serving as node_serving
 use Rattle.serve_loop.specs.declared.served.Served.{Served}

@@ -11,13 +11,13 @@ use Rattle.logout_turns.specs.declared.part.Part.{Part}
 use Rattle.protocol_messages.specs.declared.logout.LogoutRequest.{LogoutRequest}
 use Rattle.round_rows.specs.declared.row.RoundRow.{RoundRow}
 use Rattle.record_ledger.proofs.Words.{text_itself}
-use Rattle.idp_ledger.specs.declared.row.IssuedRow.{IssuedRow}
-use Rattle.idp_ledger.specs.declared.row.SessionRow.{SessionRow}
+use Rattle.idp_rows.specs.declared.row.IssuedRow.{IssuedRow}
+use Rattle.idp_rows.specs.declared.row.SessionRow.{SessionRow}
 use Rattle.idp_ledger.specs.Drafts.{AreLive}
-use Rattle.idp_ledger.specs.Finding.{has_issued, is_empty, is_ending, is_listed, part_of, session_found, visible}
+use Rattle.idp_rows.specs.Finding.{has_issued, is_empty, is_ending, is_listed, part_of, session_found, visible}
 use Rattle.idp_ledger.specs.Laws.{AnswerAlike}
 use Rattle.idp_ledger.specs.Ledger.{Held}
-use Rattle.idp_ledger.specs.RowsOf.{is_among, issued_rows, rows_of, session_rows}
+use Rattle.idp_rows.specs.RowsOf.{is_among, issued_rows, rows_of, session_rows}
 use Rattle.idp_rules.specs.declared.config.IdpConfig.{IdpConfig}
 use Rattle.idp_server.specs.Rounds.{asks_others, has_some, name_of, parts, round_waiting, skips_for, turns_for}
 use Rattle.idp_server.specs.Step.{ending_by}

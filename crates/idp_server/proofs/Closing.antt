@@ -18,11 +18,12 @@ use Rattle.peer_keys.specs.declared.peers.LogoutPeer.{LogoutPeer}
 use Rattle.protocol_messages.specs.declared.logout.LogoutRequest.{LogoutRequest}
 use Rattle.protocol_messages.specs.declared.logout.LogoutResponse.{LogoutResponse}
 use Rattle.verdict_codes.specs.declared.codes.Verdict.{Verdict}
-use Rattle.idp_ledger.specs.declared.row.SessionRow.{SessionRow}
-use Rattle.idp_ledger.specs.Finding.{is_empty, is_ending, session_found, visible}
-use Rattle.idp_ledger.specs.Ledger.{Held, held_with}
-use Rattle.idp_ledger.specs.RowsOf.{IdpRows, ended_where, ends, is_among, issued_rows, rows_after, rows_of, session_rows}
-use Rattle.idp_ledger.specs.Record.{is_unended}
+use Rattle.idp_rows.specs.declared.row.SessionRow.{SessionRow}
+use Rattle.idp_rows.specs.Finding.{is_empty, is_ending, session_found, visible}
+use Rattle.idp_ledger.specs.Ledger.{Held}
+use Rattle.record_ledger.specs.Ledger.{held_with}
+use Rattle.idp_rows.specs.RowsOf.{IdpRows, ended_where, ends, is_among, issued_rows, rows_after, rows_of, session_rows}
+use Rattle.idp_rows.specs.Record.{is_unended}
 use Rattle.record_ledger.proofs.Words.{other_way, same_text, text_itself}
 use Rattle.idp_ledger.proofs.RowLaws.{rows_of-push}
 use Rattle.idp_ledger.proofs.RowTexts.{any_there}

@@ -9,7 +9,7 @@ use Rattle.protocol_messages.specs.declared.logout.LogoutRequest.{LogoutRequest}
 use Rattle.protocol_messages.specs.declared.logout.LogoutResponse.{LogoutResponse}
 use Rattle.logout_profile.specs.Verdict.{IsAccepted}
 use Rattle.logout_profile.specs.declared.logout.Logout.TheVariants as messages
-use Rattle.idp_ledger.specs.Finding.{is_empty}
+use Rattle.idp_rows.specs.Finding.{is_empty}
 use Rattle.idp_ledger.specs.Ledger.{Held}
 use Rattle.idp_rules.specs.Config.{logout}
 use Rattle.idp_rules.specs.declared.config.IdpConfig.{IdpConfig}

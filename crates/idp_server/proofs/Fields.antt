@@ -12,11 +12,11 @@ use Rattle.post_binding.specs.Form.{Pair, fields, fields_of, pairs, the_value, v
 use Rattle.ledger_rules.specs.Numbers.{is_xml_text}
 use Rattle.peer_keys.specs.Peers.{place_of}
 use Rattle.user_store.specs.Store.{checked}
-use Rattle.idp_ledger.specs.declared.row.PendingRow.{PendingRow}
-use Rattle.idp_ledger.specs.Finding.{pending_found}
+use Rattle.idp_rows.specs.declared.row.PendingRow.{PendingRow}
+use Rattle.idp_rows.specs.Finding.{pending_found}
 use Rattle.idp_ledger.specs.Ledger.{Held}
 use Rattle.idp_ledger.specs.Record.{AreRecords}
-use Rattle.idp_ledger.specs.RowsOf.{rows_of}
+use Rattle.idp_rows.specs.RowsOf.{rows_of}
 use Rattle.idp_ledger.proofs.RowTexts.{found_pending, pendings_allowed, row_there}
 use Rattle.idp_rules.specs.Config.{IsTextAttribute}
 use Rattle.idp_rules.specs.declared.config.IdpConfig.{IdpConfig}

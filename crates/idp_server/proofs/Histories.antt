@@ -11,7 +11,8 @@ use Rattle.ledger_rules.specs.Numbers.{Drawn}
 use Rattle.idp_ledger.specs.Drafts.{confirmed, issue, login, pending, spoke, told}
 use Rattle.idp_ledger.specs.Laws.{CompactionsChangeNoAnswer, ImagesHoldRecords}
 use Rattle.idp_ledger.specs.Ledger.{Held, next_number}
-use Rattle.idp_ledger.specs.Record.{drawn, idp_rules}
+use Rattle.idp_ledger.specs.Record.{idp_rules}
+use Rattle.idp_rows.specs.Record.{drawn}
 use Rattle.idp_rules.specs.declared.config.IdpConfig.{IdpConfig}
 use Rattle.provider_node.proofs.Histories as any
 use Rattle.provider_node.proofs.Histories.{DrawsAbove}

@@ -15,13 +15,14 @@ use Rattle.http_wire.specs.Cookies.{cookie_value}
 use Rattle.ledger_records.specs.declared.idp_record.Issued.{Issued}
 use Rattle.ledger_records.specs.declared.idp_record.IdpRecord.{IdpRecord}
 use Rattle.ledger_records.specs.declared.idp_record.IdpRecord.TheVariants as kinds
-use Rattle.idp_ledger.specs.declared.row.Ask.{Ask}
-use Rattle.idp_ledger.specs.declared.row.PendingRow.{PendingRow}
-use Rattle.idp_ledger.specs.declared.row.SessionRow.{SessionRow}
-use Rattle.idp_ledger.specs.RowsOf.{rows_of}
-use Rattle.idp_ledger.specs.Finding.{session_found, visible}
+use Rattle.idp_ledger.specs.declared.ask.Ask.{Ask}
+use Rattle.idp_rows.specs.declared.row.PendingRow.{PendingRow}
+use Rattle.idp_rows.specs.declared.row.SessionRow.{SessionRow}
+use Rattle.idp_rows.specs.RowsOf.{rows_of}
+use Rattle.idp_rows.specs.Finding.{session_found, visible}
 use Rattle.idp_ledger.specs.Compacting.{Compacts}
-use Rattle.idp_ledger.specs.Ledger.{Held, held_with, next_number}
+use Rattle.idp_ledger.specs.Ledger.{Held, next_number}
+use Rattle.record_ledger.specs.Ledger.{held_with}
 use Rattle.idp_ledger.specs.Record.{idp_rules}
 use Rattle.idp_ledger.specs.Draft.{issued_in}
 use Rattle.idp_ledger.specs.Drafts.{issue, login}

@@ -15,9 +15,9 @@ use Rattle.ledger_records.specs.declared.idp_round.Round.{Round}
 use Rattle.ledger_records.specs.declared.idp_round.Told.{Told}
 use Rattle.ledger_records.specs.declared.idp_record.IdpRecord.{IdpRecord}
 use Rattle.ledger_records.specs.declared.idp_record.IdpRecord.TheVariants as kinds
-use Rattle.idp_ledger.specs.declared.row.SessionRow.{SessionRow}
-use Rattle.idp_ledger.specs.Finding.{is_empty, session_found, visible}
-use Rattle.idp_ledger.specs.RowsOf.{rows_of}
+use Rattle.idp_rows.specs.declared.row.SessionRow.{SessionRow}
+use Rattle.idp_rows.specs.Finding.{is_empty, session_found, visible}
+use Rattle.idp_rows.specs.RowsOf.{rows_of}
 use Rattle.idp_ledger.specs.Compacting.{Compacts}
 use Rattle.idp_ledger.specs.Drafts.{confirmed, pending, spoke, told}
 use Rattle.idp_ledger.specs.Draft.{told_in}

@@ -8,10 +8,10 @@ use Rattle.ledger_rules.specs.Numbers.{is_xml_text}
 use Rattle.logout_turns.specs.declared.part.Asker.{Asker}
 use Rattle.logout_turns.specs.declared.turns.Turn.{Turn}
 use Rattle.round_rows.specs.declared.row.RoundRow.{RoundRow}
-use Rattle.idp_ledger.specs.declared.row.PendingRow.{PendingRow}
-use Rattle.idp_ledger.specs.declared.row.SessionRow.{SessionRow}
+use Rattle.idp_rows.specs.declared.row.PendingRow.{PendingRow}
+use Rattle.idp_rows.specs.declared.row.SessionRow.{SessionRow}
 use Rattle.idp_ledger.specs.Drafts.{AreXmlTurns, IsXmlAsker}
-use Rattle.idp_ledger.specs.Record.{of_turn}
+use Rattle.idp_rows.specs.Record.{of_turn}
 use Rattle.idp_ledger.specs.Turns.{AreRoundTexts}
 use Rattle.idp_ledger.proofs.RowTexts.{SessionTexts}
 use Rattle.idp_answers.specs.Stating.{AllowedAttributesMayStand, AllowedTextsMayStand}

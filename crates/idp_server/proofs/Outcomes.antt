@@ -17,12 +17,12 @@ use Rattle.round_rows.specs.declared.row.RoundRow.{RoundRow}
 use Rattle.round_rows.specs.Rounds as rounds
 use Rattle.round_rows.specs.Rounds.{after_answer, answered_if, waits_for}
 use Rattle.idp_ledger.specs.Drafts.{told}
-use Rattle.idp_ledger.specs.Finding.{turn_found}
+use Rattle.idp_rows.specs.Finding.{turn_found}
 use Rattle.idp_ledger.specs.Laws.{IsRowOf, RoundsAreCounted}
 use Rattle.idp_ledger.specs.Ledger.{Held, next_number}
 use Rattle.idp_ledger.specs.Record.{AreRecords}
-use Rattle.idp_ledger.specs.RoundsOf.{answer_in, answers, answers_after, confirmed_all, is_confirmed, round_after, round_behind, round_row, round_rows}
-use Rattle.idp_ledger.specs.RowsOf.{rows_of}
+use Rattle.idp_rows.specs.RoundsOf.{answer_in, answers, answers_after, confirmed_all, is_confirmed, round_after, round_behind, round_row, round_rows}
+use Rattle.idp_rows.specs.RowsOf.{rows_of}
 use Rattle.idp_rules.specs.declared.config.IdpConfig.{IdpConfig}
 use Rattle.idp_server.specs.Messages.{AsksFirst, AsksNext, EndsRound, IsRoundEnd, IsToldAnswer}
 use Rattle.idp_server.specs.Outcomes.{Ends, GoesOn, InRound, IsOutcome, RoundsBeginWithTheFirst, RoundsEndAsConfirmed}

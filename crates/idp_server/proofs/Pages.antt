@@ -7,8 +7,8 @@ use Rattle.http_wire.specs.declared.answer.Answer.TheVariants.{Full}
 use Rattle.ledger_records.specs.declared.idp_record.Issued.{Issued}
 use Rattle.ledger_records.specs.declared.idp_record.IdpRecord.{IdpRecord}
 use Rattle.peer_keys.specs.declared.peers.LogoutPeer.{LogoutPeer}
-use Rattle.idp_ledger.specs.declared.row.Ask.{Ask}
-use Rattle.idp_ledger.specs.Record.{LAST}
+use Rattle.idp_ledger.specs.declared.ask.Ask.{Ask}
+use Rattle.idp_rows.specs.Record.{LAST}
 use Rattle.idp_ledger.specs.Ledger.{Held}
 use Rattle.idp_ledger.specs.Draft.{first_id, second_id}
 use Rattle.idp_rules.specs.Config.{IsTextPeer}

@@ -15,12 +15,12 @@ use Rattle.ledger_records.specs.declared.idp_record.IdpRecord.{IdpRecord}
 use Rattle.ledger_records.specs.declared.idp_record.IdpRecord.TheVariants as kinds
 use Rattle.ledger_rules.specs.Numbers.{is_xml_text}
 use Rattle.peer_keys.specs.declared.peers.LogoutPeer.{LogoutPeer}
-use Rattle.idp_ledger.specs.declared.row.Ask.{Ask}
-use Rattle.idp_ledger.specs.declared.row.PendingRow.{PendingRow}
-use Rattle.idp_ledger.specs.declared.row.SessionRow.{SessionRow}
-use Rattle.idp_ledger.specs.RowsOf.{rows_of}
-use Rattle.idp_ledger.specs.Finding.{is_empty, pending_found}
-use Rattle.idp_ledger.specs.Record.{LAST, of_attribute}
+use Rattle.idp_ledger.specs.declared.ask.Ask.{Ask}
+use Rattle.idp_rows.specs.declared.row.PendingRow.{PendingRow}
+use Rattle.idp_rows.specs.declared.row.SessionRow.{SessionRow}
+use Rattle.idp_rows.specs.RowsOf.{rows_of}
+use Rattle.idp_rows.specs.Finding.{is_empty, pending_found}
+use Rattle.idp_rows.specs.Record.{LAST, of_attribute}
 use Rattle.idp_ledger.specs.Ledger.{Held, next_number}
 use Rattle.idp_ledger.specs.Drafts.{IsXmlAsk, confirmed, is_turn_left, issue, login, pending, round, spoke, told}
 use Rattle.idp_ledger.specs.Draft.{drawn_cookie, first_id, second_id}

@@ -13,7 +13,7 @@ use Rattle.peer_keys.specs.Peers.{place_of}
 use Rattle.peer_keys.specs.declared.peers.LogoutPeer.{LogoutPeer}
 use Rattle.protocol_messages.specs.Making.{logged_out, logout_request, request_end}
 use Rattle.logout_turns.specs.declared.part.Asker.{Asker}
-use Rattle.idp_ledger.specs.Record.{LAST}
+use Rattle.idp_rows.specs.Record.{LAST}
 use Rattle.idp_rules.specs.Config.{IsTextPeer}
 use Rattle.idp_rules.specs.declared.config.IdpConfig.{IdpConfig}
 use Rattle.logout_answers.specs.Answers.{BySending, ByEnding, Ending, end_answer}

@@ -4,10 +4,12 @@ use Rattle.std.proofs.Common.{◌≡◌, ℕ, ◌≤◌, Bool, if◌then◌else�
 use Rattle.http_wire.specs.declared.answer.Answer.TheVariants.{Full}
 use Rattle.ledger_records.specs.declared.idp_record.IdpRecord.{IdpRecord}
 use Rattle.ledger_rules.specs.declared.fault.DraftFault.{DraftFault}
-use Rattle.idp_ledger.specs.Drafts.{DraftsSome, SameLedger}
+use Rattle.idp_ledger.specs.Drafts.{DraftsSome}
+use Rattle.record_ledger.specs.Drafts.{SameLedger}
 use Rattle.idp_ledger.specs.Laws.{CompactionsChangeNoAnswer}
 use Rattle.idp_ledger.specs.Ledger.{CanCommit, OpenedLedger}
-use Rattle.idp_ledger.specs.Record.{LAST, idp_rules}
+use Rattle.idp_ledger.specs.Record.{idp_rules}
+use Rattle.idp_rows.specs.Record.{LAST}
 use Rattle.idp_ledger.specs.Standing.{idp_row_rules}
 use Rattle.idp_rules.specs.Config.{IsUsable}
 use Rattle.idp_rules.specs.declared.config.IdpConfig.{IdpConfig}

@@ -9,12 +9,12 @@ use Rattle.http_wire.specs.Requests.{Request}
 use Rattle.peer_keys.specs.declared.peers.LogoutPeer.{LogoutPeer}
 use Rattle.user_store.specs.Store.{checked}
 use Rattle.user_store.specs.declared.user.User.{User}
-use Rattle.idp_ledger.specs.declared.row.Ask.{Ask}
-use Rattle.idp_ledger.specs.declared.row.SessionRow.{SessionRow}
-use Rattle.idp_ledger.specs.Finding.{session_found}
+use Rattle.idp_ledger.specs.declared.ask.Ask.{Ask}
+use Rattle.idp_rows.specs.declared.row.SessionRow.{SessionRow}
+use Rattle.idp_rows.specs.Finding.{session_found}
 use Rattle.idp_ledger.specs.Ledger.{Held}
 use Rattle.idp_ledger.specs.Record.{AreRecords}
-use Rattle.idp_ledger.specs.RowsOf.{rows_of}
+use Rattle.idp_rows.specs.RowsOf.{rows_of}
 use Rattle.idp_ledger.proofs.RowTexts.{SessionTexts, found_session, session_texts, sessions_allowed}
 use Rattle.idp_rules.specs.Asking.{IsAsked}
 use Rattle.idp_rules.specs.Config.{IsTextPeer, IsTextUser, sign_on}

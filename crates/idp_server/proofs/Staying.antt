@@ -9,12 +9,13 @@ use Rattle.ledger_records.specs.declared.idp_record.Issued.{Issued}
 use Rattle.ledger_records.specs.declared.idp_record.IdpRecord.{IdpRecord}
 use Rattle.ledger_records.specs.declared.idp_record.IdpRecord.TheVariants as kinds
 use Rattle.record_ledger.specs.Runs.{EndsBehind, added}
-use Rattle.idp_ledger.specs.declared.row.SessionRow.{SessionRow}
-use Rattle.idp_ledger.specs.Finding.{session_found, visible}
+use Rattle.idp_rows.specs.declared.row.SessionRow.{SessionRow}
+use Rattle.idp_rows.specs.Finding.{session_found, visible}
 use Rattle.idp_ledger.specs.Laws.{ImagesHoldRecords, SessionsStay as RowsStay}
-use Rattle.idp_ledger.specs.Ledger.{Held, held_with}
+use Rattle.idp_ledger.specs.Ledger.{Held}
+use Rattle.record_ledger.specs.Ledger.{held_with}
 use Rattle.idp_ledger.specs.Record.{idp_rules}
-use Rattle.idp_ledger.specs.RowsOf.{begun, ended_if, ends, if_pending, session_row, session_rows}
+use Rattle.idp_rows.specs.RowsOf.{begun, ended_if, ends, if_pending, session_row, session_rows}
 use Rattle.provider_node.specs.Histories.{CameFrom}
 use Rattle.provider_node.proofs.Histories.{what_is_kept}
 use Rattle.provider_node.proofs.Starts.{kept_over_at}

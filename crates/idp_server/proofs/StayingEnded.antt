@@ -8,13 +8,15 @@ use Rattle.std.proofs.lemmas.List.Elements.{All-head, All-tail}
 use Rattle.ledger_records.specs.declared.idp_record.IdpRecord.{IdpRecord}
 use Rattle.ledger_records.specs.declared.idp_record.IdpRecord.TheVariants as kinds
 use Rattle.ledger_rules.specs.Numbers.{Drawn, NUMBER_END, above, has_number}
-use Rattle.idp_ledger.specs.declared.row.SessionRow.{SessionRow}
+use Rattle.idp_rows.specs.declared.row.SessionRow.{SessionRow}
 use Rattle.idp_ledger.specs.Compacting.{Compacts as IsMade}
-use Rattle.idp_ledger.specs.Finding.{session_found, visible}
+use Rattle.idp_rows.specs.Finding.{session_found, visible}
 use Rattle.idp_ledger.specs.Laws.{CompactionsChangeNoAnswer}
-use Rattle.idp_ledger.specs.Ledger.{Held, held_with, migrated, next_number}
-use Rattle.idp_ledger.specs.Record.{AreRecords, AreRecordsAfter, drawn, idp_rules, is_record, is_unended, next_of}
-use Rattle.idp_ledger.specs.RowsOf.{IdpRows, ended_where, ends, if_pending, is_among, rows_after, rows_of, session_row, session_rows}
+use Rattle.idp_ledger.specs.Ledger.{Held, next_number}
+use Rattle.record_ledger.specs.Ledger.{held_with, migrated}
+use Rattle.idp_ledger.specs.Record.{AreRecords, AreRecordsAfter, idp_rules, is_record, next_of}
+use Rattle.idp_rows.specs.Record.{drawn, is_unended}
+use Rattle.idp_rows.specs.RowsOf.{IdpRows, ended_where, ends, if_pending, is_among, rows_after, rows_of, session_row, session_rows}
 use Rattle.idp_ledger.proofs.KeptRecords.{kept_are_records}
 use Rattle.record_ledger.proofs.Words.{other_way, same_text}
 use Rattle.record_ledger.proofs.Numbers.{IsFresh, all_fresh, one_number}

@@ -27,7 +27,7 @@ use Rattle.saml_ids.specs.declared.Kind.TheVariants as ids
 use Rattle.idp_ledger.specs.Drafts.{AreXmlTurns, IsXmlAsker, is_turn_left, round, told}
 use Rattle.idp_ledger.specs.Laws.{AnswerAlike}
 use Rattle.idp_ledger.specs.Ledger.{Held, next_number}
-use Rattle.idp_ledger.specs.Record.{of_turn}
+use Rattle.idp_rows.specs.Record.{of_turn}
 use Rattle.idp_ledger.proofs.Draftable.{text_is_allowed}
 use Rattle.idp_rules.specs.Config.{IsTextPeer}
 use Rattle.idp_rules.specs.declared.config.IdpConfig.{IdpConfig}
@@ -140,7 +140,7 @@ asking_answers setup held request now cookies asker plan r answer w is page = by
         let asks : asks_others setup held who ending ≡ true =
         ap (λ (cs : List (List ℕ)). asks_others setup held who cs) (sym p.cookies_are)
         ∙ ap (λ (a : Option Asker). asks_others setup held a cookies) (sym p.asker_is) ∙ w.asks in
-        ByEndingAll p.asked p.peer p.relay page.begun page.bytes p.to p.asks (subst (λ (cs : List (List ℕ)). Rattle.idp_ledger.specs.Finding.is_empty cs ≡ false) p.cookies_are p.some) asks
+        ByEndingAll p.asked p.peer p.relay page.begun page.bytes p.to p.asks (subst (λ (cs : List (List ℕ)). Rattle.idp_rows.specs.Finding.is_empty cs ≡ false) p.cookies_are p.some) asks
         whose (ap Some page.is) page.asks page.full
 
 pub asks_all_still : (setup : IdpConfig) (anew old : Held) (request : Request) (now : ℕ) (cookies : List (List ℕ)) (asker : Option Asker) (plan : Plan) → AnswerAlike now anew old

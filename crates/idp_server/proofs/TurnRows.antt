@@ -8,7 +8,7 @@ use Rattle.round_rows.specs.Rounds.{is_done, is_of, is_turn_of, turn_found, visi
 use Rattle.record_ledger.proofs.Words.{same_text}
 use Rattle.idp_ledger.specs.Ledger.{Held}
 use Rattle.idp_ledger.specs.Record.{AreRecords}
-use Rattle.idp_ledger.specs.RowsOf.{rows_of}
+use Rattle.idp_rows.specs.RowsOf.{rows_of}
 use Rattle.idp_ledger.specs.Turns.{AreRoundTexts}
 use Rattle.idp_ledger.proofs.RoundTexts.{round_texts}
 use Rattle.idp_server.proofs.Issues.{found_at}

@@ -9,12 +9,13 @@ use Rattle.logout_turns.specs.declared.part.Asker.{Asker}
 use Rattle.logout_turns.specs.declared.part.Part.{Part}
 use Rattle.logout_fanout.specs.Plan.{can_be_asked, firsts, firsts_after, indexes_of, is_among, once_after, turn_of, turns}
 use Rattle.peer_keys.specs.declared.peers.LogoutPeer.{LogoutPeer}
-use Rattle.idp_ledger.specs.declared.row.IssuedRow.{IssuedRow}
+use Rattle.idp_rows.specs.declared.row.IssuedRow.{IssuedRow}
 use Rattle.idp_ledger.specs.Drafts.{AreXmlTurns}
-use Rattle.idp_ledger.specs.Finding.{part_of}
+use Rattle.idp_rows.specs.Finding.{part_of}
 use Rattle.idp_ledger.specs.Ledger.{Held}
-use Rattle.idp_ledger.specs.Record.{AreRecords, of_turn}
-use Rattle.idp_ledger.specs.RowsOf.{is_among as is_one_of, issued_rows}
+use Rattle.idp_ledger.specs.Record.{AreRecords}
+use Rattle.idp_rows.specs.Record.{of_turn}
+use Rattle.idp_rows.specs.RowsOf.{is_among as is_one_of, issued_rows}
 use Rattle.idp_ledger.proofs.RoundTexts.{is_part_xml, parts_allowed}
 use Rattle.idp_rules.specs.declared.config.IdpConfig.{IdpConfig}
 use Rattle.idp_server.specs.Rounds.{name_of, parts, turns_for}

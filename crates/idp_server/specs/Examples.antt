@@ -5,7 +5,7 @@ use Rattle.http_wire.specs.declared.method.Method.TheVariants.{Get, Post}
 use Rattle.http_wire.specs.Requests.{Request}
 use Rattle.element_make.specs.declared.names.Ns.TheVariants.{Ds, Saml}
 use Rattle.element_make.specs.Made.{MadeNodes, NothingMade, MadeElement}
-use Rattle.idp_ledger.specs.declared.row.SessionRow.{SessionRow}
+use Rattle.idp_rows.specs.declared.row.SessionRow.{SessionRow}
 use Rattle.idp_rules.specs.declared.asked.Asked.{Asked}
 use Rattle.service_routes.specs.declared.route.Route.TheVariants.{To, Refused}
 use Rattle.idp_server.specs.declared.route.Service.TheVariants.{Login, SignOn, Logout, Metadata, SingleLogout}

@@ -8,10 +8,12 @@ use Rattle.conn_table.specs.Table.{Table}
 use Rattle.serve_loop.specs.Worlds.{World, NodeStep}
 use Rattle.serve_loop.specs.Turns.{Turn, Run}
 use Rattle.ledger_records.specs.declared.idp_record.IdpRecord.{IdpRecord}
-use Rattle.idp_ledger.specs.Finding.{session_found}
-use Rattle.idp_ledger.specs.Ledger.{Held, ledger_in, taken}
-use Rattle.idp_ledger.specs.Record.{AreRecords, idp_rules, is_unended}
-use Rattle.idp_ledger.specs.RowsOf.{ends, rows_of}
+use Rattle.idp_rows.specs.Finding.{session_found}
+use Rattle.idp_ledger.specs.Ledger.{Held, ledger_in}
+use Rattle.record_ledger.specs.Ledger.{taken}
+use Rattle.idp_ledger.specs.Record.{AreRecords, idp_rules}
+use Rattle.idp_rows.specs.Record.{is_unended}
+use Rattle.idp_rows.specs.RowsOf.{ends, rows_of}
 use Rattle.provider_node.specs.Histories as any
 use Rattle.provider_node.specs.Histories.{AreAcknowledged, HoldsWhatCame, IsAtStart, moments_of}
 use Rattle.provider_node.specs.Points.{AClosedSessionStaysClosed, Point, StayClosed, points}

@@ -18,11 +18,12 @@ use Rattle.protocol_messages.specs.declared.logout.LogoutRequest.{LogoutRequest}
 use Rattle.protocol_messages.specs.declared.logout.LogoutResponse.{LogoutResponse}
 use Rattle.ledger_records.specs.declared.idp_record.Confirmed.{Confirmed}
 use Rattle.round_rows.specs.declared.row.RoundRow.{RoundRow}
-use Rattle.idp_ledger.specs.declared.row.SessionRow.{SessionRow}
-use Rattle.idp_ledger.specs.Finding.{is_empty, visible}
-use Rattle.idp_ledger.specs.RowsOf.{ends, is_among, rows_of}
+use Rattle.idp_rows.specs.declared.row.SessionRow.{SessionRow}
+use Rattle.idp_rows.specs.Finding.{is_empty, visible}
+use Rattle.idp_rows.specs.RowsOf.{ends, is_among, rows_of}
 use Rattle.idp_ledger.specs.Compacting.{Compacts}
-use Rattle.idp_ledger.specs.Ledger.{Held, held_with}
+use Rattle.idp_ledger.specs.Ledger.{Held}
+use Rattle.record_ledger.specs.Ledger.{held_with}
 use Rattle.idp_rules.specs.declared.config.IdpConfig.{IdpConfig}
 use Rattle.provider_node.specs.declared.codes.TheConstants.{NO_MEMORY}
 use Rattle.idp_server.specs.Histories.{IsEnded}

@@ -23,12 +23,12 @@ use Rattle.logout_turns.specs.declared.turns.Turn.{Turn}
 use Rattle.round_rows.specs.declared.row.RoundRow.{RoundRow}
 use Rattle.user_store.specs.Store.{checked}
 use Rattle.user_store.specs.declared.user.User.{User}
-use Rattle.idp_ledger.specs.declared.row.Ask.{Ask}
-use Rattle.idp_ledger.specs.declared.row.PendingRow.{PendingRow}
-use Rattle.idp_ledger.specs.declared.row.SessionRow.{SessionRow}
-use Rattle.idp_ledger.specs.RowsOf.{rows_of}
-use Rattle.idp_ledger.specs.Finding.{is_empty, pending_found, session_found, turn_found}
-use Rattle.idp_ledger.specs.Record.{LAST}
+use Rattle.idp_ledger.specs.declared.ask.Ask.{Ask}
+use Rattle.idp_rows.specs.declared.row.PendingRow.{PendingRow}
+use Rattle.idp_rows.specs.declared.row.SessionRow.{SessionRow}
+use Rattle.idp_rows.specs.RowsOf.{rows_of}
+use Rattle.idp_rows.specs.Finding.{is_empty, pending_found, session_found, turn_found}
+use Rattle.idp_rows.specs.Record.{LAST}
 use Rattle.idp_ledger.specs.Ledger.{Held, next_number}
 use Rattle.idp_ledger.specs.Draft.{first_id, second_id}
 use Rattle.idp_ledger.specs.Drafts.{SESSION_LIFE, AreLive, AreXmlAttributes, AreXmlTurns, IsXmlAsk, IsXmlAsker, confirmed, is_turn_left, issue, login, pending, round, spoke, told}

@@ -11,9 +11,9 @@ use Rattle.logout_fanout.specs.declared.round.Next.{Next}
 use Rattle.logout_fanout.specs.declared.round.Next.TheVariants.{Ask, Done}
 use Rattle.round_rows.specs.declared.row.RoundRow.{RoundRow}
 use Rattle.idp_ledger.specs.Drafts.{round, told}
-use Rattle.idp_ledger.specs.Finding.{parts_of, turn_found}
+use Rattle.idp_rows.specs.Finding.{parts_of, turn_found}
 use Rattle.idp_ledger.specs.Ledger.{Held, next_number}
-use Rattle.idp_ledger.specs.RowsOf.{rows_of}
+use Rattle.idp_rows.specs.RowsOf.{rows_of}
 use Rattle.round_rows.specs.Rounds.{is_turn_left}
 use Rattle.idp_rules.specs.declared.config.IdpConfig.{IdpConfig}
 use Rattle.idp_server.specs.declared.reply.Follows.{Follows}

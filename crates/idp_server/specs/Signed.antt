@@ -23,9 +23,9 @@ use Rattle.logout_turns.specs.declared.part.Asker.{Asker}
 use Rattle.logout_turns.specs.declared.turns.Turn.{Turn}
 use Rattle.round_rows.specs.declared.row.RoundRow.{RoundRow}
 use Rattle.peer_keys.specs.declared.peers.LogoutPeer.{LogoutPeer}
-use Rattle.idp_ledger.specs.declared.row.SessionRow.{SessionRow}
-use Rattle.idp_ledger.specs.Finding.{session_found, turn_found}
-use Rattle.idp_ledger.specs.RowsOf.{rows_of}
+use Rattle.idp_rows.specs.declared.row.SessionRow.{SessionRow}
+use Rattle.idp_rows.specs.Finding.{session_found, turn_found}
+use Rattle.idp_rows.specs.RowsOf.{rows_of}
 use Rattle.idp_ledger.specs.Ledger.{Held}
 use Rattle.idp_rules.specs.declared.config.IdpConfig.{IdpConfig}
 use Rattle.idp_answers.specs.Answers.{login_answer, response_form, signed_assertion, signs_assertion, signs_response}

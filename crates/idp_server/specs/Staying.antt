@@ -13,10 +13,11 @@ use Rattle.provider_node.specs.Histories.{AreAcknowledged, HoldsWhatCame, IsAtSt
 use Rattle.provider_node.specs.Staying.{WasAdded}
 use Rattle.provider_node.specs.Starts.{AreAcknowledgedIn, AreStartsAt, LeftBehindAt, Start}
 use Rattle.record_ledger.specs.Runs.{EndsBehind, Event, Leads, added}
-use Rattle.idp_ledger.specs.Finding.{session_found}
-use Rattle.idp_ledger.specs.Ledger.{Held, ledger_in, taken}
+use Rattle.idp_rows.specs.Finding.{session_found}
+use Rattle.idp_ledger.specs.Ledger.{Held, ledger_in}
+use Rattle.record_ledger.specs.Ledger.{taken}
 use Rattle.idp_ledger.specs.Record.{idp_rules}
-use Rattle.idp_ledger.specs.RowsOf.{ended_if, ends, session_row, session_rows}
+use Rattle.idp_rows.specs.RowsOf.{ended_if, ends, session_row, session_rows}
 use Rattle.idp_server.specs.Histories.{IsProviders}
 use Rattle.idp_server.specs.Step.{Provider, Answers}
 

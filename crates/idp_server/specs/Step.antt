@@ -26,11 +26,11 @@ use Rattle.ledger_records.specs.declared.idp_record.IdpRecord.TheVariants as kin
 use Rattle.peer_keys.specs.declared.peers.LogoutPeer.{LogoutPeer}
 use Rattle.user_store.specs.Store.{checked}
 use Rattle.user_store.specs.declared.user.User.{User}
-use Rattle.idp_ledger.specs.declared.row.Ask.{Ask}
-use Rattle.idp_ledger.specs.declared.row.PendingRow.{PendingRow}
-use Rattle.idp_ledger.specs.declared.row.SessionRow.{SessionRow}
-use Rattle.idp_ledger.specs.RowsOf.{rows_of}
-use Rattle.idp_ledger.specs.Finding.{ending, is_empty, is_partial, is_waiting_now, last_peer, pending_found, session_found}
+use Rattle.idp_ledger.specs.declared.ask.Ask.{Ask}
+use Rattle.idp_rows.specs.declared.row.PendingRow.{PendingRow}
+use Rattle.idp_rows.specs.declared.row.SessionRow.{SessionRow}
+use Rattle.idp_rows.specs.RowsOf.{rows_of}
+use Rattle.idp_rows.specs.Finding.{ending, is_empty, is_partial, is_waiting_now, last_peer, pending_found, session_found}
 use Rattle.idp_ledger.specs.Record.{idp_rules}
 use Rattle.idp_ledger.specs.Ledger.{Held, next_number}
 use Rattle.idp_ledger.specs.Draft.{first_id}

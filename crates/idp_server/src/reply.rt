@@ -2,7 +2,8 @@
 ghost use Rattle.std.specs.Prelude.{◌≡◌, ◌≤◌, IfSome, IsSome, IsTrue};
 ghost use Rattle.http_wire.specs.Answers.{is_fixed};
 ghost use Rattle.saml_time.specs.declared.TheConstants.{LAST};
-ghost use Rattle.idp_ledger.specs.Drafts.{DraftsSome, SameLedger};
+ghost use Rattle.idp_ledger.specs.Drafts.{DraftsSome};
+ghost use Rattle.record_ledger.specs.Drafts.{SameLedger};
 ghost use Rattle.idp_server.specs.Replies.{CanDraft, IsXmlReply, found_record, is_nothing, refusal_of};
 
 use idp_ledger::{Ask, Draft, DraftFault, IdpLedger};

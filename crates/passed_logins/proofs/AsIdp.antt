@@ -5,7 +5,7 @@ use Rattle.ledger_records.specs.declared.hub_record.Backed.{Backed}
 use Rattle.ledger_records.specs.declared.idp_record.Issued.{Issued}
 use Rattle.ledger_records.specs.declared.idp_record.IdpRecord.TheVariants as kinds
 use Rattle.provider_config.specs.declared.idp_config.SignMode.TheVariants.{Assertion}
-use Rattle.idp_ledger.specs.Ledger.{empty_ledger}
+use Rattle.record_ledger.specs.Ledger.{empty_ledger}
 use Rattle.idp_rules.specs.declared.config.IdpConfig.{IdpConfig}
 use Rattle.idp_answers.specs.Stating.{presented_until}
 use Rattle.idp_server.specs.Signed.{AnAssertion}

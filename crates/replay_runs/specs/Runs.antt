@@ -3,10 +3,9 @@ use Rattle.std.specs.Prelude.{◌≡◌, ℕ, Bool, false, List, [], Option, Som
 use Rattle.crash_disk.specs.Disk.{Image}
 use Rattle.crash_disk.specs.Memory.{DiskInMemory, state_of}
 use Rattle.record_ledger.specs.Rules.{RecordRules}
-use Rattle.record_ledger.specs.Ledger.{ledger_in, taken}
+use Rattle.record_ledger.specs.Ledger.{ledger_in, taken, empty_ledger}
 use Rattle.provider_node.specs.Starts.{Start}
 use Rattle.provider_node.specs.Step.{OwnsDisk, Provider}
-use Rattle.request_ledger.specs.Ledger.{empty_ledger}
 use Rattle.request_ledger.specs.Record.{request_rules}
 use Rattle.sp_server.specs.Step as sp
 use Rattle.idp_ledger.specs.Record.{idp_rules}

@@ -17,7 +17,8 @@ use Rattle.verdict_codes.specs.declared.codes.Verdict.{Verdict}
 use Rattle.request_rows.specs.declared.row.OpenedRow.{OpenedRow}
 use Rattle.request_rows.specs.Rows.{session_row, visible}
 use Rattle.request_ledger.specs.Drafts.{is_empty, is_ending}
-use Rattle.request_ledger.specs.Ledger.{Held, held_with}
+use Rattle.request_ledger.specs.Ledger.{Held}
+use Rattle.record_ledger.specs.Ledger.{held_with}
 use Rattle.request_ledger.specs.Record.{is_open}
 use Rattle.request_ledger.specs.RowsOf.{SpRows, closed_where, is_among, rows_of}
 use Rattle.record_ledger.proofs.Words.{other_way, same_text}

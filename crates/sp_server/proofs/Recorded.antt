@@ -9,7 +9,8 @@ use Rattle.http_wire.specs.declared.answer.Answer.TheVariants.{Fixed, Full}
 use Rattle.http_wire.specs.Requests.{Request}
 use Rattle.ledger_records.specs.declared.sp_record.SpRecord.{SpRecord}
 use Rattle.request_ledger.specs.Record.{request_rules}
-use Rattle.request_ledger.specs.Ledger.{Held, held_with, ledger_in}
+use Rattle.request_ledger.specs.Ledger.{Held, ledger_in}
+use Rattle.record_ledger.specs.Ledger.{held_with}
 use Rattle.service_routes.specs.declared.route.Route.{Route}
 use Rattle.service_routes.specs.declared.route.Route.TheVariants.{To}
 use Rattle.sp_server.specs.declared.route.Service.{Service}

@@ -13,7 +13,8 @@ use Rattle.ledger_records.specs.declared.sp_record.SpRecord.{SpRecord}
 use Rattle.ledger_rules.specs.declared.fault.DraftFault.{DraftFault}
 use Rattle.request_rows.specs.declared.row.OpenedRow.{OpenedRow}
 use Rattle.request_rows.specs.Rows.{session_row, visible}
-use Rattle.request_ledger.specs.Drafts.{asked, is_empty, DraftsSome, SameLedger}
+use Rattle.request_ledger.specs.Drafts.{asked, is_empty, DraftsSome}
+use Rattle.record_ledger.specs.Drafts.{SameLedger}
 use Rattle.request_ledger.specs.Laws.{AnswerAlike, CompactionsChangeNoAnswer}
 use Rattle.request_ledger.specs.Ledger.{CanCommit, Held, OpenedLedger, next_number}
 use Rattle.request_ledger.specs.Record.{request_rules}

@@ -14,7 +14,8 @@ use Rattle.request_rows.specs.Rows.{RowsView}
 use Rattle.request_rows.specs.declared.row.AskedRow.{AskedRow}
 use Rattle.request_ledger.specs.Compacting.{Compacts}
 use Rattle.request_ledger.specs.Laws.{CompactionsChangeNoAnswer}
-use Rattle.request_ledger.specs.Ledger.{Held, held_with}
+use Rattle.request_ledger.specs.Ledger.{Held}
+use Rattle.record_ledger.specs.Ledger.{held_with}
 use Rattle.request_ledger.specs.Record.{AreRecords}
 use Rattle.request_ledger.specs.RowsOf.{rows_of}
 use Rattle.sp_rules.specs.declared.config.SpConfig.{SpConfig}

@@ -16,7 +16,8 @@ use Rattle.request_rows.specs.Rows.{is_spent, session_row, visible}
 use Rattle.record_ledger.specs.Runs.{EndsBehind, IsVisibleThroughout, added}
 use Rattle.record_ledger.proofs.Staying.{any_joined, visible_records_stay}
 use Rattle.request_ledger.specs.Laws.{ImagesHoldRecords, SessionsStay as RowsStay}
-use Rattle.request_ledger.specs.Ledger.{Held, held_with}
+use Rattle.request_ledger.specs.Ledger.{Held}
+use Rattle.record_ledger.specs.Ledger.{held_with}
 use Rattle.request_ledger.specs.Naming.{names}
 use Rattle.request_ledger.specs.Record.{request_rules}
 use Rattle.request_ledger.specs.RowsOf.{closed_if, closes, opened_row, opened_rows}

@@ -12,7 +12,8 @@ use Rattle.request_rows.specs.declared.row.OpenedRow.{OpenedRow}
 use Rattle.request_rows.specs.Rows.{session_row, visible}
 use Rattle.request_ledger.specs.Compacting.{Compacts as IsMade}
 use Rattle.request_ledger.specs.Laws.{CompactionsChangeNoAnswer}
-use Rattle.request_ledger.specs.Ledger.{Held, held_with, migrated, next_number}
+use Rattle.request_ledger.specs.Ledger.{Held, next_number}
+use Rattle.record_ledger.specs.Ledger.{held_with, migrated}
 use Rattle.request_ledger.specs.Record.{drawn, is_open, is_record, next_of, request_rules, AreRecords, AreRecordsAfter}
 use Rattle.request_ledger.specs.RowsOf.{SpRows, closed_where, is_among, opened_rows, opened_row, rows_of, rows_after}
 use Rattle.record_ledger.specs.Runs.{Adds, Compacts, Opens}

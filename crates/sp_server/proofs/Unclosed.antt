@@ -11,7 +11,8 @@ use Rattle.request_rows.specs.declared.row.OpenedRow.{OpenedRow}
 use Rattle.request_rows.specs.Rows.{session_row, visible}
 use Rattle.request_ledger.specs.Compacting.{Compacts}
 use Rattle.request_ledger.specs.Laws.{CompactionsChangeNoAnswer}
-use Rattle.request_ledger.specs.Ledger.{Held, held_with}
+use Rattle.request_ledger.specs.Ledger.{Held}
+use Rattle.record_ledger.specs.Ledger.{held_with}
 use Rattle.request_ledger.specs.Record.{AreRecords}
 use Rattle.request_ledger.specs.RowsOf.{SpRows, closed_if, closed_where, closes, is_among, opened_row, rows_of, rows_after}
 use Rattle.record_ledger.proofs.Words.{same_text}

@@ -16,7 +16,8 @@ use Rattle.http_wire.specs.Vouching.{IsReadAsVouched}
 use Rattle.ledger_records.specs.declared.sp_record.Opened.{Opened as OpenedRecord}
 use Rattle.ledger_records.specs.declared.sp_record.SpRecord.TheVariants as kinds
 use Rattle.provider_node.specs.declared.codes.TheConstants.{NO_MEMORY}
-use Rattle.request_ledger.specs.Ledger.{Held, ledger_in, taken}
+use Rattle.request_ledger.specs.Ledger.{Held, ledger_in}
+use Rattle.record_ledger.specs.Ledger.{taken}
 use Rattle.request_ledger.specs.RowsOf.{opened_row}
 use Rattle.request_rows.specs.declared.row.OpenedRow.{OpenedRow}
 use Rattle.sp_answers.specs.Answers.{denied_answer}

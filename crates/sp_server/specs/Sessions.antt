@@ -10,7 +10,8 @@ use Rattle.ledger_records.specs.declared.sp_record.SpRecord.TheVariants as kinds
 use Rattle.request_rows.specs.declared.row.AskedRow.{AskedRow}
 use Rattle.request_ledger.specs.RowsOf.{rows_of}
 use Rattle.request_ledger.specs.Compacting.{Compacts}
-use Rattle.request_ledger.specs.Ledger.{Held, next_number, held_with}
+use Rattle.request_ledger.specs.Ledger.{Held, next_number}
+use Rattle.record_ledger.specs.Ledger.{held_with}
 use Rattle.request_ledger.specs.Record.{AreRecords}
 use Rattle.request_ledger.specs.Drafts.{opened}
 use Rattle.sp_rules.specs.Opening.{Brought, Opens}

@@ -4,7 +4,8 @@ use Rattle.std.specs.Prelude.{◌≡◌, ℕ, List, ◌++◌, Ok}
 use Rattle.std.specs.List.{flat_map}
 use Rattle.crash_disk.specs.Disk.{Image}
 use Rattle.ledger_records.specs.declared.sp_record.SpRecord.{SpRecord}
-use Rattle.request_ledger.specs.Ledger.{Held, ledger_in, taken}
+use Rattle.request_ledger.specs.Ledger.{Held, ledger_in}
+use Rattle.record_ledger.specs.Ledger.{taken}
 use Rattle.request_ledger.specs.Record.{request_rules, AreRecords}
 use Rattle.request_ledger.specs.Runs.{AreDifferent, request_opened, requests_of_run, requests_opened}
 use Rattle.provider_node.specs.Histories.{AnyMoment, CameFrom}

@@ -14,7 +14,8 @@ use Rattle.provider_node.specs.Histories.{HoldsWhatCame, moments_of}
 use Rattle.provider_node.specs.Staying.{WasAdded}
 use Rattle.provider_node.specs.Starts.{AreAcknowledgedIn, AreStartsAt, LeftBehindAt, Start}
 use Rattle.record_ledger.specs.Runs.{EndsBehind, added}
-use Rattle.request_ledger.specs.Ledger.{Held, ledger_in, taken}
+use Rattle.request_ledger.specs.Ledger.{Held, ledger_in}
+use Rattle.record_ledger.specs.Ledger.{taken}
 use Rattle.request_ledger.specs.Record.{request_rules}
 use Rattle.request_ledger.specs.RowsOf.{closed_if, closes, opened_row, opened_rows}
 use Rattle.request_ledger.specs.Runs.{Event, Leads}

@@ -1,8 +1,8 @@
 use Rattle.std.specs.Prelude.{Some}
 use Rattle.std.proofs.Common.{◌≡◌, List, ℕ, refl, sym, subst}
 use Rattle.http_wire.specs.Views.{request_view}
-use Rattle.idp_ledger.specs.Finding.{session_found}
-use Rattle.idp_ledger.specs.RowsOf.{rows_of}
+use Rattle.idp_rows.specs.Finding.{session_found}
+use Rattle.idp_rows.specs.RowsOf.{rows_of}
 use Rattle.idp_rules.specs.Config.{IsUsable}
 use Rattle.idp_server.proofs.MayStand.{session_stands}
 use Rattle.idp_server.proofs.Sessions.{asks_for, used_session}

@@ -10,8 +10,8 @@ use Rattle.peer_keys.specs.Peers.{place_of}
 use Rattle.user_store.specs.Store.{checked}
 use Rattle.saml_time.specs.declared.TheConstants.{LAST}
 use Rattle.idp_ledger.specs.Drafts.{SESSION_LIFE}
-use Rattle.idp_ledger.specs.Finding.{pending_found}
-use Rattle.idp_ledger.specs.RowsOf.{rows_of}
+use Rattle.idp_rows.specs.Finding.{pending_found}
+use Rattle.idp_rows.specs.RowsOf.{rows_of}
 use Rattle.idp_ledger.proofs.RowTexts.{row_there}
 use Rattle.idp_rules.specs.declared.config.IdpConfig.{IdpConfig}
 use Rattle.idp_server.specs.Replies.{LogsIn}

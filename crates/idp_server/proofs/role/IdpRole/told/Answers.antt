@@ -1,5 +1,5 @@
 use Rattle.std.proofs.Common.{rules, sym}
-use Rattle.idp_ledger.specs.RowsOf.{rows_of}
+use Rattle.idp_rows.specs.RowsOf.{rows_of}
 use Rattle.idp_server.proofs.MayStand.{round_stands}
 use Rattle.idp_server.proofs.TurnRows.{found_texts, turn_is}
 use Rattle.idp_server.proofs.role.IdpRole.told.Goals as goal
