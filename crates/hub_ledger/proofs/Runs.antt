@@ -25,7 +25,8 @@ use Rattle.request_ledger.proofs.RunLaws as sp_laws
 use Rattle.hub_ledger.specs.RowsOf.{opened_rows}
 use Rattle.hub_ledger.specs.Naming.{has_visible, names}
 use Rattle.hub_ledger.specs.Record.{drawn, hub_rules}
-use Rattle.hub_ledger.specs.Ledger.{Held, next_number, held_with, migrated}
+use Rattle.hub_ledger.specs.Ledger.{Held, next_number}
+use Rattle.record_ledger.specs.Ledger.{held_with, migrated}
 use Rattle.hub_ledger.specs.Compacting.{AreKept, IsCompacted}
 use Rattle.hub_ledger.specs.Runs.{Event, Leads, AreDifferent, requests_added}
 use Rattle.hub_ledger.specs.Laws.{NoRequestBacksTwice, NoRequestBacksTwiceInARun}

@@ -85,10 +85,6 @@ spoke key next now below = kinds.Spoke (record {
 abbrev pub Drafts : OpenedLedger → OpenedLedger → HubRecord → Result HubRecord DraftFault → Type 0
 Drafts = any.Drafts hub_rules hub_row_rules
 
--- a draft call changes nothing but the memory that is ready
-abbrev pub SameLedger : OpenedLedger → OpenedLedger → Type 0
-SameLedger = any.SameLedger
-
 -- A record that may be drafted: one of the ledger where its numbers are below the end, and these were not drawn before.
 abbrev pub IsDraftable : Held → HubRecord → Type 0
 IsDraftable = any.IsDraftable hub_rules

@@ -20,17 +20,6 @@ held_of = any.held_of hub_rules
 abbrev pub ledger_in : Image → Result (Option Held) Fault
 ledger_in = any.ledger_in hub_rules
 
--- What a ledger is opened as: what stands there, an empty ledger where there is no journal yet. A journal of version 1 is
--- made anew in version 2: in the other file, with the next generation.
-abbrev pub empty_ledger : Held
-empty_ledger = any.empty_ledger
-
-abbrev pub migrated : Held → Held
-migrated = any.migrated
-
-abbrev pub taken : Result (Option Held) Fault → Result Held Fault
-taken = any.taken
-
 -- an opened ledger
 abbrev pub OpenedLedger : Type 0
 OpenedLedger = any.OpenedLedger HubRecord StandingView
@@ -58,10 +47,6 @@ CanCommit = any.CanCommit hub_rules hub_row_rules
 -- No memory that was made ready is given up.
 abbrev pub KeepsSpare : OpenedLedger → OpenedLedger → Type 0
 KeepsSpare = any.KeepsSpare hub_row_rules
-
--- a ledger with one record more
-abbrev pub held_with : HubRecord → Held → Held
-held_with = any.held_with
 
 -- The journal that the code writes for a ledger.
 abbrev pub kept_of : Held → Kept

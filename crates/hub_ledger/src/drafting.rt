@@ -4,7 +4,8 @@ ghost use Rattle.hub_ledger.specs.Draft.{HoldsIds};
 ghost use Rattle.hub_ledger.specs.Finding.{routed_row};
 ghost use Rattle.hub_ledger.specs.Record.{LAST};
 ghost use Rattle.hub_ledger.specs.Ledger.{KeepsSpare, next_number, rows_in};
-ghost use Rattle.hub_ledger.specs.Drafts.{backed, backed_with, routed, routed_with, spoke, AreSessionTexts, Drafts, IsDraftable, IsXmlBelow, SameLedger};
+ghost use Rattle.hub_ledger.specs.Drafts.{backed, backed_with, routed, routed_with, spoke, AreSessionTexts, Drafts, IsDraftable, IsXmlBelow};
+ghost use Rattle.record_ledger.specs.Drafts.{SameLedger};
 
 use crate::draft::Draft;
 use crate::ids::{LoginIds, RequestIds, login_ids, request_ids};

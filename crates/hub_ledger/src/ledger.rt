@@ -9,7 +9,8 @@ ghost use Rattle.gate_journal.specs.Opening.{open_fault_of, CausesFaults};
 ghost use Rattle.std.specs.Option.{option_map};
 ghost use Rattle.hub_ledger.specs.Finding.{routed_row, routed_view};
 ghost use Rattle.hub_ledger.specs.Record.{AreRecords};
-ghost use Rattle.hub_ledger.specs.Ledger.{CanCommit, IsOwn, IsWithOrWithout, LeftByOpening, held_with, ledger_in, next_number, rows_in, taken};
+ghost use Rattle.hub_ledger.specs.Ledger.{CanCommit, IsOwn, IsWithOrWithout, LeftByOpening, ledger_in, next_number, rows_in};
+ghost use Rattle.record_ledger.specs.Ledger.{held_with, taken};
 ghost use Rattle.hub_ledger.specs.Calls.{committing, opening, FollowsCompaction};
 ghost use Rattle.hub_ledger.specs.Compacting.{Compacts, IsOldOrCompacted};
 

@@ -11,7 +11,8 @@ use Rattle.record_ledger.proofs.Words.{each_weaker, text_itself}
 use Rattle.record_ledger.proofs.Records.{AreRecords-push}
 use Rattle.record_ledger.proofs.Numbers.{fresh_above}
 use Rattle.request_ledger.specs.Record.{drawn, next_of, is_record, AreRecordsAfter, AreRecords, request_rules}
-use Rattle.request_ledger.specs.Ledger.{Held, next_number, held_with, migrated}
+use Rattle.request_ledger.specs.Ledger.{Held, next_number}
+use Rattle.record_ledger.specs.Ledger.{held_with, migrated}
 use Rattle.request_ledger.specs.Compacting.{IsCompacted, Compacts as IsMade}
 use Rattle.record_ledger.specs.Runs.{Adds, Compacts, Opens}
 use Rattle.request_ledger.specs.Runs.{Event, Leads, AreDifferent, requests_opened, requests_of_run}

@@ -1,7 +1,7 @@
 -- Which changing calls of a disk the calls of a service provider's ledger make, in their order.
-use Rattle.std.specs.Prelude.{ℕ, List, Option, Result}
+use Rattle.std.specs.Prelude.{ℕ, List, Result}
 use Rattle.crash_disk.specs.declared.change.Change.{Change}
-use Rattle.crash_disk.specs.Disk.{Image, DiskState}
+use Rattle.crash_disk.specs.Disk.{DiskState}
 use Rattle.crash_disk.specs.Moments.{DiskShown}
 use Rattle.ledger_records.specs.declared.sp_record.SpRecord.{SpRecord}
 use Rattle.record_ledger.specs.Calls as any

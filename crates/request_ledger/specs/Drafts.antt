@@ -118,10 +118,6 @@ Drafts = any.Drafts request_rules request_row_rules
 abbrev pub DraftsSome : OpenedLedger → OpenedLedger → (nothing : Bool) → SpRecord → Result (Option SpRecord) DraftFault → Type 0
 DraftsSome = any.DraftsSome request_rules request_row_rules
 
--- a draft call changes nothing but the memory that is ready
-abbrev pub SameLedger : OpenedLedger → OpenedLedger → Type 0
-SameLedger = any.SameLedger
-
 -- A record that may be drafted: one of the ledger where its numbers are below the end, and these were not drawn before.
 abbrev pub IsDraftable : Held → SpRecord → Type 0
 IsDraftable = any.IsDraftable request_rules

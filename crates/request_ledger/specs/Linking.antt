@@ -5,9 +5,6 @@ use Rattle.ledger_records.specs.declared.sp_record.SpRecord.TheVariants as kinds
 use Rattle.ledger_rules.specs.Numbers.{Drawn}
 use Rattle.record_ledger.specs.Linking as any
 
-abbrev pub as_list : {X : Type 0} → Option X → List X
-as_list = any.as_list
-
 -- the IDs of the rows that a record names
 abbrev pub named : SpRecord → List (List ℕ)
 named (kinds.Asked r) = []

@@ -7,7 +7,8 @@ ghost use Rattle.ledger_rules.specs.Texts.{IsSetOf};
 ghost use Rattle.request_ledger.specs.Record.{LAST};
 ghost use Rattle.request_ledger.specs.Ledger.{KeepsSpare, next_number, rows_in};
 ghost use Rattle.request_ledger.specs.Draft.{HoldsIds};
-ghost use Rattle.request_ledger.specs.Drafts.{asked, opened, opened_with, left, ended, confirmed, is_empty, is_listed, is_ending, ending, is_waiting_now, AreSessionTexts, Drafts, DraftsSome, IsDraftable, SameLedger};
+ghost use Rattle.request_ledger.specs.Drafts.{asked, opened, opened_with, left, ended, confirmed, is_empty, is_listed, is_ending, ending, is_waiting_now, AreSessionTexts, Drafts, DraftsSome, IsDraftable};
+ghost use Rattle.record_ledger.specs.Drafts.{SameLedger};
 
 use crate::draft::Draft;
 use crate::ledger::Ledger;

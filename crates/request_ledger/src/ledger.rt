@@ -10,7 +10,8 @@ ghost use Rattle.request_rows.specs.Rows.{session_row};
 ghost use Rattle.request_ledger.specs.RowsOf.{rows_of};
 ghost use Rattle.request_ledger.specs.Record.{AreRecords};
 ghost use Rattle.request_ledger.specs.Standing.{rows_in as standing_rows};
-ghost use Rattle.request_ledger.specs.Ledger.{CanCommit, IsOwn, IsWithOrWithout, LeftByOpening, held_with, ledger_in, next_number, rows_in, taken};
+ghost use Rattle.request_ledger.specs.Ledger.{CanCommit, IsOwn, IsWithOrWithout, LeftByOpening, ledger_in, next_number, rows_in};
+ghost use Rattle.record_ledger.specs.Ledger.{held_with, taken};
 ghost use Rattle.request_ledger.specs.Calls.{committing, opening, FollowsCompaction};
 ghost use Rattle.request_ledger.specs.Compacting.{Compacts, IsOldOrCompacted};
 
