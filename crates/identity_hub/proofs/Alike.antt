@@ -1,10 +1,11 @@
 -- What a compaction leaves as it was: the answers at its moment.
-use Rattle.std.proofs.Common.{inl, inr, ℕ, List, sym, subst, refl, arith}
+use Rattle.std.proofs.Common.{ℕ, List, refl}
 use Rattle.hub_ledger.specs.RowsOf.{rows_of}
-use Rattle.hub_ledger.specs.Record.{AreRecords}
+use Rattle.hub_ledger.specs.Record.{AreRecords, hub_rules}
 use Rattle.hub_ledger.specs.Ledger.{Held}
 use Rattle.hub_ledger.specs.Compacting.{Compacts}
 use Rattle.hub_ledger.specs.Laws.{AnswerAlike, CompactionsChangeNoAnswer}
+use Rattle.provider_node.proofs.Alike as any
 use Rattle.sp_rules.specs.declared.accepted.Accepted.{Accepted}
 use Rattle.sp_rules.specs.declared.config.SpConfig.{SpConfig}
 use Rattle.sp_rules.specs.Shown.{IsOpening}
@@ -17,8 +18,7 @@ alike_self now held =
 
 pub alike : CompactionsChangeNoAnswer → (now : ℕ) (old new : Held) → AreRecords old.records → Compacts now old new
     → AnswerAlike now new old
-alike law now old new are (inl same) = subst (λ (h : Held). AnswerAlike now h old) (sym same.1) (alike_self now old)
-alike law now old new are (inr made) = law now now old new are made.1 (omega arith)
+alike = any.alike hub_rules AnswerAlike alike_self
 
 -- a login from above is judged by what is answered alike
 pub rows_alike : (now : ℕ) (one other : Held) → AnswerAlike now one other

@@ -1,13 +1,10 @@
 -- What is kept of a service, and over several starts.
 use Rattle.std.specs.Prelude.{Option, Some}
 use Rattle.std.proofs.Common.{◌≡◌, ℕ, ◌≤◌, All, subst, refl, arith}
-use Rattle.std.specs.List.{AllByRecursion}
-use Rattle.std.proofs.lemmas.List.Elements.{All-from_recursion}
 use Rattle.http_wire.specs.declared.answer.Answer.{Answer}
 use Rattle.http_wire.specs.Requests.{Request}
 use Rattle.ledger_records.specs.declared.hub_record.HubRecord.{HubRecord}
-use Rattle.ledger_rules.specs.Numbers.{Drawn}
-use Rattle.provider_node.proofs.Histories.{DrawsAbove, what_is_kept}
+use Rattle.provider_node.proofs.Histories.{DrawsAbove, IsAbove, above_of_each, what_is_kept}
 use Rattle.provider_node.proofs.Starts.{kept_over}
 use Rattle.hub_ledger.specs.Laws.{ImagesHoldRecords, NoRequestBacksTwiceInARun}
 use Rattle.hub_ledger.specs.Ledger.{Held, next_number}
@@ -17,32 +14,20 @@ use Rattle.identity_hub.specs.Histories.{WhatIsAcknowledgedIsKeptOnce, WhatIsAck
 use Rattle.identity_hub.specs.Step as steps
 use Rattle.identity_hub.specs.Step.{Answers, backed_for, below_of, routed_for, spoken_for}
 
-abbrev IsAbove : Held → HubRecord → Type 0
-IsAbove held r = All (λ (d : Drawn). next_number held ≤ d.number) (drawn r)
-
-above_of_each : (held : Held) (r : HubRecord) → AllByRecursion (λ (d : Drawn). next_number held ≤ d.number) (drawn r)
-    → IsAbove held r
-above_of_each held r each = All-from_recursion (λ (d : Drawn). next_number held ≤ d.number) (drawn r) each
-
 -- the numbers that a record draws which is added with an answer
 above : (setup : HubConfig) (held : Held) (request : Request) (now : ℕ) (answer : Answer) (adds : Option HubRecord)
-    (r : HubRecord) → Answers setup held request now answer adds → adds ≡ Some r → IsAbove held r
+    (r : HubRecord) → Answers setup held request now answer adds → adds ≡ Some r → IsAbove hub_rules held r
 above setup held request now answer adds r (steps.ByStatus status to is none) some = absurd (cc)
 above setup held request now answer adds r (steps.ByMetadata role to is none) some = absurd (cc)
 above setup held request now answer adds r (steps.ByRefusal verdict to refused is none) some = absurd (cc)
 above setup held request now answer adds r (steps.BySpeaking asked peer message bytes asks passive is named page shown) some =
-    let same : spoken_for setup held now (below_of asked peer) ≡ r = cc in
-    subst (IsAbove held) same (above_of_each held (spoken_for setup held now (below_of asked peer)) (omega arith, tt))
+    above_of_each hub_rules held (spoken_for setup held now (below_of asked peer)) r (cc) (omega arith, tt)
 above setup held request now answer adds r (steps.ByAsking asked peer q bytes asks passive own is page shown) some =
-    let same : routed_for setup held now (below_of asked peer) ≡ r = cc in
-    subst (IsAbove held) same
-    (above_of_each held (routed_for setup held now (below_of asked peer)) (omega arith, (omega arith, tt)))
+    above_of_each hub_rules held (routed_for setup held now (below_of asked peer)) r (cc) (omega arith, (omega arith, tt))
 above setup held request now answer adds r (steps.ByVerdict verdict to refused is none) some = absurd (cc)
 above setup held request now answer adds r (steps.ByUnknownPeer b asked brings unknown is none) some = absurd (cc)
 above setup held request now answer adds r (steps.ByPassing b asked row peer q bytes brings is_for own is page shown) some =
-    let same : backed_for setup held now b row.below ≡ r = cc in
-    subst (IsAbove held) same
-    (above_of_each held (backed_for setup held now b row.below) (omega arith, (omega arith, (omega arith, tt))))
+    above_of_each hub_rules held (backed_for setup held now b row.below) r (cc) (omega arith, (omega arith, (omega arith, tt)))
 
 pub draws_above : DrawsAbove hub_rules Answers
 draws_above setup held request now answer r answers = above setup held request now answer (Some r) r answers refl

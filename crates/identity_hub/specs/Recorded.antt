@@ -1,14 +1,12 @@
 -- What stands behind an answer.
-use Rattle.std.specs.Prelude.{◌≡◌, ◌⊎◌, ℕ, List, Option, Some, Ok}
+use Rattle.std.specs.Prelude.{◌≡◌, ◌⊎◌, ℕ, List, Option}
 use Rattle.crash_disk.specs.Counts.{Rose}
-use Rattle.crash_disk.specs.Disk.{Image, DiskState}
-use Rattle.crash_disk.specs.Moments.{Leaves}
+use Rattle.crash_disk.specs.Disk.{DiskState}
 use Rattle.http_wire.specs.declared.answer.Answer.{Answer}
 use Rattle.http_wire.specs.declared.answer.Answer.TheVariants.{Full}
 use Rattle.http_wire.specs.Requests.{Request}
-use Rattle.ledger_records.specs.declared.hub_record.HubRecord.{HubRecord}
-use Rattle.hub_ledger.specs.Ledger.{Held, ledger_in}
-use Rattle.record_ledger.specs.Ledger.{held_with}
+use Rattle.hub_ledger.specs.Record.{hub_rules}
+use Rattle.provider_node.specs.Recorded as any
 use Rattle.service_routes.specs.declared.route.Route.TheVariants.{To}
 use Rattle.identity_hub.specs.declared.config.HubConfig.{HubConfig}
 use Rattle.identity_hub.specs.declared.route.Service.TheVariants.{SignOn, Consumer}
@@ -16,12 +14,8 @@ use Rattle.identity_hub.specs.Routes.{route}
 use Rattle.identity_hub.specs.Step.{Answers, OwnsDisk, Provider, Steps}
 
 -- the answer stands for a record, and each ledger that a crash may leave has it behind the others
-pub record IsRecorded (setup : HubConfig) (request : Request) (now : ℕ) (answer : Answer) (disk : Option DiskState) :
-    Type 0 where
-  pub held : Held
-  pub r : HubRecord
-  pub stands : Answers setup held request now answer (Some r)
-  pub kept : (image : Image) → Leaves disk image → ledger_in image ≡ Ok (Some (held_with r held))
+abbrev pub IsRecorded : HubConfig → Request → ℕ → Answer → Option DiskState → Type 0
+IsRecorded = any.IsRecorded hub_rules Answers
 
 -- Whatever form is answered to what is posted, its record is in every image that a crash may leave behind the step: it was written
 -- before the answer is sent. So each request upwards and each login that is passed on has its record.

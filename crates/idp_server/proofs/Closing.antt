@@ -1,11 +1,10 @@
 -- Wherever sessions are ended.
-use Rattle.std.specs.Prelude.{codes, slice_get}
-use Rattle.std.proofs.Common.{◌≡◌, ◌⊎◌, ◌++◌, inl, inr, ℕ, Bool, true, false, ◌&&◌, ◌||◌, not, if◌then◌else◌, List, [], ◌∷◌, map, Option, None, Some, sym, subst, refl, ap, ◌∙◌}
-use Rattle.std.specs.List.{filter, list_any}
-use Rattle.std.specs.Option.{option_and_then}
+use Rattle.std.specs.Prelude.{slice_get}
+use Rattle.std.proofs.Common.{◌≡◌, ◌⊎◌, inl, inr, ℕ, Bool, true, false, ◌||◌, if◌then◌else◌, List, [], ◌∷◌, Option, None, Some, sym, subst, refl, ap, ◌∙◌}
+use Rattle.std.specs.List.{list_any}
 use Rattle.std.specs.Str.{bytes_eq}
-use Rattle.http_wire.specs.Cookies.{cookie_value}
 use Rattle.std.proofs.lemmas.Bool.{false≢true, or_cases}
+use Rattle.crash_disk.specs.Counts.{Rose}
 use Rattle.http_wire.specs.declared.answer.Answer.{Answer}
 use Rattle.http_wire.specs.declared.answer.Answer.TheVariants.{Full}
 use Rattle.http_wire.specs.Requests.{Request}
@@ -19,28 +18,25 @@ use Rattle.protocol_messages.specs.declared.logout.LogoutRequest.{LogoutRequest}
 use Rattle.protocol_messages.specs.declared.logout.LogoutResponse.{LogoutResponse}
 use Rattle.verdict_codes.specs.declared.codes.Verdict.{Verdict}
 use Rattle.idp_rows.specs.declared.row.SessionRow.{SessionRow}
-use Rattle.idp_rows.specs.Finding.{is_empty, is_ending, session_found, visible}
+use Rattle.idp_rows.specs.Finding.{is_empty, is_ending}
 use Rattle.idp_ledger.specs.Ledger.{Held}
 use Rattle.record_ledger.specs.Ledger.{held_with}
-use Rattle.idp_rows.specs.RowsOf.{IdpRows, ended_where, ends, is_among, issued_rows, rows_after, rows_of, session_rows}
-use Rattle.idp_rows.specs.Record.{is_unended}
-use Rattle.record_ledger.proofs.Words.{other_way, same_text, text_itself}
-use Rattle.idp_ledger.proofs.RowLaws.{rows_of-push}
+use Rattle.idp_rows.specs.RowsOf.{ends, is_among, issued_rows, session_rows}
+use Rattle.idp_ledger.specs.Record.{idp_rules}
+use Rattle.record_ledger.proofs.Words.{same_text, text_itself}
 use Rattle.idp_ledger.proofs.RowTexts.{any_there}
 use Rattle.idp_rules.specs.declared.config.IdpConfig.{IdpConfig}
-use Rattle.provider_node.specs.Step as shared
+use Rattle.provider_node.proofs.Sessions.{chosen_there, found_itself, shut_among, shut_one, some_among}
+use Rattle.provider_node.proofs.Wanted.{comes_of_wanted}
 use Rattle.idp_server.specs.Histories.{IsEnded}
 use Rattle.logout_turns.specs.declared.part.Asker.{Asker}
 use Rattle.idp_server.specs.Logouts.{AnswersEndExactly, EndsOver, IsOfLogoutIfEnding, LeavesOver, SessionsEndBeforeTheAnswer, WhatIsAnsweredToALogoutIsRecorded, WhereverAPeerEnds, WhereverAUserLeaves, ending_record, leaving_record}
 use Rattle.idp_server.specs.Replies.{OfPeer, OfUser}
 use Rattle.idp_server.specs.Rounds.{asks_others, round_by}
 use Rattle.idp_server.specs.Step as steps
-use Rattle.idp_server.specs.Step.{Answers, AsksToEnd, HasPlace, RepliesTo, asker_of, ended_by, ending_by, left_by, session_for}
-use Rattle.idp_server.proofs.Issues.{followed, found_at}
-use Rattle.idp_server.proofs.StayingEnded.{cookies_stay, ended_all, ended_with}
-
-same_record : (adds : Option IdpRecord) (one other : IdpRecord) → adds ≡ Some one → adds ≡ Some other → one ≡ other
-same_record adds one other first second = let same : Some one ≡ Some other = sym first ∙ second in cc
+use Rattle.idp_server.specs.Step.{Answers, AsksToEnd, RepliesTo, asker_of, ended_by, ending_by, left_by, session_for}
+use Rattle.idp_server.proofs.StayingEnded.{begun_sessions, ended_behind}
+use Rattle.idp_server.proofs.Told.{said}
 
 -- ---- a user who leaves
 
@@ -48,29 +44,21 @@ same_record adds one other first second = let same : Some one ≡ Some other = s
 there_is : (held : Held) (now : ℕ) (request : Request) (row : SessionRow) → session_for held now request ≡ Some row
     → list_any (λ (s : SessionRow). bytes_eq s.cookie row.cookie) (session_rows held.records) ≡ true
 there_is held now request row live =
-    let rows = session_rows held.records in
-    let cookie = followed (λ cookie. session_found rows cookie now held.header.horizon) (option_and_then (λ header. cookie_value header (codes "idp_sid")) request.cookie) row live in
-    let found = found_at (λ (s : SessionRow). bytes_eq s.cookie cookie.0 && not s.ended && visible s.until now held.header.horizon) rows row cookie.2 in
-    any_there (λ (s : SessionRow). bytes_eq s.cookie row.cookie) rows found.0 row found.1 (text_itself row.cookie)
+    (found_itself begun_sessions (session_rows held.records) now held.header.horizon _ row live).there
 
 -- it is ended behind a record that ends its cookie, and behind one that lists it
-left_ends : (key : List ℕ) (held : Held) (now : ℕ) (request : Request) (row : SessionRow) → session_for held now request ≡ Some row → IsEnded (held_with (left_by key held now row.cookie) held) row.cookie
+left_ends : (key : List ℕ) (held : Held) (now : ℕ) (request : Request) (row : SessionRow)
+    → session_for held now request ≡ Some row → IsEnded (held_with (left_by key held now row.cookie) held) row.cookie
 left_ends key held now request row live =
-    let rows = session_rows held.records in
-    let f : SessionRow → Bool = λ o. bytes_eq row.cookie o.cookie in
-    ended_with held (left_by key held now row.cookie) row.cookie _ (rows_of-push held.records (left_by key held now row.cookie))
-    (cookies_stay f rows row.cookie ∙ there_is held now request row live)
-    (ended_all f rows row.cookie (λ o same. other_way o.cookie row.cookie same))
+    ended_behind held (left_by key held now row.cookie) row.cookie
+    (shut_one begun_sessions (session_rows held.records) _ row.cookie refl (there_is held now request row live))
 
-pub round_ends : (setup : IdpConfig) (held : Held) (now : ℕ) (asker : Option Asker) (cookies : List (List ℕ)) (cookie : List ℕ)
-    → list_any (λ (s : SessionRow). bytes_eq s.cookie cookie) (session_rows held.records) ≡ true → is_among cookie cookies ≡ true
-    → IsEnded (held_with (round_by setup held now asker cookies) held) cookie
+pub round_ends : (setup : IdpConfig) (held : Held) (now : ℕ) (asker : Option Asker) (cookies : List (List ℕ))
+    (cookie : List ℕ) → list_any (λ (s : SessionRow). bytes_eq s.cookie cookie) (session_rows held.records) ≡ true
+    → is_among cookie cookies ≡ true → IsEnded (held_with (round_by setup held now asker cookies) held) cookie
 round_ends setup held now asker cookies cookie there among =
-    let rows = session_rows held.records in
-    let f : SessionRow → Bool = λ o. is_among o.cookie cookies in
-    ended_with held (round_by setup held now asker cookies) cookie _ (rows_of-push held.records (round_by setup held now asker cookies))
-    (cookies_stay f rows cookie ∙ there)
-    (ended_all f rows cookie (λ o same. subst (λ (t : List ℕ). is_among t cookies ≡ true) (sym (same_text o.cookie cookie same)) among))
+    ended_behind held (round_by setup held now asker cookies) cookie
+    (shut_among begun_sessions (session_rows held.records) _ cookie cookies refl there among)
 
 itself_among : (cookie : List ℕ) → is_among cookie (cookie ∷ []) ≡ true
 itself_among cookie = ap (λ (b : Bool). b || false) (text_itself cookie)
@@ -93,16 +81,6 @@ other_where false one other is = refl
 
 left_added : (setup : IdpConfig) (held : Held) (request : Request) (now : ℕ) (answer : Answer) (adds : Option IdpRecord) (row : SessionRow) → LeavesOver held request now row
     → Answers setup held request now answer adds → adds ≡ Some (leaving_record setup held now row.cookie)
-left_added setup held request now answer adds row over (steps.ByStatus status to is none) = absurd (let e = sym over.posted ∙ to in cc)
-left_added setup held request now answer adds row over (steps.ByMetadata to is none) = absurd (let e = sym over.posted ∙ to in cc)
-left_added setup held request now answer adds row over (steps.ByVerdict verdict to refused is none) = absurd (let e = sym over.posted ∙ to in cc)
-left_added setup held request now answer adds row over (steps.ByIssuing asked peer other r bytes to is known used drafted adding answers full) = absurd (let e = sym over.posted ∙ to in cc)
-left_added setup held request now answer adds row over (steps.ByPassive asked peer message bytes to is known none passive adding named answers full) = absurd (let e = sym over.posted ∙ to in cc)
-left_added setup held request now answer adds row over (steps.ByAsking asked peer id to is known none passive adding named full) = absurd (let e = sym over.posted ∙ to in cc)
-left_added setup held request now answer adds row over (steps.ByFields to bad is none) = absurd (let e = sym over.posted ∙ to in cc)
-left_added setup held request now answer adds row over (steps.ByNoPending t to posted nothing is none) = absurd (let e = sym over.posted ∙ to in cc)
-left_added setup held request now answer adds row over (steps.ByPassword t other peer to posted pends refused is none) = absurd (let e = sym over.posted ∙ to in cc)
-left_added setup held request now answer adds row over (steps.ByLogin t other peer user r bytes to posted pends accepted drafted adding answers full) = absurd (let e = sym over.posted ∙ to in cc)
 left_added setup held request now answer adds row over (steps.ByNoSession to none is nothing) = absurd (let e = sym none ∙ over.live in cc)
 left_added setup held request now answer adds row over (steps.ByLeaving other r bytes to live alone drafted adding answers full) =
     let some : Some other ≡ Some row = sym live ∙ over.live in
@@ -114,32 +92,14 @@ left_added setup held request now answer adds row over (steps.ByLeavingAll other
     let same : other ≡ row = cc in
     let chosen = chosen_where (asks_others setup held None (other.cookie ∷ [])) (round_by setup held now None (other.cookie ∷ [])) (left_by setup.id_key held now other.cookie) asks in
     adding ∙ ap Some (sym drafted) ∙ ap Some (sym chosen) ∙ ap (λ (s : SessionRow). Some (leaving_record setup held now s.cookie)) same
-left_added setup held request now answer adds row over (steps.ByLogoutVerdict verdict to refused is none) = absurd (let e = sym over.posted ∙ to in cc)
-left_added setup held request now answer adds row over (steps.ByNothingToEnd asked peer relay to asks nothing is none) = absurd (let e = sym over.posted ∙ to in cc)
-left_added setup held request now answer adds row over (steps.ByEnding asked peer relay r bytes to asks some alone drafted adding answers full) = absurd (let e = sym over.posted ∙ to in cc)
-left_added setup held request now answer adds row over (steps.ByEndingAll asked peer relay r bytes to asks some others drafted adding first full) = absurd (let e = sym over.posted ∙ to in cc)
-left_added setup held request now answer adds row over (steps.ByTold response peer other r bytes to replies waits drafted adding answers full) = absurd (let e = sym over.posted ∙ to in cc)
-left_added setup held request now answer adds row over (steps.ByUnknownLogout response peer to replies no_round unknown is none) = absurd (let e = sym over.posted ∙ to in cc)
-left_added setup held request now answer adds row over (steps.ByConfirming response peer to replies no_round waits adding full) = absurd (let e = sym over.posted ∙ to in cc)
-
-left_is : (setup : IdpConfig) (held : Held) (request : Request) (now : ℕ) (answer : Answer) (wanted : IdpRecord) (row : SessionRow) → LeavesOver held request now row
-    → Answers setup held request now answer (Some wanted) → leaving_record setup held now row.cookie ≡ wanted
-left_is setup held request now answer wanted row over answers =
-    same_record (Some wanted) _ wanted (left_added setup held request now answer (Some wanted) row over answers) refl
+left_added setup held request now answer adds row over other =
+    absurd (let says = (said setup held request now answer adds other).is in cc)
 
 pub wherever_left : WhereverAUserLeaves
-wherever_left found request now faults later answer old new row over room calm (shared.Plain answers whole) =
-    absurd (let e = left_added old.setup found request now answer None row over answers in cc)
-wherever_left found request now faults later answer old new row over room calm (shared.Recorded r answers place whole) =
-    let same = left_is old.setup found request now answer r row over answers in
-    inr (subst (λ (h : Held). IsEnded h row.cookie) (sym whole.is)
-    (subst (λ (x : IdpRecord). IsEnded (held_with x found) row.cookie) same (leaving_ends old.setup found now request row over.live)))
-wherever_left found request now faults later answer old new row over room calm (shared.RecordedAfterCompaction held r space answers place whole) =
-    absurd (space.none (subst (HasPlace found) (left_is old.setup found request now space.other space.wanted row over space.wants) room))
-wherever_left found request now faults later answer old new row over room calm (shared.NoPlace held r another space answers still is whole) =
-    absurd (space.none (subst (HasPlace found) (left_is old.setup found request now space.other space.wanted row over space.wants) room))
-wherever_left found request now faults later answer old new row over room calm (shared.Failed wanted other wants risen is broken) = absurd (calm risen)
-wherever_left found request now faults later answer old new row over room calm (shared.Starved held which is whole) = inl is
+wherever_left found request now faults later answer old new row over room calm serves =
+    comes_of_wanted idp_rules Answers (λ (h : Held). IsEnded h row.cookie) found request now (Rose faults later) answer
+    old new (leaving_record old.setup found now row.cookie) (leaving_ends old.setup found now request row over.live)
+    (λ other adds answers. left_added old.setup found request now other adds row over answers) room calm serves
 
 -- ---- a peer that asks
 
@@ -150,39 +110,19 @@ pub record IsOneLogout : Type 0 where
   pub once : (peers : List LogoutPeer) (second : Option (List ℕ)) (address : List ℕ) (skew now : ℕ) (body : List ℕ) (one other : Message)
       → IsAccepted peers second address skew now body one → IsAccepted peers second address skew now body other → one ≡ other
 
-kept_there : (p : Bool) (row : SessionRow) (kept : List SessionRow) (cookie : List ℕ) (rest : Bool)
-    → (list_any (λ other. bytes_eq other cookie) (map (λ (r : SessionRow). r.cookie) kept) ≡ true → rest ≡ true)
-    → list_any (λ other. bytes_eq other cookie) (map (λ (r : SessionRow). r.cookie) (if p then row ∷ kept else kept)) ≡ true → (bytes_eq row.cookie cookie || rest) ≡ true
-kept_there true row kept cookie rest more is = either (bytes_eq row.cookie cookie) _ rest more is
-  where
-    either : (a b c : Bool) → (b ≡ true → c ≡ true) → (a || b) ≡ true → (a || c) ≡ true
-    either true b c more is = refl
-    either false b c more is = more is
-kept_there false row kept cookie rest more is = behind (bytes_eq row.cookie cookie) rest (more is)
-  where
-    behind : (a c : Bool) → c ≡ true → (a || c) ≡ true
-    behind true c is = refl
-    behind false c is = is
-
-filtered_there : (test : SessionRow → Bool) (rows : List SessionRow) (cookie : List ℕ) → is_among cookie (map (λ (r : SessionRow). r.cookie) (filter test rows)) ≡ true
-    → list_any (λ (r : SessionRow). bytes_eq r.cookie cookie) rows ≡ true
-filtered_there test [] cookie is = absurd (let clash : false ≡ true = is in cc)
-filtered_there test (row ∷ rows) cookie is = kept_there (test row) row (filter test rows) cookie _ (filtered_there test rows cookie) is
-
 ending_there : (held : Held) (now : ℕ) (peer : List ℕ) (asked : LogoutRequest) (cookie : List ℕ) → is_among cookie (ending_by held now peer asked) ≡ true
     → list_any (λ (s : SessionRow). bytes_eq s.cookie cookie) (session_rows held.records) ≡ true
 ending_there held now peer asked cookie among =
-    filtered_there (is_ending now held.header.horizon peer asked.name asked.indexes (issued_rows held.records)) (session_rows held.records) cookie among
+    chosen_there begun_sessions (session_rows held.records) cookie
+    (is_ending now held.header.horizon peer asked.name asked.indexes (issued_rows held.records)) among
 
-ended_ends : (key : List ℕ) (held : Held) (now : ℕ) (peer : List ℕ) (asked : LogoutRequest) (cookie : List ℕ) → is_among cookie (ending_by held now peer asked) ≡ true
+ended_ends : (key : List ℕ) (held : Held) (now : ℕ) (peer : List ℕ) (asked : LogoutRequest) (cookie : List ℕ)
+    → is_among cookie (ending_by held now peer asked) ≡ true
     → IsEnded (held_with (ended_by key held now peer asked) held) cookie
 ended_ends key held now peer asked cookie among =
-    let rows = session_rows held.records in
-    let cookies = ending_by held now peer asked in
-    let f : SessionRow → Bool = λ o. is_among o.cookie cookies in
-    ended_with held (ended_by key held now peer asked) cookie _ (rows_of-push held.records (ended_by key held now peer asked))
-    (cookies_stay f rows cookie ∙ ending_there held now peer asked cookie among)
-    (ended_all f rows cookie (λ o same. subst (λ (t : List ℕ). is_among t cookies ≡ true) (sym (same_text o.cookie cookie same)) among))
+    ended_behind held (ended_by key held now peer asked) cookie
+    (shut_among begun_sessions (session_rows held.records) _ cookie (ending_by held now peer asked) refl
+    (ending_there held now peer asked cookie among) among)
 
 ending_ends : (setup : IdpConfig) (held : Held) (now : ℕ) (peer : LogoutPeer) (asked : LogoutRequest) (relay : Option (List ℕ)) (cookie : List ℕ)
     → is_among cookie (ending_by held now peer.peer.entity asked) ≡ true → IsEnded (held_with (ending_record setup held now peer asked relay) held) cookie
@@ -204,40 +144,23 @@ only_one one cookie among = elim (or_cases (bytes_eq one cookie) false among) [
   | inr none ↦ absurd (false≢true none)
 ]
 
-listed_ends : (held : Held) (r : IdpRecord) (cookies : List (List ℕ)) (cookie : List ℕ)
-    → (rows_of (held.records ++ r ∷ [])).sessions ≡ ended_where (λ (o : SessionRow). is_among o.cookie cookies) (session_rows held.records)
-    → list_any (λ (s : SessionRow). bytes_eq s.cookie cookie) (session_rows held.records) ≡ true → is_among cookie cookies ≡ true → IsEnded (held_with r held) cookie
-listed_ends held r cookies cookie is there among =
-    let rows = session_rows held.records in
-    let f : SessionRow → Bool = λ o. is_among o.cookie cookies in
-    record {
-      there = ap (λ (x : List SessionRow). list_any (λ (s : SessionRow). bytes_eq s.cookie cookie) x) is ∙ cookies_stay f rows cookie ∙ there;
-      ended = ap (λ (x : List SessionRow). is_unended x cookie) is
-          ∙ ended_all f rows cookie (λ o same. subst (λ (t : List ℕ). is_among t cookies ≡ true) (sym (same_text o.cookie cookie same)) among);
-    }
-
-sessions_push : (held : Held) (r : IdpRecord) → (rows_of (held.records ++ r ∷ [])).sessions ≡ (rows_after (rows_of held.records) r).sessions
-sessions_push held r = ap (λ (x : IdpRows). x.sessions) (rows_of-push held.records r)
-
 pub ends_behind : (setup : IdpConfig) (held : Held) (request : Request) (now : ℕ) (r : IdpRecord) (cookie : List ℕ) → IsOfLogoutIfEnding setup held request now r → ends cookie r ≡ true
     → IsEnded (held_with r held) cookie
-ends_behind setup held request now (kinds.Pending r) cookie of ending = absurd (false≢true ending)
-ends_behind setup held request now (kinds.Issued r) cookie of ending = absurd (false≢true ending)
 ends_behind setup held request now (kinds.Ended r) cookie of ending =
     let among = subst (λ (cs : List (List ℕ)). is_among cookie cs ≡ true) of.cookies_are ending in
-    listed_ends held (kinds.Ended r) r.cookies cookie (sessions_push held (kinds.Ended r)) (ending_there held now of.peer.peer.entity of.asked cookie among) ending
+    ended_behind held (kinds.Ended r) cookie
+    (shut_among begun_sessions (session_rows held.records) _ cookie r.cookies refl
+    (ending_there held now of.peer.peer.entity of.asked cookie among) ending)
 ends_behind setup held request now (kinds.Left r) cookie of ending =
     let rows = session_rows held.records in
-    let f : SessionRow → Bool = λ o. bytes_eq r.cookie o.cookie in
-    let same = same_text r.cookie cookie ending in
-    let own = subst (λ (c : List ℕ). bytes_eq of.row.cookie c ≡ true) (of.named ∙ same) (text_itself of.row.cookie) in
-    ended_with held (kinds.Left r) cookie _ (rows_of-push held.records (kinds.Left r))
-    (cookies_stay f rows cookie ∙ any_there (λ (s : SessionRow). bytes_eq s.cookie cookie) rows of.place of.row of.there own)
-    (ended_all f rows cookie (λ o here. subst (λ (c : List ℕ). bytes_eq c o.cookie ≡ true) (sym same) (other_way o.cookie cookie here)))
-ends_behind setup held request now (kinds.Confirmed r) cookie of ending = absurd (false≢true ending)
-ends_behind setup held request now (kinds.Spoke r) cookie of ending = absurd (false≢true ending)
+    let own = subst (λ (c : List ℕ). bytes_eq of.row.cookie c ≡ true) of.named (text_itself of.row.cookie) in
+    subst (IsEnded (held_with (kinds.Left r) held)) (same_text r.cookie cookie ending)
+    (ended_behind held (kinds.Left r) r.cookie
+    (shut_one begun_sessions rows _ r.cookie refl
+    (any_there (λ (s : SessionRow). bytes_eq s.cookie r.cookie) rows of.place of.row of.there own)))
 ends_behind setup held request now (kinds.Round r) cookie of ending =
-    listed_ends held (kinds.Round r) r.cookies cookie (sessions_push held (kinds.Round r)) (there of.of) ending
+    ended_behind held (kinds.Round r) cookie
+    (shut_among begun_sessions (session_rows held.records) _ cookie r.cookies refl (there of.of) ending)
   where
     there : OfUser held request now r.cookies r.asker ⊎ OfPeer setup held request now r.cookies r.asker
         → list_any (λ (s : SessionRow). bytes_eq s.cookie cookie) (session_rows held.records) ≡ true
@@ -245,7 +168,7 @@ ends_behind setup held request now (kinds.Round r) cookie of ending =
         let same = only_one u.row.cookie cookie (subst (λ (cs : List (List ℕ)). is_among cookie cs ≡ true) u.cookies_are ending) in
         subst (λ (c : List ℕ). list_any (λ (s : SessionRow). bytes_eq s.cookie c) (session_rows held.records) ≡ true) same (there_is held now request u.row u.live)
     there (inr p) = ending_there held now p.peer.peer.entity p.asked cookie (subst (λ (cs : List (List ℕ)). is_among cookie cs ≡ true) p.cookies_are ending)
-ends_behind setup held request now (kinds.Told r) cookie of ending = absurd (false≢true ending)
+ends_behind setup held request now other cookie of ending = absurd (false≢true ending)
 
 pub sessions_end_before : AnswersEndExactly → WhatIsAnsweredToALogoutIsRecorded → SessionsEndBeforeTheAnswer
 sessions_end_before only recorded old new disk later request now before after bytes does own routed =
@@ -257,10 +180,6 @@ sessions_end_before only recorded old new disk later request now before after by
       kept = is.kept;
       ended = λ cookie ending. ends_behind old.setup is.held request now is.r cookie (only old.setup is.held request now (Full bytes) is.r is.stands) ending;
     }
-
-some_among : (cookie : List ℕ) (cookies : List (List ℕ)) → is_among cookie cookies ≡ true → is_empty cookies ≡ true → ⊥
-some_among cookie [] among none = let clash : false ≡ true = among in cc
-some_among cookie (first ∷ cookies) among none = let clash : false ≡ true = none in cc
 
 -- one request of one peer, with one relay
 record AreSame (one other : LogoutRequest) (peer another : LogoutPeer) (relay more : Option (List ℕ)) : Type 0 where
@@ -309,21 +228,6 @@ module _ (law : IsOneLogout) where
   ended_added : (setup : IdpConfig) (held : Held) (request : Request) (now : ℕ) (answer : Answer) (adds : Option IdpRecord) (asked : LogoutRequest) (peer : LogoutPeer) (cookie : List ℕ)
       → (over : EndsOver setup request now asked peer) → is_among cookie (ending_by held now peer.peer.entity asked) ≡ true → Answers setup held request now answer adds
       → adds ≡ Some (ending_record setup held now peer asked over.relay)
-  ended_added setup held request now answer adds asked peer cookie over among (steps.ByStatus status to is none) = absurd (let e = sym over.posted ∙ to in cc)
-  ended_added setup held request now answer adds asked peer cookie over among (steps.ByMetadata to is none) = absurd (let e = sym over.posted ∙ to in cc)
-  ended_added setup held request now answer adds asked peer cookie over among (steps.ByVerdict verdict to refused is none) = absurd (let e = sym over.posted ∙ to in cc)
-  ended_added setup held request now answer adds asked peer cookie over among (steps.ByIssuing a p row r bytes to is known used drafted adding answers full) = absurd (let e = sym over.posted ∙ to in cc)
-  ended_added setup held request now answer adds asked peer cookie over among (steps.ByPassive a p message bytes to is known none passive adding named answers full) =
-      absurd (let e = sym over.posted ∙ to in cc)
-  ended_added setup held request now answer adds asked peer cookie over among (steps.ByAsking a p id to is known none passive adding named full) = absurd (let e = sym over.posted ∙ to in cc)
-  ended_added setup held request now answer adds asked peer cookie over among (steps.ByFields to bad is none) = absurd (let e = sym over.posted ∙ to in cc)
-  ended_added setup held request now answer adds asked peer cookie over among (steps.ByNoPending t to posted nothing is none) = absurd (let e = sym over.posted ∙ to in cc)
-  ended_added setup held request now answer adds asked peer cookie over among (steps.ByPassword t row p to posted pends refused is none) = absurd (let e = sym over.posted ∙ to in cc)
-  ended_added setup held request now answer adds asked peer cookie over among (steps.ByLogin t row p user r bytes to posted pends accepted drafted adding answers full) =
-      absurd (let e = sym over.posted ∙ to in cc)
-  ended_added setup held request now answer adds asked peer cookie over among (steps.ByNoSession to none is nothing) = absurd (let e = sym over.posted ∙ to in cc)
-  ended_added setup held request now answer adds asked peer cookie over among (steps.ByLeaving row r bytes to live alone drafted adding answers full) = absurd (let e = sym over.posted ∙ to in cc)
-  ended_added setup held request now answer adds asked peer cookie over among (steps.ByLeavingAll row r bytes to live others drafted adding first full) = absurd (let e = sym over.posted ∙ to in cc)
   ended_added setup held request now answer adds asked peer cookie over among (steps.ByLogoutVerdict verdict to refused is none) =
       absurd (law.obeyed _ _ _ _ now request.body _ verdict over.asks.obeyed refused)
   ended_added setup held request now answer adds asked peer cookie over among (steps.ByNothingToEnd other another more to asks nothing is none) =
@@ -347,23 +251,13 @@ module _ (law : IsOneLogout) where
       absurd (no_reply setup request now asked peer over.relay response who over.asks replies)
   ended_added setup held request now answer adds asked peer cookie over among (steps.ByConfirming response who to replies no_round waits adding full) =
       absurd (no_reply setup request now asked peer over.relay response who over.asks replies)
-
-  ended_is : (setup : IdpConfig) (held : Held) (request : Request) (now : ℕ) (answer : Answer) (wanted : IdpRecord) (asked : LogoutRequest) (peer : LogoutPeer) (cookie : List ℕ)
-      → (over : EndsOver setup request now asked peer) → is_among cookie (ending_by held now peer.peer.entity asked) ≡ true → Answers setup held request now answer (Some wanted)
-      → ending_record setup held now peer asked over.relay ≡ wanted
-  ended_is setup held request now answer wanted asked peer cookie over among answers =
-      same_record (Some wanted) _ wanted (ended_added setup held request now answer (Some wanted) asked peer cookie over among answers) refl
+  ended_added setup held request now answer adds asked peer cookie over among other =
+      absurd (let says = (said setup held request now answer adds other).is in cc)
 
   pub wherever_ended : WhereverAPeerEnds
-  wherever_ended found request now faults later answer old new asked peer cookie over among room calm (shared.Plain answers whole) =
-      absurd (let e = ended_added old.setup found request now answer None asked peer cookie over among answers in cc)
-  wherever_ended found request now faults later answer old new asked peer cookie over among room calm (shared.Recorded r answers place whole) =
-      let same = ended_is old.setup found request now answer r asked peer cookie over among answers in
-      inr (subst (λ (h : Held). IsEnded h cookie) (sym whole.is)
-      (subst (λ (x : IdpRecord). IsEnded (held_with x found) cookie) same (ending_ends old.setup found now peer asked over.relay cookie among)))
-  wherever_ended found request now faults later answer old new asked peer cookie over among room calm (shared.RecordedAfterCompaction held r space answers place whole) =
-      absurd (space.none (subst (HasPlace found) (ended_is old.setup found request now space.other space.wanted asked peer cookie over among space.wants) room))
-  wherever_ended found request now faults later answer old new asked peer cookie over among room calm (shared.NoPlace held r another space answers still is whole) =
-      absurd (space.none (subst (HasPlace found) (ended_is old.setup found request now space.other space.wanted asked peer cookie over among space.wants) room))
-  wherever_ended found request now faults later answer old new asked peer cookie over among room calm (shared.Failed wanted other wants risen is broken) = absurd (calm risen)
-  wherever_ended found request now faults later answer old new asked peer cookie over among room calm (shared.Starved held which is whole) = inl is
+  wherever_ended found request now faults later answer old new asked peer cookie over among room calm serves =
+      comes_of_wanted idp_rules Answers (λ (h : Held). IsEnded h cookie) found request now (Rose faults later) answer
+      old new (ending_record old.setup found now peer asked over.relay)
+      (ending_ends old.setup found now peer asked over.relay cookie among)
+      (λ other adds answers. ended_added old.setup found request now other adds asked peer cookie over among answers)
+      room calm serves

@@ -21,8 +21,8 @@ pub mod Shown
 pub mod Telling
 mod Signed
 mod Outcomes
+mod Told
 pub mod TurnRows
 pub mod TurnTexts
-mod Starts
 mod Starving
 mod Staying

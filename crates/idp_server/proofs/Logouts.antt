@@ -1,14 +1,8 @@
 -- For what a session is ended.
-use Rattle.std.specs.Prelude.{codes}
-use Rattle.std.proofs.Common.{◌≡◌, ◌⊎◌, inl, inr, ℕ, true, false, not, ◌&&◌, Bool, List, [], ◌∷◌, Option, None, Some, refl, sym, subst, ap, ◌∙◌}
-use Rattle.std.specs.Option.{option_and_then}
-use Rattle.std.specs.Str.{bytes_eq}
-use Rattle.std.proofs.lemmas.Bool.{and_parts}
-use Rattle.std.proofs.lemmas.Slice.Eq.{bytes_eq-Decides}
+use Rattle.std.proofs.Common.{◌≡◌, ◌⊎◌, inl, inr, ℕ, true, false, not, Bool, List, [], ◌∷◌, Option, None, Some, refl, sym, subst, ap, ◌∙◌}
 use Rattle.crash_disk.specs.Counts.{Rose}
 use Rattle.http_wire.specs.declared.answer.Answer.{Answer}
 use Rattle.http_wire.specs.Requests.{Request}
-use Rattle.http_wire.specs.Cookies.{cookie_value}
 use Rattle.ledger_records.specs.declared.idp_record.Ended.{Ended}
 use Rattle.ledger_records.specs.declared.idp_record.Left.{Left}
 use Rattle.ledger_records.specs.declared.idp_round.Round.{Round}
@@ -16,14 +10,15 @@ use Rattle.ledger_records.specs.declared.idp_round.Told.{Told}
 use Rattle.ledger_records.specs.declared.idp_record.IdpRecord.{IdpRecord}
 use Rattle.ledger_records.specs.declared.idp_record.IdpRecord.TheVariants as kinds
 use Rattle.idp_rows.specs.declared.row.SessionRow.{SessionRow}
-use Rattle.idp_rows.specs.Finding.{is_empty, session_found, visible}
+use Rattle.idp_rows.specs.Finding.{is_empty}
 use Rattle.idp_rows.specs.RowsOf.{rows_of}
-use Rattle.idp_ledger.specs.Compacting.{Compacts}
+use Rattle.idp_ledger.specs.Record.{idp_rules}
 use Rattle.idp_ledger.specs.Drafts.{confirmed, pending, spoke, told}
 use Rattle.idp_ledger.specs.Draft.{told_in}
 use Rattle.idp_ledger.specs.Ledger.{Held, next_number}
 use Rattle.idp_rules.specs.declared.config.IdpConfig.{IdpConfig}
-use Rattle.provider_node.specs.Step as shared
+use Rattle.provider_node.proofs.Changes.{changes}
+use Rattle.provider_node.proofs.Sessions.{found_itself}
 use Rattle.service_routes.specs.declared.route.Route.TheVariants.{To}
 use Rattle.idp_server.specs.declared.route.Service.TheVariants.{Logout, Metadata, SingleLogout}
 use Rattle.idp_server.specs.Routes.{route}
@@ -31,40 +26,24 @@ use Rattle.idp_server.specs.Step as steps
 use Rattle.idp_server.specs.Step.{Answers, ask_of, asker_of, ended_by, ending_by, is_in_part, left_by, session_for}
 use Rattle.round_rows.specs.Rounds.{is_turn_left}
 use Rattle.idp_server.specs.Rounds.{round_by}
-use Rattle.idp_server.specs.Logouts.{AnswersEndExactly, Anew, AsksAllOthers, IsOfLogoutIfEnding, IsOfPeerThatAsks, IsOfProviderInTurn, IsOfPeerThatReplies, IsOfUserWhoLeaves, More, Nothing, ServicesEndExactly, WhatIsAnsweredToALogoutIsRecorded}
-use Rattle.idp_server.proofs.Issues.{followed, found_at, off, step_recorded}
+use Rattle.idp_server.specs.Logouts.{AnswersEndExactly, AsksAllOthers, IsOfLogoutIfEnding, IsOfPeerThatAsks, IsOfProviderInTurn, IsOfPeerThatReplies, IsOfUserWhoLeaves, ServicesEndExactly, WhatIsAnsweredToALogoutIsRecorded}
+use Rattle.idp_server.proofs.Issues.{step_recorded}
+use Rattle.idp_server.proofs.StayingEnded.{begun_sessions}
+use Rattle.idp_server.proofs.Told.{said}
 
 -- ---- the record of a kind
 
 abbrev left_in : IdpRecord → Option Left
-left_in (kinds.Pending r) = None
-left_in (kinds.Issued r) = None
-left_in (kinds.Ended r) = None
 left_in (kinds.Left r) = Some r
-left_in (kinds.Confirmed r) = None
-left_in (kinds.Spoke r) = None
-left_in (kinds.Round r) = None
-left_in (kinds.Told r) = None
+left_in other = None
 
 abbrev ended_in : IdpRecord → Option Ended
-ended_in (kinds.Pending r) = None
-ended_in (kinds.Issued r) = None
 ended_in (kinds.Ended r) = Some r
-ended_in (kinds.Left r) = None
-ended_in (kinds.Confirmed r) = None
-ended_in (kinds.Spoke r) = None
-ended_in (kinds.Round r) = None
-ended_in (kinds.Told r) = None
+ended_in other = None
 
 abbrev pub round_in : IdpRecord → Option Round
-round_in (kinds.Pending r) = None
-round_in (kinds.Issued r) = None
-round_in (kinds.Ended r) = None
-round_in (kinds.Left r) = None
-round_in (kinds.Confirmed r) = None
-round_in (kinds.Spoke r) = None
 round_in (kinds.Round r) = Some r
-round_in (kinds.Told r) = None
+round_in other = None
 
 pub the_left : (r : Left) (x : IdpRecord) (made : Left) → x ≡ kinds.Left r → left_in x ≡ Some made → made ≡ r
 the_left r x made is has = let both : Some made ≡ Some r = sym has ∙ ap left_in is in cc
@@ -98,29 +77,21 @@ of_user : (setup : IdpConfig) (held : Held) (request : Request) (now : ℕ) (row
     → left_by setup.id_key held now row.cookie ≡ kinds.Left r → IsOfUserWhoLeaves held request now r
 of_user setup held request now row r to live drafted =
     let same = the_left r (left_by setup.id_key held now row.cookie) _ drafted refl in
-    let cookie = followed (λ cookie. session_found (rows_of held.records).sessions cookie now held.header.horizon)
-    (option_and_then (λ header. cookie_value header (codes "idp_sid")) request.cookie) row live in
-    let found = found_at (λ (s : SessionRow). bytes_eq s.cookie cookie.0 && not s.ended && visible s.until now held.header.horizon) (rows_of held.records).sessions row cookie.2 in
-    let first = and_parts (bytes_eq row.cookie cookie.0 && not row.ended) (visible row.until now held.header.horizon) found.2 in
-    let second = and_parts (bytes_eq row.cookie cookie.0) (not row.ended) first.0 in
-    let named : row.cookie ≡ cookie.0 = (bytes_eq-Decides row.cookie cookie.0).0 second.0 in
+    let found = found_itself begun_sessions (rows_of held.records).sessions now held.header.horizon _ row live in
     let left : row.cookie ≡ r.cookie = ap (λ (l : Left). l.cookie) same in
     record {
       to = to;
-      cookie = cookie.1 ∙ ap Some (sym named ∙ left);
-      place = found.0;
+      cookie = found.named ∙ ap Some left;
+      place = found.place;
       row = row;
-      there = found.1;
+      there = found.at;
       named = left;
-      unended = off row.ended second.1;
-      seen = first.1;
+      unended = found.unshut;
+      seen = found.seen;
     }
 
 ends_so : (setup : IdpConfig) (held : Held) (request : Request) (now : ℕ) (answer : Answer) (adds : Option IdpRecord) (r : IdpRecord) → adds ≡ Some r
     → Answers setup held request now answer adds → IsOfLogoutIfEnding setup held request now r
-ends_so setup held request now answer adds r some (steps.ByStatus status to is none) = absurd (let e = sym some ∙ none in cc)
-ends_so setup held request now answer adds r some (steps.ByMetadata to is none) = absurd (let e = sym some ∙ none in cc)
-ends_so setup held request now answer adds r some (steps.ByVerdict verdict to refused is none) = absurd (let e = sym some ∙ none in cc)
 ends_so setup held request now answer adds r some (steps.ByIssuing asked peer row other bytes to is known used drafted adding answers full) =
     let same : kinds.Issued other ≡ r = (let e = sym adding ∙ some in cc) in
     subst (IsOfLogoutIfEnding setup held request now) same tt
@@ -130,13 +101,9 @@ ends_so setup held request now answer adds r some (steps.ByPassive asked peer me
 ends_so setup held request now answer adds r some (steps.ByAsking asked peer id to is known none passive adding named full) =
     let same : pending setup.id_key (next_number held) now (ask_of asked peer) ≡ r = (let e = sym adding ∙ some in cc) in
     subst (IsOfLogoutIfEnding setup held request now) same tt
-ends_so setup held request now answer adds r some (steps.ByFields to bad is none) = absurd (let e = sym some ∙ none in cc)
-ends_so setup held request now answer adds r some (steps.ByNoPending t to posted nothing is none) = absurd (let e = sym some ∙ none in cc)
-ends_so setup held request now answer adds r some (steps.ByPassword t row peer to posted pending refused is none) = absurd (let e = sym some ∙ none in cc)
 ends_so setup held request now answer adds r some (steps.ByLogin t row peer user other bytes to posted pending accepted drafted adding answers full) =
     let same : kinds.Issued other ≡ r = (let e = sym adding ∙ some in cc) in
     subst (IsOfLogoutIfEnding setup held request now) same tt
-ends_so setup held request now answer adds r some (steps.ByNoSession to none_live is none) = absurd (let e = sym some ∙ none in cc)
 ends_so setup held request now answer adds r some (steps.ByLeaving row left bytes to live alone drafted adding answers full) =
     let same : kinds.Left left ≡ r = (let e = sym adding ∙ some in cc) in
     subst (IsOfLogoutIfEnding setup held request now) same (of_user setup held request now row left to live drafted)
@@ -150,8 +117,6 @@ ends_so setup held request now answer adds r some (steps.ByLeavingAll row begun 
       skips = refl;
     }) in
     subst (IsOfLogoutIfEnding setup held request now) same of
-ends_so setup held request now answer adds r some (steps.ByLogoutVerdict verdict to refused is none) = absurd (let e = sym some ∙ none in cc)
-ends_so setup held request now answer adds r some (steps.ByNothingToEnd asked peer relay to asks nothing is none) = absurd (let e = sym some ∙ none in cc)
 ends_so setup held request now answer adds r some (steps.ByEnding asked peer relay ended bytes to asks some_end alone drafted adding answers full) =
     let same : kinds.Ended ended ≡ r = (let e = sym adding ∙ some in cc) in
     let made = the_ended ended (ended_by setup.id_key held now peer.peer.entity asked) _ drafted refl in
@@ -184,29 +149,22 @@ ends_so setup held request now answer adds r some (steps.ByTold response peer ro
     let of : IsOfProviderInTurn setup held request now other =
     record { to = to; response = response; peer = peer; replies = replies; row = row; waits = waits; request_is = has.request_is; confirms = has.confirms_is } in
     subst (IsOfLogoutIfEnding setup held request now) same of
-ends_so setup held request now answer adds r some (steps.ByUnknownLogout response peer to replies no_round unknown is none) = absurd (let e = sym some ∙ none in cc)
 ends_so setup held request now answer adds r some (steps.ByConfirming response peer to replies no_round waits adding full) =
     let of : IsOfPeerThatReplies setup held request now (record { moment = now; request = response.request }) =
     record { to = to; response = response; peer = peer; replies = replies; request_is = refl; awaited = waits } in
     let same : confirmed now response.request ≡ r = (let e = sym adding ∙ some in cc) in
     subst (IsOfLogoutIfEnding setup held request now) same of
+ends_so setup held request now answer adds r some other =
+    absurd (let says = (said setup held request now answer adds other).is in cc)
 
 pub answers_end_exactly : AnswersEndExactly
 answers_end_exactly setup held request now answer r answers = ends_so setup held request now answer (Some r) r refl answers
 
 pub services_end_exactly : ServicesEndExactly
-services_end_exactly found request now before after answer old new (shared.Plain answers whole) unbroken = Nothing whole.is
-services_end_exactly found request now before after answer old new (shared.Recorded r answers place whole) unbroken =
-    More found r (inl refl) whole.is (answers_end_exactly old.setup found request now answer r answers)
-services_end_exactly found request now before after answer old new (shared.RecordedAfterCompaction held r room answers place whole) unbroken =
-    More held r (inr room.made) whole.is (answers_end_exactly old.setup held request now answer r answers)
-services_end_exactly found request now before after answer old new (shared.NoPlace held r another room answers still is whole) unbroken =
-    Anew (subst (λ (h : Held). Compacts now found h) (sym whole.is) room.made)
-services_end_exactly found request now before after answer old new (shared.Failed wanted other wants risen is broken) unbroken =
-    absurd (let clash : true ≡ false = sym broken.is_broken ∙ unbroken in cc)
-services_end_exactly found request now before after answer old new (shared.Starved held (inl same) is whole) unbroken = Nothing (whole.is ∙ same)
-services_end_exactly found request now before after answer old new (shared.Starved held (inr room) is whole) unbroken =
-    Anew (subst (λ (h : Held). Compacts now found h) (sym whole.is) room.made)
+services_end_exactly found request now before after answer old new serves unbroken =
+    changes idp_rules Answers found request now (Rose before after) answer old new
+    (λ held r. IsOfLogoutIfEnding old.setup held request now r)
+    (λ held r answers. answers_end_exactly old.setup held request now answer r answers) unbroken serves
 
 -- ---- what stands behind an answer
 

@@ -33,6 +33,7 @@ use Rattle.idp_server.proofs.Logouts.{HasAnswer, has_answer, the_told}
 use Rattle.idp_server.proofs.Signed.{waiting_turn}
 use Rattle.idp_server.proofs.Telling.{next_where}
 use Rattle.idp_server.proofs.TurnRows.{IsTurnFound, found_texts, turn_is}
+use Rattle.idp_server.proofs.Told.{said}
 
 -- ---- where a row of a round is from
 
@@ -41,15 +42,9 @@ further x later row of = record { before = x ∷ of.before; begun = of.begun; la
 
 row_of : (records : List IdpRecord) (k : ℕ) (row : RoundRow) → slice_get (round_rows records) k ≡ Some row → IsRowOf records row
 row_of [] k row there = absurd (cc)
-row_of (kinds.Pending r ∷ later) k row there = further (kinds.Pending r) later row (row_of later k row there)
-row_of (kinds.Issued r ∷ later) k row there = further (kinds.Issued r) later row (row_of later k row there)
-row_of (kinds.Ended r ∷ later) k row there = further (kinds.Ended r) later row (row_of later k row there)
-row_of (kinds.Left r ∷ later) k row there = further (kinds.Left r) later row (row_of later k row there)
-row_of (kinds.Confirmed r ∷ later) k row there = further (kinds.Confirmed r) later row (row_of later k row there)
-row_of (kinds.Spoke r ∷ later) k row there = further (kinds.Spoke r) later row (row_of later k row there)
 row_of (kinds.Round r ∷ later) zero row there = let same : round_behind (round_row r) later ≡ row = cc in record { before = []; begun = r; later = later; are = refl; is = sym same }
 row_of (kinds.Round r ∷ later) (suc k) row there = further (kinds.Round r) later row (row_of later k row there)
-row_of (kinds.Told r ∷ later) k row there = further (kinds.Told r) later row (row_of later k row there)
+row_of (other ∷ later) k row there = further other later row (row_of later k row there)
 
 -- what stays of a round behind records
 record Stays (row later : RoundRow) : Type 0 where
@@ -63,17 +58,11 @@ stays_if false confirmed next row = record { message = refl; asker = refl; turns
 
 stays : (row : RoundRow) (later : List IdpRecord) → Stays row (round_behind row later)
 stays row [] = record { message = refl; asker = refl; turns = refl }
-stays row (kinds.Pending r ∷ later) = stays row later
-stays row (kinds.Issued r ∷ later) = stays row later
-stays row (kinds.Ended r ∷ later) = stays row later
-stays row (kinds.Left r ∷ later) = stays row later
-stays row (kinds.Confirmed r ∷ later) = stays row later
-stays row (kinds.Spoke r ∷ later) = stays row later
-stays row (kinds.Round r ∷ later) = stays row later
 stays row (kinds.Told r ∷ later) =
     let one = stays_if (waits_for r.request row) r.confirmed r.next row in
     let rest = stays (answered_if (waits_for r.request row) r.confirmed r.next row) later in
     record { message = rest.message ∙ one.message; asker = rest.asker ∙ one.asker; turns = rest.turns ∙ one.turns }
+stays row (other ∷ later) = stays row later
 
 -- ---- one answer more
 
@@ -188,68 +177,24 @@ outcome_of law setup held now request peer confirms row r bytes are waits drafte
 
 -- ---- the laws
 
-ends_so : RoundsAreCounted → (setup : IdpConfig) (held : Held) (request : Request) (now : ℕ) (answer : Answer) (bytes : List ℕ) (adds : Option IdpRecord) (r : Told) → answer ≡ Full bytes
-    → adds ≡ Some (kinds.Told r) → AreRecords held.records → Answers setup held request now answer adds → IsOutcome setup held r now bytes
-ends_so law setup held request now answer bytes adds r shown some are (steps.ByStatus status to is none) = absurd (let e = sym some ∙ none in cc)
-ends_so law setup held request now answer bytes adds r shown some are (steps.ByMetadata to is none) = absurd (let e = sym some ∙ none in cc)
-ends_so law setup held request now answer bytes adds r shown some are (steps.ByVerdict verdict to refused is none) = absurd (let e = sym some ∙ none in cc)
-ends_so law setup held request now answer bytes adds r shown some are (steps.ByIssuing asked peer row other sent to is known used drafted adding answers full) = absurd (let e = sym some ∙ adding in cc)
-ends_so law setup held request now answer bytes adds r shown some are (steps.ByPassive asked peer message sent to is known none passive adding named answers full) = absurd (let e = sym some ∙ adding in cc)
-ends_so law setup held request now answer bytes adds r shown some are (steps.ByAsking asked peer id to is known none passive adding named full) = absurd (let e = sym some ∙ adding in cc)
-ends_so law setup held request now answer bytes adds r shown some are (steps.ByFields to bad is none) = absurd (let e = sym some ∙ none in cc)
-ends_so law setup held request now answer bytes adds r shown some are (steps.ByNoPending t to posted nothing is none) = absurd (let e = sym some ∙ none in cc)
-ends_so law setup held request now answer bytes adds r shown some are (steps.ByPassword t row peer to posted pending refused is none) = absurd (let e = sym some ∙ none in cc)
-ends_so law setup held request now answer bytes adds r shown some are (steps.ByLogin t row peer user other sent to posted pending accepted drafted adding answers full) = absurd (let e = sym some ∙ adding in cc)
-ends_so law setup held request now answer bytes adds r shown some are (steps.ByNoSession to none_live is none) = absurd (let e = sym some ∙ none in cc)
-ends_so law setup held request now answer bytes adds r shown some are (steps.ByLeaving row left sent to live alone drafted adding answers full) = absurd (let e = sym some ∙ adding in cc)
-ends_so law setup held request now answer bytes adds r shown some are (steps.ByLeavingAll row begun sent to live others drafted adding first full) = absurd (let e = sym some ∙ adding in cc)
-ends_so law setup held request now answer bytes adds r shown some are (steps.ByLogoutVerdict verdict to refused is none) = absurd (let e = sym some ∙ none in cc)
-ends_so law setup held request now answer bytes adds r shown some are (steps.ByNothingToEnd asked peer relay to asks nothing is none) = absurd (let e = sym some ∙ none in cc)
-ends_so law setup held request now answer bytes adds r shown some are (steps.ByEnding asked peer relay ended sent to asks some_end alone drafted adding answers full) = absurd (let e = sym some ∙ adding in cc)
-ends_so law setup held request now answer bytes adds r shown some are (steps.ByEndingAll asked peer relay begun sent to asks some_end others drafted adding first full) = absurd (let e = sym some ∙ adding in cc)
-ends_so law setup held request now answer bytes adds r shown some are (steps.ByTold response peer row other sent to replies waits drafted adding answers full) =
-    let added : Some (kinds.Told other) ≡ Some (kinds.Told r) = sym adding ∙ some in
+pub rounds_end_as_confirmed : RoundsAreCounted → RoundsEndAsConfirmed
+rounds_end_as_confirmed law setup held request now bytes r are (steps.ByTold response peer row other sent to replies waits drafted adding answers full) =
     let same : other ≡ r = cc in
-    let spelled : sent ≡ bytes = (let e = sym full ∙ shown in cc) in
+    let spelled : sent ≡ bytes = cc in
     subst (λ (t : Told). IsOutcome setup held t now bytes) same (subst (IsOutcome setup held other now) spelled
     (outcome_of law setup held now response.request peer.peer.entity (not (is_in_part response.outcome)) row other sent are
     (waiting_turn setup held now response.request peer.peer.entity row waits) drafted answers))
-ends_so law setup held request now answer bytes adds r shown some are (steps.ByUnknownLogout response peer to replies no_round unknown is none) = absurd (let e = sym some ∙ none in cc)
-ends_so law setup held request now answer bytes adds r shown some are (steps.ByConfirming response peer to replies no_round waits adding full) = absurd (let e = sym some ∙ adding in cc)
-
-pub rounds_end_as_confirmed : RoundsAreCounted → RoundsEndAsConfirmed
-rounds_end_as_confirmed law setup held request now bytes r are answers = ends_so law setup held request now (Full bytes) bytes (Some (kinds.Told r)) r refl refl are answers
-
-begins_so : (setup : IdpConfig) (held : Held) (request : Request) (now : ℕ) (answer : Answer) (bytes : List ℕ) (adds : Option IdpRecord) (r : Round) → answer ≡ Full bytes
-    → adds ≡ Some (kinds.Round r) → Answers setup held request now answer adds → AsksFirst setup r now bytes
-begins_so setup held request now answer bytes adds r shown some (steps.ByStatus status to is none) = absurd (let e = sym some ∙ none in cc)
-begins_so setup held request now answer bytes adds r shown some (steps.ByMetadata to is none) = absurd (let e = sym some ∙ none in cc)
-begins_so setup held request now answer bytes adds r shown some (steps.ByVerdict verdict to refused is none) = absurd (let e = sym some ∙ none in cc)
-begins_so setup held request now answer bytes adds r shown some (steps.ByIssuing asked peer row other sent to is known used drafted adding answers full) = absurd (let e = sym some ∙ adding in cc)
-begins_so setup held request now answer bytes adds r shown some (steps.ByPassive asked peer message sent to is known none passive adding named answers full) = absurd (let e = sym some ∙ adding in cc)
-begins_so setup held request now answer bytes adds r shown some (steps.ByAsking asked peer id to is known none passive adding named full) = absurd (let e = sym some ∙ adding in cc)
-begins_so setup held request now answer bytes adds r shown some (steps.ByFields to bad is none) = absurd (let e = sym some ∙ none in cc)
-begins_so setup held request now answer bytes adds r shown some (steps.ByNoPending t to posted nothing is none) = absurd (let e = sym some ∙ none in cc)
-begins_so setup held request now answer bytes adds r shown some (steps.ByPassword t row peer to posted pending refused is none) = absurd (let e = sym some ∙ none in cc)
-begins_so setup held request now answer bytes adds r shown some (steps.ByLogin t row peer user other sent to posted pending accepted drafted adding answers full) = absurd (let e = sym some ∙ adding in cc)
-begins_so setup held request now answer bytes adds r shown some (steps.ByNoSession to none_live is none) = absurd (let e = sym some ∙ none in cc)
-begins_so setup held request now answer bytes adds r shown some (steps.ByLeaving row left sent to live alone drafted adding answers full) = absurd (let e = sym some ∙ adding in cc)
-begins_so setup held request now answer bytes adds r shown some (steps.ByLeavingAll row begun sent to live others drafted adding first full) =
-    let added : Some (kinds.Round begun) ≡ Some (kinds.Round r) = sym adding ∙ some in
-    let same : begun ≡ r = cc in
-    let spelled : sent ≡ bytes = (let e = sym full ∙ shown in cc) in
-    subst (λ (b : Round). AsksFirst setup b now bytes) same (subst (AsksFirst setup begun now) spelled first)
-begins_so setup held request now answer bytes adds r shown some (steps.ByLogoutVerdict verdict to refused is none) = absurd (let e = sym some ∙ none in cc)
-begins_so setup held request now answer bytes adds r shown some (steps.ByNothingToEnd asked peer relay to asks nothing is none) = absurd (let e = sym some ∙ none in cc)
-begins_so setup held request now answer bytes adds r shown some (steps.ByEnding asked peer relay ended sent to asks some_end alone drafted adding answers full) = absurd (let e = sym some ∙ adding in cc)
-begins_so setup held request now answer bytes adds r shown some (steps.ByEndingAll asked peer relay begun sent to asks some_end others drafted adding first full) =
-    let added : Some (kinds.Round begun) ≡ Some (kinds.Round r) = sym adding ∙ some in
-    let same : begun ≡ r = cc in
-    let spelled : sent ≡ bytes = (let e = sym full ∙ shown in cc) in
-    subst (λ (b : Round). AsksFirst setup b now bytes) same (subst (AsksFirst setup begun now) spelled first)
-begins_so setup held request now answer bytes adds r shown some (steps.ByTold response peer row other sent to replies waits drafted adding answers full) = absurd (let e = sym some ∙ adding in cc)
-begins_so setup held request now answer bytes adds r shown some (steps.ByUnknownLogout response peer to replies no_round unknown is none) = absurd (let e = sym some ∙ none in cc)
-begins_so setup held request now answer bytes adds r shown some (steps.ByConfirming response peer to replies no_round waits adding full) = absurd (let e = sym some ∙ adding in cc)
+rounds_end_as_confirmed law setup held request now bytes r are other =
+    absurd (let says = (said setup held request now (Full bytes) (Some (kinds.Told r)) other).is in cc)
 
 pub rounds_begin_with_the_first : RoundsBeginWithTheFirst
-rounds_begin_with_the_first setup held request now bytes r answers = begins_so setup held request now (Full bytes) bytes (Some (kinds.Round r)) r refl refl answers
+rounds_begin_with_the_first setup held request now bytes r (steps.ByLeavingAll row begun sent to live others drafted adding first full) =
+    let same : begun ≡ r = cc in
+    let spelled : sent ≡ bytes = cc in
+    subst (λ (b : Round). AsksFirst setup b now bytes) same (subst (AsksFirst setup begun now) spelled first)
+rounds_begin_with_the_first setup held request now bytes r (steps.ByEndingAll asked peer relay begun sent to asks some_end others drafted adding first full) =
+    let same : begun ≡ r = cc in
+    let spelled : sent ≡ bytes = cc in
+    subst (λ (b : Round). AsksFirst setup b now bytes) same (subst (AsksFirst setup begun now) spelled first)
+rounds_begin_with_the_first setup held request now bytes r other =
+    absurd (let says = (said setup held request now (Full bytes) (Some (kinds.Round r)) other).is in cc)

@@ -432,30 +432,20 @@ nothing_where false found own some none = let clash = sym some ∙ none in cc
 
 pub refused_at : (setup : IdpConfig) (held : Held) (request : Request) (now : ℕ) (reply : Reply) → Wants setup held request now reply → is_nothing held now reply ≡ true
     → Answers setup held request now (Fixed (refusal_of reply)) None
-refused_at setup held request now (replies.InSession cookie ask peer) w none = absurd (let clash : false ≡ true = none in cc)
-refused_at setup held request now (replies.Passive ask) w none = absurd (let clash : false ≡ true = none in cc)
-refused_at setup held request now (replies.Question ask) w none = absurd (let clash : false ≡ true = none in cc)
-refused_at setup held request now (replies.Login id user attributes peer) w none = absurd (let clash : false ≡ true = none in cc)
-refused_at setup held request now (replies.Leave cookie user index) w none = absurd (let clash : false ≡ true = none in cc)
 refused_at setup held request now (replies.End asked peer name relay) w none =
     ByNothingToEnd asked w.peer relay w.to (record { place = peer; there = w.there; obeyed = w.obeyed })
     (subst (λ (n : List ℕ). is_empty (ending_by held now n asked) ≡ true) w.name_is none) refl refl
 refused_at setup held request now (replies.Confirm of partial) w none =
     ByUnknownLogout w.response w.peer w.to w.replies (subst (λ (q : List ℕ). round_waiting setup held now q w.peer.peer.entity ≡ None) w.of_is w.none)
     (subst (λ (q : List ℕ). is_awaited held now q ≡ false) w.of_is (not_then (is_awaited held now of) none)) refl refl
-refused_at setup held request now (replies.AskAll cookies asker plan) w none = absurd (let clash : false ≡ true = none in cc)
 refused_at setup held request now (replies.Told of peer confirms next) w none = absurd (let clash : false ≡ true = sym (ap is_none w.waits) ∙ none in cc)
+refused_at setup held request now other w none = absurd (let clash : false ≡ true = none in cc)
 
 pub nothing_alike : (anew old : Held) (now : ℕ) (reply : Reply) → AnswerAlike now anew old → is_nothing anew now reply ≡ is_nothing old now reply
-nothing_alike anew old now (replies.InSession cookie ask peer) like = refl
-nothing_alike anew old now (replies.Passive ask) like = refl
-nothing_alike anew old now (replies.Question ask) like = refl
-nothing_alike anew old now (replies.Login id user attributes peer) like = refl
-nothing_alike anew old now (replies.Leave cookie user index) like = refl
 nothing_alike anew old now (replies.End asked peer name relay) like = ap is_empty (like.ending name asked.name asked.indexes)
 nothing_alike anew old now (replies.Confirm of partial) like = ap not (like.waiting of)
-nothing_alike anew old now (replies.AskAll cookies asker plan) like = refl
 nothing_alike anew old now (replies.Told of peer confirms next) like = ap is_none (like.turn of peer)
+nothing_alike anew old now other like = refl
 
 pub is_some_where : (nothing : Bool) (found : Option IdpRecord) (own : IdpRecord) → found ≡ Some own → is_some (if nothing then None else found) ≡ not nothing
 is_some_where true found own is = refl

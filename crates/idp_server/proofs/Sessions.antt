@@ -1,10 +1,8 @@
 -- The session of a request's cookie, and what asks for a login.
-use Rattle.std.specs.Prelude.{IfSome, Option, codes, slice_get}
-use Rattle.std.specs.Option.{option_and_then}
+use Rattle.std.specs.Prelude.{IfSome, Option, slice_get}
 use Rattle.std.proofs.Common.{◌≡◌, ℕ, zero, suc, Bool, false, cond, List, [], ◌∷◌, None, Some, sym, subst, ap}
 use Rattle.std.specs.List.{AllByRecursion}
 use Rattle.xml_spec.specs.Characters.{IsText}
-use Rattle.http_wire.specs.Cookies.{cookie_value}
 use Rattle.http_wire.specs.Requests.{Request}
 use Rattle.peer_keys.specs.declared.peers.LogoutPeer.{LogoutPeer}
 use Rattle.user_store.specs.Store.{checked}
@@ -26,7 +24,9 @@ use Rattle.service_routes.specs.declared.route.Route.TheVariants.{To}
 use Rattle.idp_server.specs.declared.route.Service.TheVariants.{Logout, SignOn}
 use Rattle.idp_server.specs.Routes.{route}
 use Rattle.idp_server.specs.Step.{ask_of, session_for}
-use Rattle.idp_server.proofs.Issues.{followed, found_at, used_is}
+use Rattle.provider_node.proofs.Sessions.{found_at, found_itself}
+use Rattle.idp_server.proofs.Issues.{used_is}
+use Rattle.idp_server.proofs.StayingEnded.{begun_sessions}
 
 -- a session that is used: it is found by its cookie, and its texts may stand in a document
 pub record IsUsed (held : Held) (now : ℕ) (row : SessionRow) : Type 0 where
@@ -37,13 +37,10 @@ pub used_session : (held : Held) (force : Bool) (request : Request) (now : ℕ) 
     → IsUsed held now row
 used_session held force request now row are is =
     let live = used_is force (session_for held now request) row (sym is) in
-    let cookie = followed (λ cookie. session_found (rows_of held.records).sessions cookie now held.header.horizon)
-    (option_and_then (λ header. cookie_value header (codes "idp_sid")) request.cookie) row live in
-    let found = found_session (rows_of held.records).sessions cookie.0 now held.header.horizon row cookie.2 (sessions_allowed held.records are) in
-    record {
-      texts = session_texts row found.texts_are;
-      found = subst (λ (c : List ℕ). session_found (rows_of held.records).sessions c now held.header.horizon ≡ Some row) (sym found.is) cookie.2;
-    }
+    let rows = (rows_of held.records).sessions in
+    let found = found_itself begun_sessions rows now held.header.horizon _ row live in
+    let own = found_session rows row.cookie now held.header.horizon row found.again (sessions_allowed held.records are) in
+    record { texts = session_texts row own.texts_are; found = found.again }
 
 -- of an element what holds of all
 pub all_at : {X : Type 0} (P : X → Type 0) (xs : List X) (place : ℕ) (x : X) → AllByRecursion P xs → slice_get xs place ≡ Some x → P x

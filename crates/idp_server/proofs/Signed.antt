@@ -1,5 +1,5 @@
 -- Each signed element of an answer is of its record.
-use Rattle.std.specs.Prelude.{not, slice_get, codes, if◌then◌else◌}
+use Rattle.std.specs.Prelude.{not, slice_get, if◌then◌else◌}
 use Rattle.std.proofs.Common.{◌≡◌, ℕ, Bool, true, false, List, [], ◌∷◌, ◌++◌, Option, None, Some, refl, sym, subst, ap, ◌∙◌}
 use Rattle.std.specs.List.{AllByRecursion}
 use Rattle.std.specs.Option.{option_map}
@@ -50,6 +50,7 @@ use Rattle.idp_server.proofs.Ending.{IsAtItsPlace, asking_peer}
 use Rattle.idp_server.proofs.Issues.{found_itself, the_issued}
 use Rattle.idp_server.proofs.Logouts.{has_answer, the_ended, the_left, the_round}
 use Rattle.idp_server.proofs.Peers.{place_names}
+use Rattle.idp_server.proofs.Told.{said}
 
 -- ---- what is signed of a Response
 
@@ -236,9 +237,6 @@ waiting_turn setup held now of peer row waits = by_line setup.fanout waits
 
 carried : IsAtItsPlace → (setup : IdpConfig) (held : Held) (request : Request) (now : ℕ) (answer : Answer) (bytes : List ℕ) (adds : Option IdpRecord) (r : IdpRecord) → answer ≡ Full bytes → adds ≡ Some r
     → Answers setup held request now answer adds → Carries setup held r bytes
-carried law setup held request now answer bytes adds r shown some (steps.ByStatus status to is none) = absurd (let e = sym some ∙ none in cc)
-carried law setup held request now answer bytes adds r shown some (steps.ByMetadata to is none) = absurd (let e = sym some ∙ none in cc)
-carried law setup held request now answer bytes adds r shown some (steps.ByVerdict verdict to refused is none) = absurd (let e = sym some ∙ none in cc)
 carried law setup held request now answer bytes adds r shown some (steps.ByIssuing asked peer row other sent to is known used drafted adding answers full) =
     let same : kinds.Issued other ≡ r = (let e = sym adding ∙ some in cc) in
     let spelled : sent ≡ bytes = (let e = sym full ∙ shown in cc) in
@@ -251,9 +249,6 @@ carried law setup held request now answer bytes adds r shown some (steps.ByPassi
     subst (Carries setup held r) spelled (carries_refusal setup held r message asked.request asked.consumer asked.relay now sent answers)
 carried law setup held request now answer bytes adds r shown some (steps.ByAsking asked peer id to is known none passive adding named full) =
     AQuestion id (let e = sym shown ∙ full in cc)
-carried law setup held request now answer bytes adds r shown some (steps.ByFields to bad is none) = absurd (let e = sym some ∙ none in cc)
-carried law setup held request now answer bytes adds r shown some (steps.ByNoPending t to posted nothing is none) = absurd (let e = sym some ∙ none in cc)
-carried law setup held request now answer bytes adds r shown some (steps.ByPassword t row peer to posted pending refused is none) = absurd (let e = sym some ∙ none in cc)
 carried law setup held request now answer bytes adds r shown some (steps.ByLogin t row peer user other sent to posted pending accepted drafted adding answers full) =
     let same : kinds.Issued other ≡ r = (let e = sym adding ∙ some in cc) in
     let spelled : sent ≡ bytes = (let e = sym full ∙ shown in cc) in
@@ -261,7 +256,6 @@ carried law setup held request now answer bytes adds r shown some (steps.ByLogin
     let known_as = subst (λ (e : List ℕ). IsPeer setup e peer) (ap (λ (i : Issued). i.peer) made) pending.1 in
     subst (λ (x : IdpRecord). Carries setup held x bytes) same (subst (Carries setup held (kinds.Issued other)) spelled
     (carries_issued setup held peer other (Some other.cookie) now sent known_as (sym (ap (λ (i : Issued). i.moment) made)) answers))
-carried law setup held request now answer bytes adds r shown some (steps.ByNoSession to none_live is none) = absurd (let e = sym some ∙ none in cc)
 carried law setup held request now answer bytes adds r shown some (steps.ByLeaving row left sent to live alone drafted adding answers full) =
     let same : kinds.Left left ≡ r = (let e = sym adding ∙ some in cc) in
     let spelled : sent ≡ bytes = (let e = sym full ∙ shown in cc) in
@@ -275,8 +269,6 @@ carried law setup held request now answer bytes adds r shown some (steps.ByLeavi
     let made = the_round begun (round_by setup held now None (row.cookie ∷ [])) _ drafted refl in
     subst (λ (x : IdpRecord). Carries setup held x bytes) same (subst (Carries setup held (kinds.Round begun)) spelled
     (carries_first setup held begun now sent (sym (ap (λ (b : Round). b.moment) made)) first))
-carried law setup held request now answer bytes adds r shown some (steps.ByLogoutVerdict verdict to refused is none) = absurd (let e = sym some ∙ none in cc)
-carried law setup held request now answer bytes adds r shown some (steps.ByNothingToEnd asked peer relay to asks nothing is none) = absurd (let e = sym some ∙ none in cc)
 carried law setup held request now answer bytes adds r shown some (steps.ByEnding asked peer relay ended sent to asks some_end alone drafted adding answers full) =
     let same : kinds.Ended ended ≡ r = (let e = sym adding ∙ some in cc) in
     let spelled : sent ≡ bytes = (let e = sym full ∙ shown in cc) in
@@ -302,9 +294,10 @@ carried law setup held request now answer bytes adds r shown some (steps.ByTold 
       subst (λ (q : List ℕ). turn_found (rows_of held.records).rounds q peer.peer.entity told.moment held.header.horizon ≡ Some row) (sym has.request_is)
           (subst (λ (m : ℕ). turn_found (rows_of held.records).rounds response.request peer.peer.entity m held.header.horizon ≡ Some row) (sym has.moment_is) found),
     ) answers))
-carried law setup held request now answer bytes adds r shown some (steps.ByUnknownLogout response peer to replies no_round unknown is none) = absurd (let e = sym some ∙ none in cc)
 carried law setup held request now answer bytes adds r shown some (steps.ByConfirming response peer to replies no_round waits adding full) =
     AnEnd (is_in_part response.outcome) (let e = sym shown ∙ full in cc)
+carried law setup held request now answer bytes adds r shown some other =
+    absurd (let says = (said setup held request now answer adds other).is in cc)
 
 pub each_signed : IsAtItsPlace → EachSignedElementIsOfARecord
 each_signed law setup held request now bytes r answers = carried law setup held request now (Full bytes) bytes (Some r) r refl refl answers

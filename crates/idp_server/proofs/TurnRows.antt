@@ -11,7 +11,7 @@ use Rattle.idp_ledger.specs.Record.{AreRecords}
 use Rattle.idp_rows.specs.RowsOf.{rows_of}
 use Rattle.idp_ledger.specs.Turns.{AreRoundTexts}
 use Rattle.idp_ledger.proofs.RoundTexts.{round_texts}
-use Rattle.idp_server.proofs.Issues.{found_at}
+use Rattle.provider_node.proofs.Sessions.{found_at}
 use Rattle.idp_server.proofs.Peers.{there_inside}
 
 -- it is one of the rounds, waits for this request, and its turn has come

@@ -10,14 +10,13 @@ use Rattle.serve_loop.specs.Turns.{Turn, Run}
 use Rattle.ledger_records.specs.declared.idp_record.IdpRecord.{IdpRecord}
 use Rattle.idp_rows.specs.Finding.{session_found}
 use Rattle.idp_ledger.specs.Ledger.{Held, ledger_in}
-use Rattle.record_ledger.specs.Ledger.{taken}
 use Rattle.idp_ledger.specs.Record.{AreRecords, idp_rules}
 use Rattle.idp_rows.specs.Record.{is_unended}
 use Rattle.idp_rows.specs.RowsOf.{ends, rows_of}
 use Rattle.provider_node.specs.Histories as any
 use Rattle.provider_node.specs.Histories.{AreAcknowledged, HoldsWhatCame, IsAtStart, moments_of}
 use Rattle.provider_node.specs.Points.{AClosedSessionStaysClosed, Point, StayClosed, points}
-use Rattle.provider_node.specs.Starts.{AreKeptOver, AreStarts, LeftBehind, Start}
+use Rattle.provider_node.specs.Starts.{AreKeptOver, AreStarts, Start, StayClosedOverStarts}
 use Rattle.idp_server.specs.Step.{Provider, Answers}
 
 -- what an answer of a provider does, and what a crash may leave
@@ -82,6 +81,4 @@ WhatIsAcknowledgedIsKeptOverStarts =
     (start : Held) (starts : List (Start Provider)) → AreRecords start.records → AreStarts idp_rules Answers start starts → AreKeptOver idp_rules Answers start starts
 
 abbrev pub SessionsStayEndedOverStarts : Type 0
-SessionsStayEndedOverStarts =
-    (start held : Held) (starts : List (Start Provider)) (image : Image) (cookie : List ℕ) → AreRecords start.records → AreStarts idp_rules Answers start starts
-    → IsEnded start cookie → LeftBehind idp_rules Answers start starts image → taken (ledger_in image) ≡ Ok held → IsDead held cookie
+SessionsStayEndedOverStarts = StayClosedOverStarts idp_rules Answers IsEnded IsDead

@@ -18,8 +18,9 @@ use Rattle.idp_rows.specs.Finding.{visible}
 use Rattle.idp_rows.specs.RowsOf.{rows_of}
 use Rattle.idp_ledger.specs.Ledger.{Held, ledger_in}
 use Rattle.record_ledger.specs.Ledger.{held_with}
-use Rattle.idp_ledger.specs.Compacting.{Compacts}
+use Rattle.idp_ledger.specs.Record.{idp_rules}
 use Rattle.idp_rules.specs.declared.config.IdpConfig.{IdpConfig}
+use Rattle.provider_node.specs.Changes as any
 use Rattle.service_routes.specs.declared.route.Route.TheVariants.{To}
 use Rattle.idp_server.specs.declared.route.Service.TheVariants.{Login, SignOn}
 use Rattle.idp_server.specs.Routes.{route}
@@ -80,11 +81,9 @@ IsOfUserIfIssued setup held request now (kinds.Round r) = Unit {0}
 IsOfUserIfIssued setup held request now (kinds.Told r) = Unit {0}
 
 -- what a request may do to a ledger that stays whole: nothing, a compaction, or a record behind either, and an Issued only for a user
-pub data Changes (setup : IdpConfig) (found : Held) (request : Request) (now : ℕ) (new : Provider) : Type 0 where
-  Nothing : new.ledger.held ≡ found → Changes setup found request now new
-  Anew : Compacts now found new.ledger.held → Changes setup found request now new
-  More : (held : Held) (r : IdpRecord) → (held ≡ found) ⊎ Compacts now found held → new.ledger.held ≡ held_with r held
-      → IsOfUserIfIssued setup held request now r → Changes setup found request now new
+abbrev pub Changes : IdpConfig → (found : Held) → Request → ℕ → (new : Provider) → Type 0
+Changes setup found request now new =
+    any.Changes idp_rules (λ held r. IsOfUserIfIssued setup held request now r) now found new.ledger.held
 
 -- Each Assertion that is issued has a password or a session: an answer's record, and what a request does to the ledger.
 abbrev pub AnswersHaveUsers : Type 0

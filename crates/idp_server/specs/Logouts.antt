@@ -21,10 +21,11 @@ use Rattle.round_rows.specs.declared.row.RoundRow.{RoundRow}
 use Rattle.idp_rows.specs.declared.row.SessionRow.{SessionRow}
 use Rattle.idp_rows.specs.Finding.{is_empty, visible}
 use Rattle.idp_rows.specs.RowsOf.{ends, is_among, rows_of}
-use Rattle.idp_ledger.specs.Compacting.{Compacts}
+use Rattle.idp_ledger.specs.Record.{idp_rules}
 use Rattle.idp_ledger.specs.Ledger.{Held}
 use Rattle.record_ledger.specs.Ledger.{held_with}
 use Rattle.idp_rules.specs.declared.config.IdpConfig.{IdpConfig}
+use Rattle.provider_node.specs.Changes as any
 use Rattle.provider_node.specs.declared.codes.TheConstants.{NO_MEMORY}
 use Rattle.idp_server.specs.Histories.{IsEnded}
 use Rattle.idp_server.specs.Issues.{IsRecorded, LeavesLedger}
@@ -100,11 +101,9 @@ IsOfLogoutIfEnding setup held request now (kinds.Told r) = IsOfProviderInTurn se
 
 -- what a request may do to a ledger that stays whole: nothing, a compaction, or a record behind either, and a record of a logout only
 -- for one
-pub data Ends (setup : IdpConfig) (found : Held) (request : Request) (now : ℕ) (new : Provider) : Type 0 where
-  Nothing : new.ledger.held ≡ found → Ends setup found request now new
-  Anew : Compacts now found new.ledger.held → Ends setup found request now new
-  More : (held : Held) (r : IdpRecord) → (held ≡ found) ⊎ Compacts now found held → new.ledger.held ≡ held_with r held
-      → IsOfLogoutIfEnding setup held request now r → Ends setup found request now new
+abbrev pub Ends : IdpConfig → (found : Held) → Request → ℕ → (new : Provider) → Type 0
+Ends setup found request now new =
+    any.Changes idp_rules (λ held r. IsOfLogoutIfEnding setup held request now r) now found new.ledger.held
 
 -- Each session that is ended was left by its user or ended by a peer: an answer's record, and what a request does to the ledger.
 abbrev pub AnswersEndExactly : Type 0

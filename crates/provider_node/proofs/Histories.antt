@@ -2,7 +2,7 @@
 use Rattle.std.specs.Prelude.{Contains, map, IfSome, IsSome, Option, None, Some, Ok}
 use Rattle.std.proofs.Common.{◌≡◌, ◌⊎◌, inl, inr, ℕ, suc, ◌≤◌, List, [], ◌∷◌, ◌++◌, All, sym, subst, refl, ap, ◌∙◌, true, false, append_assoc, arith}
 use Rattle.std.proofs.lemmas.List.{append-nil}
-use Rattle.std.proofs.lemmas.List.Elements.{Contains-append_left, Contains-append_right}
+use Rattle.std.proofs.lemmas.List.Elements.{All-from_recursion, Contains-append_left, Contains-append_right}
 use Rattle.std.specs.List.{AllByRecursion}
 use Rattle.crash_disk.specs.Disk.{Image, DiskState, MayLeave, image_of}
 use Rattle.crash_disk.specs.Counts.{Rose}
@@ -33,11 +33,17 @@ use Rattle.provider_node.proofs.Serving.{settled}
 
 -- ---- what came of a ledger
 
-module _ {R : Type 0} (rules : RecordRules R) (IsMoment : ℕ → Type 0) (start : Held R) where
-  abbrev pub IsAbove : Held R → R → Type 0
-  IsAbove held r = All (λ (d : Drawn). next_number rules held ≤ d.number) (rules.drawn r)
+-- the numbers of a record were not drawn before
+abbrev pub IsAbove : {R : Type 0} → RecordRules R → Held R → R → Type 0
+IsAbove rules held r = All (λ (d : Drawn). next_number rules held ≤ d.number) (rules.drawn r)
 
-  pub added : (records : List R) (held : Held R) (r : R) → rules.is_record held.records r ≡ true → IsAbove held r
+pub above_of_each : {R : Type 0} (rules : RecordRules R) (held : Held R) (made r : R) → made ≡ r
+    → AllByRecursion (λ (d : Drawn). next_number rules held ≤ d.number) (rules.drawn made) → IsAbove rules held r
+above_of_each rules held made r same each =
+    subst (IsAbove rules held) same (All-from_recursion (λ (d : Drawn). next_number rules held ≤ d.number) _ each)
+
+module _ {R : Type 0} (rules : RecordRules R) (IsMoment : ℕ → Type 0) (start : Held R) where
+  pub added : (records : List R) (held : Held R) (r : R) → rules.is_record held.records r ≡ true → IsAbove rules held r
       → CameFrom rules IsMoment start records held → CameFrom rules IsMoment start (r ∷ records) (held_with r held)
   added records held r is above came =
       record {
@@ -48,7 +54,7 @@ module _ {R : Type 0} (rules : RecordRules R) (IsMoment : ℕ → Type 0) (start
         at = came.at;
       }
 
-  added_unknown : (records : List R) (held : Held R) (r : R) → rules.is_record held.records r ≡ true → IsAbove held r
+  added_unknown : (records : List R) (held : Held R) (r : R) → rules.is_record held.records r ≡ true → IsAbove rules held r
       → CameFrom rules IsMoment start records held → CameFrom rules IsMoment start records (held_with r held)
   added_unknown records held r is above came =
       record {
@@ -139,9 +145,8 @@ moments_are IsMoment (turn ∷ past) is = (
 -- the numbers of a record that is added were not drawn before
 abbrev pub DrawsAbove : {Setup R : Type 0} → RecordRules R → AnswersBy Setup R → Type 0
 DrawsAbove {Setup} {R} rules Answers =
-    (setup : Setup) (held : Held R) (request : Request) (now : ℕ) (answer : Answer) (r : R) → Answers setup held
-    request now answer (Some r)
-    → All (λ (d : Drawn). next_number rules held ≤ d.number) (rules.drawn r)
+    (setup : Setup) (held : Held R) (request : Request) (now : ℕ) (answer : Answer) (r : R)
+    → Answers setup held request now answer (Some r) → IsAbove rules held r
 
 pub record Holds {Setup R : Type 0} (rules : RecordRules R) (IsMoment : ℕ → Type 0) (start : Held R)
     (w : World (Provider Setup R)) (records : List R) : Type 0 where

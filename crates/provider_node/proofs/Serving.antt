@@ -11,14 +11,13 @@ use Rattle.gate_journal.specs.declared.fault.OpenFault.TheVariants.{DiskFault, F
 use Rattle.gate_journal.specs.Format.{journal}
 use Rattle.gate_journal.specs.Opening.{open_fault_of}
 use Rattle.record_ledger.specs.Rules.{RecordRules}
-use Rattle.record_ledger.specs.Calls.{committing}
 use Rattle.record_ledger.specs.Ledger.{Held, kept_of, ledger_in, held_with}
 use Rattle.record_ledger.specs.Compacting.{Compacts, IsOldOrCompacted}
-use Rattle.provider_node.specs.Calls.{CommittingLeaves, CompactingLeaves, CompactionCalls, MakesCompaction}
+use Rattle.provider_node.specs.Calls.{CompactingLeaves, CompactionCalls, MakesCompaction}
 use Rattle.provider_node.specs.Step.{AnswersBy, Ledger, Owns, Provider, HasPlace, IsWhole, MakesRoom, ServesOnDisk, Recorded, RecordedAfterCompaction, Starved, Failed, ServingLeaves, AtFirst, InCompaction}
 use Rattle.provider_node.specs.Node.{CompactsFound, MadeAnew, Stays, Fails}
 use Rattle.provider_node.specs.Serving.{Adds, Added, NotMade, Lost}
-use Rattle.provider_node.proofs.Calling.{at_first, first_amid}
+use Rattle.provider_node.proofs.Calling.{at_first}
 
 -- a crash leaves a whole ledger as it is
 whole_is : {R : Type 0} (rules : RecordRules R) (disk : DiskState) (held : Held R) (b : Bool) → b ≡ false
@@ -184,17 +183,6 @@ module _ {Setup R : Type 0} (rules : RecordRules R) (Answers : AnswersBy Setup R
       → (image : Image) → Leaves told image → ServingLeaves rules Answers setup ledger.held request now told image
   first_leaves setup ledger request now told whole own image left =
       AtFirst (settled rules told ledger image whole own left) (at_first told image left)
-
--- before the first call of a commit
-pub first_committing : {R : Type 0} (rules : RecordRules R) (told : Option DiskState) (ledger : Ledger R) (r : R)
-    → ledger.broken ≡ false → Owns rules told ledger
-    → (image : Image) → Leaves told image → CommittingLeaves rules r ledger.held told image
-first_committing rules told ledger r whole own image left =
-    record {
-      stands = inl (settled rules told ledger image whole own left);
-      amid = first_amid
-          (committing rules ledger.held r) told image left;
-    }
 
 -- the calls of a compaction that ended
 pub made_where : {R : Type 0} (rules : RecordRules R) (found : Held R) (now : ℕ) (told later : Option DiskState)

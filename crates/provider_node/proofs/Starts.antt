@@ -12,21 +12,29 @@ use Rattle.record_ledger.specs.Runs.{Event, Adds, Opens, Leads}
 use Rattle.serve_loop.proofs.Telling.{goes_on_reading}
 use Rattle.provider_node.specs.Step.{AnswersBy, Provider, OwnsDisk, StepLeaves}
 use Rattle.provider_node.specs.Histories.{AnyMoment, Another, CameFrom, CompactsWhere, HoldsWhatCame, Includes, Nothing, StepOf, This}
-use Rattle.provider_node.specs.Starts.{AreKeptOver, AreKeptOverAt, AreStarts, AreStartsAt, Behind, Cut, InAnswer, InCompaction, IsNextAt, LeftFromAt, OpensWhatCame, Served, StandsAsOpened, Start, Unopened}
+use Rattle.provider_node.specs.Points.{AClosedSessionStaysClosed}
+use Rattle.provider_node.specs.Starts.{AreKeptOver, AreKeptOverAt, AreStarts, AreStartsAt, Behind, Cut, InAnswer, InCompaction, IsNextAt, LeftFromAt, OpensWhatCame, Served, StandsAsOpened, Start, StayClosedOverStarts, Unopened}
 use Rattle.provider_node.proofs.Histories.{DrawsAbove, Holds, all_told, an_image, begins, came_itself, compaction_left, known, known_behind, moments_are, step_left}
 
 -- ---- one history behind another
 
 module _ {R : Type 0} (rules : RecordRules R) where
+  -- what the last event led from, and that it leads on from there whatever led to it
+  pub last_event : (start held : Held R) (past : List (Event R)) (event : Event R) → Leads rules start (event ∷ past) held
+      → (mid : Held R) × Leads rules start past mid
+      × ((other : Held R) (events : List (Event R)) → Leads rules other events mid
+      → Leads rules other (event ∷ events) held)
+  last_event start held past (Adds r) (mid, led, is, above, same) =
+      (mid, led, λ other events on. (mid, on, is, above, same))
+  last_event start held past (events.Compacts now) (mid, led, made) = (mid, led, λ other events on. (mid, on, made))
+  last_event start held past Opens (mid, led, same) = (mid, led, λ other events on. (mid, on, same))
+
   leads_on : (start mid held : Held R) (past later : List (Event R)) → Leads rules start past mid
       → Leads rules mid later held → Leads rules start (later ++ past) held
   leads_on start mid held past [] first second = subst (Leads rules start past) (sym second) first
-  leads_on start mid held past (Adds r ∷ later) first (before, leads, is, above, same) =
-      (before, leads_on start mid before past later first leads, is, above, same)
-  leads_on start mid held past (events.Compacts now ∷ later) first (before, leads, made) =
-      (before, leads_on start mid before past later first leads, made)
-  leads_on start mid held past (Opens ∷ later) first (before, leads, same) =
-      (before, leads_on start mid before past later first leads, same)
+  leads_on start mid held past (event ∷ later) first second =
+      let (before, led, more) = last_event mid held later event second in
+      more start (later ++ past) (leads_on start mid before past later first led)
 
 includes_on : {R : Type 0} (past later : List (Event R)) (former latest : List R) → Includes past former
     → Includes later latest → Includes (later ++ past) (latest ++ former)
@@ -198,3 +206,13 @@ pub kept_over : {Setup R : Type 0} (rules : RecordRules R) (Answers : AnswersBy 
     (starts : List (Start (Provider Setup R))) → AreStarts rules Answers start starts → AreKeptOver rules Answers start
     starts
 kept_over rules Answers law numbers start starts are = kept_over_at rules Answers law numbers AnyMoment start starts are
+
+pub closed_over : {Setup R : Type 0} (rules : RecordRules R) (Answers : AnswersBy Setup R)
+    (law : ImagesHoldRecords rules) (numbers : DrawsAbove rules Answers) (IsClosed IsOver : Held R → List ℕ → Type 0)
+    → AClosedSessionStaysClosed rules IsClosed IsOver → StayClosedOverStarts rules Answers IsClosed IsOver
+closed_over {Setup} {R} rules Answers law numbers IsClosed IsOver stays start held starts image token are begun closed
+    left is =
+    let opens = (kept_over rules Answers law numbers start starts begun).kept image left in
+    let same : opens.held ≡ held = (let e = sym opens.opens ∙ is in cc) in
+    subst (λ (h : Held R). IsOver h token) same
+    (stays start opens.held opens.came.events token are closed opens.came.leads)

@@ -13,43 +13,23 @@ use Rattle.provider_node.specs.Histories.{Another, CameFrom, CompactsWhere, Incl
 use Rattle.provider_node.specs.Staying.{SessionsStayInAService, SessionsStayOverStarts, WasAdded, WhatWasOpenedIsAsLeft}
 use Rattle.provider_node.specs.Step.{AnswersBy}
 use Rattle.provider_node.proofs.Histories.{DrawsAbove, what_is_kept}
-use Rattle.provider_node.proofs.Starts.{kept_over_at}
+use Rattle.provider_node.proofs.Starts.{kept_over_at, last_event}
 
 module _ {R : Type 0} (rules : RecordRules R) where
   -- with one event more
-  onto : (start before held : Held R) (event : Event R) (past : List (Event R)) (r : R)
-      → Leads rules start (event ∷ past) held
+  onto : (start held : Held R) (event : Event R) (past : List (Event R)) (r : R) → Leads rules start (event ∷ past) held
       → ((mid : Held R) → Leads rules start past mid → WasAdded rules start mid past r)
       → WasAdded rules start held (event ∷ past) r
-  onto start before held (Adds x) past r leads was =
-      let w = was leads.0 leads.1 in
+  onto start held event past r leads was =
+      let (mid, led, more) = last_event rules start held past event leads in
+      let w = was mid led in
       record {
         past = w.past;
-        later = Adds x ∷ w.later;
-        is = ap (λ (l : List (Event R)). Adds x ∷ l) w.is;
+        later = event ∷ w.later;
+        is = ap (λ (l : List (Event R)). event ∷ l) w.is;
         before = w.before;
         led = w.led;
-        leads = (leads.0, w.leads, leads.2, leads.3, leads.4);
-      }
-  onto start before held (events.Compacts now) past r leads was =
-      let w = was leads.0 leads.1 in
-      record {
-        past = w.past;
-        later = events.Compacts now ∷ w.later;
-        is = ap (λ (l : List (Event R)). events.Compacts now ∷ l) w.is;
-        before = w.before;
-        led = w.led;
-        leads = (leads.0, w.leads, leads.2);
-      }
-  onto start before held Opens past r leads was =
-      let w = was leads.0 leads.1 in
-      record {
-        past = w.past;
-        later = Opens ∷ w.later;
-        is = ap (λ (l : List (Event R)). Opens ∷ l) w.is;
-        before = w.before;
-        led = w.led;
-        leads = (leads.0, w.leads, leads.2);
+        leads = more (held_with r w.before) w.later w.leads;
       }
 
   pub was_added : (start held : Held R) (events : List (Event R)) (records : List R) (r : R)
@@ -68,10 +48,10 @@ module _ {R : Type 0} (rules : RecordRules R) where
         leads = leads.4 ∙ ap (λ (z : R). held_with z leads.0) y;
       }
   was_added start held (Adds x ∷ past) (same ∷ records) r leads (This includes) (suc k, less, is) =
-      onto start start held (Adds x) past r leads
+      onto start held (Adds x) past r leads
       (λ mid led. was_added start mid past records r led includes (k, omega (arith, less), is))
   was_added start held (event ∷ past) records r leads (Another includes) there =
-      onto start start held event past r leads (λ mid led. was_added start mid past records r led includes there)
+      onto start held event past r leads (λ mid led. was_added start mid past records r led includes there)
 
   -- the horizon of a ledger is that at the start or a moment of a compaction
   ends_before : (moments : List ℕ) (until : ℕ) (start held : Held R) (events : List (Event R))

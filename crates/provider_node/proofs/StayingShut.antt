@@ -96,7 +96,7 @@ module _ {R S : Type 0} (rules : RecordRules R) (sessions : Sessions S) (rows : 
           → HasNumber key (next_of rules (before ++ r ∷ []))
       of_case (Same same) = old (ap (λ (l : List S). is_there sessions l key) (sym same) ∙ there)
       of_case (Shut test are) =
-          old (sym (keys_stay sessions test (rows before) key)
+          old (sym (keys_stay sessions (rows before) key test)
           ∙ ap (λ (l : List S). is_there sessions l key) (sym are) ∙ there)
       of_case (More row place number at are) =
           let test : S → Bool = λ other. bytes_eq (sessions.key other) key in
@@ -154,14 +154,14 @@ module _ {R S : Type 0} (rules : RecordRules R) (sessions : Sessions S) (rows : 
       ap (λ (l : List S). found sessions l key now before.header.horizon) same ∙ never.none now
   added_none key before r now is above never (Shut test are) =
       ap (λ (l : List S). found sessions l key now before.header.horizon) are
-      ∙ none_shut sessions test (rows before.records) key now before.header.horizon (never.none now)
+      ∙ none_shut sessions (rows before.records) key now before.header.horizon test (never.none now)
   added_none key before r now is above never (More row place number at are) =
       let least = next_number rules before in
       let fresh = fresh_above (next_of rules before.records) least (rules.drawn r) (keeps.fresh before.records r is)
       above in
       let own = fresh_at least (rules.drawn r) place (record { number = number; id = sessions.key row }) fresh at in
       ap (λ (l : List S). found sessions l key now before.header.horizon) are
-      ∙ none_more sessions (rows before.records) row key now before.header.horizon
+      ∙ none_more sessions (rows before.records) key now before.header.horizon row
       (other_key least key (sessions.key row) number never.drew own.greater own.small own.begins) (never.none now)
 
   never_lasts : (key : List ℕ) → Lasts rules (Never key)
@@ -184,7 +184,7 @@ module _ {R S : Type 0} (rules : RecordRules R) (sessions : Sessions S) (rows : 
             drew =
                 further key (next_number rules before) (next_number rules held) (omega (arith, made.next)) never.drew;
             none = λ then_now.
-                at_moment sessions (rows held.records) key held.header.horizon then_now (max then_now now)
+                at_moment sessions (rows held.records) key then_now held.header.horizon (max then_now now)
                 (omega (arith, made.horizon))
                 ∙ keeps.alike now (max then_now now) before held key are made (omega arith)
                 ∙ never.none (max then_now now);

@@ -5,10 +5,7 @@ pub record Told : Type 1 where
   pub Fact : Type 0
   pub is : Fact
 
--- two of them, three or four
-abbrev pub tell2 : {A B : Type 0} → A → B → Told
-tell2 {A} {B} a b = record { Fact = A × B; is = (a, b) }
-
+-- three of them, or four
 abbrev pub tell3 : {A B C : Type 0} → A → B → C → Told
 tell3 {A} {B} {C} a b c = record { Fact = A × B × C; is = (a, b, c) }
 

@@ -7,7 +7,7 @@ use Rattle.conn_table.specs.Table.{Table}
 use Rattle.http_wire.specs.Requests.{Request}
 use Rattle.serve_loop.specs.Turns.{Asked, Turn, Run, asked_in}
 use Rattle.serve_loop.specs.Worlds.{World}
-use Rattle.record_ledger.specs.Rules.{RecordRules}
+use Rattle.record_ledger.specs.Rules.{RecordRules, AreRecords}
 use Rattle.record_ledger.specs.Ledger.{Held, LeftByOpening, ledger_in, migrated, taken}
 use Rattle.provider_node.specs.Node.{CompactionLeaves}
 use Rattle.provider_node.specs.Step.{AnswersBy, OwnsDisk, Provider, StepLeaves}
@@ -153,3 +153,11 @@ module _ {Setup R : Type 0} (rules : RecordRules R) (Answers : AnswersBy Setup R
 
   abbrev pub AreKeptOver : (start : Held R) → (starts : List (Start (Provider Setup R))) → Type 0
   AreKeptOver = AreKeptOverAt rules Answers AnyMoment
+
+-- A session that is closed at the start is over in each ledger that may be opened behind starts.
+abbrev pub StayClosedOverStarts : {Setup R : Type 0} → RecordRules R → AnswersBy Setup R
+    → (IsClosed IsOver : Held R → List ℕ → Type 0) → Type 0
+StayClosedOverStarts {Setup} {R} rules Answers IsClosed IsOver =
+    (start held : Held R) (starts : List (Start (Provider Setup R))) (image : Image) (token : List ℕ)
+    → AreRecords rules start.records → AreStarts rules Answers start starts → IsClosed start token
+    → LeftBehind rules Answers start starts image → taken (ledger_in rules image) ≡ Ok held → IsOver held token

@@ -25,10 +25,11 @@
 //!
 //! `specs/Histories.antt` says what was acknowledged over a service, and how its ledger came from the one at the start,
 //! with compactions at the moments of its requests alone; `specs/Lasting.antt` that it is kept since then, inside later
-//! answers too; `specs/Staying.antt` what happened since a record was added; `specs/Added.antt` that what stands anew
-//! is of the request; `specs/Starving.antt` that nothing visible is lost where there was no memory; and
-//! `specs/Joining.antt` that a later start goes on from whatever a crash left of a run. The laws of any role are in
-//! [`laws`].
+//! answers too; `specs/Staying.antt` what happened since a record was added, and that the session which it opened is
+//! found as it was left; `specs/Added.antt` that what stands anew is of the request; `specs/Changes.antt` what a request
+//! may do to a ledger; `specs/Recorded.antt` that the record of an answer is kept; `specs/Starving.antt` that nothing
+//! visible is lost where there was no memory; and `specs/Joining.antt` that a later start goes on from whatever a crash
+//! left of a run. The laws of any role are in [`laws`].
 //!
 //! # What is proved
 //!

@@ -1,12 +1,12 @@
 -- What a compaction leaves as it was: the answers at its moment.
 use Rattle.std.specs.Prelude.{codes}
 use Rattle.std.specs.Option.{option_and_then}
-use Rattle.std.proofs.Common.{◌≡◌, inl, inr, ℕ, List, Option, None, Some, sym, subst, refl, arith}
+use Rattle.std.proofs.Common.{◌≡◌, ℕ, List, refl}
 use Rattle.http_wire.specs.Requests.{Request}
 use Rattle.http_wire.specs.Cookies.{cookie_value}
 use Rattle.request_rows.specs.declared.row.AskedRow.{AskedRow}
 use Rattle.request_ledger.specs.RowsOf.{rows_of}
-use Rattle.request_ledger.specs.Record.{AreRecords}
+use Rattle.request_ledger.specs.Record.{AreRecords, request_rules}
 use Rattle.request_ledger.specs.Ledger.{Held}
 use Rattle.request_ledger.specs.Compacting.{Compacts}
 use Rattle.request_ledger.specs.Laws.{AnswerAlike, CompactionsChangeNoAnswer}
@@ -16,9 +16,11 @@ use Rattle.sp_rules.specs.Opening.{Brought, Opens}
 use Rattle.sp_rules.specs.Shown.{IsOpening}
 use Rattle.sp_answers.specs.Judging.{RowsAnswerAlike}
 use Rattle.sp_answers.proofs.Alike.{open_alike}
+use Rattle.provider_node.proofs.Alike as any
+use Rattle.provider_node.proofs.Alike.{followed_alike}
 use Rattle.sp_server.specs.Step.{rows_seen, session_for}
 
-alike_self : (now : ℕ) (held : Held) → AnswerAlike now held held
+pub alike_self : (now : ℕ) (held : Held) → AnswerAlike now held held
 alike_self now held = record {
   asked = λ request. refl;
   spent = λ request is. refl;
@@ -28,18 +30,15 @@ alike_self now held = record {
   waiting = λ request. refl;
 }
 
-pub alike : (now : ℕ) (old new : Held) → CompactionsChangeNoAnswer → AreRecords old.records → Compacts now old new → AnswerAlike now new old
-alike now old new law are (inl same) = subst (λ (h : Held). AnswerAlike now h old) (sym same.1) (alike_self now old)
-alike now old new law are (inr made) = law now now old new are made.1 (omega arith)
+pub alike : (now : ℕ) (old new : Held) → CompactionsChangeNoAnswer → AreRecords old.records → Compacts now old new
+    → AnswerAlike now new old
+alike now old new law = any.alike request_rules AnswerAlike alike_self law now old new
 
 -- the session of a cookie
-and_then_same : {A B : Type 0} (f g : A → Option B) (o : Option A) → ((a : A) → f a ≡ g a) → option_and_then f o ≡ option_and_then g o
-and_then_same f g None each = refl
-and_then_same f g (Some a) each = each a
-
-pub session_alike : (now : ℕ) (one other : Held) (request : Request) → AnswerAlike now one other → session_for one now request ≡ session_for other now request
+pub session_alike : (now : ℕ) (one other : Held) (request : Request) → AnswerAlike now one other
+    → session_for one now request ≡ session_for other now request
 session_alike now one other request like =
-    and_then_same _ _ (option_and_then (λ header. cookie_value header (codes "sp_sid")) request.cookie) (λ token. like.session token)
+    followed_alike _ _ (option_and_then (λ header. cookie_value header (codes "sp_sid")) request.cookie) like.session
 
 -- the rows of ledgers that answer alike do so
 rows_alike : (now : ℕ) (one other : Held) → AnswerAlike now one other

@@ -31,6 +31,7 @@ use Rattle.sp_server.specs.declared.route.Service.TheVariants.{Guard}
 use Rattle.sp_server.specs.Routes.{route}
 use Rattle.sp_server.specs.Step as steps
 use Rattle.sp_server.specs.Step.{Setup, Provider, Answers, IsWhole, Serves, Steps, session_for}
+use Rattle.sp_server.proofs.Told.{said}
 
 -- ---- what is answered at /auth
 
@@ -41,24 +42,13 @@ record IsGuarded (setup : Setup) (held : Held) (request : Request) (now : ℕ) (
 
 guarded : (setup : Setup) (held : Held) (request : Request) (now : ℕ) (answer : Answer) (adds : Option SpRecord) → route request ≡ To Guard
     → Answers setup held request now answer adds → IsGuarded setup held request now answer adds
-guarded setup held request now answer adds at (steps.ByStatus status to is none) = absurd (let e = sym at ∙ to in cc)
-guarded setup held request now answer adds at (steps.ByMetadata to is none) = absurd (let e = sym at ∙ to in cc)
-guarded setup held request now answer adds at (steps.BySession row to live is none) = absurd (let e = sym at ∙ to in cc)
-guarded setup held request now answer adds at (steps.ByAsking bytes to none unexpired id relay page is ids what) = absurd (let e = sym at ∙ to in cc)
 guarded setup held request now answer adds at (steps.ByGuard to is none) = record { says = is; nothing = none }
-guarded setup held request now answer adds at (steps.ByOpening b row to unexpired opens token is has what) = absurd (let e = sym at ∙ to in cc)
-guarded setup held request now answer adds at (steps.ByVerdict verdict to unexpired refused is none) = absurd (let e = sym at ∙ to in cc)
 guarded setup held request now answer adds at (steps.ByExpiry (inl to) expired is none) = absurd (let e = sym at ∙ to in cc)
 guarded setup held request now answer adds at (steps.ByExpiry (inr (inl to)) expired is none) = absurd (let e = sym at ∙ to.0 in cc)
 guarded setup held request now answer adds at (steps.ByExpiry (inr (inr (inl to))) expired is none) = absurd (let e = sym at ∙ to in cc)
 guarded setup held request now answer adds at (steps.ByExpiry (inr (inr (inr to))) expired is none) = absurd (let e = sym at ∙ to in cc)
-guarded setup held request now answer adds at (steps.ByLeaving row id bytes to unexpired live is has leaves what) = absurd (let e = sym at ∙ to in cc)
-guarded setup held request now answer adds at (steps.ByNoSession to unexpired none is no_record) = absurd (let e = sym at ∙ to in cc)
-guarded setup held request now answer adds at (steps.ByLogoutVerdict verdict to unexpired refused is none) = absurd (let e = sym at ∙ to in cc)
-guarded setup held request now answer adds at (steps.ByEnding asked relay id bytes to unexpired obeyed any is has ends what) = absurd (let e = sym at ∙ to in cc)
-guarded setup held request now answer adds at (steps.ByNothingToEnd asked relay to unexpired obeyed empty is none) = absurd (let e = sym at ∙ to in cc)
-guarded setup held request now answer adds at (steps.ByConfirming response to unexpired obeyed waits is what) = absurd (let e = sym at ∙ to in cc)
-guarded setup held request now answer adds at (steps.ByUnknownLogout response to unexpired obeyed unknown is none) = absurd (let e = sym at ∙ to in cc)
+guarded setup held request now answer adds at other =
+    absurd (let says = (said setup held request now answer adds other).is in cc)
 
 no_record : (setup : Setup) (held : Held) (request : Request) (now : ℕ) (answer : Answer) (r : SpRecord) → route request ≡ To Guard
     → Answers setup held request now answer (Some r) → ⊥

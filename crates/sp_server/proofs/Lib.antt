@@ -18,4 +18,5 @@ mod Unclosed
 mod Verdicts
 mod Starts
 mod Starving
+mod Told
 mod Staying

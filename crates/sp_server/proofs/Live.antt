@@ -1,24 +1,26 @@
 -- The texts of a session that lives.
-use Rattle.std.specs.Prelude.{IsUtf8, Option, None, Some, codes}
-use Rattle.std.proofs.Common.{◌≡◌, ℕ, Bool, true, false, ◌&&◌, if◌then◌else◌, List, [], ◌∷◌, ◌++◌, subst, refl}
-use Rattle.std.specs.List.{find, list_all}
-use Rattle.std.specs.Option.{ForSome, option_and_then}
+use Rattle.std.specs.Prelude.{Option, None, Some}
+use Rattle.std.proofs.Common.{◌≡◌, ℕ, Bool, true, ◌&&◌, List, [], ◌∷◌, ◌++◌, sym, subst, refl, ap, ◌∙◌}
+use Rattle.std.specs.List.{list_all}
+use Rattle.std.specs.Option.{ForSome}
 use Rattle.std.proofs.lemmas.Bool.{and_parts}
+use Rattle.std.proofs.lemmas.List.Sums.{AllPass-from_list_all}
+use Rattle.std.proofs.lemmas.Option.{get_or_from_slice_get, slice_get_within}
 use Rattle.ledger_rules.proofs.Texts.{tested}
 use Rattle.xml_spec.specs.Characters.{IsText}
 use Rattle.ledger_records.specs.declared.sp_record.SpRecord.{SpRecord}
 use Rattle.ledger_records.specs.declared.sp_record.SpRecord.TheVariants as kinds
 use Rattle.ledger_rules.specs.Numbers.{is_xml_text}
 use Rattle.request_rows.specs.declared.row.OpenedRow.{OpenedRow}
-use Rattle.request_rows.specs.Rows.{session_row}
-use Rattle.request_ledger.specs.RowsOf.{opened_rows, rows_of}
+use Rattle.request_ledger.specs.RowsOf.{opened_rows}
 use Rattle.request_ledger.specs.Record.{of_option, AreRecords, AreRecordsAfter}
 use Rattle.request_ledger.specs.Ledger.{Held}
 use Rattle.record_ledger.proofs.Draftable.{both}
 use Rattle.request_ledger.proofs.LawWords.{parts}
-use Rattle.http_wire.specs.Cookies.{cookie_value}
 use Rattle.http_wire.specs.Requests.{Request}
+use Rattle.provider_node.proofs.Sessions.{found_itself}
 use Rattle.sp_server.specs.Step.{session_for}
+use Rattle.sp_server.proofs.StayingClosed.{opened_sessions}
 
 -- what passes the test is a text
 pub text_of : (s : List ℕ) → is_xml_text s ≡ true → IsText s
@@ -37,7 +39,6 @@ rest_of (text ∷ index) more all =
 
 rows_after : (before later : List SpRecord) → AreRecordsAfter before later → list_all is_allowed (opened_rows later) ≡ true
 rows_after before [] are = refl
-rows_after before (kinds.Asked r ∷ later) are = rows_after (before ++ kinds.Asked r ∷ []) later are.1
 rows_after before (kinds.Opened r ∷ later) are =
     let texts = (parts before (kinds.Opened r) are.0).texts in
     let second = (and_parts (is_xml_text r.request) _ texts).1 in
@@ -48,22 +49,9 @@ rows_after before (kinds.Opened r ∷ later) are =
     both (is_xml_text r.name && list_all is_xml_text (of_option r.index)) (list_all is_allowed (opened_rows later))
     (both (is_xml_text r.name) (list_all is_xml_text (of_option r.index)) name.0 (rest_of (of_option r.index) _ name.1))
     (rows_after (before ++ kinds.Opened r ∷ []) later are.1)
-rows_after before (kinds.Left r ∷ later) are = rows_after (before ++ kinds.Left r ∷ []) later are.1
-rows_after before (kinds.Ended r ∷ later) are = rows_after (before ++ kinds.Ended r ∷ []) later are.1
-rows_after before (kinds.Confirmed r ∷ later) are = rows_after (before ++ kinds.Confirmed r ∷ []) later are.1
+rows_after before (other ∷ later) are = rows_after (before ++ other ∷ []) later are.1
 
 -- ---- so has the one that is found
-
-picked : (b : Bool) (test other : OpenedRow → Bool) (first row : OpenedRow) (rest : Option OpenedRow) → other first ≡ true → (if b then Some first else rest) ≡ Some row
-    → (rest ≡ Some row → other row ≡ true) → other row ≡ true
-picked true test other first row rest passes is later = subst (λ (r : OpenedRow). other r ≡ true) (let same : first ≡ row = cc in same) passes
-picked false test other first row rest passes is later = later is
-
-found_passes : (test other : OpenedRow → Bool) (rows : List OpenedRow) (row : OpenedRow) → list_all other rows ≡ true → find test rows ≡ Some row → other row ≡ true
-found_passes test other [] row all is = cc
-found_passes test other (first ∷ rows) row all is =
-    let two = and_parts (other first) (list_all other rows) all in
-    picked (test first) test other first row (find test rows) two.0 is (found_passes test other rows row two.1)
 
 index_allowed : (index : Option (List ℕ)) → list_all is_xml_text (of_option index) ≡ true → ForSome index (λ i. is_xml_text i ≡ true)
 index_allowed None all x is = cc
@@ -73,15 +61,13 @@ pub record HasTexts (row : OpenedRow) : Type 0 where
   pub name : is_xml_text row.name ≡ true
   pub index : ForSome row.index (λ i. is_xml_text i ≡ true)
 
-live_texts : (held : Held) (now : ℕ) (cookie : Option (List ℕ)) (row : OpenedRow) → AreRecords held.records
-    → option_and_then (λ token. session_row (rows_of held.records).opened token now held.header.horizon) cookie ≡ Some row → HasTexts row
-live_texts held now None row are is = cc
-live_texts held now (Some token) row are is =
-    let passes = found_passes _ is_allowed (opened_rows held.records) row (rows_after [] held.records are) is in
-    let two = and_parts (is_xml_text row.name) (list_all is_xml_text (of_option row.index)) passes in
-    record { name = two.0; index = index_allowed row.index two.1 }
-
 pub session_texts : (held : Held) (request : Request) (now : ℕ) (row : OpenedRow) → AreRecords held.records
     → session_for held now request ≡ Some row → HasTexts row
 session_texts held request now row are is =
-    live_texts held now (option_and_then (λ header. cookie_value header (codes "sp_sid")) request.cookie) row are is
+    let rows = opened_rows held.records in
+    let found = found_itself opened_sessions rows now held.header.horizon _ row is in
+    let all = AllPass-from_list_all is_allowed rows (rows_after [] held.records are) in
+    let passes = sym (ap is_allowed (get_or_from_slice_get rows found.place row row found.at))
+    ∙ all found.place row (slice_get_within rows found.place row found.at) in
+    let two = and_parts (is_xml_text row.name) (list_all is_xml_text (of_option row.index)) passes in
+    record { name = two.0; index = index_allowed row.index two.1 }

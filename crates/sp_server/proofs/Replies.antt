@@ -1,18 +1,14 @@
 -- What follows where a reply is wanted.
 use Rattle.std.specs.Prelude.{IsSome, Option, None, Some, not, is_some, Result}
-use Rattle.std.proofs.Common.{◌≡◌, ℕ, ◌+◌, Bool, true, false, ◌&&◌, if◌then◌else◌, List, [], ◌∷◌, sym, subst, refl, ap, ◌∙◌}
-use Rattle.std.specs.Option.{option_and_then, option_to_list}
-use Rattle.std.specs.List.{find}
-use Rattle.std.specs.Str.{bytes_eq}
-use Rattle.std.proofs.lemmas.Bool.{and_parts}
-use Rattle.std.proofs.lemmas.Slice.Eq.{bytes_eq-Decides}
+use Rattle.std.proofs.Common.{◌≡◌, ℕ, ◌+◌, Bool, true, false, if◌then◌else◌, List, sym, subst, refl, ap, ◌∙◌}
+use Rattle.std.specs.Option.{option_to_list}
 use Rattle.http_wire.specs.Answers.{answer}
 use Rattle.http_wire.specs.declared.answer.Answer.TheVariants.{Full, Fixed}
 use Rattle.http_wire.specs.Requests.{Request}
 use Rattle.ledger_records.specs.declared.sp_record.SpRecord.{SpRecord}
 use Rattle.ledger_rules.specs.declared.fault.DraftFault.{DraftFault}
 use Rattle.request_rows.specs.declared.row.OpenedRow.{OpenedRow}
-use Rattle.request_rows.specs.Rows.{session_row, visible}
+use Rattle.request_rows.specs.Rows.{session_row}
 use Rattle.request_ledger.specs.Drafts.{asked, is_empty, DraftsSome}
 use Rattle.record_ledger.specs.Drafts.{SameLedger}
 use Rattle.request_ledger.specs.Laws.{AnswerAlike, CompactionsChangeNoAnswer}
@@ -39,7 +35,9 @@ use Rattle.provider_node.specs.Drafted.{drafted_of}
 use Rattle.provider_node.specs.Replies.{AreReplies, IsDrafted, IsWanted}
 use Rattle.provider_node.proofs.Drafting.{drafted_some}
 use Rattle.sp_server.specs.Replies.{CanDraft, IsAnswerTo, IsAnswerable, Wants, is_nothing, record_for, refusal_of, sp_replies, stands_for}
+use Rattle.provider_node.proofs.Sessions.{found_itself}
 use Rattle.sp_server.proofs.Alike.{alike, session_alike}
+use Rattle.sp_server.proofs.StayingClosed.{opened_sessions}
 use Rattle.sp_server.proofs.Opening.{its_request, its_unspent, opens_own, opens_still}
 use Rattle.sp_server.proofs.Targets.{path_is_text}
 
@@ -79,12 +77,10 @@ replies_own setup held request now (kinds.Confirm response) bytes asks some page
 -- and where there is nothing to reply
 unanswered : (setup : Setup) (held : Held) (request : Request) (now : ℕ) (reply : Reply) → Wants setup held request now reply → is_nothing setup.config held now reply ≡ true
     → Answers setup held request now (Fixed (refusal_of reply)) None
-unanswered setup held request now (kinds.Ask target) asks none = absurd (let clash : false ≡ true = none in cc)
-unanswered setup held request now (kinds.Open accepted) asks none = absurd (let clash : false ≡ true = none in cc)
-unanswered setup held request now (kinds.Leave token name indexes) asks none = absurd (let clash : false ≡ true = none in cc)
 unanswered setup held request now (kinds.End asked relay) asks none = ByNothingToEnd asked relay asks.0.to asks.0.unexpired asks.0.obeyed none refl refl
 unanswered setup held request now (kinds.Confirm response) asks none =
     ByUnknownLogout response asks.to asks.unexpired asks.obeyed (not_true (is_awaited held now response.request) none) refl refl
+unanswered setup held request now other asks none = absurd (let clash : false ≡ true = none in cc)
 
 -- there is an answer to each
 pub record AreAnswered (now : ℕ) : Type 0 where
@@ -115,38 +111,15 @@ page_of setup held request now (kinds.Confirm response) law usable asks = (end_a
 
 -- ---- it can be drafted and answered
 
-picked : (b : Bool) (test : OpenedRow → Bool) (first row : OpenedRow) (rest : Option OpenedRow) → test first ≡ b → (if b then Some first else rest) ≡ Some row
-    → (rest ≡ Some row → test row ≡ true) → test row ≡ true
-picked true test first row rest tests is later = subst (λ (r : OpenedRow). test r ≡ true) (let same : first ≡ row = cc in same) tests
-picked false test first row rest tests is later = later is
-
--- what is found passes the test
-pub find_passes : (test : OpenedRow → Bool) (rows : List OpenedRow) (row : OpenedRow) → find test rows ≡ Some row → test row ≡ true
-find_passes test [] row is = cc
-find_passes test (first ∷ rows) row is = picked (test first) test first row (find test rows) refl is (find_passes test rows row)
-
--- a session that is found has the token for which it was looked
-pub token_is : (opened : List OpenedRow) (token : List ℕ) (now horizon : ℕ) (row : OpenedRow) → session_row opened token now horizon ≡ Some row → row.token ≡ token
-token_is opened token now horizon row is =
-    let passes = find_passes (λ (r : OpenedRow). bytes_eq r.token token && not r.closed && visible r.until now horizon) opened row is in
-    (bytes_eq-Decides row.token token).0
-    (and_parts (bytes_eq row.token token) (not row.closed) (and_parts (bytes_eq row.token token && not row.closed) (visible row.until now horizon) passes).0).0
-
-pub live_row : (held : Held) (now : ℕ) (cookie : Option (List ℕ)) (row : OpenedRow)
-    → option_and_then (λ token. session_row (rows_of held.records).opened token now held.header.horizon) cookie ≡ Some row
-    → session_row (rows_of held.records).opened row.token now held.header.horizon ≡ Some row
-live_row held now None row is = cc
-live_row held now (Some token) row is =
-    subst (λ (t : List ℕ). session_row (rows_of held.records).opened t now held.header.horizon ≡ Some row)
-    (sym (token_is (rows_of held.records).opened token now held.header.horizon row is)) is
-
 pub can_draft : (setup : Setup) (held : Held) (request : Request) (now : ℕ) (reply : Reply) → Wants setup held request now reply → CanDraft held now reply
 can_draft setup held request now (kinds.Ask target) asks = subst (λ (t : List ℕ). is_xml_text t ≡ true) (sym asks.target_is) (path_is_text request asks.to)
 can_draft setup held request now (kinds.Open accepted) asks =
     record { texts = asks.recordable.texts; key = asks.recordable.key; asked = its_request setup held request now accepted asks; unspent = its_unspent setup held request now accepted asks }
 can_draft setup held request now (kinds.Leave token name indexes) asks =
     subst (λ (t : List ℕ). IsSome (session_row (rows_of held.records).opened t now held.header.horizon)) (sym asks.token_is)
-    (subst (λ (o : Option OpenedRow). IsSome o) (sym (live_row held now _ asks.row asks.live)) refl)
+    (subst (λ (o : Option OpenedRow). IsSome o)
+    (sym (found_itself opened_sessions (rows_of held.records).opened now held.header.horizon _ asks.row asks.live).again)
+    refl)
 can_draft setup held request now (kinds.End asked relay) asks = text_is_allowed asked.id asks.1
 can_draft setup held request now (kinds.Confirm response) asks = tt
 
@@ -179,11 +152,9 @@ asks_still setup anew old request now (kinds.End asked relay) like asks = asks
 asks_still setup anew old request now (kinds.Confirm response) like asks = asks
 
 nothing_alike : (config : SpConfig) (anew old : Held) (now : ℕ) (reply : Reply) → AnswerAlike now anew old → is_nothing config anew now reply ≡ is_nothing config old now reply
-nothing_alike config anew old now (kinds.Ask target) like = refl
-nothing_alike config anew old now (kinds.Open accepted) like = refl
-nothing_alike config anew old now (kinds.Leave token name indexes) like = refl
 nothing_alike config anew old now (kinds.End asked relay) like = ap is_empty (like.ending config.idp.entity asked.name asked.indexes)
 nothing_alike config anew old now (kinds.Confirm response) like = ap not (like.waiting response.request)
+nothing_alike config anew old now other like = refl
 
 -- ---- in the words of a step
 

@@ -5,7 +5,7 @@ use Rattle.ledger_records.specs.declared.sp_record.SpRecord.{SpRecord}
 use Rattle.ledger_records.specs.declared.sp_record.SpRecord.TheVariants as kinds
 use Rattle.provider_node.specs.Histories.{Includes, Nothing, This, Another}
 use Rattle.provider_node.proofs.Histories.{some_left, what_is_kept}
-use Rattle.record_ledger.specs.Runs.{Adds, Compacts, Opens}
+use Rattle.record_ledger.specs.Runs.{Adds}
 use Rattle.request_ledger.specs.Record.{request_rules}
 use Rattle.request_ledger.specs.Runs.{Event, AreDifferent, request_opened, requests_added, requests_opened}
 use Rattle.request_ledger.specs.Laws.{ImagesHoldRecords, NoRequestOpensTwiceInARun}
@@ -31,39 +31,23 @@ fewer : (events : List Event) (records : List SpRecord) (base : List (List ℕ))
     → Each P (flat_map request_opened records ++ base)
 fewer [] [] base P Nothing each = each
 fewer [] (x ∷ records) base P includes each = elim includes [ ]
-fewer (Adds (kinds.Asked r) ∷ past) (x ∷ records) base P (This includes) each = fewer past records base P includes each
 fewer (Adds (kinds.Opened r) ∷ past) (x ∷ records) base P (This includes) each = (each.0, fewer past records base P includes each.1)
-fewer (Adds (kinds.Left r) ∷ past) (x ∷ records) base P (This includes) each = fewer past records base P includes each
-fewer (Adds (kinds.Ended r) ∷ past) (x ∷ records) base P (This includes) each = fewer past records base P includes each
-fewer (Adds (kinds.Confirmed r) ∷ past) (x ∷ records) base P (This includes) each = fewer past records base P includes each
-fewer (Adds (kinds.Asked r) ∷ past) records base P (Another includes) each = fewer past records base P includes each
+fewer (Adds other ∷ past) (x ∷ records) base P (This includes) each = fewer past records base P includes each
 fewer (Adds (kinds.Opened r) ∷ past) records base P (Another includes) each = fewer past records base P includes each.1
-fewer (Adds (kinds.Left r) ∷ past) records base P (Another includes) each = fewer past records base P includes each
-fewer (Adds (kinds.Ended r) ∷ past) records base P (Another includes) each = fewer past records base P includes each
-fewer (Adds (kinds.Confirmed r) ∷ past) records base P (Another includes) each = fewer past records base P includes each
-fewer (Compacts now ∷ past) records base P (Another includes) each = fewer past records base P includes each
-fewer (Opens ∷ past) records base P (Another includes) each = fewer past records base P includes each
+fewer (other ∷ past) records base P (Another includes) each = fewer past records base P includes each
 
 pub still_differ : (events : List Event) (records : List SpRecord) (base : List (List ℕ)) → Includes events records → AreDifferent (requests_added events ++ base)
     → AreDifferent (flat_map request_opened records ++ base)
 still_differ [] [] base Nothing different = different
 still_differ [] (x ∷ records) base includes different = elim includes [ ]
-still_differ (Adds (kinds.Asked r) ∷ past) (x ∷ records) base (This includes) different = still_differ past records base includes different
 still_differ (Adds (kinds.Opened r) ∷ past) (x ∷ records) base (This includes) different =
     let rest = requests_added past ++ base in
     one_more r.request (flat_map request_opened records ++ base) (fewer past records base (λ t. t ≢ r.request) includes (others r.request rest different))
     (still_differ past records base includes (tail_differs r.request rest different))
-still_differ (Adds (kinds.Left r) ∷ past) (x ∷ records) base (This includes) different = still_differ past records base includes different
-still_differ (Adds (kinds.Ended r) ∷ past) (x ∷ records) base (This includes) different = still_differ past records base includes different
-still_differ (Adds (kinds.Confirmed r) ∷ past) (x ∷ records) base (This includes) different = still_differ past records base includes different
-still_differ (Adds (kinds.Asked r) ∷ past) records base (Another includes) different = still_differ past records base includes different
+still_differ (Adds other ∷ past) (x ∷ records) base (This includes) different = still_differ past records base includes different
 still_differ (Adds (kinds.Opened r) ∷ past) records base (Another includes) different =
     still_differ past records base includes (tail_differs r.request (requests_added past ++ base) different)
-still_differ (Adds (kinds.Left r) ∷ past) records base (Another includes) different = still_differ past records base includes different
-still_differ (Adds (kinds.Ended r) ∷ past) records base (Another includes) different = still_differ past records base includes different
-still_differ (Adds (kinds.Confirmed r) ∷ past) records base (Another includes) different = still_differ past records base includes different
-still_differ (Compacts now ∷ past) records base (Another includes) different = still_differ past records base includes different
-still_differ (Opens ∷ past) records base (Another includes) different = still_differ past records base includes different
+still_differ (other ∷ past) records base (Another includes) different = still_differ past records base includes different
 
 -- ---- the law
 

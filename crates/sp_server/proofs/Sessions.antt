@@ -26,6 +26,7 @@ use Rattle.sp_server.specs.Step as steps
 use Rattle.sp_server.specs.Step.{Setup, Provider, Answers, HasPlace, MakesRoom, Serves, rows_seen}
 use Rattle.sp_server.specs.Sessions.{OpensOver, GivesSession, HasRoom, IsOpened, OnlyWhereAFormOpens, WhereverAFormOpens, record_of}
 use Rattle.sp_server.proofs.Alike.{opens_alike}
+use Rattle.sp_server.proofs.Told.{said}
 
 -- a form that opens a session is refused for nothing
 abbrev pub IsNotRefused : Type 0
@@ -41,16 +42,8 @@ IsOneLogin =
     (row for_other : AskedRow)
     → Opens config rows horizon now body b row → Opens config rows horizon now body other for_other → b ≡ other
 
-given : (setup : Setup) (held : Held) (request : Request) (now : ℕ) (answer : Answer) (adds : Option SpRecord)
-    (r : OpenedRecord) → adds ≡ Some (kinds.Opened r)
-    → Answers setup held request now answer adds → GivesSession setup held request now (kinds.Opened r) answer
-given setup held request now answer adds r some (steps.ByStatus status to is none) = absurd (cc)
-given setup held request now answer adds r some (steps.ByMetadata to is none) = absurd (cc)
-given setup held request now answer adds r some (steps.BySession row to found is none) = absurd (cc)
-given setup held request now answer adds r some (steps.ByAsking bytes to none unexpired id relay page is ids shown) =
-    absurd (cc)
-given setup held request now answer adds r some (steps.ByGuard to is none) = absurd (cc)
-given setup held request now answer adds r some (steps.ByOpening b row to unexpired opens token is has shown) =
+pub only_where : OnlyWhereAFormOpens
+only_where setup held request now answer r (steps.ByOpening b row to unexpired opens token is has shown) =
     let same : record_of setup held now b ≡ kinds.Opened r = cc in
     record {
       brought = b;
@@ -61,26 +54,8 @@ given setup held request now answer adds r some (steps.ByOpening b row to unexpi
       has = subst (λ (x : SpRecord). steps.HasToken x token) same has;
       answered = shown;
     }
-given setup held request now answer adds r some (steps.ByVerdict verdict to unexpired refused is none) = absurd (cc)
-given setup held request now answer adds r some (steps.ByExpiry at expired is none) = absurd (cc)
-given setup held request now answer adds r some (steps.ByLeaving row id bytes to unexpired live is has leaves shown) =
-    absurd (cc)
-given setup held request now answer adds r some (steps.ByNoSession to unexpired none is nothing) = absurd (cc)
-given setup held request now answer adds r some (steps.ByLogoutVerdict verdict to unexpired refused is none) =
-    absurd (cc)
-given setup held request now answer adds r some
-    (steps.ByEnding asked relay id bytes to unexpired obeyed any is has ends shown) =
-    absurd (cc)
-given setup held request now answer adds r some (steps.ByNothingToEnd asked relay to unexpired obeyed none is nothing) =
-    absurd (cc)
-given setup held request now answer adds r some (steps.ByConfirming response to unexpired obeyed waits is shown) =
-    absurd (cc)
-given setup held request now answer adds r some (steps.ByUnknownLogout response to unexpired obeyed none is nothing) =
-    absurd (cc)
-
-pub only_where : OnlyWhereAFormOpens
-only_where setup held request now answer r answers =
-    given setup held request now answer (Some (kinds.Opened r)) r refl answers
+only_where setup held request now answer r other =
+    absurd (let says = (said setup held request now answer (Some (kinds.Opened r)) other).is in cc)
 
 -- what is answered where a form opens a session
 record IsGiven (setup : Setup) (held : Held) (request : Request) (now : ℕ) (answer : Answer) (adds : Option SpRecord) :
@@ -93,17 +68,6 @@ answered : IsNotRefused → (setup : Setup) (held : Held) (request : Request) (n
     (adds : Option SpRecord) (b : Brought) (row : AskedRow)
     → OpensOver setup held request now b row → Answers setup held request now answer adds
     → IsGiven setup held request now answer adds
-answered not_refused setup held request now answer adds b row over (steps.ByStatus status to is none) =
-    absurd (let e = sym over.posted ∙ to in cc)
-answered not_refused setup held request now answer adds b row over (steps.ByMetadata to is none) =
-    absurd (let e = sym over.posted ∙ to in cc)
-answered not_refused setup held request now answer adds b row over (steps.BySession found to live is none) =
-    absurd (let e = sym over.posted ∙ to in cc)
-answered not_refused setup held request now answer adds b row over
-    (steps.ByAsking bytes to none unexpired id relay page is ids shown) =
-    absurd (let e = sym over.posted ∙ to in cc)
-answered not_refused setup held request now answer adds b row over (steps.ByGuard to is none) =
-    absurd (let e = sym over.posted ∙ to in cc)
 answered not_refused setup held request now answer adds b row over
     (steps.ByOpening c asked to unexpired opens token is has shown) =
     record {
@@ -124,28 +88,8 @@ answered not_refused setup held request now answer adds b row over
 answered not_refused setup held request now answer adds b row over
     (steps.ByVerdict verdict to unexpired refused is none) =
     absurd (not_refused setup.config _ held.header.horizon now request.body b row verdict over.opens refused)
-answered not_refused setup held request now answer adds b row over (steps.ByExpiry at expired is none) =
-    absurd (let e = sym over.unexpired ∙ expired in cc)
-answered not_refused setup held request now answer adds b row over
-    (steps.ByLeaving left id bytes to unexpired live is has leaves shown) =
-    absurd (let e = sym over.posted ∙ to in cc)
-answered not_refused setup held request now answer adds b row over (steps.ByNoSession to unexpired none is nothing) =
-    absurd (let e = sym over.posted ∙ to in cc)
-answered not_refused setup held request now answer adds b row over
-    (steps.ByLogoutVerdict verdict to unexpired refused is none) =
-    absurd (let e = sym over.posted ∙ to in cc)
-answered not_refused setup held request now answer adds b row over
-    (steps.ByEnding asked relay id bytes to unexpired obeyed any is has ends shown) =
-    absurd (let e = sym over.posted ∙ to in cc)
-answered not_refused setup held request now answer adds b row over
-    (steps.ByNothingToEnd asked relay to unexpired obeyed none is nothing) =
-    absurd (let e = sym over.posted ∙ to in cc)
-answered not_refused setup held request now answer adds b row over
-    (steps.ByConfirming response to unexpired obeyed waits is shown) =
-    absurd (let e = sym over.posted ∙ to in cc)
-answered not_refused setup held request now answer adds b row over
-    (steps.ByUnknownLogout response to unexpired obeyed none is nothing) =
-    absurd (let e = sym over.posted ∙ to in cc)
+answered not_refused setup held request now answer adds b row over other =
+    absurd (let says = (said setup held request now answer adds other).is in cc)
 
 -- the record of a session that is given is that of the login which the form brings
 its_record : IsOneLogin → (setup : Setup) (found : Held) (request : Request) (now : ℕ) (b : Brought) (row : AskedRow)

@@ -1,9 +1,9 @@
 -- That what was opened is found as it was left.
-use Rattle.std.specs.Prelude.{Contains, IsSome, ◌&&◌, ◌||◌, not, find, max, if◌then◌else◌}
+use Rattle.std.specs.Prelude.{Contains, IsSome, ◌||◌, max}
 use Rattle.std.specs.List.{list_any}
-use Rattle.std.proofs.Common.{◌≡◌, inl, inr, ℕ, zero, suc, ◌<◌, Bool, true, false, List, [], ◌∷◌, ◌++◌, Some, bytes_eq, refl, sym, ap, ◌∙◌, arith}
+use Rattle.std.proofs.Common.{◌≡◌, inl, inr, ℕ, ◌<◌, Bool, true, false, List, [], ◌∷◌, ◌++◌, bytes_eq, refl, sym, subst, ap, ◌∙◌, arith}
 use Rattle.std.proofs.lemmas.Bool.{lt-ltb, or_left, or_right}
-use Rattle.std.proofs.lemmas.List.Elements.{All-contains}
+use Rattle.std.proofs.lemmas.List.Elements.{All-contains, Contains-append_right}
 use Rattle.std.proofs.lemmas.List.Folds.{list_any-append}
 use Rattle.std.proofs.lemmas.List.{append_assoc}
 use Rattle.std.proofs.lemmas.Slice.Eq.{bytes_eq-Decides}
@@ -11,8 +11,7 @@ use Rattle.ledger_records.specs.declared.sp_record.Asked.{Asked as AskedRecord}
 use Rattle.ledger_records.specs.declared.sp_record.Opened.{Opened as OpenedRecord}
 use Rattle.ledger_records.specs.declared.sp_record.SpRecord.{SpRecord}
 use Rattle.ledger_records.specs.declared.sp_record.SpRecord.TheVariants as kinds
-use Rattle.request_rows.specs.declared.row.OpenedRow.{OpenedRow}
-use Rattle.request_rows.specs.Rows.{is_spent, session_row, visible}
+use Rattle.request_rows.specs.Rows.{is_spent, session_row}
 use Rattle.record_ledger.specs.Runs.{EndsBehind, IsVisibleThroughout, added}
 use Rattle.record_ledger.proofs.Staying.{any_joined, visible_records_stay}
 use Rattle.request_ledger.specs.Laws.{ImagesHoldRecords, SessionsStay as RowsStay}
@@ -20,45 +19,24 @@ use Rattle.request_ledger.specs.Ledger.{Held}
 use Rattle.record_ledger.specs.Ledger.{held_with}
 use Rattle.request_ledger.specs.Naming.{names}
 use Rattle.request_ledger.specs.Record.{request_rules}
-use Rattle.request_ledger.specs.RowsOf.{closed_if, closes, opened_row, opened_rows}
+use Rattle.request_ledger.specs.RowsOf.{SpRows, closed_if, closes, opened_row, opened_rows}
+use Rattle.request_ledger.proofs.RowLaws.{rows_of-push}
 use Rattle.provider_node.specs.Histories.{CameFrom}
-use Rattle.provider_node.proofs.Histories.{what_is_kept}
-use Rattle.provider_node.proofs.Starts.{kept_over_at}
-use Rattle.provider_node.proofs.Staying.{Stood, stood}
-use Rattle.sp_server.specs.Staying.{IsAsLeft, SessionsStayInAService, SessionsStayOverStarts, WhatWasOpenedIsAsLeft}
+use Rattle.provider_node.proofs.Sessions.{live_found}
+use Rattle.provider_node.proofs.Staying.{Stood, found_as_left, stay_in_a_service, stay_over_starts, stood}
+use Rattle.sp_server.specs.Staying.{IsAsLeft, SessionsStayInAService, SessionsStayOverStarts, WasOpened, WhatWasOpenedIsAsLeft}
 use Rattle.sp_server.specs.Step.{Answers}
 use Rattle.sp_server.proofs.Histories.{draws_above}
+use Rattle.sp_server.proofs.StayingClosed.{opened_sessions}
 
 -- ---- rows
 
 -- the last record has its row
 last_row : (before : List SpRecord) (r : OpenedRecord)
     → Contains (opened_rows (before ++ kinds.Opened r ∷ [])) (opened_row false r)
-last_row [] r = (0, omega arith, refl)
-last_row (kinds.Asked x ∷ before) r = last_row before r
-last_row (kinds.Opened x ∷ before) r = let there = last_row before r in (suc there.0, omega (arith, there.1), there.2)
-last_row (kinds.Left x ∷ before) r = last_row before r
-last_row (kinds.Ended x ∷ before) r = last_row before r
-last_row (kinds.Confirmed x ∷ before) r = last_row before r
-
--- what passes a test is found
-found_by : (test : OpenedRow → Bool) (rows : List OpenedRow) (row : OpenedRow) → Contains rows row → test row ≡ true
-    → IsSome (find test rows)
-found_by test [] row there passes = absurd (omega (arith, there.1))
-found_by test (x ∷ rows) row (zero, less, is) passes = at_head (test x) (ap test is ∙ passes)
-  where
-    at_head : (b : Bool) → b ≡ true → IsSome (if b then Some x else find test rows)
-    at_head true e = refl
-    at_head false e = absurd (cc)
-found_by test (x ∷ rows) row (suc k, less, is) passes =
-    behind (test x) (found_by test rows row (k, omega (arith, less), is) passes)
-  where
-    behind : (b : Bool) → IsSome (find test rows) → IsSome (if b then Some x else find test rows)
-    behind true some = refl
-    behind false some = some
-
-all_true : (a b c : Bool) → a ≡ true → b ≡ false → c ≡ true → (a && not b && c) ≡ true
-all_true a b c x y z = λ i. x i && not (y i) && z i
+last_row before r =
+    subst (λ (rows : SpRows). Contains rows.opened (opened_row false r)) (sym (rows_of-push before (kinds.Opened r)))
+    (Contains-append_right (opened_rows before) (opened_row false r ∷ []) (opened_row false r) (0, omega arith, refl))
 
 -- ---- spent requests
 
@@ -66,7 +44,6 @@ all_true a b c x y z = λ i. x i && not (y i) && z i
 spent_by : (records : List SpRecord) (a : AskedRecord) → list_any (λ other. names other (kinds.Asked a)) records ≡ true
     → is_spent (opened_rows records) a.request ≡ true
 spent_by [] a any = absurd (cc)
-spent_by (kinds.Asked x ∷ later) a any = spent_by later a any
 spent_by (kinds.Opened x ∷ later) a any = of_case (bytes_eq a.request x.request) refl any (spent_by later a)
   where
     of_case : (b : Bool) → bytes_eq a.request x.request ≡ b
@@ -78,9 +55,7 @@ spent_by (kinds.Opened x ∷ later) a any = of_case (bytes_eq a.request x.reques
         ((bytes_eq-Decides x.request a.request).1 (sym ((bytes_eq-Decides a.request x.request).0 same)))
     of_case false other any rest =
         or_right (bytes_eq x.request a.request) (is_spent (opened_rows later) a.request) (rest any)
-spent_by (kinds.Left x ∷ later) a any = spent_by later a any
-spent_by (kinds.Ended x ∷ later) a any = spent_by later a any
-spent_by (kinds.Confirmed x ∷ later) a any = spent_by later a any
+spent_by (other ∷ later) a any = spent_by later a any
 
 -- it is visible where its end is behind a moment and a horizon
 asked_seen : (start : ℕ) (moments : List ℕ) (a : AskedRecord) → EndsBehind start moments a.until
@@ -116,12 +91,8 @@ module _ (rows_stay : RowsStay) (moments : List ℕ) (start held : Held) (record
         → held.header.horizon < r.until
         → IsSome (session_row (opened_rows held.records) r.token now held.header.horizon)
     its_life ends none now less also =
-        found_by (λ row. bytes_eq row.token r.token && not row.closed && visible row.until now held.header.horizon)
-        (opened_rows held.records) (closed_if closed (opened_row false r))
-        (its_row ends)
-        (all_true (bytes_eq r.token r.token) closed (visible r.until now held.header.horizon)
-        ((bytes_eq-Decides r.token r.token).1 refl) none
-        (lt-ltb (max now held.header.horizon) r.until (omega (arith, less, also))))
+        live_found opened_sessions (opened_rows held.records) now held.header.horizon
+        (closed_if closed (opened_row false r)) (its_row ends) none less also
 
     its_request : (front behind : List SpRecord) (a : AskedRecord)
         → s.was.before.records ≡ front ++ kinds.Asked a ∷ behind → r.request ≡ a.request
@@ -157,32 +128,15 @@ module _ (rows_stay : RowsStay) (moments : List ℕ) (start held : Held) (record
 
 -- ---- the laws
 
-pub found_as_left : RowsStay → WhatWasOpenedIsAsLeft
-found_as_left rows_stay moments start records r image (held, is, came) there =
-    (held, is, as_left rows_stay moments start held records r came there)
+module _ (rows_stay : RowsStay) where
+  pub was_left : WhatWasOpenedIsAsLeft
+  was_left = found_as_left request_rules WasOpened IsAsLeft Answers (as_left rows_stay)
 
-pub sessions_stay_in_a_service : ImagesHoldRecords → RowsStay → SessionsStayInAService
-sessions_stay_in_a_service law rows_stay first last turns kept at tells run =
-    let is = what_is_kept request_rules Answers law draws_above first last turns kept at tells run in
-    record {
-      records = is.records;
-      are = is.are;
-      stay =
-          λ r image there left. found_as_left rows_stay _ first.node.ledger.held is.records r image
-          (is.kept image left) there;
-    }
+  module _ (law : ImagesHoldRecords) where
+    pub sessions_stay_in_a_service : SessionsStayInAService
+    sessions_stay_in_a_service =
+        stay_in_a_service request_rules WasOpened IsAsLeft Answers (as_left rows_stay) law draws_above
 
-pub sessions_stay_over_starts : ImagesHoldRecords → RowsStay → SessionsStayOverStarts
-sessions_stay_over_starts law rows_stay moments start starts begun =
-    let is = kept_over_at request_rules Answers law draws_above (Contains moments) start starts begun in
-    record {
-      records = is.records;
-      are = is.are;
-      stay = λ r image there left.
-          let opens = is.kept image left in (
-            opens.held,
-            opens.opens,
-            as_left rows_stay moments start opens.held
-                is.records r opens.came there,
-          );
-    }
+    pub sessions_stay_over_starts : SessionsStayOverStarts
+    sessions_stay_over_starts =
+        stay_over_starts request_rules WasOpened IsAsLeft Answers (as_left rows_stay) law draws_above

@@ -1,5 +1,5 @@
 -- A path to which a user can be sent back is a text of XML.
-use Rattle.std.proofs.Common.{◌≡◌, ℕ, ◌<◌, ◌≤◌, Bool, true, false, List, [], ◌∷◌, refl, ap, ◌∙◌, subst, arith}
+use Rattle.std.proofs.Common.{◌≡◌, ℕ, ◌<◌, ◌≤◌, Bool, true, false, List, [], ◌∷◌, refl, subst, arith}
 use Rattle.std.specs.List.{list_all}
 use Rattle.std.specs.Prelude.{nat_lt, Option, None, Some, if◌then◌else◌}
 use Rattle.std.proofs.lemmas.Bool.Decides.{nat_tests}
@@ -16,7 +16,7 @@ use Rattle.service_routes.specs.declared.route.Route.{Route}
 use Rattle.service_routes.specs.declared.route.Route.TheVariants.{To, Refused}
 use Rattle.service_routes.specs.Routes.{IsAnswered, checked, is_method, is_typed}
 use Rattle.sp_server.specs.declared.route.Service.{Service}
-use Rattle.sp_server.specs.declared.route.Service.TheVariants.{App, Consumer, Metadata, Logout, SingleLogout, Guard}
+use Rattle.sp_server.specs.declared.route.Service.TheVariants.{App, Guard}
 use Rattle.sp_server.specs.Routes.{at_target, is_guarded, is_path_byte, is_target, route, service_at}
 
 graphic : (b : ℕ) → is_path_byte b ≡ true → (45 ≤ b) × (b < 127)
@@ -48,12 +48,7 @@ tested false is = cc
 
 at_app : (path : List ℕ) (to : Route Service) → at_target path to ≡ To App → is_target path ≡ true
 at_app path (To App) is = tested (is_target path) is
-at_app path (To Consumer) is = absurd (cc)
-at_app path (To Metadata) is = absurd (cc)
-at_app path (To Logout) is = absurd (cc)
-at_app path (To SingleLogout) is = absurd (cc)
-at_app path (To Guard) is = absurd (cc)
-at_app path (Refused status) is = absurd (cc)
+at_app path other is = absurd (cc)
 
 elsewhere : (guarded : Bool) (to : Route Service) → (if guarded then To Guard else to) ≡ To App → to ≡ To App
 elsewhere true to is = absurd (cc)
@@ -76,12 +71,8 @@ chosen false one other h k = k
 
 target_answered : (path : List ℕ) (to : Route Service) → IsAnswered to → IsAnswered (at_target path to)
 target_answered path (To App) h = chosen (is_target path) (To App) (Refused 404) tt refl
-target_answered path (To Consumer) h = tt
-target_answered path (To Metadata) h = tt
-target_answered path (To Logout) h = tt
-target_answered path (To SingleLogout) h = tt
-target_answered path (To Guard) h = tt
 target_answered path (Refused status) h = h
+target_answered path other h = tt
 
 checked_answered : (request : Request) (at : Option (Method × Service)) → IsAnswered (checked request at)
 checked_answered request None = refl

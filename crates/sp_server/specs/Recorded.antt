@@ -1,14 +1,13 @@
 -- What stands behind an answer.
-use Rattle.std.specs.Prelude.{◌≡◌, ◌⊎◌, ℕ, List, Option, None, Some, Ok}
+use Rattle.std.specs.Prelude.{◌≡◌, ◌⊎◌, ℕ, List, Option, None}
 use Rattle.crash_disk.specs.Counts.{Rose}
-use Rattle.crash_disk.specs.Disk.{Image, DiskState}
-use Rattle.crash_disk.specs.Moments.{Leaves}
+use Rattle.crash_disk.specs.Disk.{DiskState}
 use Rattle.http_wire.specs.declared.answer.Answer.{Answer}
 use Rattle.http_wire.specs.declared.answer.Answer.TheVariants.{Full}
 use Rattle.http_wire.specs.Requests.{Request}
-use Rattle.ledger_records.specs.declared.sp_record.SpRecord.{SpRecord}
-use Rattle.request_ledger.specs.Ledger.{Held, ledger_in}
-use Rattle.record_ledger.specs.Ledger.{held_with}
+use Rattle.request_ledger.specs.Ledger.{Held}
+use Rattle.request_ledger.specs.Record.{request_rules}
+use Rattle.provider_node.specs.Recorded as any
 use Rattle.service_routes.specs.declared.route.Route.{Route}
 use Rattle.service_routes.specs.declared.route.Route.TheVariants.{To}
 use Rattle.sp_server.specs.declared.route.Service.{Service}
@@ -21,11 +20,8 @@ abbrev pub TakesPosts : Route Service → Type 0
 TakesPosts to = (to ≡ To Consumer) ⊎ ((to ≡ To Logout) ⊎ (to ≡ To SingleLogout))
 
 -- the answer stands for a record, and each ledger that a crash may leave has it behind the others
-pub record IsRecorded (setup : Setup) (request : Request) (now : ℕ) (answer : Answer) (disk : Option DiskState) : Type 0 where
-  pub held : Held
-  pub r : SpRecord
-  pub stands : Answers setup held request now answer (Some r)
-  pub kept : (image : Image) → Leaves disk image → ledger_in image ≡ Ok (Some (held_with r held))
+abbrev pub IsRecorded : Setup → Request → ℕ → Answer → Option DiskState → Type 0
+IsRecorded = any.IsRecorded request_rules Answers
 
 -- Whatever form or page is answered to what is posted, its record is in every image that a crash may leave behind the step: it was
 -- written before the answer is sent. So each LogoutRequest and each LogoutResponse that is sent has the ID of a record that is kept.

@@ -1,6 +1,6 @@
 -- What became of a ledger over several starts of its provider: what was acknowledged is kept, and no request opens two sessions, wherever
 -- a crash stops.
-use Rattle.std.specs.Prelude.{◌≡◌, ℕ, List, ◌++◌, Ok}
+use Rattle.std.specs.Prelude.{◌≡◌, List, ◌++◌, Ok}
 use Rattle.std.specs.List.{flat_map}
 use Rattle.crash_disk.specs.Disk.{Image}
 use Rattle.ledger_records.specs.declared.sp_record.SpRecord.{SpRecord}
@@ -46,6 +46,4 @@ WhatIsAcknowledgedIsKeptOnceOverStarts = (start : Held) (starts : List (Start Pr
 
 -- And a session that was closed is live in no ledger that may be opened behind them.
 abbrev pub SessionsStayClosedOverStarts : Type 0
-SessionsStayClosedOverStarts =
-    (start held : Held) (starts : List (Start Provider)) (image : Image) (token : List ℕ) → AreRecords start.records → AreStarts start starts → IsClosed start token
-    → LeftBehind start starts image → taken (ledger_in image) ≡ Ok held → IsOver held token
+SessionsStayClosedOverStarts = any.StayClosedOverStarts request_rules Answers IsClosed IsOver

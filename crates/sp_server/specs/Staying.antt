@@ -1,26 +1,20 @@
 -- That what was opened is found as it was left: in the words of users.
-use Rattle.std.specs.Prelude.{◌≡◌, ℕ, ◌<◌, true, false, List, ◌∷◌, ◌++◌, Contains, IsSome, Some, Ok}
+use Rattle.std.specs.Prelude.{◌≡◌, ℕ, ◌<◌, true, false, List, ◌∷◌, ◌++◌, Contains, IsSome}
 use Rattle.std.specs.List.{list_any}
-use Rattle.crash_disk.specs.Disk.{Image}
-use Rattle.crash_disk.specs.Moments.{Leaves}
-use Rattle.conn_table.specs.Table.{Table}
 use Rattle.ledger_records.specs.declared.sp_record.Asked.{Asked as AskedRecord}
 use Rattle.ledger_records.specs.declared.sp_record.Opened.{Opened as OpenedRecord}
 use Rattle.ledger_records.specs.declared.sp_record.SpRecord.{SpRecord}
 use Rattle.ledger_records.specs.declared.sp_record.SpRecord.TheVariants as kinds
-use Rattle.serve_loop.specs.Turns.{Run, Turn}
+use Rattle.serve_loop.specs.Turns.{Turn}
 use Rattle.serve_loop.specs.Worlds.{World}
-use Rattle.provider_node.specs.Histories.{HoldsWhatCame, moments_of}
+use Rattle.provider_node.specs.Staying as any
 use Rattle.provider_node.specs.Staying.{WasAdded}
-use Rattle.provider_node.specs.Starts.{AreAcknowledgedIn, AreStartsAt, LeftBehindAt, Start}
 use Rattle.record_ledger.specs.Runs.{EndsBehind, added}
-use Rattle.request_ledger.specs.Ledger.{Held, ledger_in}
-use Rattle.record_ledger.specs.Ledger.{taken}
+use Rattle.request_ledger.specs.Ledger.{Held}
 use Rattle.request_ledger.specs.Record.{request_rules}
 use Rattle.request_ledger.specs.RowsOf.{closed_if, closes, opened_row, opened_rows}
 use Rattle.request_ledger.specs.Runs.{Event, Leads}
 use Rattle.request_rows.specs.Rows.{is_spent, session_row}
-use Rattle.sp_server.specs.Histories.{AreAcknowledged, IsAtStart, IsProviders}
 use Rattle.sp_server.specs.Step.{Provider, Answers}
 
 -- A session that was opened stands in a ledger which came from another one by events, as it was left: its record was
@@ -42,46 +36,24 @@ pub record IsAsLeft (moments : List ℕ) (start : Held) (r : OpenedRecord) (held
       → r.request ≡ a.request
       → EndsBehind start.header.horizon moments a.until → is_spent (opened_rows held.records) a.request ≡ true
 
--- the image stands for such a ledger, or one is opened from it
-abbrev pub HoldsAsLeft : (moments : List ℕ) (start : Held) (r : OpenedRecord) → Image → Type 0
-HoldsAsLeft moments start r image = (held : Held) × (ledger_in image ≡ Ok (Some held)) × IsAsLeft moments start r held
-
-abbrev pub OpensAsLeft : (moments : List ℕ) (start : Held) (r : OpenedRecord) → Image → Type 0
-OpensAsLeft moments start r image = (held : Held) × (taken (ledger_in image) ≡ Ok held) × IsAsLeft moments start r held
+-- its record is among these
+abbrev pub WasOpened : List SpRecord → OpenedRecord → Type 0
+WasOpened records r = Contains records (kinds.Opened r)
 
 -- So it is in each image that has in its history what was acknowledged, where each compaction was at one of these
 -- moments: in those that a crash may leave behind a service, or since one of its points.
 abbrev pub WhatWasOpenedIsAsLeft : Type 0
-WhatWasOpenedIsAsLeft =
-    (moments : List ℕ) (start : Held) (records : List SpRecord) (r : OpenedRecord) (image : Image)
-    → HoldsWhatCame request_rules (Contains moments) start records image → Contains records (kinds.Opened r)
-    → HoldsAsLeft moments start r image
+WhatWasOpenedIsAsLeft = any.WhatWasOpenedIsAsLeft request_rules WasOpened IsAsLeft
 
 -- Of the sessions whose answers went out in a service: each is as it was left in every image that a crash may leave
 -- behind it.
-pub record SessionsStay (first last : World Provider) (turns : List (Turn Provider)) : Type 0 where
-  pub records : List SpRecord
-  pub are : AreAcknowledged turns records
-  pub stay : (r : OpenedRecord) (image : Image) → Contains records (kinds.Opened r) → Leaves last.disk image
-      → HoldsAsLeft (moments_of turns) first.node.ledger.held r image
+abbrev pub SessionsStay : (first last : World Provider) (turns : List (Turn Provider)) → Type 0
+SessionsStay = any.SessionsStay request_rules WasOpened IsAsLeft Answers
 
 abbrev pub SessionsStayInAService : Type 0
-SessionsStayInAService =
-    (first last : World Provider) (turns : List (Turn Provider)) (kept : Table) → IsAtStart first → IsSome first.disk →
-    Run IsProviders first turns kept last
-    → SessionsStay first last turns
+SessionsStayInAService = any.SessionsStayInAService request_rules WasOpened IsAsLeft Answers
 
 -- And over several starts, of which each opens what a crash of the one before it may have left, each request of which
 -- was asked at one of these moments, also one that a crash cut.
-pub record SessionsStayOver (moments : List ℕ) (start : Held) (starts : List (Start Provider)) : Type 0 where
-  pub records : List SpRecord
-  pub are : AreAcknowledgedIn Answers starts records
-  pub stay : (r : OpenedRecord) (image : Image) → Contains records (kinds.Opened r)
-      → LeftBehindAt request_rules Answers (Contains moments) start starts image
-      → OpensAsLeft moments start r image
-
 abbrev pub SessionsStayOverStarts : Type 0
-SessionsStayOverStarts =
-    (moments : List ℕ) (start : Held) (starts : List (Start Provider)) → AreStartsAt request_rules Answers
-    (Contains moments) start starts
-    → SessionsStayOver moments start starts
+SessionsStayOverStarts = any.SessionsStayOverStarts request_rules WasOpened IsAsLeft Answers

@@ -1,5 +1,9 @@
-use Rattle.sp_server.proofs.Starts.{closed_over}
+use Rattle.provider_node.proofs.Starts.{closed_over}
+use Rattle.request_ledger.specs.Record.{request_rules}
+use Rattle.sp_server.specs.Logouts.{IsClosed, IsOver}
+use Rattle.sp_server.specs.Step.{Answers}
+use Rattle.sp_server.proofs.Histories.{draws_above}
 use Rattle.sp_server.proofs.laws.sessions_stay_closed_over_starts.Goals as goal
 
 pub returns : goal.returns
-returns c = closed_over c.images_hold_records.ensures c.a_closed_session_stays_closed.ensures
+returns c = closed_over request_rules Answers c.images_hold_records.ensures draws_above IsClosed IsOver c.a_closed_session_stays_closed.ensures

@@ -1,5 +1,5 @@
-use Rattle.sp_server.proofs.Staying.{found_as_left}
+use Rattle.sp_server.proofs.Staying.{was_left}
 use Rattle.sp_server.proofs.laws.what_was_opened_is_as_left.Goals as goal
 
 pub returns : goal.returns
-returns c = found_as_left c.sessions_stay.ensures
+returns c = was_left c.sessions_stay.ensures
