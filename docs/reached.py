@@ -340,10 +340,10 @@ class Code:
 # ---- what is reached
 
 class Reached:
-    """Follows names from some clauses on."""
+    """Follows names from some clauses on, but not into the crates that are passed over."""
 
-    def __init__(self, files, code):
-        self.files, self.code = files, code
+    def __init__(self, files, code, passed_over=()):
+        self.files, self.code, self.passed_over = files, code, passed_over
         self.found, self.types, self.missing = {}, {}, []
         self.queue = []
 
@@ -356,7 +356,7 @@ class Reached:
     def cite(self, module, name, whence):
         """A name of a module is used."""
         key = self.module_file(module)
-        if key is None or not os.path.isdir(os.path.join(ROOT, "crates", key[0])):
+        if key is None or key[0] in self.passed_over or not os.path.isdir(os.path.join(ROOT, "crates", key[0])):
             return
         crate, rest = key
         if rest == "declared" or rest.startswith("declared."):

@@ -3,12 +3,11 @@
 -- record that is durable before it is sent; no request upwards backs two logins, and no request below gets a login but by
 -- the record of the one that was sent upwards for it; and where only the provider above makes HMACs that match, each login
 -- is one that it recorded, and so is each session below.
-use Rattle.std.specs.Prelude.{◌≡◌, ◌⊎◌, ℕ, true, false, List, [], ◌∷◌, Contains, Option, IsSome, Some, Ok, Result}
+use Rattle.std.specs.Prelude.{◌≡◌, ◌⊎◌, ℕ, true, List, Contains, Option, IsSome, Some}
 use Rattle.std.specs.List.{AllByRecursion}
 use Rattle.saml_outside.specs.Files.{File}
 use Rattle.crash_disk.specs.Counts.{Rose}
 use Rattle.crash_disk.specs.Disk.{Image}
-use Rattle.conn_table.specs.Table.{Table}
 use Rattle.http_wire.specs.declared.answer.Answer.{Answer}
 use Rattle.http_wire.specs.declared.answer.Answer.TheVariants.{Fixed, Full}
 use Rattle.ledger_records.specs.declared.hub_record.Backed.{Backed}
@@ -17,28 +16,24 @@ use Rattle.ledger_records.specs.declared.hub_record.HubRecord.TheVariants as kin
 use Rattle.login_origin.specs.Signed.{Signed, IsSigned}
 use Rattle.login_origin.specs.Premises.{Unforged, NoCollision}
 use Rattle.login_origin.specs.Origin.{IsLoginOf}
-use Rattle.serve_loop.specs.declared.served.Served.{Served}
-use Rattle.serve_loop.specs.declared.served.ServeFault.{ServeFault}
-use Rattle.serve_loop.specs.Serving as node_serving
-use Rattle.serve_loop.specs.Turns.{Asked, Asks, Run, Turn, asked_by, asked_in}
+use Rattle.serve_loop.specs.Turns.{Asked, Asks, Turn, asked_in}
 use Rattle.serve_loop.specs.Worlds.{World}
 use Rattle.peer_keys.specs.declared.peers.LogoutPeer.{LogoutPeer}
 use Rattle.sp_rules.specs.Opening.{Brought}
 use Rattle.idp_rules.specs.declared.asked.Asked.{Asked as AskedLogin}
 use Rattle.idp_rules.specs.declared.config.IdpConfig.{IdpConfig}
 use Rattle.hub_ledger.specs.Laws.{AnswerAlike}
-use Rattle.hub_ledger.specs.Ledger.{Held, ledger_in}
+use Rattle.hub_ledger.specs.Ledger.{Held}
 use Rattle.hub_ledger.specs.Record.{AreRecords, hub_rules}
 use Rattle.hub_ledger.specs.RowsOf.{Route}
 use Rattle.recorded_logins.specs.Recorded.{Added, AreOf}
 use Rattle.passed_logins.specs.Passed.{IsOfARecordedLogin}
 use Rattle.provider_node.specs.declared.codes.TheConstants.{NO_MEMORY}
-use Rattle.provider_node.specs.Added.{IsAddedBy, IsNew}
+use Rattle.provider_node.specs.Added.{IsAddedBy}
 use Rattle.provider_node.specs.Lasting.{AreKeptSince}
-use Rattle.provider_node.specs.Starts.{AreStarts, IsServed, Start, asked_over}
+use Rattle.provider_node.specs.Starts.{AreStarts, Start, asked_over}
+use Rattle.provider_run.specs.Headlines.{AddsOnlyItsOwn, EachGoes, HeadlineBy, HeadlineOf, KeepsWhatIsVisible, ServedOver, ServedRun}
 use Rattle.provider_run.specs.Runs.{Outside, world_of}
-use Rattle.provider_run.specs.declared.ended.Ended.{Ended}
-use Rattle.provider_run.specs.declared.ended.RunFault.{RunFault}
 use Rattle.service_routes.specs.declared.route.Route.TheVariants.{To}
 use Rattle.identity_hub.specs.declared.route.Service.TheVariants.{Consumer, SignOn}
 use Rattle.identity_hub.specs.Histories.{AreKeptOnce, AreKeptOnceOver, IsHubs}
@@ -46,9 +41,10 @@ use Rattle.identity_hub.specs.Passing.{CanPassOn, HasRoom, IsPassedOn, IsSpoken,
 use Rattle.identity_hub.specs.Recorded.{IsRecorded}
 use Rattle.identity_hub.specs.Routes.{route}
 use Rattle.identity_hub.specs.Signed.{Carries}
-use Rattle.identity_hub.specs.Step.{Answers, AsksFor, Provider, Serves, StepLeaves, StepsOnDisk}
+use Rattle.identity_hub.specs.Step.{Answers, AsksFor, Provider, StepsOnDisk}
 use Rattle.hub_runs.specs.Laws.{EachLoginInAnImageHasItsRequest, GoesBackFrom, SessionsBelowAreOfLoginsAbove}
-use Rattle.hub_runs.specs.Runs.{Begins, Runs}
+use Rattle.identity_hub.specs.declared.config.HubConfig.{HubConfig}
+use Rattle.hub_setup.specs.Setup.{IsSetUp}
 
 -- ---- one request, which the hub was asked in one world, and which left another behind
 
@@ -64,8 +60,7 @@ pub record PassesOnExactly (asked : Asked Provider) (before after : World Provid
   pub back : (held : Held) (answer : Answer) (r : Backed)
       → Answers asked.node.setup held asked.request asked.now answer (Some (kinds.Backed r)) → GoesBackFrom held r
   pub wherever : (found : Held) (b : Brought) (row : Route) (peer : LogoutPeer)
-      → Serves found asked.request asked.now (Rose before.disk_faults after.disk_faults) asked.answer asked.node
-      after.node
+      → ServedOver hub_rules Answers found asked before after
       → CanPassOn asked.node.setup found asked.request asked.now b row peer → HasRoom asked.node.setup found asked.now b row
       → ¬ (Rose before.disk_faults after.disk_faults)
       → (asked.answer ≡ Fixed NO_MEMORY) ⊎ IsPassedOn asked.node.setup found asked.request asked.now b row asked.answer
@@ -106,24 +101,11 @@ pub record IsOfALoginFromAbove (asked : Asked Provider) : Type 0 where
       → IsAddedBy Answers asked.node.setup asked.request asked.now (kinds.Backed r)
       → IsOfARecordedLogin above added asked.node.setup r
 
--- Each record that stands in an image which a crash inside the answer may leave, or one behind it, be it behind page 50, and
--- stood nowhere before is one that the request adds over some ledger with some answer, so that it is of it what is said of
--- these.
-abbrev pub AddsOnlyItsOwn : Asked Provider → Type 0
-AddsOnlyItsOwn asked =
-    (image : Image) (held : Held) (r : HubRecord) → IsSome asked.disk
-    → StepLeaves asked.node asked.disk asked.request asked.now image
-    → ledger_in image ≡ Ok (Some held) → Contains held.records r → IsNew hub_rules asked.node asked.disk r
-    → IsAddedBy Answers asked.node.setup asked.request asked.now r
-
--- Where there was no memory and the ledger was not broken, all that may be asked of its rows at the moment of the request is
--- answered behind it as before.
-abbrev pub KeepsWhatIsVisible : (asked : Asked Provider) → (after : World Provider) → Type 0
-KeepsWhatIsVisible asked after =
-    AreRecords asked.node.ledger.held.records → asked.node.ledger.broken ≡ false → asked.answer ≡ Fixed NO_MEMORY
-    → AnswerAlike asked.now after.node.ledger.held asked.node.ledger.held
-
 -- ---- the run
+
+-- the key of the IDs that a hub draws
+abbrev pub key : HubConfig → List ℕ
+key config = config.upstream.id_key
 
 -- a request is answered by one step, and so it is of it, whatever the worlds are in which the hub was asked
 pub record GoesExactly (asked : Asked Provider) : Type 0 where
@@ -134,58 +116,33 @@ pub record GoesExactly (asked : Asked Provider) : Type 0 where
   pub signs : (before after : World Provider) → Asks IsHubs asked before after → SignsOnlyItsRecords asked after
   pub passive : AsksNobodyAbove asked
   pub from_above : IsOfALoginFromAbove asked
-  pub added : (before after : World Provider) → Asks IsHubs asked before after → AddsOnlyItsOwn asked
-  pub starved : (before after : World Provider) → Asks IsHubs asked before after → KeepsWhatIsVisible asked after
+  pub added : (before after : World Provider) → Asks IsHubs asked before after → AddsOnlyItsOwn hub_rules Answers asked
+  pub starved : (before after : World Provider) → Asks IsHubs asked before after → KeepsWhatIsVisible hub_rules AnswerAlike asked after
 
--- and of each request that the hub was asked
-abbrev pub EachGoesExactly : List (Turn Provider) → Type 0
-EachGoesExactly [] = Unit {0}
-EachGoesExactly (turn ∷ past) = AllByRecursion GoesExactly (asked_by turn) × EachGoesExactly past
+-- What is said of a run that served: each request, all of them served by what the hub was set up with, passed logins on
+-- exactly, and was answered once its record was durable; where the disk tells, what the answers acknowledged is in the
+-- history of every ledger that a crash may leave behind the run, and no request upwards backs two logins, those at the
+-- start and those that were let go included; from each point of the run on, also inside later requests, what was
+-- acknowledged by then is in the history of every ledger that a crash might leave; in each of these images each login
+-- that was passed on has its request upwards, and goes back to the one below for which that was sent; and each session
+-- that a provider below opens is of a login that the provider above recorded for the hub, or of a record that this had
+-- at the start, where nobody else makes HMACs that match and no hash collides.
+pub record Says (left : ℕ → Image → Type 0) (told : Option (List File)) (file : List ℕ) (before : Outside)
+    (turns : List (Turn Provider)) (after : Outside)
+    (run : ServedRun IsSetUp key hub_rules Answers left told file before turns after) : Type 0 where
+  pub same : (asked : Asked Provider) → Contains (asked_in turns) asked → asked.node.setup ≡ run.provider.setup
+  pub each : EachGoes GoesExactly turns
+  pub once : IsSome before.disk → AreKeptOnce (world_of run.provider run.opened) (world_of run.last after) turns
+  pub since : IsSome before.disk → AreKeptSince hub_rules Answers left (world_of run.provider run.opened) turns
+      run.serves.kept run.serves.last run.serves.run
+  pub in_images : EachLoginInAnImageHasItsRequest
+  pub below : SessionsBelowAreOfLoginsAbove run.provider.ledger.held.records (asked_in turns)
 
--- A run that served nothing, or one that served: each request, all of them served by what the hub was set up with, passed
--- logins on exactly, and was answered once its record was durable; where the disk tells, what the answers acknowledged is
--- in the history of every ledger that a crash may leave behind the run, and no request upwards backs two logins, those at
--- the start and those that were let go included; from each point of the run on, also inside later requests, what was
--- acknowledged by then is in the history of every ledger that a crash might leave; in each of these images each login that
--- was passed on has its request upwards, and goes back to the one below for which that was sent; and each session that a
--- provider below opens is of a login that the provider above recorded for the hub, or of a record that this had at the
--- start, where nobody else makes HMACs that match and no hash collides. `left` says of each moment, seen from the end of
--- the run, what a crash since then might have left.
-pub data Headline (left : ℕ → Image → Type 0) (told : Option (List File)) (file : List ℕ) (before : Outside)
-    (turns : List (Turn Provider)) (after : Outside) : Type 0 where
-  ServedNothing : turns ≡ [] → Headline left told file before turns after
-  ServedSo : (provider last : Provider) (opened : Outside) (budget : ℕ) (served : Result Served ServeFault)
-      → Begins told file before provider opened
-      → (serves : node_serving.Serves IsHubs StepLeaves left budget turns (world_of provider opened) served
-      (world_of last after))
-      → ((asked : Asked Provider) → Contains (asked_in turns) asked → asked.node.setup ≡ provider.setup)
-      → EachGoesExactly turns
-      → (IsSome before.disk → AreKeptOnce (world_of provider opened) (world_of last after) turns)
-      → (IsSome before.disk → AreKeptSince hub_rules Answers left
-      (world_of provider opened) turns serves.kept serves.last serves.run)
-      → EachLoginInAnImageHasItsRequest
-      → SessionsBelowAreOfLoginsAbove provider.ledger.held.records (asked_in turns)
-      → Headline left told file before turns after
-
--- The headline holds of each run.
-abbrev pub ARunCarriesTheHeadline : (left : ℕ → Image → Type 0) → Type 0
-ARunCarriesTheHeadline left =
-    (told : Option (List File)) (file : List ℕ) (budget : ℕ) (before : Outside) (turns : List (Turn Provider))
-    (result : Result Ended RunFault) (after : Outside)
-    → Runs left told file budget before turns result after → Headline left told file before turns after
+-- A run served nothing, or it served so.
+abbrev pub Headline : HeadlineOf HubConfig HubRecord
+Headline = HeadlineBy IsSetUp key hub_rules Answers Says
 
 -- ---- over runs
-
--- A run that served, on a disk that tells, is a start of the hub: its ledger was opened from what the disk held, and then
--- its turns were done. So what several runs acknowledged, each on what a crash of the one before it may have left, is kept
--- once, by the laws of starts.
-abbrev pub ARunIsAStart : Type 0
-ARunIsAStart =
-    (told : Option (List File)) (file : List ℕ) (before opened : Outside) (provider : Provider)
-    (turns : List (Turn Provider)) (kept : Table) (behind : World Provider)
-    → IsSome before.disk → Begins told file before provider opened
-    → Run IsHubs (world_of provider opened) turns kept behind
-    → IsServed hub_rules Answers before.disk (world_of provider opened) turns kept behind
 
 -- The same sentence over starts, each of which opens what a crash of the one before it may have left.
 pub record HeadlineOver (start : Held) (starts : List (Start Provider)) : Type 0 where

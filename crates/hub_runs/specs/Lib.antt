@@ -1,4 +1,2 @@
 pub mod Headline
-pub mod Joining
 pub mod Laws
-pub mod Runs

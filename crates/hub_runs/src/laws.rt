@@ -1,6 +1,10 @@
 //! The laws of whole runs, each the contract of a function that does nothing.
-ghost use Rattle.hub_runs.specs.Headline.{ARunCarriesTheHeadline, ARunIsAStart, TheHeadlineHoldsOverStarts};
-ghost use Rattle.hub_runs.specs.Joining.{EachImageOfARunGoesOn};
+ghost use Rattle.hub_runs.specs.Headline.{Headline, TheHeadlineHoldsOverStarts, key};
+ghost use Rattle.provider_run.specs.Headlines.{EachRunCarries, EachRunIsAStart};
+ghost use Rattle.provider_run.specs.Joining.{EachImageOfARunGoesOn};
+ghost use Rattle.identity_hub.specs.Step.{Answers};
+ghost use Rattle.hub_ledger.specs.Record.{hub_rules};
+ghost use Rattle.hub_setup.specs.Setup.{IsBadSetUp, IsSetUp};
 ghost use Rattle.hub_runs.specs.Laws.{EachLoginGoesBack, EachLoginInAnImageHasItsRequest, EachLoginWasRecorded, EachLoginWasSigned, EachRequestLeavesItToTheOneAbove, EachSessionBelowIsOfALoginAbove, WhatIsVisibleStays};
 
 use hub_ledger::Disk;
@@ -61,7 +65,7 @@ pub fn what_is_visible_stays()
 /// where only the provider above makes HMACs that match, each login is one that it signed, and each session below of one that
 /// it recorded.
 pub fn a_run_carries_the_headline<D: Disk>()
-    ensures { (disk : D) → ARunCarriesTheHeadline (D.shows disk).left_since }
+    ensures { (disk : D) → EachRunCarries IsSetUp IsBadSetUp key hub_rules Answers Headline (D.shows disk).left_since }
 {
     hub_ledger::laws::images_hold_records();
     identity_hub::laws::a_login_is_passed_on_exactly();
@@ -93,7 +97,7 @@ pub fn the_headline_holds_over_starts()
 /// A run that served is a start of its hub. So by the laws of starts what several runs acknowledged is kept, once, over
 /// restarts with crashes between them.
 pub fn a_run_is_a_start()
-    ensures { ARunIsAStart }
+    ensures { EachRunIsAStart IsSetUp key hub_rules Answers }
 {
     hub_ledger::laws::images_hold_records();
 }
@@ -102,7 +106,7 @@ pub fn a_run_is_a_start()
 /// is one from which a later start goes on, as behind a start of this run that was cut at that moment: so runs that a crash
 /// cut join into one service, of which the laws of starts speak.
 pub fn each_image_of_a_run_goes_on<D: Disk>()
-    ensures { (disk : D) → EachImageOfARunGoesOn (D.shows disk).left_since }
+    ensures { (disk : D) → EachImageOfARunGoesOn IsSetUp IsBadSetUp key hub_rules Answers (D.shows disk).left_since }
 {
     hub_ledger::laws::images_hold_records();
 }

@@ -1,7 +1,7 @@
 //! A hub runs: it is set up by its config, opens its ledger, listens, and serves.
 //!
 //! ```
-//! match run_hub(alloc, &mut files, "hub.conf", &mut link, &mut disk, &mut clock, 1_000_000)? {
+//! match run::<Hub, _, _, _, _>(alloc, &mut files, "hub.conf", &mut link, &mut disk, &mut clock, 1_000_000)? {
 //!     Ended::Served(served) => { /* served.events were taken; served.stopped says whether the link gave Stop */ }
 //!     Ended::BadFile { file, line } => { /* this file, or its line, can't be used */ }
 //!     Ended::Foreign { file, place } => { /* what this file of the disk holds at this place is no ledger */ }
@@ -16,7 +16,7 @@
 //!
 //! # What is proved
 //!
-//! `run_hub`: a run of a hub goes by the five cases, with its own setup, ledger and steps, and carries its headline (`runs`,
+//! [`run`] over [`Hub`]: a run of a hub goes by the five cases, with its own setup, ledger and steps, and carries its headline (`runs`,
 //! by `Runs` and `Headline`): at each request, all of them served by what the hub was set up with, a login is passed on
 //! only where the posted form brings it over the hub's rows, for the request of a provider below that is known, with the
 //! name and the attributes of the login from above and to that provider alone, and wherever a form brings one, where there
@@ -37,7 +37,7 @@
 #![tactic(auto)]
 
 pub mod laws;
-mod run;
+mod provider;
 
-pub use provider_run::{Ended, RunFault};
-pub use run::run_hub;
+pub use provider::Hub;
+pub use provider_run::{Ended, RunFault, run};

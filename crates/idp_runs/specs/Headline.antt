@@ -2,12 +2,10 @@
 -- signed element is one of a record that is durable before it is sent; sessions are ended exactly where their users
 -- leave them or a peer ends them, and one that is ended never lives again; a logout that asks all others asks each in its
 -- turn, and says Success exactly where each confirmed.
-use Rattle.std.specs.Prelude.{◌≡◌, ◌⊎◌, ℕ, true, false, List, [], ◌∷◌, Contains, Option, IsSome, Some, Ok, Result}
-use Rattle.std.specs.List.{AllByRecursion}
+use Rattle.std.specs.Prelude.{◌≡◌, ◌⊎◌, ℕ, true, false, List, Option, IsSome, Some}
 use Rattle.saml_outside.specs.Files.{File}
 use Rattle.crash_disk.specs.Counts.{Rose}
 use Rattle.crash_disk.specs.Disk.{Image}
-use Rattle.conn_table.specs.Table.{Table}
 use Rattle.http_wire.specs.declared.answer.Answer.{Answer}
 use Rattle.http_wire.specs.declared.answer.Answer.TheVariants.{Fixed, Full}
 use Rattle.ledger_records.specs.declared.idp_record.IdpRecord.{IdpRecord}
@@ -15,24 +13,18 @@ use Rattle.ledger_records.specs.declared.idp_record.IdpRecord.TheVariants as kin
 use Rattle.ledger_records.specs.declared.idp_record.Issued.{Issued}
 use Rattle.ledger_records.specs.declared.idp_round.Round.{Round}
 use Rattle.ledger_records.specs.declared.idp_round.Told.{Told}
-use Rattle.serve_loop.specs.Turns.{Asked, Asks, Run, Turn, asked_by}
+use Rattle.serve_loop.specs.Turns.{Asked, Asks, Turn}
 use Rattle.serve_loop.specs.Worlds.{World}
+use Rattle.provider_run.specs.Headlines.{AddsOnlyItsOwn, EachGoes, HeadlineBy, HeadlineOf, KeepsWhatIsVisible, ServedOver, ServedRun}
 use Rattle.provider_run.specs.Runs.{Outside, world_of}
-use Rattle.provider_run.specs.declared.ended.Ended.{Ended}
-use Rattle.provider_run.specs.declared.ended.RunFault.{RunFault}
 use Rattle.peer_keys.specs.declared.peers.LogoutPeer.{LogoutPeer}
 use Rattle.protocol_messages.specs.declared.logout.LogoutRequest.{LogoutRequest}
 use Rattle.idp_rows.specs.declared.row.SessionRow.{SessionRow}
-use Rattle.idp_ledger.specs.Ledger.{Held, ledger_in}
+use Rattle.idp_ledger.specs.Ledger.{Held}
 use Rattle.idp_rows.specs.RowsOf.{is_among}
 use Rattle.provider_node.specs.declared.codes.TheConstants.{NO_MEMORY}
-use Rattle.serve_loop.specs.Serving as node_serving
-use Rattle.serve_loop.specs.declared.served.Served.{Served}
-use Rattle.serve_loop.specs.declared.served.ServeFault.{ServeFault}
-use Rattle.provider_node.specs.Added.{IsAddedBy, IsNew}
 use Rattle.provider_node.specs.Lasting.{AreKeptSince}
 use Rattle.provider_node.specs.Points.{points}
-use Rattle.provider_node.specs.Starts.{IsServed}
 use Rattle.idp_ledger.specs.Laws.{AnswerAlike}
 use Rattle.idp_ledger.specs.Record.{AreRecords, idp_rules}
 use Rattle.idp_ledger.specs.Turns.{RoundsAskInTurn}
@@ -46,8 +38,9 @@ use Rattle.idp_server.specs.declared.route.Service.TheVariants.{Login, Logout, S
 use Rattle.idp_server.specs.Routes.{route}
 use Rattle.idp_server.specs.Signed.{Carries}
 use Rattle.idp_server.specs.Staying.{SessionsStay, WhatWasBegunIsAsLeft}
-use Rattle.idp_server.specs.Step.{Provider, Answers, HasPlace, Serves, StepLeaves, StepsOnDisk, ending_by}
-use Rattle.idp_runs.specs.Runs.{Begins, Runs}
+use Rattle.idp_server.specs.Step.{Provider, Answers, HasPlace, StepsOnDisk, ending_by}
+use Rattle.idp_rules.specs.declared.config.IdpConfig.{IdpConfig}
+use Rattle.idp_setup.specs.Setup.{IsSetUp}
 
 -- ---- one request, which the provider was asked in one world, and which left another behind
 
@@ -77,19 +70,16 @@ pub record EndsExactly (asked : Asked Provider) (before after : World Provider) 
   pub only : (held : Held) (answer : Answer) (r : IdpRecord)
       → Answers asked.node.setup held asked.request asked.now answer (Some r)
       → IsOfLogoutIfEnding asked.node.setup held asked.request asked.now r
-  pub nothing_else : (found : Held) → Serves found asked.request asked.now
-      (Rose before.disk_faults after.disk_faults) asked.answer asked.node after.node
+  pub nothing_else : (found : Held) → ServedOver idp_rules Answers found asked before after
       → after.node.ledger.broken ≡ false → Ends asked.node.setup found asked.request asked.now after.node
   pub wherever_left : (found : Held) (row : SessionRow)
-      → Serves found asked.request asked.now (Rose before.disk_faults after.disk_faults) asked.answer asked.node
-      after.node
+      → ServedOver idp_rules Answers found asked before after
       → LeavesOver found asked.request asked.now row
       → HasPlace found (leaving_record asked.node.setup found asked.now row.cookie)
       → ¬ (Rose before.disk_faults after.disk_faults)
       → (asked.answer ≡ Fixed NO_MEMORY) ⊎ IsEnded after.node.ledger.held row.cookie
   pub wherever_ended : (found : Held) (message : LogoutRequest) (peer : LogoutPeer) (cookie : List ℕ)
-      → Serves found asked.request asked.now (Rose before.disk_faults after.disk_faults) asked.answer asked.node
-      after.node
+      → ServedOver idp_rules Answers found asked before after
       → (over : EndsOver asked.node.setup asked.request asked.now message peer)
       → is_among cookie (ending_by found asked.now peer.peer.entity message) ≡ true
       → HasPlace found (ending_record asked.node.setup found asked.now peer message over.relay)
@@ -110,24 +100,11 @@ pub record AsksInTurn (asked : Asked Provider) : Type 0 where
       → IsOutcome asked.node.setup held r asked.now bytes
   pub once : RoundsAskInTurn
 
--- Each record that stands in an image which a crash inside the answer may leave, or one behind it, be it behind page
--- 50, and stood nowhere before is one that the request adds over some ledger with some answer, so that it is of it what
--- is said of these.
-abbrev pub AddsOnlyItsOwn : Asked Provider → Type 0
-AddsOnlyItsOwn asked =
-    (image : Image) (held : Held) (r : IdpRecord) → IsSome asked.disk → StepLeaves asked.node asked.disk asked.request
-    asked.now image
-    → ledger_in image ≡ Ok (Some held) → Contains held.records r → IsNew idp_rules asked.node asked.disk r
-    → IsAddedBy Answers asked.node.setup asked.request asked.now r
-
--- Where there was no memory and the ledger was not broken, all that may be asked of its rows at the moment of the
--- request is answered behind it as before.
-abbrev pub KeepsWhatIsVisible : (asked : Asked Provider) → (after : World Provider) → Type 0
-KeepsWhatIsVisible asked after =
-    AreRecords asked.node.ledger.held.records → asked.node.ledger.broken ≡ false → asked.answer ≡ Fixed NO_MEMORY
-    → AnswerAlike asked.now after.node.ledger.held asked.node.ledger.held
-
 -- ---- the run
+
+-- the key of the IDs that a provider draws
+abbrev pub key : IdpConfig → List ℕ
+key config = config.id_key
 
 -- a request is answered by one step, and so it is of it, whatever the worlds are in which the provider was asked
 pub record GoesExactly (asked : Asked Provider) : Type 0 where
@@ -138,53 +115,28 @@ pub record GoesExactly (asked : Asked Provider) : Type 0 where
       → IssuesOnlyToUsers asked before after
   pub ends : (before after : World Provider) → Asks IsProviders asked before after → EndsExactly asked before after
   pub rounds : AsksInTurn asked
-  pub added : (before after : World Provider) → Asks IsProviders asked before after → AddsOnlyItsOwn asked
-  pub starved : (before after : World Provider) → Asks IsProviders asked before after → KeepsWhatIsVisible asked after
+  pub added : (before after : World Provider) → Asks IsProviders asked before after → AddsOnlyItsOwn idp_rules Answers asked
+  pub starved : (before after : World Provider) → Asks IsProviders asked before after → KeepsWhatIsVisible idp_rules AnswerAlike asked after
 
--- and of each request that the provider was asked
-abbrev pub EachGoesExactly : List (Turn Provider) → Type 0
-EachGoesExactly [] = Unit {0}
-EachGoesExactly (turn ∷ past) = AllByRecursion GoesExactly (asked_by turn) × EachGoesExactly past
+-- What is said of a run that served: each request issued Assertions to users alone, was answered once its record was
+-- durable, and ended sessions exactly; and where the disk tells, what the answers acknowledged is in the history of every
+-- ledger that a crash may leave behind the run, and in none of these a session lives that one of the answers ended, or
+-- that was ended at the start; from each point of the run on, also inside later requests, what was acknowledged by then
+-- is in the history of every ledger that a crash might leave; and a session that is ended is live at no later request,
+-- and in no ledger that a crash may leave since; and one whose answer went out is as it was left in every image that a
+-- crash may leave behind the run, or since a point of it: where it ends behind each moment of the run it lives there,
+-- ended only where a record that was added since ends it.
+pub record Says (left : ℕ → Image → Type 0) (told : Option (List File)) (file : List ℕ) (before : Outside)
+    (turns : List (Turn Provider)) (after : Outside)
+    (run : ServedRun IsSetUp key idp_rules Answers left told file before turns after) : Type 0 where
+  pub each : EachGoes GoesExactly turns
+  pub kept : IsSome before.disk → AreKept (world_of run.provider run.opened) (world_of run.last after) turns
+  pub since : IsSome before.disk → AreKeptSince idp_rules Answers left (world_of run.provider run.opened) turns
+      run.serves.kept run.serves.last run.serves.run
+  pub ended : IsSome before.disk → StayEnded (points (world_of run.provider run.opened) turns (world_of run.last after))
+  pub stay : IsSome before.disk → SessionsStay (world_of run.provider run.opened) (world_of run.last after) turns
+  pub as_left : WhatWasBegunIsAsLeft
 
--- A run that served nothing, or one that served: each request issued Assertions to users alone, was answered once its
--- record was durable, and ended sessions exactly; and where the disk tells, what the answers acknowledged is in the
--- history of every ledger that a crash may leave behind the run, and in none of these a session lives that one of the
--- answers ended, or that was ended at the start; from each point of the run on, also inside later requests, what was
--- acknowledged by then is in the history of every ledger that a crash might leave; and a session that is ended is live
--- at no later request, and in no ledger that a crash may leave since; and one whose answer went out is as it was left
--- in every image that a crash may leave behind the run, or since a point of it: where it ends behind each moment of the
--- run it lives there, ended only where a record that was added since ends it. `left` says of each moment, seen from the
--- end of the run, what a crash since then might have left.
-pub data Headline (left : ℕ → Image → Type 0) (told : Option (List File)) (file : List ℕ) (before : Outside)
-    (turns : List (Turn Provider)) (after : Outside) : Type 0 where
-  ServedNothing : turns ≡ [] → Headline left told file before turns after
-  ServedSo : (provider last : Provider) (opened : Outside) (budget : ℕ) (served : Result Served ServeFault)
-      → Begins told file before provider opened
-      → (serves : node_serving.Serves IsProviders StepLeaves left budget turns (world_of provider opened) served
-      (world_of last after))
-      → EachGoesExactly turns
-      → (IsSome before.disk → AreKept (world_of provider opened) (world_of last after) turns)
-      → (IsSome before.disk → AreKeptSince idp_rules Answers left
-      (world_of provider opened) turns serves.kept serves.last serves.run)
-      → (IsSome before.disk → StayEnded (points (world_of provider opened) turns (world_of last after)))
-      → (IsSome before.disk → SessionsStay (world_of provider opened) (world_of last after) turns)
-      → WhatWasBegunIsAsLeft
-      → Headline left told file before turns after
-
--- The headline holds of each run.
-abbrev pub ARunCarriesTheHeadline : (left : ℕ → Image → Type 0) → Type 0
-ARunCarriesTheHeadline left =
-    (told : Option (List File)) (file : List ℕ) (budget : ℕ) (before : Outside) (turns : List (Turn Provider))
-    (result : Result Ended RunFault) (after : Outside)
-    → Runs left told file budget before turns result after → Headline left told file before turns after
-
--- A run that served, on a disk that tells, is a start of the provider: its ledger was opened from what the disk held,
--- and then its turns were done. So what several runs acknowledged, each on what a crash of the one before it may have
--- left, is kept, and what is ended stays so, by the laws of starts.
-abbrev pub ARunIsAStart : Type 0
-ARunIsAStart =
-    (told : Option (List File)) (file : List ℕ) (before opened : Outside) (provider : Provider)
-    (turns : List (Turn Provider)) (kept : Table) (behind : World Provider)
-    → IsSome before.disk → Begins told file before provider opened
-    → Run IsProviders (world_of provider opened) turns kept behind
-    → IsServed idp_rules Answers before.disk (world_of provider opened) turns kept behind
+-- A run served nothing, or it served so.
+abbrev pub Headline : HeadlineOf IdpConfig IdpRecord
+Headline = HeadlineBy IsSetUp key idp_rules Answers Says

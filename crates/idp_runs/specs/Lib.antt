@@ -1,3 +1,1 @@
 pub mod Headline
-pub mod Runs
-pub mod Joining

@@ -1,6 +1,10 @@
 //! The laws of whole runs, each the contract of a function that does nothing.
-ghost use Rattle.idp_runs.specs.Headline.{ARunCarriesTheHeadline, ARunIsAStart};
-ghost use Rattle.idp_runs.specs.Joining.{EachImageOfARunGoesOn};
+ghost use Rattle.idp_runs.specs.Headline.{Headline, key};
+ghost use Rattle.provider_run.specs.Headlines.{EachRunCarries, EachRunIsAStart};
+ghost use Rattle.provider_run.specs.Joining.{EachImageOfARunGoesOn};
+ghost use Rattle.idp_server.specs.Step.{Answers};
+ghost use Rattle.idp_ledger.specs.Record.{idp_rules};
+ghost use Rattle.idp_setup.specs.Setup.{IsBadSetUp, IsSetUp};
 
 use idp_ledger::Disk;
 
@@ -12,7 +16,7 @@ use idp_ledger::Disk;
 /// the history of each ledger that a crash might leave, and each session whose answer went out is as it was left. A logout
 /// that asks all others asks each in its turn, and says Success exactly where each confirmed.
 pub fn a_run_carries_the_headline<D: Disk>()
-    ensures { (disk : D) → ARunCarriesTheHeadline (D.shows disk).left_since }
+    ensures { (disk : D) → EachRunCarries IsSetUp IsBadSetUp key idp_rules Answers Headline (D.shows disk).left_since }
 {
     idp_ledger::laws::images_hold_records();
     idp_ledger::laws::rounds_ask_in_turn();
@@ -32,7 +36,7 @@ pub fn a_run_carries_the_headline<D: Disk>()
 /// A run that served is a start of its provider. So by the laws of starts of `idp_server` what several runs acknowledged is kept, and
 /// what is ended stays so, over restarts with crashes between them.
 pub fn a_run_is_a_start()
-    ensures { ARunIsAStart }
+    ensures { EachRunIsAStart IsSetUp key idp_rules Answers }
 {
     idp_ledger::laws::images_hold_records();
 }
@@ -41,7 +45,7 @@ pub fn a_run_is_a_start()
 /// moments may leave is one from which a later start goes on, as behind a start of this run that was cut at that
 /// moment: so runs that a crash cut join into one service, of which the laws of starts speak.
 pub fn each_image_of_a_run_goes_on<D: Disk>()
-    ensures { (disk : D) → EachImageOfARunGoesOn (D.shows disk).left_since }
+    ensures { (disk : D) → EachImageOfARunGoesOn IsSetUp IsBadSetUp key idp_rules Answers (D.shows disk).left_since }
 {
     idp_ledger::laws::images_hold_records();
 }

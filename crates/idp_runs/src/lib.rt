@@ -1,7 +1,7 @@
 //! An identity provider runs: it is set up by its config, opens its ledger, listens, and serves.
 //!
 //! ```
-//! match run_idp(alloc, &mut files, "idp.conf", &mut link, &mut disk, &mut clock, 1_000_000)? {
+//! match run::<IdentityProvider, _, _, _, _>(alloc, &mut files, "idp.conf", &mut link, &mut disk, &mut clock, 1_000_000)? {
 //!     Ended::Served(served) => { /* served.events were taken; served.stopped says whether the link gave Stop */ }
 //!     Ended::BadFile { file, line } => { /* this file, or its line, can't be used */ }
 //!     Ended::Foreign { file, place } => { /* what this file of the disk holds at this place is no ledger */ }
@@ -16,7 +16,7 @@
 //!
 //! # What is proved
 //!
-//! `run_idp`: a run of an identity provider goes by the five cases, with its own setup, ledger and steps, and carries
+//! [`run`] over [`IdentityProvider`]: a run of an identity provider goes by the five cases, with its own setup, ledger and steps, and carries
 //! its headline (`runs`, by `Runs` and `Headline`): at each request an Assertion is issued to a user with a password or
 //! a session alone, each signed element is one that its record stands for, the record is durable before the answer is
 //! sent, and sessions are ended exactly where their users leave them or a peer ends them; and where the disk tells,
@@ -30,7 +30,7 @@
 #![tactic(auto)]
 
 pub mod laws;
-mod run;
+mod provider;
 
-pub use provider_run::{Ended, RunFault};
-pub use run::run_idp;
+pub use provider::IdentityProvider;
+pub use provider_run::{Ended, RunFault, run};

@@ -5,3 +5,4 @@ pub mod Serving
 pub mod Kept
 pub mod Joining
 pub mod Setups
+pub mod Headlines

@@ -98,12 +98,15 @@ pub fn run<R: RunsProvider, F: Files, L: Link, D: Disk, C: Clock>(
     clock: &mut C,
     budget: u64,
 ) -> Result<Ended, RunFault>
-    // The run goes so, and a crash at any moment of it leaves what one inside the opening or inside an answer may
-    // leave.
+    // The run goes so, it carries the headline of its role, and a crash at any moment of it leaves what one inside the
+    // opening or inside an answer may leave.
     ensures runs { (turns : List (Turn _))
         × Runs R.sets_up R.is_bad R.Role.key R.Role.rules R.Role.answers (D.shows disk.new).left_since (F.holds files.old)
         config.now budget
         (outside (D.shows disk.old) (L.shows link.old) (C.to_come clock.old)) turns result
+        (outside (D.shows disk.new) (L.shows link.new) (C.to_come clock.new))
+        × R.headline (D.shows disk.new).left_since (F.holds files.old) config.now
+        (outside (D.shows disk.old) (L.shows link.old) (C.to_come clock.old)) turns
         (outside (D.shows disk.new) (L.shows link.new) (C.to_come clock.new))
         × LeavesOnly D.shows disk.old disk.new
         (RunLeaves R.Role.rules R.Role.answers (D.shows disk.old).told turns) }
@@ -127,6 +130,7 @@ pub fn run<R: RunsProvider, F: Files, L: Link, D: Disk, C: Clock>(
     ensures link_never_falls { (L.shows link.old).faults ≤ (L.shows link.new).faults }
 {
     R::never_both();
+    R::carries_headline::<D>();
     match R::set_up(alloc, files, config) {
         Ok(role) => run_by::<R, L, D, C>(alloc, role, link, disk, clock, budget),
         Err(SetupFault::BadFile { file, line }) => Ok(Ended::BadFile { file, line }),

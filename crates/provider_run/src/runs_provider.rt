@@ -3,7 +3,9 @@
 ghost use Rattle.std.specs.Prelude.{◌≡◌, ◌≤◌, ℕ, List, Option, Some, IfErr, IfOk};
 ghost use Rattle.saml_outside.specs.Files.{File};
 ghost use Rattle.sp_setup.specs.Faults.{IsFaultOf};
+ghost use Rattle.provider_run.specs.Headlines.{EachRunCarries, HeadlineOf};
 
+use crash_disk::Disk;
 use provider_node::Role;
 use saml_outside::Files;
 use sp_setup::SetupFault;
@@ -20,6 +22,9 @@ pub trait RunsProvider {
     /// Of the config in this file, this is the first file that can't be used, the config or one that it names, and
     /// its line.
     ghost is_bad: { Option (List File) → List ℕ → List ℕ → ℕ → Type 0 };
+
+    /// What is said of each run.
+    ghost headline: { HeadlineOf Self.Role Self.Role.Record };
 
     /// Sets a provider up by the config in a file and the files that this names.
     fn set_up<F: Files>(
@@ -40,4 +45,9 @@ pub trait RunsProvider {
     fn never_both()
         ensures { (files : List File) (config : List ℕ) (role : Self.Role) (file : List ℕ) (line : ℕ) →
             sets_up (Some files) config role → ¬ (is_bad (Some files) config file line) };
+
+    /// Each run carries the headline. It does nothing.
+    fn carries_headline<D: Disk>()
+        ensures { (disk : D) → EachRunCarries sets_up is_bad Self.Role.key Self.Role.rules Self.Role.answers headline
+            (D.shows disk).left_since };
 }

@@ -7,15 +7,19 @@ use Rattle.crash_disk.specs.Disk.{Image, DiskState}
 use Rattle.crash_disk.specs.Moments.{Leaves}
 use Rattle.saml_outside.specs.Files.{File}
 use Rattle.hub_runs.specs.Headline as hub_headline
-use Rattle.hub_runs.specs.Runs as hub
+use Rattle.hub_ledger.specs.Record.{hub_rules}
+use Rattle.hub_setup.specs.Setup as hub_setup
 use Rattle.identity_hub.specs.Step as hub_steps
 use Rattle.idp_runs.specs.Headline as idp_headline
-use Rattle.idp_runs.specs.Runs as idp
+use Rattle.idp_ledger.specs.Record.{idp_rules}
+use Rattle.idp_setup.specs.Setup as idp_setup
 use Rattle.idp_server.specs.Step as idp_steps
 use Rattle.sp_runs.specs.Headline as sp_headline
+use Rattle.request_ledger.specs.Record.{request_rules}
 use Rattle.sp_runs.specs.Runs as sp
 use Rattle.sp_server.specs.Step as sp_steps
 use Rattle.provider_node.specs.Starts.{Start}
+use Rattle.provider_run.specs.Providers.{IsRunnable, RunLeaves, Runs}
 use Rattle.provider_run.specs.Runs.{Outside}
 use Rattle.provider_run.specs.declared.ended.Ended.{Ended}
 use Rattle.provider_run.specs.declared.ended.Ended.TheVariants as ends
@@ -40,9 +44,9 @@ TurnsOf roles.Hub = List (Turn hub_steps.Provider)
 -- what a crash since then might have left
 abbrev pub RunsAs : (role : Role) → (left : ℕ → Image → Type 0) → Option (List File) → (config : List ℕ) → (events : ℕ)
     → (before : Outside) → TurnsOf role → Result Ended RunFault → (after : Outside) → Type 0
-RunsAs roles.Sp = sp.Runs
-RunsAs roles.Idp = idp.Runs
-RunsAs roles.Hub = hub.Runs
+RunsAs roles.Sp = Runs sp.IsServedBy sp.IsBadFile sp.key request_rules sp_steps.Answers
+RunsAs roles.Idp = Runs idp_setup.IsSetUp idp_setup.IsBadSetUp idp_headline.key idp_rules idp_steps.Answers
+RunsAs roles.Hub = Runs hub_setup.IsSetUp hub_setup.IsBadSetUp hub_headline.key hub_rules hub_steps.Answers
 
 -- what is carried over it
 abbrev pub HeadlineAs : (role : Role) → (left : ℕ → Image → Type 0) → Option (List File) → (config : List ℕ)
@@ -53,15 +57,15 @@ HeadlineAs roles.Hub = hub_headline.Headline
 
 -- what a crash at a moment of it may leave
 abbrev pub RunLeavesAs : (role : Role) → Option DiskState → TurnsOf role → Image → Type 0
-RunLeavesAs roles.Sp = sp.RunLeaves
-RunLeavesAs roles.Idp = idp.RunLeaves
-RunLeavesAs roles.Hub = hub.RunLeaves
+RunLeavesAs roles.Sp = RunLeaves request_rules sp_steps.Answers
+RunLeavesAs roles.Idp = RunLeaves idp_rules idp_steps.Answers
+RunLeavesAs roles.Hub = RunLeaves hub_rules hub_steps.Answers
 
 -- and when one can be run
 abbrev pub IsRunnableAs : Role → Option (List File) → (config : List ℕ) → Option DiskState → Type 0
-IsRunnableAs roles.Sp = sp.IsRunnable
-IsRunnableAs roles.Idp = idp.IsRunnable
-IsRunnableAs roles.Hub = hub.IsRunnable
+IsRunnableAs roles.Sp = IsRunnable sp.IsServedBy request_rules
+IsRunnableAs roles.Idp = IsRunnable idp_setup.IsSetUp idp_rules
+IsRunnableAs roles.Hub = IsRunnable hub_setup.IsSetUp hub_rules
 
 -- What the program did beside its answer: nothing was served, or a provider of this role was run, with these turns, and came to this; or
 -- a schedule of these steps was replayed over two providers, which are these starts of either, and came to that.

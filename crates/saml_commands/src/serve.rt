@@ -13,12 +13,12 @@ use crate::command::Role;
 use crate::status::Status;
 use crash_disk::Disk;
 use event_link::{Clock, Link};
-use hub_runs::run_hub;
-use idp_runs::run_idp;
-use provider_run::{Ended, RunFault};
+use hub_runs::Hub;
+use idp_runs::IdentityProvider;
+use provider_run::{Ended, RunFault, run};
 use saml_outside::{Blob, Files, NoMemory, Sink};
 use serve_loop::Served;
-use sp_runs::run_sp;
+use sp_runs::ServiceProvider;
 use std::alloc::Global;
 
 /// Why serving ended.
@@ -100,9 +100,13 @@ fn run_as<F: Files, L: Link, D: Disk, C: Clock>(
     ensures link_never_falls { (L.shows link.old).faults ≤ (L.shows link.new).faults }
 {
     match role {
-        Role::Sp => run_sp(alloc, files, config, link, disk, clock, events),
-        Role::Idp => run_idp(alloc, files, config, link, disk, clock, events),
-        Role::Hub => run_hub(alloc, files, config, link, disk, clock, events),
+        Role::Sp => run::<ServiceProvider, F, L, D, C>(
+            alloc, files, config, link, disk, clock, events,
+        ),
+        Role::Idp => run::<IdentityProvider, F, L, D, C>(
+            alloc, files, config, link, disk, clock, events,
+        ),
+        Role::Hub => run::<Hub, F, L, D, C>(alloc, files, config, link, disk, clock, events),
     }
 }
 

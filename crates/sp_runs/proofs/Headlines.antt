@@ -1,33 +1,33 @@
 -- The headline follows from how a run goes.
-use Rattle.std.specs.Prelude.{List, [], ◌∷◌, IfSome, Option}
+use Rattle.std.specs.Prelude.{List, Option}
 use Rattle.saml_outside.specs.Files.{File}
 use Rattle.conn_table.specs.Table.{Table}
-use Rattle.std.proofs.Common.{◌≡◌, ℕ, subst, sym}
+use Rattle.std.proofs.Common.{◌≡◌, ℕ, subst}
 use Rattle.crash_disk.specs.Counts.{Rose}
-use Rattle.crash_disk.specs.Disk.{Image, DiskState, MayLeave, image_of}
+use Rattle.crash_disk.specs.Disk.{Image}
 use Rattle.http_wire.specs.declared.answer.Answer.{Answer}
 use Rattle.http_wire.specs.declared.answer.Answer.TheVariants as answers
 use Rattle.http_wire.specs.Requests.{Request}
 use Rattle.serve_loop.specs.Turns.{Asked, Asks, Run, Turn}
 use Rattle.serve_loop.specs.Worlds.{World}
-use Rattle.provider_run.proofs.Kept.{of_turn}
-use Rattle.provider_run.specs.Runs.{Outside, BadSetUp, NotSetUp, NotOpened, Deaf, Serving, world_of}
-use Rattle.provider_node.proofs.Added.{new_is_of_the_request}
+use Rattle.provider_run.specs.Headlines.{EachRunCarries}
+use Rattle.provider_run.proofs.Headlines.{adds_its_own, carries, each_goes, keeps_visible, kept_since, sessions_stay, stepped, stepped_to}
+use Rattle.provider_run.specs.Runs.{Outside, world_of}
 use Rattle.sp_server.specs.Guarding.{AGuardTellsExactly, OnlyASessionIsVouchedFor}
 use Rattle.sp_server.specs.Histories.{IsProviders}
 use Rattle.sp_server.specs.Logouts.{NothingElseCloses, OnlyWhereAUserLeaves, OnlyWhereSessionsEnd, WhereverAUserLeaves, WhereverSessionsEnd}
 use Rattle.sp_server.specs.Recorded.{WhatIsAnsweredIsRecorded, WhatIsAskedIsRecorded}
 use Rattle.sp_server.specs.Sessions.{OnlyWhereAFormOpens, WhereverAFormOpens}
-use Rattle.sp_server.specs.Step.{Provider, Answers, Serves, Steps, StepsOnDisk}
-use Rattle.request_ledger.specs.Laws.{ImagesHoldRecords}
+use Rattle.sp_server.specs.Step.{Provider, Answers, Serves}
+use Rattle.request_ledger.specs.Laws.{AnswerAlike, ImagesHoldRecords}
 use Rattle.request_ledger.specs.Ledger.{Held}
 use Rattle.request_ledger.specs.Record.{request_rules}
-use Rattle.sp_runs.specs.Headline.{ARunCarriesTheHeadline, ClosesExactly, EachGoesExactly, GoesExactly, IsRecordedFirst, KeepsToItsConfig, OpensExactly, ServedNothing, ServedSo, GuardsExactly}
+use Rattle.sp_runs.specs.Headline.{Headline, ClosesExactly, GoesExactly, GuardsExactly, IsRecordedFirst, KeepsToItsConfig, OpensExactly, Says}
 use Rattle.sp_runs.specs.Laws.{AnEndedRegistryAsksNothing, AnEndedRegistryRecordsNothing, ARunUsesWhatItsRegistryLists, ASessionIsShownByItsRow, EachRequestIsServedByTheSameSetup, EachSessionWasSigned, SessionsStayClosedInARun, WhatARunAcknowledgedIsKeptOnce, WithoutARegistryNothingIsExpired}
-use Rattle.sp_runs.specs.Runs.{Begins}
-use Rattle.sp_server.specs.Staying.{SessionsStayInAService, WhatWasOpenedIsAsLeft}
+use Rattle.sp_runs.specs.Runs.{Begins, IsBadFile, IsServedBy, key}
+use Rattle.sp_server.specs.Staying.{IsAsLeft, SessionsStayInAService, WasOpened, WhatWasOpenedIsAsLeft}
 use Rattle.sp_server.specs.Starving.{WhatIsVisibleStays}
-use Rattle.sp_runs.proofs.Kept.{kept_ever_since, sessions_stay}
+use Rattle.sp_server.proofs.Histories.{draws_above}
 
 -- the laws on which it stands
 pub record Laws : Type 0 where
@@ -55,23 +55,6 @@ pub record Laws : Type 0 where
   pub asks : AnEndedRegistryAsksNothing
   pub without : WithoutARegistryNothingIsExpired
   pub shown : ASessionIsShownByItsRow
-
--- what a request does, by the provider and the disk that it came to
-stepped : (asked : Asked Provider) (before told : World Provider) → Asks IsProviders asked before told
-    → StepsOnDisk asked.node asked.disk asked.request asked.now
-    (Rose before.disk_faults told.disk_faults) asked.answer told.node told.disk
-stepped asked before told asks =
-    subst (λ (n : Provider). StepsOnDisk n asked.disk asked.request asked.now
-    (Rose before.disk_faults told.disk_faults) asked.answer told.node told.disk) (sym asks.node)
-    (subst (λ (d : Option DiskState). StepsOnDisk before.node d asked.request asked.now
-    (Rose before.disk_faults told.disk_faults) asked.answer told.node told.disk)
-    (sym asks.disk) asks.answers.does)
-
-step_of : (old : Provider) (disk : Option DiskState) (request : Request) (now : ℕ) (Risen : Type 0)
-    (one other : Answer) (new : Provider) → one ≡ other
-    → Steps old disk request now Risen one new → Steps old disk request now Risen other new
-step_of old disk request now Risen one other new same steps =
-    subst (λ (a : Answer). Steps old disk request now Risen a new) same steps
 
 serves_of : (found : Held) (request : Request) (now : ℕ) (Risen : Type 0) (one other : Answer) (old new : Provider)
     → one ≡ other → Serves found request now Risen one old new
@@ -110,8 +93,7 @@ module _ (laws : Laws) (asked : Asked Provider) where
     posted = λ bytes is posts.
         laws.posted asked.node after.node asked.disk after.disk asked.request asked.now before.disk_faults
         after.disk_faults bytes
-        (step_of asked.node asked.disk asked.request asked.now (Rose before.disk_faults after.disk_faults) asked.answer
-        (answers.Full bytes) after.node is (stepped asked before after asks).step)
+        (stepped_to request_rules Answers asked (answers.Full bytes) before after asks is)
         asks.answers.owns posts;
     requested = λ found bytes is serves app none.
         laws.requested found asked.request asked.now before.disk_faults after.disk_faults bytes asked.node after.node
@@ -125,12 +107,12 @@ module _ (laws : Laws) (asked : Asked Provider) where
     tells = λ found asking serves.
         laws.guard_tells found asked.request asked.now before.disk_faults after.disk_faults asked.answer asked.node after.node asking serves;
     only = λ at ok.
-        laws.guard_only asked.node after.node asked.disk asked.request asked.now before.disk_faults after.disk_faults asked.answer at (stepped asked before after asks).step ok;
+        laws.guard_only asked.node after.node asked.disk asked.request asked.now before.disk_faults after.disk_faults asked.answer at (stepped request_rules Answers asked before after asks).step ok;
   }
 
   goes_exactly : GoesExactly asked
   goes_exactly = record {
-    steps = stepped asked;
+    steps = stepped request_rules Answers asked;
     opens = λ before after asks. opens_exactly before after;
     closes = λ before after asks. closes_exactly before after;
     recorded = recorded_first;
@@ -138,19 +120,12 @@ module _ (laws : Laws) (asked : Asked Provider) where
     signed =
         λ issued held answer r all unforged none gives. laws.signed issued asked.node.setup held asked.request
         asked.now r answer all unforged none gives;
-    starved = λ before after asks are whole is.
-        laws.starved asked.node after.node asked.disk asked.request asked.now before.disk_faults after.disk_faults are
-        whole
-        (subst (λ (a : Answer). Steps asked.node asked.disk asked.request asked.now
-        (Rose before.disk_faults after.disk_faults) a after.node) is (stepped asked before after asks).step);
-    added = λ before after asks image held r tells left is there new.
-        new_is_of_the_request request_rules Answers asked.node asked.disk asked.request asked.now image held r tells
-        (subst (λ (d : Option DiskState). IfSome d (λ x. MayLeave x (image_of x))) (sym asks.disk) asks.answers.reads)
-        left is there new;
+    starved = keeps_visible request_rules Answers asked AnswerAlike laws.starved;
+    added = adds_its_own request_rules Answers asked;
     shown = λ before after asks row whole app live.
         laws.shown asked.node after.node asked.disk asked.request asked.now before.disk_faults after.disk_faults
         asked.answer row whole app live
-        (stepped asked before after asks).step;
+        (stepped request_rules Answers asked before after asks).step;
   }
 
 module _ (laws : Laws) where
@@ -172,25 +147,24 @@ module _ (laws : Laws) where
         λ asked none there. laws.without told file before opened provider turns kept behind asked begins run none there;
   }
 
-  each_goes : (turns : List (Turn Provider)) → EachGoesExactly turns
-  each_goes [] = tt
-  each_goes (turn ∷ past) = (of_turn GoesExactly (goes_exactly laws) turn, each_goes past)
-
-  pub headline : (left : ℕ → Image → Type 0) → ARunCarriesTheHeadline left
-  headline left told file budget before turns result after (BadSetUp bad line is e bare same) = ServedNothing bare
-  headline left told file budget before turns result after (NotSetUp why bare same) = ServedNothing bare
-  headline left told file budget before turns result after (NotOpened why bare same) = ServedNothing bare
-  headline left told file budget before turns result after (Deaf node opened begins e rose bare same) =
-      ServedNothing bare
-  headline left told file budget before turns result after (Serving node last opened served begins serves e) =
-      ServedSo node last opened budget served begins serves
-      (to_its_config told file before opened node turns serves.kept serves.last begins serves.run) (each_goes turns)
-      (λ tells. laws.kept told file budget before opened after node last turns serves.kept serves.last served tells
-      begins serves.run serves.ends)
-      (λ tells. kept_ever_since laws.hold left told file budget before opened after node last turns served tells begins
-      serves)
-      (λ tells. laws.closed told file budget before opened after node last turns serves.kept serves.last served tells
-      begins serves.run serves.ends)
-      (λ tells. sessions_stay laws.hold laws.stay told file budget before opened after node last turns served tells
-      begins left serves)
-      laws.as_left
+  pub headline : (left : ℕ → Image → Type 0) → EachRunCarries IsServedBy IsBadFile key request_rules Answers Headline left
+  headline left =
+      carries IsServedBy key request_rules Answers IsBadFile Says left (λ told file before turns after run. record {
+        config =
+            to_its_config told file before run.opened run.provider turns run.serves.kept run.serves.last run.begins
+            run.serves.run;
+        each = each_goes GoesExactly (goes_exactly laws) turns;
+        once = λ tells.
+            laws.kept told file run.budget before run.opened after run.provider run.last turns run.serves.kept
+            run.serves.last run.served tells run.begins run.serves.run run.serves.ends;
+        since = λ tells.
+            kept_since IsServedBy key request_rules Answers laws.hold left told file before turns after run tells
+            draws_above;
+        closed = λ tells.
+            laws.closed told file run.budget before run.opened after run.provider run.last turns run.serves.kept
+            run.serves.last run.served tells run.begins run.serves.run run.serves.ends;
+        stay = λ tells.
+            sessions_stay IsServedBy key request_rules Answers laws.hold left told file before turns after run tells
+            WasOpened IsAsLeft laws.stay;
+        as_left = laws.as_left;
+      })

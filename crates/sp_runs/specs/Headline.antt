@@ -19,15 +19,12 @@ use Rattle.ledger_records.specs.declared.sp_record.SpRecord.TheVariants as kinds
 use Rattle.login_origin.specs.Signed.{Signed, IsSigned}
 use Rattle.login_origin.specs.Premises.{Unforged, NoCollision}
 use Rattle.login_origin.specs.Origin.{IsLoginOf}
-use Rattle.serve_loop.specs.declared.served.Served.{Served}
-use Rattle.serve_loop.specs.declared.served.ServeFault.{ServeFault}
-use Rattle.serve_loop.specs.Serving as node_serving
-use Rattle.serve_loop.specs.Turns.{Asked, Asks, Turn, asked_by, asked_in}
+use Rattle.serve_loop.specs.Turns.{Asked, Asks, Turn, asked_in}
 use Rattle.serve_loop.specs.Worlds.{World}
 use Rattle.protocol_messages.specs.declared.logout.LogoutRequest.{LogoutRequest}
 use Rattle.provider_config.specs.declared.config.RegistryLine.{RegistryLine}
 use Rattle.provider_config.specs.declared.config.SpFile.TheVariants.{Registry}
-use Rattle.request_ledger.specs.Ledger.{Held, ledger_in}
+use Rattle.request_ledger.specs.Ledger.{Held}
 use Rattle.request_ledger.specs.Laws.{AnswerAlike}
 use Rattle.request_ledger.specs.Record.{AreRecords, request_rules}
 use Rattle.request_ledger.specs.RowsOf.{is_among, rows_of}
@@ -45,16 +42,14 @@ use Rattle.sp_server.specs.Routes.{route}
 use Rattle.sp_server.specs.Staying.{SessionsStay, WhatWasOpenedIsAsLeft}
 use Rattle.sp_server.specs.Sessions.{GivesSession, HasRoom, IsOpened, OpensOver}
 use Rattle.provider_node.specs.declared.codes.TheConstants.{NO_MEMORY}
-use Rattle.provider_node.specs.Added.{IsAddedBy, IsNew}
 use Rattle.provider_node.specs.Lasting.{AreKeptSince}
 use Rattle.provider_node.specs.Points.{points}
-use Rattle.sp_server.specs.Step.{Provider, Answers, HasPlace, Serves, StepLeaves, StepsOnDisk, ended_by, ended_record, left_record, session_for, shown_to, REGISTRY_EXPIRED, IsWhole}
+use Rattle.sp_server.specs.Step.{Provider, Answers, HasPlace, Setup, StepsOnDisk, ended_by, ended_record, left_record, session_for, shown_to, REGISTRY_EXPIRED, IsWhole}
+use Rattle.provider_run.specs.Headlines.{AddsOnlyItsOwn, EachGoes, HeadlineBy, HeadlineOf, KeepsWhatIsVisible, ServedOver, ServedRun}
 use Rattle.provider_run.specs.Runs.{Outside, world_of}
-use Rattle.provider_run.specs.declared.ended.Ended.{Ended}
-use Rattle.provider_run.specs.declared.ended.RunFault.{RunFault}
 use Rattle.sp_setup.specs.Laws.{IsFromRegistry}
 use Rattle.sp_runs.specs.Laws.{AsksAndOpensNothing}
-use Rattle.sp_runs.specs.Runs.{Begins, Runs, served_by}
+use Rattle.sp_runs.specs.Runs.{Begins, IsServedBy, key, served_by}
 
 -- ---- one request, which the provider was asked in one world, and which left another behind
 
@@ -66,8 +61,7 @@ pub record OpensExactly (asked : Asked Provider) (before after : World Provider)
       → Answers asked.node.setup held asked.request asked.now answer (Some (kinds.Opened r))
       → GivesSession asked.node.setup held asked.request asked.now (kinds.Opened r) answer
   pub wherever : (found : Held) (b : Brought) (row : AskedRow)
-      → Serves found asked.request asked.now (Rose before.disk_faults after.disk_faults) asked.answer asked.node
-      after.node
+      → ServedOver request_rules Answers found asked before after
       → OpensOver asked.node.setup found asked.request asked.now b row
       → HasRoom asked.node.setup found asked.now b → ¬ (Rose before.disk_faults after.disk_faults)
       → (asked.answer ≡ Fixed NO_MEMORY) ⊎ IsOpened asked.node.setup found asked.request asked.now b asked.answer
@@ -85,22 +79,19 @@ pub record ClosesExactly (asked : Asked Provider) (before after : World Provider
       → Answers asked.node.setup held asked.request asked.now answer (Some (kinds.Ended r))
       → IsEndedBy asked.node.setup held asked.request asked.now r
   pub nothing_else : (found : Held) (token : List ℕ) (row : OpenedRow) → AreRecords found.records
-      → Serves found asked.request asked.now (Rose before.disk_faults after.disk_faults) asked.answer asked.node
-      after.node → after.node.ledger.broken ≡ false
+      → ServedOver request_rules Answers found asked before after → after.node.ledger.broken ≡ false
       → session_row (rows_of found.records).opened token asked.now found.header.horizon ≡ Some row
       → session_row (rows_of after.node.ledger.held.records).opened token asked.now
       after.node.ledger.held.header.horizon ≡ None
       → IsClosedWith asked.node.setup found asked.request asked.now asked.answer token
   pub wherever_left : (found : Held) (row : OpenedRow)
-      → Serves found asked.request asked.now (Rose before.disk_faults after.disk_faults) asked.answer asked.node
-      after.node
+      → ServedOver request_rules Answers found asked before after
       → LeavesOver asked.node.setup found asked.request asked.now row
       → HasPlace found (left_record asked.node.setup.config found asked.now row.token)
       → ¬ (Rose before.disk_faults after.disk_faults)
       → (asked.answer ≡ Fixed NO_MEMORY) ⊎ IsClosed after.node.ledger.held row.token
   pub wherever_ended : (found : Held) (message : LogoutRequest) (relay : Option (List ℕ)) (token : List ℕ)
-      → Serves found asked.request asked.now (Rose before.disk_faults after.disk_faults) asked.answer asked.node
-      after.node
+      → ServedOver request_rules Answers found asked before after
       → EndsOver asked.node.setup asked.request asked.now message relay
       → is_among token (ended_by asked.node.setup.config found asked.now message) ≡ true
       → HasPlace found (ended_record asked.node.setup.config found asked.now message)
@@ -113,20 +104,9 @@ pub record IsRecordedFirst (asked : Asked Provider) (before after : World Provid
   pub posted : (bytes : List ℕ) → asked.answer ≡ Full bytes → TakesPosts (route asked.request)
       → IsRecorded asked.node.setup asked.request asked.now (Full bytes) after.disk
   pub requested : (found : Held) (bytes : List ℕ) → asked.answer ≡ Full bytes
-      → Serves found asked.request asked.now (Rose before.disk_faults after.disk_faults) asked.answer asked.node
-      after.node
+      → ServedOver request_rules Answers found asked before after
       → route asked.request ≡ To App → session_for found asked.now asked.request ≡ None
       → IsRecorded asked.node.setup asked.request asked.now (Full bytes) after.disk
-
--- Each record that stands in an image which a crash inside the answer may leave, or one behind it, be it behind page
--- 50, and stood nowhere before is one that the request adds over some ledger with some answer, so that it is of it what
--- is said of these.
-abbrev pub AddsOnlyItsOwn : Asked Provider → Type 0
-AddsOnlyItsOwn asked =
-    (image : Image) (held : Held) (r : SpRecord) → IsSome asked.disk → StepLeaves asked.node asked.disk asked.request
-    asked.now image
-    → ledger_in image ≡ Ok (Some held) → Contains held.records r → IsNew request_rules asked.node asked.disk r
-    → IsAddedBy Answers asked.node.setup asked.request asked.now r
 
 -- Each session that is given, with whatever answer, is of a login that was signed: for every list of what an identity
 -- provider signed, where no HMAC is forged and no hash collides in the posted form.
@@ -150,17 +130,10 @@ IsShownByItsRow asked =
 -- And with whatever setup and ledger: where it is answered 200, it is for such a session. Nothing is recorded.
 pub record GuardsExactly (asked : Asked Provider) (before after : World Provider) : Type 0 where
   pub tells : (found : Held) → AsksGuard asked.node.setup asked.request
-      → Serves found asked.request asked.now (Rose before.disk_faults after.disk_faults) asked.answer asked.node after.node
+      → ServedOver request_rules Answers found asked before after
       → ((asked.answer ≡ Fixed NO_MEMORY) ⊎ TellsExactly asked.node.setup found asked.request asked.now asked.answer) × IsWhole asked.node after.node found
   pub only : route asked.request ≡ To Guard → HasStatus 200 (answer_bytes asked.answer)
       → IsVouchedAt asked.node asked.disk asked.request asked.now (answer_bytes asked.answer)
-
--- Where there was no memory and the ledger was not broken, all that may be asked of its rows at the moment of the
--- request is answered behind it as before.
-abbrev pub KeepsWhatIsVisible : (asked : Asked Provider) → (after : World Provider) → Type 0
-KeepsWhatIsVisible asked after =
-    AreRecords asked.node.ledger.held.records → asked.node.ledger.broken ≡ false → asked.answer ≡ Fixed NO_MEMORY
-    → AnswerAlike asked.now after.node.ledger.held asked.node.ledger.held
 
 -- ---- the run
 
@@ -175,14 +148,9 @@ pub record GoesExactly (asked : Asked Provider) : Type 0 where
       → IsRecordedFirst asked before after
   pub guards : (before after : World Provider) → Asks IsProviders asked before after → GuardsExactly asked before after
   pub signed : IsOfASignedLogin asked
-  pub added : (before after : World Provider) → Asks IsProviders asked before after → AddsOnlyItsOwn asked
-  pub starved : (before after : World Provider) → Asks IsProviders asked before after → KeepsWhatIsVisible asked after
+  pub added : (before after : World Provider) → Asks IsProviders asked before after → AddsOnlyItsOwn request_rules Answers asked
+  pub starved : (before after : World Provider) → Asks IsProviders asked before after → KeepsWhatIsVisible request_rules AnswerAlike asked after
   pub shown : (before after : World Provider) → Asks IsProviders asked before after → IsShownByItsRow asked
-
--- and of each request that the provider was asked
-abbrev pub EachGoesExactly : List (Turn Provider) → Type 0
-EachGoesExactly [] = Unit {0}
-EachGoesExactly (turn ∷ past) = AllByRecursion GoesExactly (asked_by turn) × EachGoesExactly past
 
 -- ---- its files
 
@@ -209,36 +177,28 @@ pub record KeepsToItsConfig (told : Option (List File)) (file : List ℕ) (befor
 
 -- ---- all of it
 
--- A run that served nothing, or one that served: it kept to its config; each request opened and closed sessions
--- exactly, those that it opened of logins that were signed, and was answered once its record was durable; and where the
--- disk tells, what the answers acknowledged is in the history of every ledger that a crash may leave behind the run, no
--- two sessions are of one request, those at the start and those that were let go included; from each point of the run
--- on, also inside later requests, what was acknowledged by then is in the history of every ledger that a crash might
--- leave; a session that is closed is live at no later request, and in no ledger that a crash may leave since; and one
--- whose answer went out is as it was left in every image that a crash may leave behind the run: where it ends behind
--- each moment of the run it lives there, closed only where a record that was added since closes it, and its request
--- stays spent while it could be answered. `left` says of each moment, seen from the end of the run, what a crash since
--- then might have left.
-pub data Headline (left : ℕ → Image → Type 0) (told : Option (List File)) (file : List ℕ) (before : Outside)
-    (turns : List (Turn Provider)) (after : Outside) : Type 0 where
-  ServedNothing : turns ≡ [] → Headline left told file before turns after
-  ServedSo : (provider last : Provider) (opened : Outside) (budget : ℕ) (served : Result Served ServeFault)
-      → (begins : Begins told file before provider opened)
-      → (serves : node_serving.Serves IsProviders StepLeaves left budget turns (world_of provider opened) served
-      (world_of last after))
-      → KeepsToItsConfig told file before provider opened begins turns
-      → EachGoesExactly turns
-      → (IsSome before.disk → AreKeptOnce (world_of provider opened) (world_of last after) turns)
-      → (IsSome before.disk → AreKeptSince request_rules Answers left
-      (world_of provider opened) turns serves.kept serves.last serves.run)
-      → (IsSome before.disk → StayClosed (points (world_of provider opened) turns (world_of last after)))
-      → (IsSome before.disk → SessionsStay (world_of provider opened) (world_of last after) turns)
-      → WhatWasOpenedIsAsLeft
-      → Headline left told file before turns after
+-- What is said of a run that served: it kept to its config; each request opened and closed sessions exactly, those that
+-- it opened of logins that were signed, and was answered once its record was durable; and where the disk tells, what the
+-- answers acknowledged is in the history of every ledger that a crash may leave behind the run, no two sessions are of
+-- one request, those at the start and those that were let go included; from each point of the run on, also inside later
+-- requests, what was acknowledged by then is in the history of every ledger that a crash might leave; a session that is
+-- closed is live at no later request, and in no ledger that a crash may leave since; and one whose answer went out is as
+-- it was left in every image that a crash may leave behind the run: where it ends behind each moment of the run it lives
+-- there, closed only where a record that was added since closes it, and its request stays spent while it could be
+-- answered.
+pub record Says (left : ℕ → Image → Type 0) (told : Option (List File)) (file : List ℕ) (before : Outside)
+    (turns : List (Turn Provider)) (after : Outside)
+    (run : ServedRun IsServedBy key request_rules Answers left told file before turns after) : Type 0 where
+  pub config : KeepsToItsConfig told file before run.provider run.opened run.begins turns
+  pub each : EachGoes GoesExactly turns
+  pub once : IsSome before.disk → AreKeptOnce (world_of run.provider run.opened) (world_of run.last after) turns
+  pub since : IsSome before.disk → AreKeptSince request_rules Answers left (world_of run.provider run.opened) turns
+      run.serves.kept run.serves.last run.serves.run
+  pub closed : IsSome before.disk
+      → StayClosed (points (world_of run.provider run.opened) turns (world_of run.last after))
+  pub stay : IsSome before.disk → SessionsStay (world_of run.provider run.opened) (world_of run.last after) turns
+  pub as_left : WhatWasOpenedIsAsLeft
 
--- The headline holds of each run.
-abbrev pub ARunCarriesTheHeadline : (left : ℕ → Image → Type 0) → Type 0
-ARunCarriesTheHeadline left =
-    (told : Option (List File)) (file : List ℕ) (budget : ℕ) (before : Outside) (turns : List (Turn Provider))
-    (result : Result Ended RunFault) (after : Outside)
-    → Runs left told file budget before turns result after → Headline left told file before turns after
+-- A run served nothing, or it served so.
+abbrev pub Headline : HeadlineOf Setup SpRecord
+Headline = HeadlineBy IsServedBy key request_rules Answers Says

@@ -30,7 +30,6 @@ use Rattle.sp_server.specs.declared.route.Service.TheVariants.{App}
 use Rattle.sp_server.specs.Routes.{route}
 use Rattle.provider_node.specs.declared.codes.TheConstants.{NO_MEMORY}
 use Rattle.provider_node.specs.Points.{points}
-use Rattle.provider_node.specs.Starts.{IsServed}
 use Rattle.sp_server.specs.Step.{Provider, Answers, Setup, Steps, session_for, shown_to, REGISTRY_EXPIRED}
 use Rattle.sp_server.specs.Sessions.{GivesSession}
 use Rattle.sp_server.specs.Histories.{IsProviders, Stands, AreKeptOnce}
@@ -51,15 +50,6 @@ WhatARunAcknowledgedIsKeptOnce =
     → IsSome before.disk → Begins told file before provider opened
     → Run IsProviders (world_of provider opened) turns kept behind → Ends budget turns behind served (world_of last after)
     → AreKeptOnce (world_of provider opened) (world_of last after) turns
-
--- A run that served, on a disk that tells, is a start of the provider: its ledger was opened from what the disk held, and then its turns
--- were done. So what several runs acknowledged, each on what a crash of the one before it may have left, is kept once, and what is closed
--- stays so, by the laws of starts.
-abbrev pub ARunIsAStart : Type 0
-ARunIsAStart =
-    (told : Option (List File)) (file : List ℕ) (before opened : Outside) (provider : Provider) (turns : List (Turn Provider)) (kept : Table) (behind : World Provider)
-    → IsSome before.disk → Begins told file before provider opened → Run IsProviders (world_of provider opened) turns kept behind
-    → IsServed request_rules Answers before.disk (world_of provider opened) turns kept behind
 
 -- And a session that is closed is live at no later request of such a run, and in no ledger that a crash may leave since.
 abbrev pub SessionsStayClosedInARun : Type 0

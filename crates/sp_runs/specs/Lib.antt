@@ -1,4 +1,3 @@
 pub mod Headline
 pub mod Laws
 pub mod Runs
-pub mod Joining

@@ -1,17 +1,13 @@
--- What a run of a service provider does: it is set up by its config, opens its ledger, listens, and serves.
-use Rattle.std.specs.Prelude.{◌≡◌, ℕ, List, Option, Result}
+-- By what a service provider is set up and begins.
+use Rattle.std.specs.Prelude.{◌≡◌, ℕ, List, Option}
 use Rattle.saml_outside.specs.Files.{File}
-use Rattle.crash_disk.specs.Disk.{Image, DiskState}
-use Rattle.serve_loop.specs.Turns.{Turn}
 use Rattle.provider_run.specs.Providers as any
 use Rattle.provider_run.specs.Runs.{Outside}
-use Rattle.provider_run.specs.declared.ended.Ended.{Ended}
-use Rattle.provider_run.specs.declared.ended.RunFault.{RunFault}
 use Rattle.request_ledger.specs.Record.{request_rules}
 use Rattle.provider_config.specs.Config.{Config}
 use Rattle.provider_config.specs.declared.line.Purpose.TheVariants.{Serve}
 use Rattle.sp_server.specs.Step as steps
-use Rattle.sp_server.specs.Step.{Provider, Answers}
+use Rattle.sp_server.specs.Step.{Provider}
 use Rattle.sp_setup.specs.Setup.{Setup, IsSetUp, IsBadSetUp}
 
 -- a provider serves by all that it is set up with
@@ -36,16 +32,3 @@ key setup = setup.config.id_key
 -- The config in this file sets such a provider up, its ledger was opened, and else all is as it was.
 abbrev pub Begins : Option (List File) → (file : List ℕ) → (before : Outside) → Provider → (opened : Outside) → Type 0
 Begins = any.Begins IsServedBy key request_rules
-
--- How a run by the config in this file goes, with this budget of events: the turns of its provider, and what the run comes to. `left` says of
--- each moment, seen from the end of the run, what a crash since then might have left.
-abbrev pub Runs : (left : ℕ → Image → Type 0) → Option (List File) → (file : List ℕ) → (budget : ℕ) → (before : Outside) → List (Turn Provider) → Result Ended RunFault → (after : Outside) → Type 0
-Runs = any.Runs IsServedBy IsBadFile key request_rules Answers
-
--- What a crash at a moment of a run may leave: what one inside the opening of the ledger may, or one inside the answer to a request.
-abbrev pub RunLeaves : Option DiskState → List (Turn Provider) → Image → Type 0
-RunLeaves = any.RunLeaves request_rules Answers
-
--- A provider can be run: the files tell, its config sets it up, and the disk tells that it holds a ledger, or no journal yet.
-abbrev pub IsRunnable : Option (List File) → (file : List ℕ) → Option DiskState → Type 0
-IsRunnable = any.IsRunnable IsServedBy request_rules

@@ -1,7 +1,11 @@
 //! The laws of whole runs, each the contract of a function that does nothing.
-ghost use Rattle.sp_runs.specs.Headline.{ARunCarriesTheHeadline};
-ghost use Rattle.sp_runs.specs.Joining.{EachImageOfARunGoesOn};
-ghost use Rattle.sp_runs.specs.Laws.{AnEndedRegistryAsksNothing, AnEndedRegistryRecordsNothing, ARunIsAStart, ARunUsesWhatItsRegistryLists, ASessionIsShownByItsRow, EachRequestIsServedByTheSameSetup, EachSessionWasSigned, EqualRowsAreShownAlike, NoImageHasARequestTwice, SessionsStayClosedInARun, WhatARunAcknowledgedIsKeptOnce, WithoutARegistryNothingIsExpired};
+ghost use Rattle.sp_runs.specs.Headline.{Headline};
+ghost use Rattle.provider_run.specs.Headlines.{EachRunCarries, EachRunIsAStart};
+ghost use Rattle.provider_run.specs.Joining.{EachImageOfARunGoesOn};
+ghost use Rattle.sp_server.specs.Step.{Answers};
+ghost use Rattle.request_ledger.specs.Record.{request_rules};
+ghost use Rattle.sp_runs.specs.Runs.{IsBadFile, IsServedBy, key};
+ghost use Rattle.sp_runs.specs.Laws.{AnEndedRegistryAsksNothing, AnEndedRegistryRecordsNothing, ARunUsesWhatItsRegistryLists, ASessionIsShownByItsRow, EachRequestIsServedByTheSameSetup, EachSessionWasSigned, EqualRowsAreShownAlike, NoImageHasARequestTwice, SessionsStayClosedInARun, WhatARunAcknowledgedIsKeptOnce, WithoutARegistryNothingIsExpired};
 
 use request_ledger::Disk;
 use request_ledger::laws::{images_hold_records, no_request_opens_twice};
@@ -35,7 +39,7 @@ pub fn sessions_stay_closed_in_a_run()
 /// A run that served is a start of its provider. So by the laws of starts of `sp_server` what several runs acknowledged is kept, once,
 /// over restarts with crashes between them.
 pub fn a_run_is_a_start()
-    ensures { ARunIsAStart }
+    ensures { EachRunIsAStart IsServedBy key request_rules Answers }
 {
     images_hold_records();
 }
@@ -77,7 +81,7 @@ pub fn a_session_is_shown_by_its_row()
 /// session whose answer went out is as it was left. A live session is shown what the policy says of its row,
 /// and the run keeps to its registry, up to the moment at which this ends.
 pub fn a_run_carries_the_headline<D: Disk>()
-    ensures { (disk : D) → ARunCarriesTheHeadline (D.shows disk).left_since }
+    ensures { (disk : D) → EachRunCarries IsServedBy IsBadFile key request_rules Answers Headline (D.shows disk).left_since }
 {
     images_hold_records();
     sp_server::laws::a_session_opens_exactly();
@@ -98,7 +102,7 @@ pub fn a_run_carries_the_headline<D: Disk>()
 /// moments may leave is one from which a later start goes on, as behind a start of this run that was cut at that
 /// moment: so runs that a crash cut join into one service, of which the laws of starts speak.
 pub fn each_image_of_a_run_goes_on<D: Disk>()
-    ensures { (disk : D) → EachImageOfARunGoesOn (D.shows disk).left_since }
+    ensures { (disk : D) → EachImageOfARunGoesOn IsServedBy IsBadFile key request_rules Answers (D.shows disk).left_since }
 {
     images_hold_records();
 }

@@ -1,7 +1,7 @@
 //! A service provider runs: it is set up by its config, opens its ledger, listens, and serves.
 //!
 //! ```
-//! match run_sp(alloc, &mut files, "sp.conf", &mut link, &mut disk, &mut clock, 1_000_000)? {
+//! match run::<ServiceProvider, _, _, _, _>(alloc, &mut files, "sp.conf", &mut link, &mut disk, &mut clock, 1_000_000)? {
 //!     Ended::Served(served) => { /* served.events were taken; served.stopped says whether the link gave Stop */ }
 //!     Ended::BadFile { file, line } => { /* this file, or its line, can't be used */ }
 //!     Ended::Foreign { file, place } => { /* what this file of the disk holds at this place is no ledger */ }
@@ -17,7 +17,7 @@
 //!
 //! # What is proved
 //!
-//! `run_sp`: a run of a service provider goes by one of five cases (`Runs`): a file can't be used; it was not set up;
+//! [`run`] over [`ServiceProvider`]: a run of a service provider goes by one of five cases (`Runs`): a file can't be used; it was not set up;
 //! what the disk holds is no ledger (exactly the fault of its image), or the disk failed; the link does not listen; it
 //! served, as `serve_loop` says, with the provider's own steps. The run carries the headline (`runs`, by `Headline`):
 //! each request that the provider was asked opens a session exactly where the posted form opens one, of a login that
@@ -40,7 +40,7 @@
 #![tactic(auto)]
 
 pub mod laws;
-mod run;
+mod provider;
 
-pub use provider_run::{Ended, RunFault};
-pub use run::run_sp;
+pub use provider::ServiceProvider;
+pub use provider_run::{Ended, RunFault, run};

@@ -2,7 +2,7 @@ use Rattle.provider_run.proofs.Joining.{each_image_of_a_run_goes_on}
 use Rattle.hub_ledger.specs.Record.{hub_rules}
 use Rattle.identity_hub.specs.Step.{Answers}
 use Rattle.hub_setup.specs.Setup.{IsSetUp, IsBadSetUp}
-use Rattle.hub_runs.specs.Runs.{key}
+use Rattle.hub_runs.specs.Headline.{key}
 use Rattle.hub_runs.proofs.laws.each_image_of_a_run_goes_on.Goals as goal
 
 pub returns : goal.returns

@@ -2,7 +2,7 @@ use Rattle.provider_run.proofs.Joining.{each_image_of_a_run_goes_on}
 use Rattle.idp_ledger.specs.Record.{idp_rules}
 use Rattle.idp_server.specs.Step.{Answers}
 use Rattle.idp_setup.specs.Setup.{IsSetUp, IsBadSetUp}
-use Rattle.idp_runs.specs.Runs.{key}
+use Rattle.idp_runs.specs.Headline.{key}
 use Rattle.idp_runs.proofs.laws.each_image_of_a_run_goes_on.Goals as goal
 
 pub returns : goal.returns

@@ -12,7 +12,8 @@ returns-in-Ok-clause-runs g c =
     let (turns, goes, leaves) = c.run_by.ensures.runs in
     let from = c.in-Ok.ensures.ok in
     let told = g.F.Files.holds c.args.files.now in
-    (turns, goes told c.args.config.now from, leaves)
+    let runs = goes told c.args.config.now from in
+    (turns, runs, c.carries_headline.ensures c.run_by.new.disk told c.args.config.now c.args.budget _ turns c.run_by.result _ runs, leaves)
 
 pub returns-in-Ok-clause-complete : goal.returns-in-Ok-clause-complete
 returns-in-Ok-clause-complete g c = λ can no_read no_link no_disk.
@@ -34,6 +35,8 @@ returns-in-Err-BadFile-clause-runs g c =
     rw c.in-Err-BadFile.field-0-is (
       [],
       BadSetUp c.in-Err-BadFile.file c.in-Err-BadFile.line is refl refl refl,
+      c.carries_headline.ensures c.args.disk.now (g.F.Files.holds c.args.files.now) c.args.config.now c.args.budget _ [] _ _
+          (BadSetUp c.in-Err-BadFile.file c.in-Err-BadFile.line is refl refl refl),
       untouched g.D.Disk.shows (OpeningLeaves g.R.Role.KeepsLedger.rules)
           (StepLeaves g.R.Role.KeepsLedger.rules g.R.Role.Role.answers)
           (λ disk image left. leaves_opening g.R.Role.KeepsLedger.rules (g.D.Disk.shows disk).told image (g.met.D.Disk.only_now disk image left)) c.args.disk.now [],
@@ -48,6 +51,8 @@ pub returns-in-Err-ReadFault-clause-runs : goal.returns-in-Err-ReadFault-clause-
 returns-in-Err-ReadFault-clause-runs g c = (
   [],
   NotSetUp (inl refl) refl refl,
+  c.carries_headline.ensures c.args.disk.now (g.F.Files.holds c.args.files.now) c.args.config.now c.args.budget _ [] _ _
+      (NotSetUp (inl refl) refl refl),
   untouched g.D.Disk.shows (OpeningLeaves g.R.Role.KeepsLedger.rules)
       (StepLeaves g.R.Role.KeepsLedger.rules g.R.Role.Role.answers)
       (λ disk image left. leaves_opening g.R.Role.KeepsLedger.rules (g.D.Disk.shows disk).told image (g.met.D.Disk.only_now disk image left)) c.args.disk.now [],
@@ -57,6 +62,8 @@ pub returns-in-Err-NoMemory-clause-runs : goal.returns-in-Err-NoMemory-clause-ru
 returns-in-Err-NoMemory-clause-runs g c = (
   [],
   NotSetUp (inr refl) refl refl,
+  c.carries_headline.ensures c.args.disk.now (g.F.Files.holds c.args.files.now) c.args.config.now c.args.budget _ [] _ _
+      (NotSetUp (inr refl) refl refl),
   untouched g.D.Disk.shows (OpeningLeaves g.R.Role.KeepsLedger.rules)
       (StepLeaves g.R.Role.KeepsLedger.rules g.R.Role.Role.answers)
       (λ disk image left. leaves_opening g.R.Role.KeepsLedger.rules (g.D.Disk.shows disk).told image (g.met.D.Disk.only_now disk image left)) c.args.disk.now [],

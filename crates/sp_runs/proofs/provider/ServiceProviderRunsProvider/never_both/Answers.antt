@@ -1,5 +1,5 @@
 use Rattle.provider_config.specs.declared.line.Purpose.TheVariants.{Serve}
-use Rattle.sp_runs.proofs.run.ServiceProviderRunsProvider.never_both.Goals as goal
+use Rattle.sp_runs.proofs.provider.ServiceProviderRunsProvider.never_both.Goals as goal
 
 pub returns : goal.returns
 returns c = λ files config role file line served bad.

@@ -1,4 +1,0 @@
-use Rattle.idp_runs.proofs.run.IdentityProviderRunsProvider.never_both.Goals as goal
-
-pub returns : goal.returns
-returns c = c.a_config_has_one_outcome.ensures.never_both
