@@ -71,7 +71,7 @@ class File:
         self.parse(read(path))
 
     def parse(self, lines):
-        comment, module, current = [], None, None
+        comment, modules, current = [], [], None
         for number, line in enumerate(lines):
             text = line.strip()
             if not text:
@@ -88,17 +88,17 @@ class File:
                 self.scope.add(*imported.groups())
                 comment = []
                 continue
-            if indent_of(line) == 0:
-                if text.startswith("module "):
-                    module, comment = text, []
-                    continue
-                if module and not text.startswith((")", "}")):
-                    module = None
-            base = 2 if module else 0
+            while modules and indent_of(line) <= modules[-1][0] and not text.startswith((")", "}")):
+                modules.pop()
+            if text.startswith("module "):
+                modules.append((indent_of(line), text))
+                comment, current = [], None
+                continue
+            base = modules[-1][0] + 2 if modules else 0
             if indent_of(line) == base:
                 head = HEAD.match(text)
                 if head and (head.group(2) or text[head.end():].startswith(" :")):
-                    current = self.begin(head, comment, module, base)
+                    current = self.begin(head, comment, " ".join(said for _, said in modules), base)
                     comment = []
             if current is None or text.startswith(("infix", "unfolding ")):
                 comment = []
@@ -109,7 +109,7 @@ class File:
 
     def begin(self, head, comment, module, base):
         name = head.group(3)
-        made = Definition((self.crate, self.name, name), list(comment), [], module or "")
+        made = Definition((self.crate, self.name, name), list(comment), [], module)
         self.definitions[name] = made
         if "◌" in name:
             for part in name.split("◌"):

@@ -16,7 +16,7 @@ use Rattle.ledger_records.specs.declared.hub_record.HubRecord.TheVariants as kin
 use Rattle.login_origin.specs.Signed.{Signed, IsSigned}
 use Rattle.login_origin.specs.Premises.{Unforged, NoCollision}
 use Rattle.login_origin.specs.Origin.{IsLoginOf}
-use Rattle.serve_loop.specs.Turns.{Asked, Asks, Turn, asked_in}
+use Rattle.serve_loop.specs.Turns.{Asked, Turn, asked_in}
 use Rattle.serve_loop.specs.Worlds.{World}
 use Rattle.peer_keys.specs.declared.peers.LogoutPeer.{LogoutPeer}
 use Rattle.sp_rules.specs.Opening.{Brought}
@@ -32,16 +32,16 @@ use Rattle.provider_node.specs.declared.codes.TheConstants.{NO_MEMORY}
 use Rattle.provider_node.specs.Added.{IsAddedBy}
 use Rattle.provider_node.specs.Lasting.{AreKeptSince}
 use Rattle.provider_node.specs.Starts.{AreStarts, Start, asked_over}
-use Rattle.provider_run.specs.Headlines.{AddsOnlyItsOwn, EachGoes, HeadlineBy, HeadlineOf, KeepsWhatIsVisible, ServedOver, ServedRun}
+use Rattle.provider_run.specs.Headlines.{AddsOnlyItsOwn, EachGoes, GoesOnDisk, HeadlineBy, HeadlineOf, KeepsWhatIsVisible, ServedOver, ServedRun, WhereAsked}
 use Rattle.provider_run.specs.Runs.{Outside, world_of}
 use Rattle.service_routes.specs.declared.route.Route.TheVariants.{To}
 use Rattle.identity_hub.specs.declared.route.Service.TheVariants.{Consumer, SignOn}
-use Rattle.identity_hub.specs.Histories.{AreKeptOnce, AreKeptOnceOver, IsHubs}
+use Rattle.identity_hub.specs.Histories.{AreKeptOnce, AreKeptOnceOver}
 use Rattle.identity_hub.specs.Passing.{CanPassOn, HasRoom, IsPassedOn, IsSpoken, PassesLogin}
 use Rattle.identity_hub.specs.Recorded.{IsRecorded}
 use Rattle.identity_hub.specs.Routes.{route}
 use Rattle.identity_hub.specs.Signed.{Carries}
-use Rattle.identity_hub.specs.Step.{Answers, AsksFor, Provider, StepsOnDisk}
+use Rattle.identity_hub.specs.Step.{Answers, AsksFor, Provider}
 use Rattle.hub_runs.specs.Laws.{EachLoginInAnImageHasItsRequest, GoesBackFrom, SessionsBelowAreOfLoginsAbove}
 use Rattle.identity_hub.specs.declared.config.HubConfig.{HubConfig}
 use Rattle.hub_setup.specs.Setup.{IsSetUp}
@@ -109,15 +109,13 @@ key config = config.upstream.id_key
 
 -- a request is answered by one step, and so it is of it, whatever the worlds are in which the hub was asked
 pub record GoesExactly (asked : Asked Provider) : Type 0 where
-  pub steps : (before after : World Provider) → Asks IsHubs asked before after
-      → StepsOnDisk asked.node asked.disk asked.request asked.now
-      (Rose before.disk_faults after.disk_faults) asked.answer after.node after.disk
-  pub passes : (before after : World Provider) → Asks IsHubs asked before after → PassesOnExactly asked before after
-  pub signs : (before after : World Provider) → Asks IsHubs asked before after → SignsOnlyItsRecords asked after
+  pub steps : WhereAsked hub_rules Answers asked (GoesOnDisk hub_rules Answers asked)
+  pub passes : WhereAsked hub_rules Answers asked (PassesOnExactly asked)
+  pub signs : WhereAsked hub_rules Answers asked (λ before after. SignsOnlyItsRecords asked after)
   pub passive : AsksNobodyAbove asked
   pub from_above : IsOfALoginFromAbove asked
-  pub added : (before after : World Provider) → Asks IsHubs asked before after → AddsOnlyItsOwn hub_rules Answers asked
-  pub starved : (before after : World Provider) → Asks IsHubs asked before after → KeepsWhatIsVisible hub_rules AnswerAlike asked after
+  pub added : WhereAsked hub_rules Answers asked (λ before after. AddsOnlyItsOwn hub_rules Answers asked)
+  pub starved : WhereAsked hub_rules Answers asked (λ before after. KeepsWhatIsVisible hub_rules AnswerAlike asked after)
 
 -- What is said of a run that served: each request, all of them served by what the hub was set up with, passed logins on
 -- exactly, and was answered once its record was durable; where the disk tells, what the answers acknowledged is in the

@@ -13,9 +13,9 @@ use Rattle.ledger_records.specs.declared.idp_record.IdpRecord.TheVariants as kin
 use Rattle.ledger_records.specs.declared.idp_record.Issued.{Issued}
 use Rattle.ledger_records.specs.declared.idp_round.Round.{Round}
 use Rattle.ledger_records.specs.declared.idp_round.Told.{Told}
-use Rattle.serve_loop.specs.Turns.{Asked, Asks, Turn}
+use Rattle.serve_loop.specs.Turns.{Asked, Turn}
 use Rattle.serve_loop.specs.Worlds.{World}
-use Rattle.provider_run.specs.Headlines.{AddsOnlyItsOwn, EachGoes, HeadlineBy, HeadlineOf, KeepsWhatIsVisible, ServedOver, ServedRun}
+use Rattle.provider_run.specs.Headlines.{AddsOnlyItsOwn, EachGoes, GoesOnDisk, HeadlineBy, HeadlineOf, KeepsWhatIsVisible, ServedOver, ServedRun, WhereAsked}
 use Rattle.provider_run.specs.Runs.{Outside, world_of}
 use Rattle.peer_keys.specs.declared.peers.LogoutPeer.{LogoutPeer}
 use Rattle.protocol_messages.specs.declared.logout.LogoutRequest.{LogoutRequest}
@@ -28,7 +28,7 @@ use Rattle.provider_node.specs.Points.{points}
 use Rattle.idp_ledger.specs.Laws.{AnswerAlike}
 use Rattle.idp_ledger.specs.Record.{AreRecords, idp_rules}
 use Rattle.idp_ledger.specs.Turns.{RoundsAskInTurn}
-use Rattle.idp_server.specs.Histories.{AreKept, IsEnded, IsProviders, StayEnded}
+use Rattle.idp_server.specs.Histories.{AreKept, IsEnded, StayEnded}
 use Rattle.idp_server.specs.Issues.{IsOfUser, IsRecorded}
 use Rattle.idp_server.specs.Logouts.{Ends, EndsOver, IsOfLogoutIfEnding, LeavesOver, ending_record, leaving_record}
 use Rattle.idp_server.specs.Messages.{AsksFirst}
@@ -38,7 +38,7 @@ use Rattle.idp_server.specs.declared.route.Service.TheVariants.{Login, Logout, S
 use Rattle.idp_server.specs.Routes.{route}
 use Rattle.idp_server.specs.Signed.{Carries}
 use Rattle.idp_server.specs.Staying.{SessionsStay, WhatWasBegunIsAsLeft}
-use Rattle.idp_server.specs.Step.{Provider, Answers, HasPlace, StepsOnDisk, ending_by}
+use Rattle.idp_server.specs.Step.{Provider, Answers, HasPlace, ending_by}
 use Rattle.idp_rules.specs.declared.config.IdpConfig.{IdpConfig}
 use Rattle.idp_setup.specs.Setup.{IsSetUp}
 
@@ -72,8 +72,7 @@ pub record EndsExactly (asked : Asked Provider) (before after : World Provider) 
       → IsOfLogoutIfEnding asked.node.setup held asked.request asked.now r
   pub nothing_else : (found : Held) → ServedOver idp_rules Answers found asked before after
       → after.node.ledger.broken ≡ false → Ends asked.node.setup found asked.request asked.now after.node
-  pub wherever_left : (found : Held) (row : SessionRow)
-      → ServedOver idp_rules Answers found asked before after
+  pub wherever_left : (found : Held) (row : SessionRow) → ServedOver idp_rules Answers found asked before after
       → LeavesOver found asked.request asked.now row
       → HasPlace found (leaving_record asked.node.setup found asked.now row.cookie)
       → ¬ (Rose before.disk_faults after.disk_faults)
@@ -108,15 +107,12 @@ key config = config.id_key
 
 -- a request is answered by one step, and so it is of it, whatever the worlds are in which the provider was asked
 pub record GoesExactly (asked : Asked Provider) : Type 0 where
-  pub steps : (before after : World Provider) → Asks IsProviders asked before after
-      → StepsOnDisk asked.node asked.disk asked.request asked.now
-      (Rose before.disk_faults after.disk_faults) asked.answer after.node after.disk
-  pub issues : (before after : World Provider) → Asks IsProviders asked before after
-      → IssuesOnlyToUsers asked before after
-  pub ends : (before after : World Provider) → Asks IsProviders asked before after → EndsExactly asked before after
+  pub steps : WhereAsked idp_rules Answers asked (GoesOnDisk idp_rules Answers asked)
+  pub issues : WhereAsked idp_rules Answers asked (IssuesOnlyToUsers asked)
+  pub ends : WhereAsked idp_rules Answers asked (EndsExactly asked)
   pub rounds : AsksInTurn asked
-  pub added : (before after : World Provider) → Asks IsProviders asked before after → AddsOnlyItsOwn idp_rules Answers asked
-  pub starved : (before after : World Provider) → Asks IsProviders asked before after → KeepsWhatIsVisible idp_rules AnswerAlike asked after
+  pub added : WhereAsked idp_rules Answers asked (λ before after. AddsOnlyItsOwn idp_rules Answers asked)
+  pub starved : WhereAsked idp_rules Answers asked (λ before after. KeepsWhatIsVisible idp_rules AnswerAlike asked after)
 
 -- What is said of a run that served: each request issued Assertions to users alone, was answered once its record was
 -- durable, and ended sessions exactly; and where the disk tells, what the answers acknowledged is in the history of every

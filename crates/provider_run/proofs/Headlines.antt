@@ -22,7 +22,7 @@ use Rattle.provider_node.specs.Staying.{SessionsStay, SessionsStayInAService}
 use Rattle.provider_node.specs.Step.{AnswersBy, Provider, Steps, StepsOnDisk}
 use Rattle.provider_node.proofs.Added.{new_is_of_the_request}
 use Rattle.provider_node.proofs.Histories.{DrawsAbove}
-use Rattle.provider_run.specs.Headlines.{AddsOnlyItsOwn, EachGoes, EachRunCarries, EachRunIsAStart, HeadlineBy, KeepsWhatIsVisible, SaidOfRuns, ServedRun}
+use Rattle.provider_run.specs.Headlines.{AddsOnlyItsOwn, EachGoes, EachRunCarries, EachRunIsAStart, HeadlineBy, KeepsWhatIsVisible, ServedRun}
 use Rattle.provider_run.specs.Providers.{BadSetUpBy, SetUpBy}
 use Rattle.provider_run.specs.Runs.{Outside, BadSetUp, NotSetUp, NotOpened, Deaf, Serving, world_of}
 use Rattle.provider_run.proofs.Ending.{at_end}
@@ -79,7 +79,10 @@ each_goes Goes goes (turn ∷ past) = (of_turn Goes goes turn, each_goes Goes go
 
 module _ {Setup R : Type 0} (SetsUp : SetUpBy Setup) (key : Setup → List ℕ) (rules : RecordRules R)
     (Answers : AnswersBy Setup R) where
-  pub carries : (IsBad : BadSetUpBy) (Says : SaidOfRuns SetsUp key rules Answers) (left : ℕ → Image → Type 0)
+  pub carries : (IsBad : BadSetUpBy)
+      (Says : (left : ℕ → Image → Type 0) (told : Option (List File)) (file : List ℕ) (before : Outside)
+      (turns : List (Turn (Provider Setup R))) (after : Outside)
+      → ServedRun SetsUp key rules Answers left told file before turns after → Type 0) (left : ℕ → Image → Type 0)
       → ((told : Option (List File)) (file : List ℕ) (before : Outside) (turns : List (Turn (Provider Setup R)))
       (after : Outside) (run : ServedRun SetsUp key rules Answers left told file before turns after)
       → Says left told file before turns after run)

@@ -9,7 +9,7 @@ use Rattle.http_wire.specs.declared.answer.Answer.TheVariants.{Fixed}
 use Rattle.serve_loop.specs.declared.served.Served.{Served}
 use Rattle.serve_loop.specs.declared.served.ServeFault.{ServeFault}
 use Rattle.serve_loop.specs.Serving as serving
-use Rattle.serve_loop.specs.Turns.{Asked, Run, Turn, asked_by}
+use Rattle.serve_loop.specs.Turns.{Asked, Asks, Run, Turn, asked_by}
 use Rattle.serve_loop.specs.Worlds.{World}
 use Rattle.record_ledger.specs.Rules.{AreRecords, RecordRules}
 use Rattle.record_ledger.specs.Ledger.{Held, ledger_in}
@@ -17,7 +17,7 @@ use Rattle.provider_node.specs.declared.codes.TheConstants.{NO_MEMORY}
 use Rattle.provider_node.specs.Added.{IsAddedBy, IsNew}
 use Rattle.provider_node.specs.Histories.{IsProviders}
 use Rattle.provider_node.specs.Starts.{IsServed}
-use Rattle.provider_node.specs.Step.{AnswersBy, Provider, Serves, StepLeaves}
+use Rattle.provider_node.specs.Step.{AnswersBy, Provider, Serves, StepLeaves, StepsOnDisk}
 use Rattle.provider_run.specs.declared.ended.Ended.{Ended}
 use Rattle.provider_run.specs.declared.ended.RunFault.{RunFault}
 use Rattle.provider_run.specs.Providers.{BadSetUpBy, Begins, Runs, SetUpBy}
@@ -31,6 +31,19 @@ abbrev pub ServedOver : {Setup R : Type 0} → RecordRules R → AnswersBy Setup
 ServedOver rules Answers found asked before after =
     Serves rules Answers found asked.request asked.now (Rose before.disk_faults after.disk_faults) asked.answer
     asked.node after.node
+
+-- what the step did, and what its disk tells behind it
+abbrev pub GoesOnDisk : {Setup R : Type 0} → RecordRules R → AnswersBy Setup R → Asked (Provider Setup R)
+    → (before after : World (Provider Setup R)) → Type 0
+GoesOnDisk rules Answers asked before after =
+    StepsOnDisk rules Answers asked.node asked.disk asked.request asked.now
+    (Rose before.disk_faults after.disk_faults) asked.answer after.node after.disk
+
+-- it is so of a request, whatever the worlds are in which the provider was asked
+abbrev pub WhereAsked : {Setup R : Type 0} → RecordRules R → AnswersBy Setup R
+    → Asked (Provider Setup R) → (Goes : (before after : World (Provider Setup R)) → Type 0) → Type 0
+WhereAsked {Setup} {R} rules Answers asked Goes =
+    (before after : World (Provider Setup R)) → Asks (IsProviders rules Answers) asked before after → Goes before after
 
 -- Each record that stands in an image which a crash inside the answer may leave, or one behind it, be it behind page
 -- 50, and stood nowhere before is one that the request adds over some ledger with some answer, so that it is of it what
@@ -77,20 +90,14 @@ HeadlineOf Setup R =
     (left : ℕ → Image → Type 0) → Option (List File) → (file : List ℕ) → (before : Outside)
     → List (Turn (Provider Setup R)) → (after : Outside) → Type 0
 
--- what is said of runs that served
-abbrev pub SaidOfRuns : {Setup R : Type 0} → SetUpBy Setup → (Setup → List ℕ) → RecordRules R → AnswersBy Setup R
-    → Type 1
-SaidOfRuns {Setup} {R} SetsUp key rules Answers =
-    (left : ℕ → Image → Type 0) (told : Option (List File)) (file : List ℕ) (before : Outside)
-    (turns : List (Turn (Provider Setup R))) (after : Outside)
-    → ServedRun SetsUp key rules Answers left told file before turns after → Type 0
-
 -- A run served nothing, or it served, and this is said of it.
 abbrev pub HeadlineBy : {Setup R : Type 0} (SetsUp : SetUpBy Setup) (key : Setup → List ℕ) (rules : RecordRules R)
-    (Answers : AnswersBy Setup R) → SaidOfRuns SetsUp key rules Answers → HeadlineOf Setup R
+    (Answers : AnswersBy Setup R)
+    → ((left : ℕ → Image → Type 0) (told : Option (List File)) (file : List ℕ) (before : Outside)
+    (turns : List (Turn (Provider Setup R))) (after : Outside)
+    → ServedRun SetsUp key rules Answers left told file before turns after → Type 0) → HeadlineOf Setup R
 HeadlineBy SetsUp key rules Answers Says left told file before turns after =
-    (turns ≡ [])
-    ⊎ ((run : ServedRun SetsUp key rules Answers left told file before turns after)
+    (turns ≡ []) ⊎ ((run : ServedRun SetsUp key rules Answers left told file before turns after)
     × Says left told file before turns after run)
 
 -- The headline holds of each run.

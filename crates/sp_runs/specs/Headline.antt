@@ -19,7 +19,7 @@ use Rattle.ledger_records.specs.declared.sp_record.SpRecord.TheVariants as kinds
 use Rattle.login_origin.specs.Signed.{Signed, IsSigned}
 use Rattle.login_origin.specs.Premises.{Unforged, NoCollision}
 use Rattle.login_origin.specs.Origin.{IsLoginOf}
-use Rattle.serve_loop.specs.Turns.{Asked, Asks, Turn, asked_in}
+use Rattle.serve_loop.specs.Turns.{Asked, Turn, asked_in}
 use Rattle.serve_loop.specs.Worlds.{World}
 use Rattle.protocol_messages.specs.declared.logout.LogoutRequest.{LogoutRequest}
 use Rattle.provider_config.specs.declared.config.RegistryLine.{RegistryLine}
@@ -32,7 +32,7 @@ use Rattle.request_rows.specs.declared.row.AskedRow.{AskedRow}
 use Rattle.request_rows.specs.declared.row.OpenedRow.{OpenedRow}
 use Rattle.request_rows.specs.Rows.{session_row}
 use Rattle.sp_rules.specs.Opening.{Brought}
-use Rattle.sp_server.specs.Histories.{IsProviders, Stands, AreKeptOnce}
+use Rattle.sp_server.specs.Histories.{Stands, AreKeptOnce}
 use Rattle.sp_server.specs.Logouts.{EndsOver, IsClosed, IsClosedWith, IsEndedBy, IsLeftBy, LeavesOver, StayClosed}
 use Rattle.sp_server.specs.Recorded.{IsRecorded, TakesPosts}
 use Rattle.sp_server.specs.Guarding.{AsksGuard, IsVouchedAt, TellsExactly}
@@ -44,12 +44,14 @@ use Rattle.sp_server.specs.Sessions.{GivesSession, HasRoom, IsOpened, OpensOver}
 use Rattle.provider_node.specs.declared.codes.TheConstants.{NO_MEMORY}
 use Rattle.provider_node.specs.Lasting.{AreKeptSince}
 use Rattle.provider_node.specs.Points.{points}
-use Rattle.sp_server.specs.Step.{Provider, Answers, HasPlace, Setup, StepsOnDisk, ended_by, ended_record, left_record, session_for, shown_to, REGISTRY_EXPIRED, IsWhole}
-use Rattle.provider_run.specs.Headlines.{AddsOnlyItsOwn, EachGoes, HeadlineBy, HeadlineOf, KeepsWhatIsVisible, ServedOver, ServedRun}
+use Rattle.provider_node.specs.Step.{IsWhole}
+use Rattle.sp_server.specs.Step.{Provider, Answers, HasPlace, Setup, ended_by, ended_record, left_record, session_for, shown_to, REGISTRY_EXPIRED}
+use Rattle.provider_run.specs.Headlines.{AddsOnlyItsOwn, EachGoes, GoesOnDisk, HeadlineBy, HeadlineOf, KeepsWhatIsVisible, ServedOver, ServedRun, WhereAsked}
+use Rattle.provider_run.specs.Providers.{Begins}
 use Rattle.provider_run.specs.Runs.{Outside, world_of}
 use Rattle.sp_setup.specs.Laws.{IsFromRegistry}
 use Rattle.sp_runs.specs.Laws.{AsksAndOpensNothing}
-use Rattle.sp_runs.specs.Runs.{Begins, IsServedBy, key, served_by}
+use Rattle.sp_runs.specs.Runs.{IsServedBy, key, served_by}
 
 -- ---- one request, which the provider was asked in one world, and which left another behind
 
@@ -84,8 +86,7 @@ pub record ClosesExactly (asked : Asked Provider) (before after : World Provider
       → session_row (rows_of after.node.ledger.held.records).opened token asked.now
       after.node.ledger.held.header.horizon ≡ None
       → IsClosedWith asked.node.setup found asked.request asked.now asked.answer token
-  pub wherever_left : (found : Held) (row : OpenedRow)
-      → ServedOver request_rules Answers found asked before after
+  pub wherever_left : (found : Held) (row : OpenedRow) → ServedOver request_rules Answers found asked before after
       → LeavesOver asked.node.setup found asked.request asked.now row
       → HasPlace found (left_record asked.node.setup.config found asked.now row.token)
       → ¬ (Rose before.disk_faults after.disk_faults)
@@ -139,18 +140,15 @@ pub record GuardsExactly (asked : Asked Provider) (before after : World Provider
 
 -- a request is answered by one step, and so it is of it, whatever the worlds are in which the provider was asked
 pub record GoesExactly (asked : Asked Provider) : Type 0 where
-  pub steps : (before after : World Provider) → Asks IsProviders asked before after
-      → StepsOnDisk asked.node asked.disk asked.request asked.now
-      (Rose before.disk_faults after.disk_faults) asked.answer after.node after.disk
-  pub opens : (before after : World Provider) → Asks IsProviders asked before after → OpensExactly asked before after
-  pub closes : (before after : World Provider) → Asks IsProviders asked before after → ClosesExactly asked before after
-  pub recorded : (before after : World Provider) → Asks IsProviders asked before after
-      → IsRecordedFirst asked before after
-  pub guards : (before after : World Provider) → Asks IsProviders asked before after → GuardsExactly asked before after
+  pub steps : WhereAsked request_rules Answers asked (GoesOnDisk request_rules Answers asked)
+  pub opens : WhereAsked request_rules Answers asked (OpensExactly asked)
+  pub closes : WhereAsked request_rules Answers asked (ClosesExactly asked)
+  pub recorded : WhereAsked request_rules Answers asked (IsRecordedFirst asked)
+  pub guards : WhereAsked request_rules Answers asked (GuardsExactly asked)
   pub signed : IsOfASignedLogin asked
-  pub added : (before after : World Provider) → Asks IsProviders asked before after → AddsOnlyItsOwn request_rules Answers asked
-  pub starved : (before after : World Provider) → Asks IsProviders asked before after → KeepsWhatIsVisible request_rules AnswerAlike asked after
-  pub shown : (before after : World Provider) → Asks IsProviders asked before after → IsShownByItsRow asked
+  pub added : WhereAsked request_rules Answers asked (λ before after. AddsOnlyItsOwn request_rules Answers asked)
+  pub starved : WhereAsked request_rules Answers asked (λ before after. KeepsWhatIsVisible request_rules AnswerAlike asked after)
+  pub shown : WhereAsked request_rules Answers asked (λ before after. IsShownByItsRow asked)
 
 -- ---- its files
 
@@ -159,20 +157,18 @@ pub record GoesExactly (asked : Asked Provider) : Type 0 where
 -- is recorded, no login is asked for, no session is opened and no logout is served; and without a registry it is never
 -- answered that one has ended.
 pub record KeepsToItsConfig (told : Option (List File)) (file : List ℕ) (before : Outside) (provider : Provider)
-    (opened : Outside)
-    (begins : Begins told file before provider opened) (turns : List (Turn Provider)) : Type 0 where
+    (opened : Outside) (begins : Begins IsServedBy key request_rules told file before provider opened)
+    (turns : List (Turn Provider)) : Type 0 where
   pub tells : (line : RegistryLine) → Contains begins.set_up.lines.files (Registry line)
       → IsFromRegistry told line begins.set_up.setup × (provider.setup ≡ served_by begins.set_up.setup)
-  pub same : (asked : Asked Provider) → Contains (asked_in turns) asked
-      → asked.node.setup ≡ served_by begins.set_up.setup
+  pub same : (asked : Asked Provider) → Contains (asked_in turns) asked → asked.node.setup ≡ served_by begins.set_up.setup
   pub ends : (asked : Asked Provider) (until : ℕ) (r : SpRecord) → begins.set_up.setup.expiry ≡ Some until
-      → Contains (asked_in turns) asked
-      → until ≤ asked.now → ¬ (Stands asked (Some r))
+      → Contains (asked_in turns) asked → until ≤ asked.now → ¬ (Stands asked (Some r))
   pub asks : (asked : Asked Provider) (until : ℕ) → begins.set_up.setup.expiry ≡ Some until
       → Contains (asked_in turns) asked → until ≤ asked.now
       → AsksAndOpensNothing (served_by begins.set_up.setup) asked.request asked.answer
-  pub without : (asked : Asked Provider) → ((line : RegistryLine) → ¬
-      (Contains begins.set_up.lines.files (Registry line)))
+  pub without : (asked : Asked Provider)
+      → ((line : RegistryLine) → ¬ (Contains begins.set_up.lines.files (Registry line)))
       → Contains (asked_in turns) asked → asked.answer ≢ Fixed REGISTRY_EXPIRED
 
 -- ---- all of it

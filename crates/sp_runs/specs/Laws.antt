@@ -97,8 +97,7 @@ AnEndedRegistryRecordsNothing =
 -- a guard says of one
 abbrev pub AsksAndOpensNothing : Setup → Request → Answer → Type 0
 AsksAndOpensNothing setup request answer =
-    ((code : ℕ) × (answer ≡ Fixed code))
-    ⊎ ((answer ≡ Full (metadata_answer setup.config))
+    ((code : ℕ) × (answer ≡ Fixed code)) ⊎ ((answer ≡ Full (metadata_answer setup.config))
     ⊎ (((row : OpenedRow) × (answer ≡ Full (shown_to setup.policy request.path row)))
     ⊎ ((setup.guard ≡ true) × ((row : OpenedRow) × (answer ≡ Full (vouched_to setup.policy (path_asked request.path) row))))))
 
