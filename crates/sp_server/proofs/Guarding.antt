@@ -30,7 +30,8 @@ use Rattle.service_routes.specs.declared.route.Route.TheVariants.{To}
 use Rattle.sp_server.specs.declared.route.Service.TheVariants.{Guard}
 use Rattle.sp_server.specs.Routes.{route}
 use Rattle.sp_server.specs.Step as steps
-use Rattle.sp_server.specs.Step.{Setup, Provider, Answers, IsWhole, Serves, Steps, session_for}
+use Rattle.provider_node.specs.Step.{IsWhole}
+use Rattle.sp_server.specs.Step.{Setup, Provider, Answers, Serves, Steps, session_for}
 use Rattle.sp_server.proofs.Told.{said}
 
 -- ---- what is answered at /auth

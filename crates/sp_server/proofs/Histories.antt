@@ -1,12 +1,9 @@
 -- The numbers that a record draws which is added with an answer.
-use Rattle.std.specs.Prelude.{Option, Some}
-use Rattle.std.proofs.Common.{◌≡◌, ℕ, refl, arith}
-use Rattle.http_wire.specs.declared.answer.Answer.{Answer}
-use Rattle.http_wire.specs.Requests.{Request}
-use Rattle.ledger_records.specs.declared.sp_record.SpRecord.{SpRecord}
-use Rattle.provider_node.proofs.Histories.{DrawsAbove, IsAbove, above_of_each}
+use Rattle.std.specs.Prelude.{Some}
+use Rattle.std.proofs.Common.{arith}
+use Rattle.provider_node.proofs.Histories.{DrawsAbove, above_of_each}
 use Rattle.request_ledger.specs.Drafts.{asked, opened, confirmed}
-use Rattle.request_ledger.specs.Ledger.{Held, next_number}
+use Rattle.request_ledger.specs.Ledger.{next_number}
 use Rattle.request_ledger.specs.Record.{request_rules}
 use Rattle.sp_rules.specs.Shown.{session_of}
 use Rattle.sp_server.specs.Step as steps

@@ -25,7 +25,8 @@ use Rattle.sp_server.specs.Guard.{is_plain, path_asked}
 use Rattle.service_routes.specs.declared.route.Route.TheVariants.{To}
 use Rattle.sp_server.specs.declared.route.Service.TheVariants.{Guard}
 use Rattle.sp_server.specs.Routes.{route}
-use Rattle.sp_server.specs.Step.{Setup, Provider, IsWhole, Serves, Steps, session_for}
+use Rattle.provider_node.specs.Step.{IsWhole}
+use Rattle.sp_server.specs.Step.{Setup, Provider, Serves, Steps, session_for}
 
 -- A proxy asks a guard who a request comes from.
 pub record AsksGuard (setup : Setup) (request : Request) : Type 0 where

@@ -167,13 +167,6 @@ Provider = any.Provider Setup SpRecord
 abbrev pub HasPlace : Held → SpRecord → Type 0
 HasPlace = any.HasPlace request_rules
 
--- after a request the ledger is whole and holds this, or it is broken
-abbrev pub IsWhole : (old new : Provider) → Held → Type 0
-IsWhole = any.IsWhole
-
-abbrev pub IsBroken : (old new : Provider) → Type 0
-IsBroken = any.IsBroken
-
 -- A record was to be added, there was no place for it, and one compaction made this of the ledger.
 abbrev pub MakesRoom : Setup → (found : Held) → Request → (now : ℕ) → (held : Held) → Type 0
 MakesRoom = any.MakesRoom request_rules Answers
