@@ -50,31 +50,27 @@ all_as_sp records = map as_sp records
 pub asked_same : (records : List HubRecord) → sp_rows.asked_rows (all_as_sp records) ≡ asked_rows records
 asked_same [] = refl
 asked_same (kinds.Routed r ∷ later) = ap (λ rows. asked_row r ∷ rows) (asked_same later)
-asked_same (kinds.Backed r ∷ later) = asked_same later
-asked_same (kinds.Spoke r ∷ later) = asked_same later
+asked_same (other ∷ later) = asked_same later
 
 pub spent_same : (records : List HubRecord) (request : List ℕ)
     → is_spent (sp_rows.opened_rows (all_as_sp records)) request ≡ is_spent (opened_rows records) request
 spent_same [] request = refl
-spent_same (kinds.Routed r ∷ later) request = spent_same later request
 spent_same (kinds.Backed r ∷ later) request = ap (λ b. bytes_eq r.request request || b) (spent_same later request)
-spent_same (kinds.Spoke r ∷ later) request = spent_same later request
+spent_same (other ∷ later) request = spent_same later request
 
 pub seen_same : (records : List HubRecord) (issuer assertion : List ℕ) (now horizon : ℕ)
     → is_seen (sp_rows.opened_rows (all_as_sp records)) issuer assertion now horizon ≡ is_seen (opened_rows records) issuer assertion now horizon
 seen_same [] issuer assertion now horizon = refl
-seen_same (kinds.Routed r ∷ later) issuer assertion now horizon = seen_same later issuer assertion now horizon
 seen_same (kinds.Backed r ∷ later) issuer assertion now horizon =
     ap (λ b. (bytes_eq r.issuer issuer && bytes_eq r.above assertion && visible r.assertion_until now horizon) || b)
     (seen_same later issuer assertion now horizon)
-seen_same (kinds.Spoke r ∷ later) issuer assertion now horizon = seen_same later issuer assertion now horizon
+seen_same (other ∷ later) issuer assertion now horizon = seen_same later issuer assertion now horizon
 
 pub requests_same : (records : List HubRecord)
     → map (λ (row : OpenedRow). row.request) (sp_rows.opened_rows (all_as_sp records)) ≡ map (λ (row : OpenedRow). row.request) (opened_rows records)
 requests_same [] = refl
-requests_same (kinds.Routed r ∷ later) = requests_same later
 requests_same (kinds.Backed r ∷ later) = ap (λ rest. r.request ∷ rest) (requests_same later)
-requests_same (kinds.Spoke r ∷ later) = requests_same later
+requests_same (other ∷ later) = requests_same later
 
 -- a request to which a login goes was asked
 pub routed_asked : (asked : List AskedRow) (below : List BelowRow) (b : Backed) → is_routed asked below b ≡ true → sp_record.is_asked asked b.request ≡ true
@@ -103,12 +99,11 @@ abbrev is_fresh : ℕ → Drawn → Bool
 is_fresh least d = nat_le least d.number && nat_lt d.number NUMBER_END && has_number d.number d.id
 
 fewer_fresh : (least : ℕ) (r : HubRecord) → are_fresh least (drawn r) ≡ true → are_fresh least (sp_record.drawn (as_sp r)) ≡ true
-fewer_fresh least (kinds.Routed r) fresh = fresh
 fewer_fresh least (kinds.Backed r) fresh =
     let one : Drawn = record { number = r.first; id = r.assertion } in
     let others : List Drawn = record { number = r.first + 1; id = r.message } ∷ record { number = r.first + 2; id = r.index } ∷ [] in
     and_from (is_fresh least one) true (and_parts (is_fresh least one) (are_fresh least others) fresh).0 refl
-fewer_fresh least (kinds.Spoke r) fresh = fresh
+fewer_fresh least other fresh = fresh
 
 -- a document may hold fewer texts
 no_text : is_xml_text [] ≡ true
@@ -147,13 +142,12 @@ dated (kinds.Spoke r) are = (and_parts (nat_le r.moment LAST) true are).0
 
 free : (before : List HubRecord) (r : HubRecord) → is_free (rows_of before) r ≡ true
     → sp_record.is_free (sp_rows.rows_of (all_as_sp before)) (as_sp r) ≡ true
-free before (kinds.Routed r) is = refl
 free before (kinds.Backed r) is =
     let both = and_parts (is_routed (asked_rows before) (below_rows before) r) (not (is_spent (opened_rows before) r.request)) is in
     and_from (sp_record.is_asked (sp_rows.asked_rows (all_as_sp before)) r.request) (not (is_spent (sp_rows.opened_rows (all_as_sp before)) r.request))
     (ap (λ rows. sp_record.is_asked rows r.request) (asked_same before) ∙ routed_asked (asked_rows before) (below_rows before) r both.0)
     (ap not (spent_same before r.request) ∙ both.1)
-free before (kinds.Spoke r) is = refl
+free before other is = refl
 
 pub is_sp_record : (before : List HubRecord) (r : HubRecord) → is_record before r ≡ true → sp_record.is_record (all_as_sp before) (as_sp r) ≡ true
 is_sp_record before r is =

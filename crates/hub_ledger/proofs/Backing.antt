@@ -116,8 +116,7 @@ routed_append request (kinds.Routed first ∷ later) more r at = by_name (bytes_
           | inr rest ↦ more_of first request (later ++ more) r (append rest)
         ]
     by_name false is found append = more_of first request (later ++ more) r (append found)
-routed_append request (kinds.Backed b ∷ later) more r at = routed_append request later more r at
-routed_append request (kinds.Spoke b ∷ later) more r at = routed_append request later more r at
+routed_append request (other ∷ later) more r at = routed_append request later more r at
 
 -- the pair of a login with a request of it
 abbrev pair_of : Backed → Routed → Backing

@@ -11,6 +11,7 @@ use Rattle.record_ledger.specs.Marks.{Marked, all, kept, KeepsAll}
 use Rattle.record_ledger.proofs.KeptFlags.{are_marked}
 use Rattle.record_ledger.proofs.Words.{each_weaker}
 use Rattle.record_ledger.specs.Ledger.{next_number}
+use Rattle.record_ledger.specs.Compacting.{AreKept}
 use Rattle.request_ledger.specs.Record.{request_rules}
 use Rattle.request_ledger.specs.Laws as sp
 use Rattle.request_ledger.proofs.KeptAnswers as sp_answers
@@ -19,7 +20,7 @@ use Rattle.hub_ledger.specs.RowsOf.{Route, asked_row as row_of, below_row, asked
 use Rattle.hub_ledger.specs.Finding.{routed_row}
 use Rattle.hub_ledger.specs.Record.{AreRecords, hub_rules}
 use Rattle.hub_ledger.specs.Ledger.{Held}
-use Rattle.hub_ledger.specs.Compacting.{AreKept, IsCompacted}
+use Rattle.hub_ledger.specs.Compacting.{IsCompacted}
 use Rattle.hub_ledger.specs.Laws.{CompactionsChangeNoAnswer}
 use Rattle.hub_ledger.proofs.AsSp.{asked_same, spent_same, seen_same, are_sp_records}
 use Rattle.hub_ledger.proofs.Runs.{held_as_sp, compacted_as_sp}
@@ -61,8 +62,7 @@ module _ (now horizon : ℕ) where
         | inl here ↦ rw here refl
         | inr none ↦ rw none (route_asked later request)
       ]
-  route_asked (kinds.Backed r ∷ later) request = route_asked later request
-  route_asked (kinds.Spoke r ∷ later) request = route_asked later request
+  route_asked (other ∷ later) request = route_asked later request
 
 -- what is visible at a moment was visible before
 visible_before : (until now later horizon : ℕ) → now ≤ later → visible until later horizon ≡ true → visible until now horizon ≡ true
@@ -83,7 +83,7 @@ had_visible now later horizon (kinds.Backed r) first seen =
     ]
 had_visible now later horizon (kinds.Spoke r) first seen = seen
 
-same_routes : (now later horizon : ℕ) (records some : List HubRecord) → now ≤ later → AreKept now horizon records some
+same_routes : (now later horizon : ℕ) (records some : List HubRecord) → now ≤ later → AreKept hub_rules now horizon records some
     → filter (route_seen later horizon) (routes_of some) ≡ filter (route_seen later horizon) (routes_of records)
 same_routes now later horizon records some first are_kept =
     let m = are_marked hub_rules now horizon records some are_kept in

@@ -25,7 +25,6 @@ keeps_routed r =
 -- the rows that a record names are there and free where all that it names is kept
 free_kept : (marks : List (Marked HubRecord)) (r : HubRecord) → KeepsAll (names r) marks → is_free (rows_of (all marks)) r ≡ true
     → is_free (rows_of (kept marks)) r ≡ true
-free_kept marks (kinds.Routed r) keeps free = refl
 free_kept marks (kinds.Backed r) keeps free =
     let both = and_parts (is_routed (asked_rows (all marks)) (below_rows (all marks)) r) (not (is_spent (opened_rows (all marks)) r.request)) free in
     let unspent = sym (spent_any (all marks) r.request) ∙ not-true (is_spent (opened_rows (all marks)) r.request) both.1 in
@@ -34,7 +33,7 @@ free_kept marks (kinds.Backed r) keeps free =
     (routed_any (kept marks) r ∙ routed ∙ sym (routed_any (all marks) r) ∙ both.0)
     (not_from_false (is_spent (opened_rows (kept marks)) r.request)
     (spent_any (kept marks) r.request ∙ none_kept (backs r.request) marks unspent))
-free_kept marks (kinds.Spoke r) keeps free = refl
+free_kept marks other keeps free = refl
 
 pub record_kept : StaysRecord hub_rules
 record_kept marks r are closed keeps is =

@@ -20,19 +20,16 @@ use Rattle.hub_ledger.proofs.Words.{backs, routes, routed_any, spent_any, parts}
 -- a record that is named has one of the IDs
 names_routed_has : (request : List ℕ) (x : HubRecord) → names_routed request x ≡ true → has_id hub_rules hub_links (request ∷ []) x ≡ true
 names_routed_has request (kinds.Routed a) is = alone (bytes_eq request a.request) (other_way a.request request is)
-names_routed_has request (kinds.Backed x) is = absurd (false≢true is)
-names_routed_has request (kinds.Spoke x) is = absurd (false≢true is)
+names_routed_has request other is = absurd (false≢true is)
 
 names_has : (r x : HubRecord) → names r x ≡ true → has_id hub_rules hub_links (named r) x ≡ true
-names_has (kinds.Routed r) x is = absurd (false≢true is)
 names_has (kinds.Backed r) x is = names_routed_has r.request x is
-names_has (kinds.Spoke r) x is = absurd (false≢true is)
+names_has other x is = absurd (false≢true is)
 
 -- a record to which a login goes is named
 pub routes_names : (b : Backed) (x : HubRecord) → routes b x ≡ true → names_routed b.request x ≡ true
 routes_names b (kinds.Routed r) is = (and_parts (bytes_eq r.request b.request) (goes_to b (below_row r)) is).0
-routes_names b (kinds.Backed r) is = absurd (false≢true is)
-routes_names b (kinds.Spoke r) is = absurd (false≢true is)
+routes_names b other is = absurd (false≢true is)
 
 -- a record does not name what it does not answer
 unanswered : (request : List ℕ) (x y : HubRecord) → names_routed request x ≡ true → backs request y ≡ false → names y x ≡ false
@@ -46,8 +43,6 @@ unanswered request (kinds.Spoke a) y asks none = absurd (false≢true asks)
 
 free_row : (before : List HubRecord) (r : HubRecord) (id : List ℕ) → is_record before r ≡ true → is_among id (named r) ≡ true
     → FreeRow hub_rules hub_links before r id
-free_row before (kinds.Routed r) id is among = absurd (false≢true among)
-free_row before (kinds.Spoke r) id is among = absurd (false≢true among)
 free_row before (kinds.Backed r) id is among =
     let same : id ≡ r.request = among_one r.request id among in
     let both = and_parts (is_routed (asked_rows before) (below_rows before) r) (not (is_spent (opened_rows before) r.request)) (parts before (kinds.Backed r) is).free in
@@ -62,6 +57,7 @@ free_row before (kinds.Backed r) id is among =
       named_is = is_named;
       free = λ l y less there. unanswered r.request at.1.0 y is_named (none_at (backs r.request) before none l y there);
     }
+free_row before other id is among = absurd (false≢true among)
 
 found_drawn : (r : HubRecord) (d : Drawn) → row_found r ≡ Some d → (k : ℕ) × (slice_get (drawn r) k ≡ Some d)
 found_drawn (kinds.Routed r) d is = (0, is)

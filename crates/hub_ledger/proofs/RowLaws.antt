@@ -14,20 +14,17 @@ use Rattle.hub_ledger.proofs.Words.{is_record-is, parts}
 asked_rows-append : (records more : List HubRecord) → asked_rows (records ++ more) ≡ asked_rows records ++ asked_rows more
 asked_rows-append [] more = refl
 asked_rows-append (kinds.Routed r ∷ later) more = ap (λ rows. asked_row r ∷ rows) (asked_rows-append later more)
-asked_rows-append (kinds.Backed r ∷ later) more = asked_rows-append later more
-asked_rows-append (kinds.Spoke r ∷ later) more = asked_rows-append later more
+asked_rows-append (other ∷ later) more = asked_rows-append later more
 
 below_rows-append : (records more : List HubRecord) → below_rows (records ++ more) ≡ below_rows records ++ below_rows more
 below_rows-append [] more = refl
 below_rows-append (kinds.Routed r ∷ later) more = ap (λ rows. below_row r ∷ rows) (below_rows-append later more)
-below_rows-append (kinds.Backed r ∷ later) more = below_rows-append later more
-below_rows-append (kinds.Spoke r ∷ later) more = below_rows-append later more
+below_rows-append (other ∷ later) more = below_rows-append later more
 
 opened_rows-append : (records more : List HubRecord) → opened_rows (records ++ more) ≡ opened_rows records ++ opened_rows more
 opened_rows-append [] more = refl
-opened_rows-append (kinds.Routed r ∷ later) more = opened_rows-append later more
 opened_rows-append (kinds.Backed r ∷ later) more = ap (λ rows. opened_row r ∷ rows) (opened_rows-append later more)
-opened_rows-append (kinds.Spoke r ∷ later) more = opened_rows-append later more
+opened_rows-append (other ∷ later) more = opened_rows-append later more
 
 -- the rows of one record more
 pub rows_of-push : (records : List HubRecord) (r : HubRecord) → rows_of (records ++ r ∷ []) ≡ rows_after (rows_of records) r

@@ -27,7 +27,7 @@ use Rattle.hub_ledger.specs.Naming.{has_visible, names}
 use Rattle.hub_ledger.specs.Record.{drawn, hub_rules}
 use Rattle.hub_ledger.specs.Ledger.{Held, next_number}
 use Rattle.record_ledger.specs.Ledger.{held_with, migrated}
-use Rattle.hub_ledger.specs.Compacting.{AreKept, IsCompacted}
+use Rattle.hub_ledger.specs.Compacting.{IsCompacted}
 use Rattle.hub_ledger.specs.Runs.{Event, Leads, AreDifferent, requests_added}
 use Rattle.hub_ledger.specs.Laws.{NoRequestBacksTwice, NoRequestBacksTwiceInARun}
 use Rattle.hub_ledger.proofs.AsSp.{as_sp, all_as_sp, above_less, next_less, requests_same, is_sp_record, are_sp_records}
@@ -100,7 +100,7 @@ selected_same (f ∷ flags) [] = refl
 selected_same (true ∷ flags) (r ∷ records) = ap (λ rest. as_sp r ∷ rest) (selected_same flags records)
 selected_same (false ∷ flags) (r ∷ records) = selected_same flags records
 
-kept_as_sp : (now horizon : ℕ) (records kept : List HubRecord) → AreKept now horizon records kept
+kept_as_sp : (now horizon : ℕ) (records kept : List HubRecord) → compacting.AreKept hub_rules now horizon records kept
     → compacting.AreKept sp_record.request_rules now horizon (all_as_sp records) (all_as_sp kept)
 kept_as_sp now horizon records kept are = record {
   flags = are.flags;

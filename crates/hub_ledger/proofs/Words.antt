@@ -12,29 +12,25 @@ use Rattle.hub_ledger.specs.Record.{is_free, is_routed, goes_to, drawn, texts, m
 
 -- whether a record passes on a login for this request
 abbrev pub backs : List ℕ → HubRecord → Bool
-backs request (kinds.Routed r) = false
 backs request (kinds.Backed r) = bytes_eq r.request request
-backs request (kinds.Spoke r) = false
+backs request other = false
 
 -- whether a record is that of the request that a login answers, and of the one below to which it goes
 abbrev pub routes : Backed → HubRecord → Bool
 routes b (kinds.Routed r) = bytes_eq r.request b.request && goes_to b (below_row r)
-routes b (kinds.Backed r) = false
-routes b (kinds.Spoke r) = false
+routes b other = false
 
 -- the rows of requests and of logins, by their records
 pub spent_any : (records : List HubRecord) (request : List ℕ) → is_spent (opened_rows records) request ≡ list_any (backs request) records
 spent_any [] request = refl
-spent_any (kinds.Routed r ∷ later) request = spent_any later request
 spent_any (kinds.Backed r ∷ later) request = ap (λ b. bytes_eq r.request request || b) (spent_any later request)
-spent_any (kinds.Spoke r ∷ later) request = spent_any later request
+spent_any (other ∷ later) request = spent_any later request
 
 pub routed_any : (records : List HubRecord) (b : Backed) → is_routed (asked_rows records) (below_rows records) b ≡ list_any (routes b) records
 routed_any [] b = refl
 routed_any (kinds.Routed r ∷ later) b =
     ap (λ rest. (bytes_eq r.request b.request && goes_to b (below_row r)) || rest) (routed_any later b)
-routed_any (kinds.Backed r ∷ later) b = routed_any later b
-routed_any (kinds.Spoke r ∷ later) b = routed_any later b
+routed_any (other ∷ later) b = routed_any later b
 
 -- The four parts of what makes a record one of the ledger.
 pub record NextParts (rows : HubRows) (next : ℕ) (r : HubRecord) : Type 0 where

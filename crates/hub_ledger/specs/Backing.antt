@@ -17,16 +17,14 @@ abbrev pub routed_of : (request : List ℕ) → List HubRecord → List Routed
 routed_of request [] = []
 routed_of request (kinds.Routed r ∷ later) =
     if bytes_eq r.request request then r ∷ routed_of request later else routed_of request later
-routed_of request (kinds.Backed r ∷ later) = routed_of request later
-routed_of request (kinds.Spoke r ∷ later) = routed_of request later
+routed_of request (other ∷ later) = routed_of request later
 
 -- The pairs of a Routed record of some records and the Backed record, of others, that names it; and those of a ledger.
 abbrev pub backings_among : List HubRecord → List HubRecord → List Backing
 backings_among all [] = []
-backings_among all (kinds.Routed r ∷ later) = backings_among all later
 backings_among all (kinds.Backed b ∷ later) =
     map (λ r. record { routed = r; backed = b }) (routed_of b.request all) ++ backings_among all later
-backings_among all (kinds.Spoke r ∷ later) = backings_among all later
+backings_among all (other ∷ later) = backings_among all later
 
 abbrev pub backings : List HubRecord → List Backing
 backings records = backings_among records records

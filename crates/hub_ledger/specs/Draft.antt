@@ -1,5 +1,5 @@
 -- The IDs that a drafted record draws, and what it says.
-use Rattle.std.specs.Prelude.{◌≡◌, ℕ, List, [], ◌∷◌, Option, None, Some}
+use Rattle.std.specs.Prelude.{ℕ, List, Option, None, Some}
 use Rattle.ledger_records.specs.declared.hub_record.Backed.{Backed}
 use Rattle.ledger_records.specs.declared.hub_record.HubRecord.{HubRecord}
 use Rattle.ledger_records.specs.declared.hub_record.HubRecord.TheVariants as kinds
@@ -13,14 +13,9 @@ first_id (kinds.Spoke r) = Some r.message
 -- the relay state of a request upwards
 abbrev pub second_id : HubRecord → Option (List ℕ)
 second_id (kinds.Routed r) = Some r.relay
-second_id (kinds.Backed r) = None
-second_id (kinds.Spoke r) = None
-
-abbrev pub HoldsIds : List (Option (List ℕ)) → HubRecord → Type 0
-HoldsIds ids r = ids ≡ first_id r ∷ second_id r ∷ []
+second_id other = None
 
 -- the login that a record passes on
 abbrev pub backed_in : HubRecord → Option Backed
-backed_in (kinds.Routed r) = None
 backed_in (kinds.Backed r) = Some r
-backed_in (kinds.Spoke r) = None
+backed_in other = None

@@ -8,7 +8,6 @@ pub mod Ledger
 pub mod Draft
 pub mod Ids
 pub mod Drafts
-pub mod Calls
 pub mod Compacting
 pub mod Linking
 pub mod Runs

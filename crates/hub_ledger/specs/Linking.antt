@@ -7,15 +7,13 @@ use Rattle.record_ledger.specs.Linking as any
 
 -- the IDs of the rows that a record names
 abbrev pub named : HubRecord → List (List ℕ)
-named (kinds.Routed r) = []
 named (kinds.Backed r) = r.request ∷ []
-named (kinds.Spoke r) = []
+named other = []
 
 -- the number and the ID by which a record's row is found, where it has one that is named
 abbrev pub row_found : HubRecord → Option Drawn
 row_found (kinds.Routed r) = Some (record { number = r.first; id = r.request })
-row_found (kinds.Backed r) = None
-row_found (kinds.Spoke r) = None
+row_found other = None
 
 -- no record is itself linked to one that it names
 abbrev pub hub_links : any.LinkRules HubRecord

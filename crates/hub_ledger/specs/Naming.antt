@@ -14,10 +14,8 @@ has_visible now horizon (kinds.Spoke r) = false
 -- whether the first record names a row of the second
 abbrev pub names_routed : List ℕ → HubRecord → Bool
 names_routed request (kinds.Routed r) = bytes_eq r.request request
-names_routed request (kinds.Backed r) = false
-names_routed request (kinds.Spoke r) = false
+names_routed request other = false
 
 abbrev pub names : HubRecord → HubRecord → Bool
-names (kinds.Routed r) earlier = false
 names (kinds.Backed r) earlier = names_routed r.request earlier
-names (kinds.Spoke r) earlier = false
+names other earlier = false

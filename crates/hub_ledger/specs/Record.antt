@@ -37,9 +37,8 @@ is_routed asked below r = list_any (λ route. bytes_eq route.asked.request r.req
 
 -- Each row that a record names is there, and is free for it: a request that is not spent.
 abbrev pub is_free : HubRows → HubRecord → Bool
-is_free rows (kinds.Routed r) = true
 is_free rows (kinds.Backed r) = is_routed rows.asked rows.below r && not (is_spent rows.opened r.request)
-is_free rows (kinds.Spoke r) = true
+is_free rows other = true
 
 -- the IDs that a record draws
 abbrev pub drawn : HubRecord → List Drawn

@@ -43,21 +43,18 @@ opened_row r = record {
 abbrev pub asked_rows : List HubRecord → List AskedRow
 asked_rows [] = []
 asked_rows (kinds.Routed r ∷ later) = asked_row r ∷ asked_rows later
-asked_rows (kinds.Backed r ∷ later) = asked_rows later
-asked_rows (kinds.Spoke r ∷ later) = asked_rows later
+asked_rows (other ∷ later) = asked_rows later
 
 abbrev pub below_rows : List HubRecord → List BelowRow
 below_rows [] = []
 below_rows (kinds.Routed r ∷ later) = below_row r ∷ below_rows later
-below_rows (kinds.Backed r ∷ later) = below_rows later
-below_rows (kinds.Spoke r ∷ later) = below_rows later
+below_rows (other ∷ later) = below_rows later
 
 -- and one for each Backed
 abbrev pub opened_rows : List HubRecord → List OpenedRow
 opened_rows [] = []
-opened_rows (kinds.Routed r ∷ later) = opened_rows later
 opened_rows (kinds.Backed r ∷ later) = opened_row r ∷ opened_rows later
-opened_rows (kinds.Spoke r ∷ later) = opened_rows later
+opened_rows (other ∷ later) = opened_rows later
 
 abbrev pub rows_of : List HubRecord → HubRows
 rows_of records = record { asked = asked_rows records; below = below_rows records; opened = opened_rows records }

@@ -21,9 +21,8 @@ Leads = any.Leads hub_rules
 -- the requests upwards that backed logins: those of the records at the start, and of those that were added since, whether they are
 -- still kept or not
 abbrev pub request_backed : HubRecord → List (List ℕ)
-request_backed (kinds.Routed r) = []
 request_backed (kinds.Backed r) = r.request ∷ []
-request_backed (kinds.Spoke r) = []
+request_backed other = []
 
 abbrev pub requests_backed : List HubRecord → List (List ℕ)
 requests_backed records = map (λ (row : OpenedRow). row.request) (opened_rows records)
@@ -31,8 +30,7 @@ requests_backed records = map (λ (row : OpenedRow). row.request) (opened_rows r
 abbrev pub requests_added : List Event → List (List ℕ)
 requests_added [] = []
 requests_added (Adds r ∷ past) = request_backed r ++ requests_added past
-requests_added (Compacts now ∷ past) = requests_added past
-requests_added (Opens ∷ past) = requests_added past
+requests_added (other ∷ past) = requests_added past
 
 abbrev pub requests_of_run : Held → List Event → List (List ℕ)
 requests_of_run start events = requests_added events ++ requests_backed start.records

@@ -1,22 +1,23 @@
 //! How records are drafted.
 ghost use Rattle.std.specs.Prelude.{◌≡◌, ◌≤◌, ◌⊎◌, IsSome, IfOk, IfSome};
-ghost use Rattle.hub_ledger.specs.Draft.{HoldsIds};
 ghost use Rattle.hub_ledger.specs.Finding.{routed_row};
 ghost use Rattle.hub_ledger.specs.Record.{LAST};
-ghost use Rattle.hub_ledger.specs.Ledger.{KeepsSpare, next_number, rows_in};
-ghost use Rattle.hub_ledger.specs.Drafts.{backed, backed_with, routed, routed_with, spoke, AreSessionTexts, Drafts, IsDraftable, IsXmlBelow};
+ghost use Rattle.hub_ledger.specs.Ledger.{next_number, rows_in};
+ghost use Rattle.hub_ledger.specs.Drafts.{backed, backed_with, routed, routed_with, spoke, AreSessionTexts, Drafts, IsXmlBelow};
+ghost use Rattle.hub_ledger.specs.Standing.{hub_row_rules};
 ghost use Rattle.record_ledger.specs.Drafts.{SameLedger};
+ghost use Rattle.record_ledger.specs.Ledger.{KeepsSpare};
 
 use crate::draft::Draft;
 use crate::ids::{LoginIds, RequestIds, login_ids, request_ids};
-use crate::ledger::HubLedger;
+use crate::ledger::{HubLedger, routed};
 use crate::row::BelowRow;
 use ledger_records::hub_record::{Backed, Routed, Spoke};
 use ledger_records::{HubRecord, KeyNumber};
 use ledger_rules::{DraftFault, LAST, LIFE};
 use owned_values::{NoMemory, Text};
 use request_rows::NewSession;
-use saml_ids::{Id, Kind, id_of};
+use saml_ids::{Kind, id_of};
 use std::alloc::Global;
 
 /// A copy of a text, where there is one.
@@ -90,84 +91,70 @@ fn backed_record(
     }))
 }
 
-impl HubLedger {
-    /// Drafts a record of the ledger: makes its payload, and room for all that `commit` fills.
-    fn draft(&mut self, entry: HubRecord, ids: [Option<Id>; 2]) -> Result<Draft, DraftFault>
-        requires is { IsDraftable self.old.held entry }
-        requires ids { HoldsIds ids entry }
-        ensures drafts { Drafts self.old self.new entry result }
-        ensures same { SameLedger self.old self.new }
-        ensures spare { KeepsSpare self.old self.new }
-    {
-        let drafted = self.ledger.draft(entry)?;
-        Ok(Draft { drafted, ids })
-    }
+/// Drafts a request upwards for one below. It may be answered for 600,000 ms from the moment `now` on. `first_id` of its
+/// record is the ID of the request, `second_id` its relay state.
+///
+/// Errors: [`DraftFault::LedgerFull`] exactly where the rows of 65,536 requests upwards are kept or more; else
+/// [`DraftFault::JournalFull`] exactly where the record does not fit; [`DraftFault::NoMemory`].
+pub fn draft_route(ledger: &mut HubLedger, now: u64, below: &BelowRow) -> Result<Draft, DraftFault>
+    requires moment { now ≤ LAST }
+    requires texts { IsXmlBelow below.now }
+    ensures drafts { Drafts ledger.old ledger.new (routed ledger.old.key (next_number ledger.old.held) now below.now) result }
+    ensures same { SameLedger ledger.old ledger.new }
+    ensures spare { KeepsSpare hub_row_rules ledger.old ledger.new }
+{
+    let first = ledger.next_number();
+    let key = ledger.key();
+    let ids = request_ids(key, first);
+    let entry = routed_record(ledger.allocator(), first, now, &ids, below)?;
+    ledger.draft(entry)
+}
 
-    /// Drafts a request upwards for one below. It may be answered for 600,000 ms from the moment `now` on. `first` of the draft is
-    /// the ID of the request, `second` its relay state.
-    ///
-    /// Errors: [`DraftFault::LedgerFull`] exactly where the rows of 65,536 requests upwards are kept or more; else
-    /// [`DraftFault::JournalFull`] exactly where the record does not fit; [`DraftFault::NoMemory`].
-    pub fn draft_route(&mut self, now: u64, below: &BelowRow) -> Result<Draft, DraftFault>
-        requires moment { now ≤ LAST }
-        requires texts { IsXmlBelow below.now }
-        ensures drafts { Drafts self.old self.new (routed self.old.key (next_number self.old.held) now below.now) result }
-        ensures same { SameLedger self.old self.new }
-        ensures spare { KeepsSpare self.old self.new }
-    {
-        let first = self.next_number();
-        let key = self.key();
-        let ids = request_ids(key, first);
-        let entry = routed_record(self.ledger.allocator(), first, now, &ids, below)?;
-        self.draft(entry, [Some(ids.request), Some(ids.relay)])
-    }
+/// Drafts that an accepted login of the provider above is passed on to the request below for which its request was sent. It
+/// lives as long as the accepted one, to the end of the year 9999 at most. `first_id` of its record is the ID of the
+/// answer, and `backed` the login.
+///
+/// The request upwards is visible and not spent. Errors are those of `draft_route`, for the rows of passed logins.
+pub fn draft_back(ledger: &mut HubLedger, now: u64, new: &NewSession) -> Result<Draft, DraftFault>
+    requires moment { now ≤ LAST }
+    requires texts { AreSessionTexts new.now }
+    requires key { (new.now.key ≡ 1) ⊎ (new.now.key ≡ 2) }
+    requires routed { IsSome (routed_row (rows_in ledger.old) new.now.request now ledger.old.held.header.horizon) }
+    ensures drafts { IfSome (routed_row (rows_in ledger.old) new.now.request now ledger.old.held.header.horizon) (λ route.
+        Drafts ledger.old ledger.new (backed ledger.old.key (next_number ledger.old.held) now route.below new.now) result) }
+    ensures same { SameLedger ledger.old ledger.new }
+    ensures spare { KeepsSpare hub_row_rules ledger.old ledger.new }
+{
+    ledger.holds_records();
+    let first = ledger.next_number();
+    let key = ledger.key();
+    let ids = login_ids(key, first);
+    let Some(row) = routed(ledger, new.request.as_str(), now) else {
+        unreachable!();
+    };
+    let entry = backed_record(ledger.allocator(), first, now, &ids, row.below, new)?;
+    ledger.draft(entry)
+}
 
-    /// Drafts that an accepted login of the provider above is passed on to the request below for which its request was sent. It
-    /// lives as long as the accepted one, to the end of the year 9999 at most. `first` of the draft is the ID of the answer, and
-    /// `backed` its record.
-    ///
-    /// The request upwards is visible and not spent. Errors are those of `draft_route`, for the rows of passed logins.
-    pub fn draft_back(&mut self, now: u64, new: &NewSession) -> Result<Draft, DraftFault>
-        requires moment { now ≤ LAST }
-        requires texts { AreSessionTexts new.now }
-        requires key { (new.now.key ≡ 1) ⊎ (new.now.key ≡ 2) }
-        requires routed { IsSome (routed_row (rows_in self.old) new.now.request now self.old.held.header.horizon) }
-        ensures drafts { IfSome (routed_row (rows_in self.old) new.now.request now self.old.held.header.horizon) (λ route.
-            Drafts self.old self.new (backed self.old.key (next_number self.old.held) now route.below new.now) result) }
-        ensures same { SameLedger self.old self.new }
-        ensures spare { KeepsSpare self.old self.new }
-    {
-        self.holds_records();
-        let first = self.next_number();
-        let key = self.key();
-        let ids = login_ids(key, first);
-        let Some(row) = self.routed(new.request.as_str(), now) else {
-            unreachable!();
-        };
-        let entry = backed_record(self.ledger.allocator(), first, now, &ids, row.below, new)?;
-        self.draft(entry, [Some(ids.message), None])
-    }
-
-    /// Drafts an answer downwards without an assertion. `first` of the draft is its ID.
-    ///
-    /// Errors are those of `draft_route`, without `LedgerFull`.
-    pub fn draft_speak(&mut self, now: u64, below: &BelowRow) -> Result<Draft, DraftFault>
-        requires moment { now ≤ LAST }
-        requires texts { IsXmlBelow below.now }
-        ensures drafts { Drafts self.old self.new (spoke self.old.key (next_number self.old.held) now below.now) result }
-        ensures same { SameLedger self.old self.new }
-        ensures spare { KeepsSpare self.old self.new }
-    {
-        let first = self.next_number();
-        let key = self.key();
-        let message = id_of(key, Kind::Message, first);
-        let entry = HubRecord::Spoke(Spoke {
-            first,
-            moment: now,
-            message: Text::of(self.ledger.allocator(), message.as_str())?,
-            request: below.request.copy()?,
-            peer: below.peer.copy()?,
-        });
-        self.draft(entry, [Some(message), None])
-    }
+/// Drafts an answer downwards without an assertion. `first_id` of its record is its ID.
+///
+/// Errors are those of `draft_route`, without `LedgerFull`.
+pub fn draft_speak(ledger: &mut HubLedger, now: u64, below: &BelowRow) -> Result<Draft, DraftFault>
+    requires moment { now ≤ LAST }
+    requires texts { IsXmlBelow below.now }
+    ensures drafts { Drafts ledger.old ledger.new (spoke ledger.old.key (next_number ledger.old.held) now below.now) result }
+    ensures same { SameLedger ledger.old ledger.new }
+    ensures spare { KeepsSpare hub_row_rules ledger.old ledger.new }
+{
+    let first = ledger.next_number();
+    let key = ledger.key();
+    let message = id_of(key, Kind::Message, first);
+    let entry = HubRecord::Spoke(Spoke {
+        first,
+        moment: now,
+        message: Text::of(ledger.allocator(), message.as_str())?,
+        request: below.request.copy()?,
+        peer: below.peer.copy()?,
+    });
+    ledger.draft(entry)
 }

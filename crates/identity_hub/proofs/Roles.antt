@@ -4,8 +4,9 @@ use Rattle.std.proofs.Common.{◌≡◌, ℕ, ◌≤◌, true, false, List, sym,
 use Rattle.ledger_records.specs.declared.hub_record.HubRecord.{HubRecord}
 use Rattle.ledger_rules.specs.declared.fault.DraftFault.{DraftFault}
 use Rattle.record_ledger.specs.Drafts.{DraftsSome, SameLedger}
+use Rattle.record_ledger.specs.Ledger.{CanCommit}
 use Rattle.hub_ledger.specs.Laws.{CompactionsChangeNoAnswer}
-use Rattle.hub_ledger.specs.Ledger.{CanCommit, OpenedLedger}
+use Rattle.hub_ledger.specs.Ledger.{OpenedLedger}
 use Rattle.hub_ledger.specs.Record.{LAST, hub_rules}
 use Rattle.hub_ledger.specs.Standing.{hub_row_rules}
 use Rattle.idp_answers.specs.Stating.{EachLoginHasAnAnswer, EachRefusalHasAnAnswer}
@@ -55,7 +56,7 @@ pub hub_drafted : (key : List ℕ) (old new : OpenedLedger) (now : ℕ) (reply :
     (result : Result (Option HubRecord) DraftFault) → old.key ≡ key → SameLedger old new
     → record_for old.key old.held now reply ≡ Some r
     → IfSome (record_for old.key old.held now reply) (λ r. DraftsSome hub_rules hub_row_rules old new false r result)
-    → IsDrafted hub_rules old.held (CanCommit new) (λ d. d) (record_for key old.held now reply) (drafted_of result)
+    → IsDrafted hub_rules old.held (CanCommit hub_rules hub_row_rules new) (record_for key old.held now reply) (drafted_of result)
 hub_drafted key old new now reply r result same_key same found drafts =
     let own : record_for key old.held now reply ≡ Some r =
     subst (λ (k : List ℕ). record_for k old.held now reply ≡ Some r) same_key found in

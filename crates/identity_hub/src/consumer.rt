@@ -17,7 +17,7 @@ use crate::reply::Reply;
 use crate::role::HubRole;
 use http_wire::{Answer, HttpRequest};
 use hub_ledger::laws::the_texts_of_a_routed_request_may_stand;
-use hub_ledger::{BelowRow, HubLedger};
+use hub_ledger::{BelowRow, HubLedger, routed, rows};
 use idp_answers::laws::{each_moment_is_told, what_is_recorded_may_stand};
 use owned_values::NoMemory;
 use provider_node::Replied;
@@ -48,7 +48,7 @@ impl HubRole {
         each_moment_is_told();
         the_texts_of_a_routed_request_may_stand();
         let unknown = Verdict::UnknownIssuer.number();
-        let Some(row) = ledger.routed(accepted.session.request.as_str(), now) else {
+        let Some(row) = routed(ledger, accepted.session.request.as_str(), now) else {
             return Replied::Plain(Answer::Fixed(unknown));
         };
         let Some(peer) = self.config.peers.place_of(row.below.peer.as_str()) else {
@@ -75,7 +75,7 @@ impl HubRole {
         match judge(
             self.alloc,
             upstream,
-            ledger.rows(),
+            rows(ledger),
             horizon,
             now,
             request.body,

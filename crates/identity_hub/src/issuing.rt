@@ -7,8 +7,9 @@ ghost use Rattle.identity_hub.specs.Replies.{CanBeShown, HasLogin, HasRefusal, H
 
 use crate::reply::Reply;
 use crate::role::HubRole;
-use hub_ledger::{BelowRow, Draft};
+use hub_ledger::{BelowRow, backed, first_id, second_id};
 use idp_answers::{Statement, issued_answer, no_passive_answer, stated_login, text_of};
+use ledger_records::HubRecord;
 use ledger_records::hub_record::Backed;
 use owned_values::{Blob, NoMemory};
 use provider_config::SignMode;
@@ -38,16 +39,16 @@ fn statement_of(passed: &Backed) -> Statement<'_>
 }
 
 impl HubRole {
-    /// The answer without an Assertion of a draft.
-    fn spoken_page(&self, draft: &Draft, below: &BelowRow, now: u64) -> Result<Blob, NoMemory>
+    /// The answer without an Assertion of a record.
+    fn spoken_page(&self, entry: &HubRecord, below: &BelowRow, now: u64) -> Result<Blob, NoMemory>
         requires moment { now ≤ LAST }
-        requires shown { HasRefusal below.now draft.now }
-        ensures { IfOk result (IsSpokenPage self.now below.now draft.now now) }
+        requires shown { HasRefusal below.now entry.now }
+        ensures { IfOk result (IsSpokenPage self.now below.now entry.now now) }
     {
         no_passive_answer(
             self.alloc,
             self.config.upstream.entity.as_str(),
-            draft.first().as_str(),
+            first_id(entry),
             below.request.as_str(),
             below.consumer.as_str(),
             text_of(&below.relay),
@@ -55,24 +56,24 @@ impl HubRole {
         )
     }
 
-    /// The answer with the request upwards of a draft.
-    fn asking_page(&self, draft: &Draft, now: u64) -> Result<Blob, NoMemory>
+    /// The answer with the request upwards of a record.
+    fn asking_page(&self, entry: &HubRecord, now: u64) -> Result<Blob, NoMemory>
         requires moment { now ≤ LAST }
-        requires shown { HasRequest draft.now }
-        ensures { IfOk result (IsAskingPage self.now draft.now now) }
+        requires shown { HasRequest entry.now }
+        ensures { IfOk result (IsAskingPage self.now entry.now now) }
     {
-        let id = draft.first().as_str();
-        let relay = draft.second().as_str();
+        let id = first_id(entry);
+        let relay = second_id(entry);
         ask_answer(self.alloc, &self.config.upstream, id, relay, now)
     }
 
-    /// The answer with the Assertion of a draft, for the peer at this place.
-    fn passed_page(&self, draft: &Draft, peer: usize, now: u64) -> Result<Blob, NoMemory>
+    /// The answer with the Assertion of a record, for the peer at this place.
+    fn passed_page(&self, entry: &HubRecord, peer: usize, now: u64) -> Result<Blob, NoMemory>
         requires moment { now ≤ LAST }
-        requires shown { HasLogin self.now peer draft.now }
-        ensures { IfOk result (IsPassedPage self.now peer draft.now now) }
+        requires shown { HasLogin self.now peer entry.now }
+        ensures { IfOk result (IsPassedPage self.now peer entry.now now) }
     {
-        let passed = draft.backed();
+        let passed = backed(entry);
         let statement = statement_of(passed);
         let login = stated_login(self.alloc, self.config.upstream.entity.as_str(), &statement)?;
         issued_answer(
@@ -88,16 +89,21 @@ impl HubRole {
         )
     }
 
-    /// The answer that stands for the draft of a reply.
-    pub(crate) fn page_of(&self, reply: &Reply, draft: &Draft, now: u64) -> Result<Blob, NoMemory>
+    /// The answer that stands for the record of a reply.
+    pub(crate) fn page_of(
+        &self,
+        reply: &Reply,
+        entry: &HubRecord,
+        now: u64,
+    ) -> Result<Blob, NoMemory>
         requires moment { now ≤ LAST }
-        requires shown { CanBeShown self.now reply.now draft.now }
-        ensures { IfOk result (IsPage self.now reply.now draft.now now) }
+        requires shown { CanBeShown self.now reply.now entry.now }
+        ensures { IfOk result (IsPage self.now reply.now entry.now now) }
     {
         match reply {
-            Reply::Speak { below } => self.spoken_page(draft, below, now),
-            Reply::Ask { .. } => self.asking_page(draft, now),
-            Reply::Pass { peer, .. } => self.passed_page(draft, *peer, now),
+            Reply::Speak { below } => self.spoken_page(entry, below, now),
+            Reply::Ask { .. } => self.asking_page(entry, now),
+            Reply::Pass { peer, .. } => self.passed_page(entry, *peer, now),
         }
     }
 }

@@ -42,7 +42,6 @@ mod config;
 mod consumer;
 mod issuing;
 pub mod laws;
-mod ledger;
 mod reply;
 mod replying;
 mod role;

@@ -6,7 +6,7 @@ ghost use Rattle.hub_ledger.specs.Record.{hub_rules};
 ghost use Rattle.hub_ledger.specs.Standing.{hub_row_rules};
 ghost use Rattle.identity_hub.specs.Replies.{CanDraft, record_for};
 
-use hub_ledger::{BelowRow, Draft, DraftFault, HubLedger};
+use hub_ledger::{BelowRow, Draft, DraftFault, HubLedger, draft_back, draft_route, draft_speak};
 use sp_rules::Accepted;
 
 /// A reply that stands for a record.
@@ -47,15 +47,15 @@ impl Reply {
     {
         match self {
             Reply::Speak { below } => {
-                let draft = ledger.draft_speak(now, below)?;
+                let draft = draft_speak(ledger, now, below)?;
                 Ok(Some(draft))
             }
             Reply::Ask { below } => {
-                let draft = ledger.draft_route(now, below)?;
+                let draft = draft_route(ledger, now, below)?;
                 Ok(Some(draft))
             }
             Reply::Pass { accepted, .. } => {
-                let draft = ledger.draft_back(now, &accepted.session)?;
+                let draft = draft_back(ledger, now, &accepted.session)?;
                 Ok(Some(draft))
             }
         }

@@ -5,7 +5,7 @@ use crate::role::HubRole;
 use crate::route::{Service, service_at};
 use http_wire::{Answer, HttpRequest};
 use hub_ledger::laws::compactions_change_no_answer;
-use hub_ledger::{Draft, HubLedger};
+use hub_ledger::{Draft, HubLedger, HubStanding};
 use idp_answers::laws::each_login_has_an_answer;
 use idp_answers::plain_metadata_answer;
 use owned_values::{Blob, NoMemory};
@@ -17,6 +17,8 @@ use verdict_codes::Verdict;
 impl Role for HubRole {
     ghost use Rattle.identity_hub.specs.Replies.{hub_replies};
     ghost use Rattle.identity_hub.specs.Step.{Answers};
+
+    type Rows = HubStanding;
 
     type Reply = Reply;
 
@@ -54,7 +56,7 @@ impl Role for HubRole {
     }
 
     fn page(&self, reply: &Reply, draft: &Draft, now: u64) -> Result<Blob, NoMemory> {
-        self.page_of(reply, draft, now)
+        self.page_of(reply, draft.entry(), now)
     }
 
     // There is something to record for each reply: this is never asked.

@@ -22,7 +22,7 @@ use Rattle.idp_rows.specs.Finding.{visible, pending_found, session_found, is_wai
 use Rattle.idp_rows.specs.RowsOf.{pending_rows, issued_rows, session_rows, left_rows, rows_of}
 use Rattle.idp_ledger.specs.Record.{AreRecords, idp_rules}
 use Rattle.idp_ledger.specs.Ledger.{Held}
-use Rattle.idp_ledger.specs.Compacting.{AreKept, IsCompacted}
+use Rattle.record_ledger.specs.Compacting.{AreKept, IsCompacted}
 use Rattle.idp_ledger.specs.Laws.{CompactionsChangeNoAnswer}
 use Rattle.idp_ledger.proofs.LawWords.{Each}
 use Rattle.idp_ledger.proofs.KeptMarks.{Marked, AreClosed}
@@ -50,12 +50,9 @@ had_visible now later horizon (kinds.Issued r) first seen =
           or_right (visible r.until now horizon) (has_session_visible now horizon r.pending r.session_end)
           (session_before r.pending r.session_end now later horizon first session)
     ]
-had_visible now later horizon (kinds.Ended r) first seen = seen
 had_visible now later horizon (kinds.Left r) first seen = visible_before r.until now later horizon first seen
-had_visible now later horizon (kinds.Confirmed r) first seen = seen
-had_visible now later horizon (kinds.Spoke r) first seen = seen
 had_visible now later horizon (kinds.Round r) first seen = visible_before r.until now later horizon first seen
-had_visible now later horizon (kinds.Told r) first seen = seen
+had_visible now later horizon other first seen = seen
 
 -- the rows that count are alike
 record SameSeen (later horizon : ℕ) (records some : List IdpRecord) : Type 0 where
@@ -64,7 +61,7 @@ record SameSeen (later horizon : ℕ) (records some : List IdpRecord) : Type 0 w
   lefts : filter (left_seen later horizon) (left_rows some) ≡ filter (left_seen later horizon) (left_rows records)
   rounds : filter (round_seen later horizon) (round_rows some) ≡ filter (round_seen later horizon) (round_rows records)
 
-same_seen : (now later horizon : ℕ) (records some : List IdpRecord) → now ≤ later → AreKept now horizon records some → SameSeen later horizon records some
+same_seen : (now later horizon : ℕ) (records some : List IdpRecord) → now ≤ later → AreKept idp_rules now horizon records some → SameSeen later horizon records some
 same_seen now later horizon records some first are_kept =
     let m = are_marked idp_rules now horizon records some are_kept in
     let keeps = each_weaker (λ (k : Marked). has_visible now horizon k.1 ≡ true → k.0 ≡ true) (λ (k : Marked). has_visible later horizon k.1 ≡ true → k.0 ≡ true)
@@ -103,7 +100,7 @@ found_has P test (y ∷ xs) x each found = elim (cases_Bool (test y)) [
 ]
 
 -- what holds of what was issued in the sessions that are kept, among all and among what is kept
-same_where : (now horizon : ℕ) (records some : List IdpRecord) (P : List IssuedRow → List IssuedRow → List ℕ → Type 0) → AreRecords records → AreKept now horizon records some
+same_where : (now horizon : ℕ) (records some : List IdpRecord) (P : List IssuedRow → List IssuedRow → List ℕ → Type 0) → AreRecords records → AreKept idp_rules now horizon records some
     → ((marks : List Marked) → AreRecords (all marks) → AreClosed marks → Each (λ (row : SessionRow). P (issued_rows (kept marks)) (issued_rows (all marks)) row.cookie) (session_rows (kept marks)))
     → Each (λ (row : SessionRow). P (issued_rows some) (issued_rows records) row.cookie) (session_rows some)
 same_where now horizon records some P are are_kept alike =
@@ -113,14 +110,14 @@ same_where now horizon records some P are are_kept alike =
     subst (λ rs. Each (λ (row : SessionRow). P (issued_rows some) (issued_rows rs) row.cookie) (session_rows some)) m.are_all one
 
 -- what was issued in the sessions that are kept
-same_issues : (beside : Bool) (now horizon : ℕ) (records some : List IdpRecord) (peer : List ℕ) → AreRecords records → AreKept now horizon records some
+same_issues : (beside : Bool) (now horizon : ℕ) (records some : List IdpRecord) (peer : List ℕ) → AreRecords records → AreKept idp_rules now horizon records some
     → Each (λ (row : SessionRow). has_issued beside (issued_rows some) row.cookie peer ≡ has_issued beside (issued_rows records) row.cookie peer) (session_rows some)
 same_issues beside now horizon records some peer are are_kept =
     same_where now horizon records some (λ few many cookie. has_issued beside few cookie peer ≡ has_issued beside many cookie peer) are are_kept
     (λ marks are linked. issues_alike beside peer marks are linked)
 
 -- and to whom the last assertion went
-same_peers : (now horizon : ℕ) (records some : List IdpRecord) → AreRecords records → AreKept now horizon records some
+same_peers : (now horizon : ℕ) (records some : List IdpRecord) → AreRecords records → AreKept idp_rules now horizon records some
     → Each (λ (row : SessionRow). last_peer (issued_rows some) row.cookie ≡ last_peer (issued_rows records) row.cookie) (session_rows some)
 same_peers now horizon records some are are_kept =
     same_where now horizon records some (λ few many cookie. last_peer few cookie ≡ last_peer many cookie) are are_kept
@@ -131,7 +128,7 @@ each_both : {X : Type 0} (P Q : X → Type 0) (xs : List X) → Each P xs → Ea
 each_both P Q [] one other = tt
 each_both P Q (x ∷ xs) one other = ((one.0, other.0), each_both P Q xs one.1 other.1)
 
-module _ (now later : ℕ) (old new : Held) (are : AreRecords old.records) (made : IsCompacted now old new) (first : now ≤ later) where
+module _ (now later : ℕ) (old new : Held) (are : AreRecords old.records) (made : IsCompacted idp_rules now old new) (first : now ≤ later) where
   same : SameSeen later old.header.horizon old.records new.records
   same = same_seen now later old.header.horizon old.records new.records first made.records
 

@@ -30,14 +30,8 @@ use Rattle.idp_ledger.proofs.KeptMarks.{Marked, NamersOf, AreClosed}
 
 -- whether a record is an Issued with this cookie
 abbrev pub is_of : List ℕ → IdpRecord → Bool
-is_of cookie (kinds.Pending r) = false
 is_of cookie (kinds.Issued r) = bytes_eq r.cookie cookie
-is_of cookie (kinds.Ended r) = false
-is_of cookie (kinds.Left r) = false
-is_of cookie (kinds.Confirmed r) = false
-is_of cookie (kinds.Spoke r) = false
-is_of cookie (kinds.Round r) = false
-is_of cookie (kinds.Told r) = false
+is_of cookie other = false
 
 -- ---- the numbers of cookies
 
@@ -60,14 +54,8 @@ cookie_of_session (Some pending) cookie own has =
     subst (λ t. bytes_eq own t ≡ true) (sym same) (text_itself own)
 
 session_is_of : (cookie : List ℕ) (x : IdpRecord) → has_session (cookie ∷ []) x ≡ true → is_of cookie x ≡ true
-session_is_of cookie (kinds.Pending x) has = has
 session_is_of cookie (kinds.Issued x) has = cookie_of_session x.pending cookie x.cookie has
-session_is_of cookie (kinds.Ended x) has = has
-session_is_of cookie (kinds.Left x) has = has
-session_is_of cookie (kinds.Confirmed x) has = has
-session_is_of cookie (kinds.Spoke x) has = has
-session_is_of cookie (kinds.Round x) has = has
-session_is_of cookie (kinds.Told x) has = has
+session_is_of cookie other has = has
 
 any_at : {X : Type 0} (test : X → Bool) (xs : List X) (k : ℕ) (x : X) → slice_get xs k ≡ Some x → test x ≡ true → list_any test xs ≡ true
 any_at test [] k x there is = absurd (cc)
@@ -90,17 +78,11 @@ issued_numbered before r (Some pending) e numbered is own = record {
 
 one_numbered : (before : List IdpRecord) (r : IdpRecord) (cookie : List ℕ) → AreNumbered before → is_record before r ≡ true → is_of cookie r ≡ true
     → CookieNumber cookie (next_of (before ++ r ∷ []))
-one_numbered before (kinds.Pending r) cookie numbered is of = absurd (false≢true of)
 one_numbered before (kinds.Issued r) cookie numbered is of =
     let fresh = all_fresh (next_of before) (drawn (kinds.Issued r)) (parts before (kinds.Issued r) is).fresh in
     subst (λ c. CookieNumber c (next_of (before ++ kinds.Issued r ∷ []))) (same_text r.cookie cookie of)
     (issued_numbered before r r.pending refl numbered is fresh.1.1)
-one_numbered before (kinds.Ended r) cookie numbered is of = absurd (false≢true of)
-one_numbered before (kinds.Left r) cookie numbered is of = absurd (false≢true of)
-one_numbered before (kinds.Confirmed r) cookie numbered is of = absurd (false≢true of)
-one_numbered before (kinds.Spoke r) cookie numbered is of = absurd (false≢true of)
-one_numbered before (kinds.Round r) cookie numbered is of = absurd (false≢true of)
-one_numbered before (kinds.Told r) cookie numbered is of = absurd (false≢true of)
+one_numbered before other cookie numbered is of = absurd (false≢true of)
 
 numbered_push : (before : List IdpRecord) (r : IdpRecord) → AreNumbered before → is_record before r ≡ true → AreNumbered (before ++ r ∷ [])
 numbered_push before r numbered is cookie some =
@@ -142,14 +124,8 @@ later_names r x pending (Some other) e same never =
     absurd (never (or_left (bytes_eq r.cookie x.cookie) false (Rattle.record_ledger.proofs.Words.other_way x.cookie r.cookie same)))
 
 of_names : (r : Issued) (pending : List ℕ) (x : IdpRecord) → r.pending ≡ Some pending → is_of r.cookie x ≡ true → (has_session (r.cookie ∷ []) x ≡ true → ⊥) → names x (kinds.Issued r) ≡ true
-of_names r pending (kinds.Pending x) e of never = absurd (false≢true of)
 of_names r pending (kinds.Issued x) e of never = later_names r x pending x.pending e of never
-of_names r pending (kinds.Ended x) e of never = absurd (false≢true of)
-of_names r pending (kinds.Left x) e of never = absurd (false≢true of)
-of_names r pending (kinds.Confirmed x) e of never = absurd (false≢true of)
-of_names r pending (kinds.Spoke x) e of never = absurd (false≢true of)
-of_names r pending (kinds.Round x) e of never = absurd (false≢true of)
-of_names r pending (kinds.Told x) e of never = absurd (false≢true of)
+of_names r pending other e of never = absurd (false≢true of)
 
 -- ---- those with the cookie of a session that is kept are kept
 
@@ -236,36 +212,18 @@ each_session_keeps earlier ((false, kinds.Told r) ∷ later) numbered are linked
 -- ---- so what was issued in it is told alike
 
 abbrev issues_to : Bool → List ℕ → List ℕ → IdpRecord → Bool
-issues_to beside cookie peer (kinds.Pending r) = false
 issues_to beside cookie peer (kinds.Issued r) = bytes_eq r.cookie cookie && is_that_peer beside peer r.peer
-issues_to beside cookie peer (kinds.Ended r) = false
-issues_to beside cookie peer (kinds.Left r) = false
-issues_to beside cookie peer (kinds.Confirmed r) = false
-issues_to beside cookie peer (kinds.Spoke r) = false
-issues_to beside cookie peer (kinds.Round r) = false
-issues_to beside cookie peer (kinds.Told r) = false
+issues_to beside cookie peer other = false
 
 has_issued_any : (beside : Bool) (records : List IdpRecord) (cookie peer : List ℕ) → has_issued beside (issued_rows records) cookie peer ≡ list_any (issues_to beside cookie peer) records
 has_issued_any beside [] cookie peer = refl
-has_issued_any beside (kinds.Pending r ∷ later) cookie peer = has_issued_any beside later cookie peer
 has_issued_any beside (kinds.Issued r ∷ later) cookie peer =
     ap (λ b. bytes_eq r.cookie cookie && is_that_peer beside peer r.peer || b) (has_issued_any beside later cookie peer)
-has_issued_any beside (kinds.Ended r ∷ later) cookie peer = has_issued_any beside later cookie peer
-has_issued_any beside (kinds.Left r ∷ later) cookie peer = has_issued_any beside later cookie peer
-has_issued_any beside (kinds.Confirmed r ∷ later) cookie peer = has_issued_any beside later cookie peer
-has_issued_any beside (kinds.Spoke r ∷ later) cookie peer = has_issued_any beside later cookie peer
-has_issued_any beside (kinds.Round r ∷ later) cookie peer = has_issued_any beside later cookie peer
-has_issued_any beside (kinds.Told r ∷ later) cookie peer = has_issued_any beside later cookie peer
+has_issued_any beside (other ∷ later) cookie peer = has_issued_any beside later cookie peer
 
 to_is_of : (beside : Bool) (cookie peer : List ℕ) (x : IdpRecord) → issues_to beside cookie peer x ≡ true → is_of cookie x ≡ true
-to_is_of beside cookie peer (kinds.Pending r) is = is
 to_is_of beside cookie peer (kinds.Issued r) is = (and_parts (bytes_eq r.cookie cookie) (is_that_peer beside peer r.peer) is).0
-to_is_of beside cookie peer (kinds.Ended r) is = is
-to_is_of beside cookie peer (kinds.Left r) is = is
-to_is_of beside cookie peer (kinds.Confirmed r) is = is
-to_is_of beside cookie peer (kinds.Spoke r) is = is
-to_is_of beside cookie peer (kinds.Round r) is = is
-to_is_of beside cookie peer (kinds.Told r) is = is
+to_is_of beside cookie peer other is = is
 
 told_alike : (beside : Bool) (cookie peer : List ℕ) (marks : List Marked) → KeepsAll (is_of cookie) marks
     → has_issued beside (issued_rows (kept marks)) cookie peer ≡ has_issued beside (issued_rows (all marks)) cookie peer

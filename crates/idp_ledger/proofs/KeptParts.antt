@@ -13,7 +13,7 @@ use Rattle.idp_rows.specs.declared.row.SessionRow.{SessionRow}
 use Rattle.idp_rows.specs.Finding.{part_of, parts_of, session_found, visible}
 use Rattle.idp_rows.specs.RowsOf.{is_among, issued_row, issued_rows, session_rows}
 use Rattle.idp_ledger.specs.Record.{AreRecords, idp_rules}
-use Rattle.idp_ledger.specs.Compacting.{AreKept}
+use Rattle.record_ledger.specs.Compacting.{AreKept}
 use Rattle.idp_ledger.specs.Drafts.{AreLive}
 use Rattle.idp_ledger.proofs.LawWords.{Each}
 use Rattle.idp_ledger.proofs.KeptMarks.{Marked}
@@ -22,14 +22,8 @@ use Rattle.idp_ledger.proofs.RowTexts.{found_row}
 
 -- whether a record is an Issued with one of these cookies
 abbrev is_in : List (List ℕ) → IdpRecord → Bool
-is_in cookies (kinds.Pending r) = false
 is_in cookies (kinds.Issued r) = is_among r.cookie cookies
-is_in cookies (kinds.Ended r) = false
-is_in cookies (kinds.Left r) = false
-is_in cookies (kinds.Confirmed r) = false
-is_in cookies (kinds.Spoke r) = false
-is_in cookies (kinds.Round r) = false
-is_in cookies (kinds.Told r) = false
+is_in cookies other = false
 
 -- with each of these cookies all that was issued is kept
 abbrev KeepsEach : List (List ℕ) → List Marked → Type 0
@@ -54,14 +48,8 @@ first_marks (c ∷ cookies) m marks each = (each.0.0, first_marks cookies m mark
 
 in_kept : (cookies : List (List ℕ)) (flag : Bool) (r : IdpRecord) → Each (λ (c : List ℕ). is_of c r ≡ true → flag ≡ true) cookies
     → is_in cookies r ≡ true → flag ≡ true
-in_kept cookies flag (kinds.Pending r) each is = absurd (false≢true is)
 in_kept cookies flag (kinds.Issued r) each is = issued_kept cookies r.cookie flag each is
-in_kept cookies flag (kinds.Ended r) each is = absurd (false≢true is)
-in_kept cookies flag (kinds.Left r) each is = absurd (false≢true is)
-in_kept cookies flag (kinds.Confirmed r) each is = absurd (false≢true is)
-in_kept cookies flag (kinds.Spoke r) each is = absurd (false≢true is)
-in_kept cookies flag (kinds.Round r) each is = absurd (false≢true is)
-in_kept cookies flag (kinds.Told r) each is = absurd (false≢true is)
+in_kept cookies flag other each is = absurd (false≢true is)
 
 keeps_in : (cookies : List (List ℕ)) (marks : List Marked) → KeepsEach cookies marks → KeepsAll (is_in cookies) marks
 keeps_in cookies [] each = tt
@@ -146,7 +134,7 @@ each_live P rows (c ∷ cookies) now horizon each live =
     (live_has P rows c now horizon each (session_found rows c now horizon) refl both.0, each_live P rows cookies now horizon each both.1)
 
 -- the parts of sessions that live among what is kept
-pub parts_alike : (now horizon later other : ℕ) (records some : List IdpRecord) (cookies : List (List ℕ)) → AreRecords records → AreKept now horizon records some
+pub parts_alike : (now horizon later other : ℕ) (records some : List IdpRecord) (cookies : List (List ℕ)) → AreRecords records → AreKept idp_rules now horizon records some
     → AreLive (session_rows some) cookies later other → parts_of cookies (issued_rows some) ≡ parts_of cookies (issued_rows records)
 parts_alike now horizon later other records some cookies are are_kept live =
     let m = are_marked idp_rules now horizon records some are_kept in

@@ -201,15 +201,9 @@ same_until false t row = refl
 
 until_stays : (row : RoundRow) (later : List IdpRecord) → (round_behind row later).until ≡ row.until
 until_stays row [] = refl
-until_stays row (kinds.Pending r ∷ later) = until_stays row later
-until_stays row (kinds.Issued r ∷ later) = until_stays row later
-until_stays row (kinds.Ended r ∷ later) = until_stays row later
-until_stays row (kinds.Left r ∷ later) = until_stays row later
-until_stays row (kinds.Confirmed r ∷ later) = until_stays row later
-until_stays row (kinds.Spoke r ∷ later) = until_stays row later
-until_stays row (kinds.Round r ∷ later) = until_stays row later
 until_stays row (kinds.Told t ∷ later) =
     until_stays (answered_if (waits_for t.request row) t.confirmed t.next row) later ∙ same_until (waits_for t.request row) t row
+until_stays row (other ∷ later) = until_stays row later
 
 module _ (now horizon : ℕ) where
   abbrev pub round_seen : RoundRow → Bool

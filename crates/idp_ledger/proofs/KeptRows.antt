@@ -24,34 +24,18 @@ issue_user r None cookie here = absurd (false≢true here)
 issue_user r (Some pending) cookie here = other_way pending r.pending here
 
 user_names : (r : Pending) (x : IdpRecord) → uses r.pending x ≡ true → names x (kinds.Pending r) ≡ true
-user_names r (kinds.Pending x) here = absurd (false≢true here)
 user_names r (kinds.Issued x) here = issue_user r x.pending x.cookie here
-user_names r (kinds.Ended x) here = absurd (false≢true here)
-user_names r (kinds.Left x) here = absurd (false≢true here)
-user_names r (kinds.Confirmed x) here = absurd (false≢true here)
-user_names r (kinds.Spoke x) here = absurd (false≢true here)
-user_names r (kinds.Round x) here = absurd (false≢true here)
-user_names r (kinds.Told x) here = absurd (false≢true here)
+user_names r other here = absurd (false≢true here)
 
 ender_names : (r : Issued) (pending : List ℕ) → r.pending ≡ Some pending → (x : IdpRecord) → ends r.cookie x ≡ true → names x (kinds.Issued r) ≡ true
-ender_names r pending e (kinds.Pending x) here = absurd (false≢true here)
-ender_names r pending e (kinds.Issued x) here = absurd (false≢true here)
 ender_names r pending e (kinds.Ended x) here = ap (λ p. has_cookie x.cookies p r.cookie) e ∙ here
 ender_names r pending e (kinds.Left x) here = ap (λ p. has_cookie (x.cookie ∷ []) p r.cookie) e ∙ or_left (bytes_eq x.cookie r.cookie) false here
-ender_names r pending e (kinds.Confirmed x) here = absurd (false≢true here)
-ender_names r pending e (kinds.Spoke x) here = absurd (false≢true here)
 ender_names r pending e (kinds.Round x) here = ap (λ p. has_cookie x.cookies p r.cookie) e ∙ here
-ender_names r pending e (kinds.Told x) here = absurd (false≢true here)
+ender_names r pending e other here = absurd (false≢true here)
 
 confirmer_names : (r : Left) (x : IdpRecord) → confirms r.request x ≡ true → names x (kinds.Left r) ≡ true
-confirmer_names r (kinds.Pending x) here = absurd (false≢true here)
-confirmer_names r (kinds.Issued x) here = absurd (false≢true here)
-confirmer_names r (kinds.Ended x) here = absurd (false≢true here)
-confirmer_names r (kinds.Left x) here = absurd (false≢true here)
 confirmer_names r (kinds.Confirmed x) here = other_way x.request r.request here
-confirmer_names r (kinds.Spoke x) here = absurd (false≢true here)
-confirmer_names r (kinds.Round x) here = absurd (false≢true here)
-confirmer_names r (kinds.Told x) here = absurd (false≢true here)
+confirmer_names r other here = absurd (false≢true here)
 
 same_marked : (r : IdpRecord) (test : IdpRecord → Bool) (later : List Marked) → ((x : IdpRecord) → test x ≡ true → names x r ≡ true) → NamersOf (true, r) later
     → list_any test (kept later) ≡ list_any test (all later)

@@ -10,6 +10,7 @@ pub mod KeptMarks
 pub mod RoundChains
 pub mod RoundTurns
 pub mod KeptRounds
+pub mod FreeKeys
 pub mod KeptRecords
 pub mod KeptRows
 pub mod LinkFree
@@ -17,7 +18,6 @@ pub mod KeptIssues
 pub mod KeptParts
 pub mod KeptAnswers
 pub mod CauseLaws
-pub mod FoundDrafts
 pub mod RuleLaws
 pub mod SessionsStaying
 pub mod RoundLaws

@@ -48,27 +48,15 @@ done_waits q row done = ap (λ d. bytes_eq row.request q && not d) done ∙ no_m
 
 done_stays : (row : RoundRow) (later : List IdpRecord) → is_done row ≡ true → round_behind row later ≡ row
 done_stays row [] done = refl
-done_stays row (kinds.Pending r ∷ later) done = done_stays row later done
-done_stays row (kinds.Issued r ∷ later) done = done_stays row later done
-done_stays row (kinds.Ended r ∷ later) done = done_stays row later done
-done_stays row (kinds.Left r ∷ later) done = done_stays row later done
-done_stays row (kinds.Confirmed r ∷ later) done = done_stays row later done
-done_stays row (kinds.Spoke r ∷ later) done = done_stays row later done
-done_stays row (kinds.Round r ∷ later) done = done_stays row later done
 done_stays row (kinds.Told t ∷ later) done =
     ap (λ b. round_behind (answered_if b t.confirmed t.next row) later) (done_waits t.request row done) ∙ done_stays row later done
+done_stays row (other ∷ later) done = done_stays row later done
 
 -- ---- what answers a request, and what makes one
 
 abbrev pub answers_it : List ℕ → IdpRecord → Bool
-answers_it q (kinds.Pending r) = false
-answers_it q (kinds.Issued r) = false
-answers_it q (kinds.Ended r) = false
-answers_it q (kinds.Left r) = false
-answers_it q (kinds.Confirmed r) = false
-answers_it q (kinds.Spoke r) = false
-answers_it q (kinds.Round r) = false
 answers_it q (kinds.Told r) = bytes_eq r.request q
+answers_it q other = false
 
 -- a Told that makes this request, which no later record answers
 record IsAskedIn (later : List IdpRecord) (q : List ℕ) : Type 0 where

@@ -49,16 +49,10 @@ one_answer true row new t ts waits rest = record {
 
 behind : (row : RoundRow) (later : List IdpRecord) → IsBehind row (round_behind row later) (answers_after row later)
 behind row [] = record { told = omega arith; confirmed = omega arith; turns = refl; skipped = refl }
-behind row (kinds.Pending r ∷ later) = behind row later
-behind row (kinds.Issued r ∷ later) = behind row later
-behind row (kinds.Ended r ∷ later) = behind row later
-behind row (kinds.Left r ∷ later) = behind row later
-behind row (kinds.Confirmed r ∷ later) = behind row later
-behind row (kinds.Spoke r ∷ later) = behind row later
-behind row (kinds.Round r ∷ later) = behind row later
 behind row (kinds.Told t ∷ later) =
     one_answer (waits_for t.request row) row (round_behind row (kinds.Told t ∷ later)) t (answers_after (answered_if (waits_for t.request row) t.confirmed t.next row) later) refl
     (behind (answered_if (waits_for t.request row) t.confirmed t.next row) later)
+behind row (other ∷ later) = behind row later
 
 few_confirm : (ts : List Told) → confirming ts ≤ length ts
 few_confirm [] = omega arith

@@ -20,14 +20,8 @@ map_nothing (row ∷ rows) = λ i. row ∷ map_nothing rows i
 
 pub round_rows-push : (records : List IdpRecord) (r : IdpRecord) → round_rows (records ++ r ∷ []) ≡ map (λ row. round_after row r) (round_rows records) ++ round_rows (r ∷ [])
 round_rows-push [] r = refl
-round_rows-push (kinds.Pending o ∷ later) r = round_rows-push later r
-round_rows-push (kinds.Issued o ∷ later) r = round_rows-push later r
-round_rows-push (kinds.Ended o ∷ later) r = round_rows-push later r
-round_rows-push (kinds.Left o ∷ later) r = round_rows-push later r
-round_rows-push (kinds.Confirmed o ∷ later) r = round_rows-push later r
-round_rows-push (kinds.Spoke o ∷ later) r = round_rows-push later r
 round_rows-push (kinds.Round o ∷ later) r = λ i. behind-push (round_row o) later r i ∷ round_rows-push later r i
-round_rows-push (kinds.Told o ∷ later) r = round_rows-push later r
+round_rows-push (other ∷ later) r = round_rows-push later r
 
 pub rounds_stay : (rows : List RoundRow) → map (λ (row : RoundRow). row) rows ++ [] ≡ rows
 rounds_stay rows = append-nil (map (λ (row : RoundRow). row) rows) ∙ map_nothing rows
@@ -59,14 +53,8 @@ one_bounded true false next row = record { told = omega arith; confirmed = omega
 one_bounded false confirmed next row = record { told = omega arith; confirmed = omega arith }
 
 after_bounded : (row : RoundRow) (r : IdpRecord) → IsBounded row (round_after row r) 1
-after_bounded row (kinds.Pending r) = same_bounded row
-after_bounded row (kinds.Issued r) = same_bounded row
-after_bounded row (kinds.Ended r) = same_bounded row
-after_bounded row (kinds.Left r) = same_bounded row
-after_bounded row (kinds.Confirmed r) = same_bounded row
-after_bounded row (kinds.Spoke r) = same_bounded row
-after_bounded row (kinds.Round r) = same_bounded row
 after_bounded row (kinds.Told r) = one_bounded (waits_for r.request row) r.confirmed r.next row
+after_bounded row other = same_bounded row
 
 behind_bounded : (row : RoundRow) (later : List IdpRecord) → IsBounded row (round_behind row later) (length later)
 behind_bounded row [] = record { told = omega arith; confirmed = omega arith }

@@ -50,15 +50,9 @@ answered_texts false confirmed next row t = t
 
 behind_texts : (row : RoundRow) (later : List IdpRecord) → AreRoundTexts row → AreRoundTexts (round_behind row later)
 behind_texts row [] t = t
-behind_texts row (kinds.Pending r ∷ later) t = behind_texts row later t
-behind_texts row (kinds.Issued r ∷ later) t = behind_texts row later t
-behind_texts row (kinds.Ended r ∷ later) t = behind_texts row later t
-behind_texts row (kinds.Left r ∷ later) t = behind_texts row later t
-behind_texts row (kinds.Confirmed r ∷ later) t = behind_texts row later t
-behind_texts row (kinds.Spoke r ∷ later) t = behind_texts row later t
-behind_texts row (kinds.Round r ∷ later) t = behind_texts row later t
 behind_texts row (kinds.Told r ∷ later) t =
     behind_texts (answered_if (waits_for r.request row) r.confirmed r.next row) later (answered_texts (waits_for r.request row) r.confirmed r.next row t)
+behind_texts row (other ∷ later) t = behind_texts row later t
 
 -- ---- each row
 

@@ -19,16 +19,10 @@ use Rattle.idp_ledger.proofs.RoundChains.{FitsAll, FitsOne, done_waits, fits_all
 -- a round that is done has no answers more
 done_none : (row : RoundRow) (later : List IdpRecord) → is_done row ≡ true → answers_after row later ≡ []
 done_none row [] done = refl
-done_none row (kinds.Pending r ∷ later) done = done_none row later done
-done_none row (kinds.Issued r ∷ later) done = done_none row later done
-done_none row (kinds.Ended r ∷ later) done = done_none row later done
-done_none row (kinds.Left r ∷ later) done = done_none row later done
-done_none row (kinds.Confirmed r ∷ later) done = done_none row later done
-done_none row (kinds.Spoke r ∷ later) done = done_none row later done
-done_none row (kinds.Round r ∷ later) done = done_none row later done
 done_none row (kinds.Told t ∷ later) done =
     ap (λ (b : Bool). (if b then t ∷ [] else []) ++ answers_after (answered_if b t.confirmed t.next row) later) (done_waits t.request row done)
     ∙ done_none row later done
+done_none row (other ∷ later) done = done_none row later done
 
 -- ---- the answers from a row on
 

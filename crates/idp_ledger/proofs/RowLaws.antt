@@ -31,24 +31,12 @@ pending_rows-push : (records : List IdpRecord) (r : IdpRecord) → pending_rows 
 pending_rows-push [] r = refl
 pending_rows-push (kinds.Pending o ∷ later) r =
     λ i. pending_row (list_any-push (uses o.pending) later r i) o ∷ pending_rows-push later r i
-pending_rows-push (kinds.Issued o ∷ later) r = pending_rows-push later r
-pending_rows-push (kinds.Ended o ∷ later) r = pending_rows-push later r
-pending_rows-push (kinds.Left o ∷ later) r = pending_rows-push later r
-pending_rows-push (kinds.Confirmed o ∷ later) r = pending_rows-push later r
-pending_rows-push (kinds.Spoke o ∷ later) r = pending_rows-push later r
-pending_rows-push (kinds.Round o ∷ later) r = pending_rows-push later r
-pending_rows-push (kinds.Told o ∷ later) r = pending_rows-push later r
+pending_rows-push (other ∷ later) r = pending_rows-push later r
 
 issued_rows-append : (records more : List IdpRecord) → issued_rows (records ++ more) ≡ issued_rows records ++ issued_rows more
 issued_rows-append [] more = refl
-issued_rows-append (kinds.Pending r ∷ later) more = issued_rows-append later more
 issued_rows-append (kinds.Issued r ∷ later) more = ap (λ rows. issued_row r ∷ rows) (issued_rows-append later more)
-issued_rows-append (kinds.Ended r ∷ later) more = issued_rows-append later more
-issued_rows-append (kinds.Left r ∷ later) more = issued_rows-append later more
-issued_rows-append (kinds.Confirmed r ∷ later) more = issued_rows-append later more
-issued_rows-append (kinds.Spoke r ∷ later) more = issued_rows-append later more
-issued_rows-append (kinds.Round r ∷ later) more = issued_rows-append later more
-issued_rows-append (kinds.Told r ∷ later) more = issued_rows-append later more
+issued_rows-append (other ∷ later) more = issued_rows-append later more
 
 begun-push : (pending : Option (List ℕ)) (o : Issued) (r : IdpRecord) (later : List IdpRecord) (rows more : List SessionRow)
     → if_pending pending (session_row (list_any (ends o.cookie) (later ++ r ∷ [])) o ∷ []) ++ (ended_where (λ row. ends row.cookie r) rows ++ more)
@@ -59,28 +47,16 @@ begun-push (Some pending) o r later rows more =
 
 session_rows-push : (records : List IdpRecord) (r : IdpRecord) → session_rows (records ++ r ∷ []) ≡ ended_where (λ row. ends row.cookie r) (session_rows records) ++ session_rows (r ∷ [])
 session_rows-push [] r = refl
-session_rows-push (kinds.Pending o ∷ later) r = session_rows-push later r
 session_rows-push (kinds.Issued o ∷ later) r =
     ap (λ rows. begun (list_any (ends o.cookie) (later ++ r ∷ [])) o ++ rows) (session_rows-push later r)
     ∙ begun-push o.pending o r later (session_rows later) (session_rows (r ∷ []))
-session_rows-push (kinds.Ended o ∷ later) r = session_rows-push later r
-session_rows-push (kinds.Left o ∷ later) r = session_rows-push later r
-session_rows-push (kinds.Confirmed o ∷ later) r = session_rows-push later r
-session_rows-push (kinds.Spoke o ∷ later) r = session_rows-push later r
-session_rows-push (kinds.Round o ∷ later) r = session_rows-push later r
-session_rows-push (kinds.Told o ∷ later) r = session_rows-push later r
+session_rows-push (other ∷ later) r = session_rows-push later r
 
 left_rows-push : (records : List IdpRecord) (r : IdpRecord) → left_rows (records ++ r ∷ []) ≡ confirmed_where (λ row. confirms row.request r) (left_rows records) ++ left_rows (r ∷ [])
 left_rows-push [] r = refl
-left_rows-push (kinds.Pending o ∷ later) r = left_rows-push later r
-left_rows-push (kinds.Issued o ∷ later) r = left_rows-push later r
-left_rows-push (kinds.Ended o ∷ later) r = left_rows-push later r
 left_rows-push (kinds.Left o ∷ later) r =
     λ i. left_row (list_any-push (confirms o.request) later r i) o ∷ left_rows-push later r i
-left_rows-push (kinds.Confirmed o ∷ later) r = left_rows-push later r
-left_rows-push (kinds.Spoke o ∷ later) r = left_rows-push later r
-left_rows-push (kinds.Round o ∷ later) r = left_rows-push later r
-left_rows-push (kinds.Told o ∷ later) r = left_rows-push later r
+left_rows-push (other ∷ later) r = left_rows-push later r
 
 -- where no row is meant all stay
 pub used_where-nothing : (rows : List PendingRow) → used_where (λ _. false) rows ≡ rows

@@ -83,12 +83,9 @@ lefts_few (kinds.Told r ∷ later) = omega (arith, lefts_few later)
 pub rows_of_records : AreRowsOfRecords idp_rules
 rows_of_records records (kinds.Pending r) = pendings_few records
 rows_of_records records (kinds.Issued r) = issues_few records
-rows_of_records records (kinds.Ended r) = tt
 rows_of_records records (kinds.Left r) = lefts_few records
-rows_of_records records (kinds.Confirmed r) = tt
-rows_of_records records (kinds.Spoke r) = tt
 rows_of_records records (kinds.Round r) = rounds_few records
-rows_of_records records (kinds.Told r) = tt
+rows_of_records records other = tt
 
 -- ---- one record more
 

@@ -50,17 +50,11 @@ module _ (r : Issued) (pending : List ℕ) (has : r.pending ≡ Some pending) wh
   row_at [] behind =
       let row = session_row (list_any (ends r.cookie) behind) r in
       subst (λ (o : Option (List ℕ)). Contains (if_pending o (row ∷ []) ++ session_rows behind) row) (sym has) (0, omega arith, refl)
-  row_at (kinds.Pending x ∷ before) behind = row_at before behind
   row_at (kinds.Issued x ∷ before) behind =
       let rest = before ++ kinds.Issued r ∷ behind in
       Contains-append_right (begun (list_any (ends x.cookie) rest) x) (session_rows rest) (session_row (list_any (ends r.cookie) behind) r)
       (row_at before behind)
-  row_at (kinds.Ended x ∷ before) behind = row_at before behind
-  row_at (kinds.Left x ∷ before) behind = row_at before behind
-  row_at (kinds.Confirmed x ∷ before) behind = row_at before behind
-  row_at (kinds.Spoke x ∷ before) behind = row_at before behind
-  row_at (kinds.Round x ∷ before) behind = row_at before behind
-  row_at (kinds.Told x ∷ before) behind = row_at before behind
+  row_at (other ∷ before) behind = row_at before behind
 
 -- the record of a row
 record IsRowOf (records : List IdpRecord) (row : SessionRow) : Type 0 where

@@ -19,7 +19,6 @@ use Rattle.idp_rows.specs.declared.row.PendingRow.{PendingRow}
 use Rattle.idp_rows.specs.declared.row.SessionRow.{SessionRow}
 use Rattle.idp_ledger.specs.declared.ids.LoginIds.{LoginIds}
 use Rattle.idp_ledger.specs.declared.ids.RoundIds.{RoundIds}
-use Rattle.idp_rows.specs.RowsOf.{IdpRows, rows_of_kind}
 use Rattle.idp_ledger.specs.Standing.{idp_row_rules}
 use Rattle.idp_ledger.specs.Ids.{login_ids, round_ids}
 use Rattle.idp_rows.specs.Finding.{session_found}
@@ -184,15 +183,6 @@ AreXmlTurns turns = list_all is_xml_text (flat_map of_turn turns) ≡ true
 -- each of these is the cookie of a live session
 abbrev pub AreLive : List SessionRow → (cookies : List (List ℕ)) (now horizon : ℕ) → Type 0
 AreLive sessions cookies now horizon = list_all (λ cookie. is_some (session_found sessions cookie now horizon)) cookies ≡ true
-
--- whether there are as many rows of a record's kind as there may be, or more
-abbrev pub is_full : IdpRows → IdpRecord → Bool
-is_full rows r = any.is_most (rows_of_kind rows r)
-
--- Why a record is not drafted, the first of these that holds: as many rows of its kind are kept as there may be; it does not
--- fit. Want of memory may come in place of each.
-abbrev pub IsCause : OpenedLedger → IdpRecord → DraftFault → Type 0
-IsCause = any.IsCause idp_rules
 
 -- a draft of this record, for which nothing but memory was missing, and which can be committed now
 abbrev pub IsDraftOf : OpenedLedger → OpenedLedger → IdpRecord → IdpRecord → Type 0

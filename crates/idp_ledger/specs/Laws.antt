@@ -14,7 +14,7 @@ use Rattle.idp_rows.specs.RoundsOf.{round_row, round_behind, round_rows, answers
 use Rattle.idp_rows.specs.RowsOf.{IdpRows, rows_of, session_rows, ended_if, ends}
 use Rattle.idp_ledger.specs.Record.{AreRecords, idp_rules}
 use Rattle.idp_ledger.specs.Ledger.{Held}
-use Rattle.idp_ledger.specs.Compacting.{IsCompacted}
+use Rattle.record_ledger.specs.Compacting.{IsCompacted}
 use Rattle.std.specs.List.{list_any}
 use Rattle.record_ledger.specs.Runs.{Event, Leads, added, CompactsAt, EndsBehind}
 
@@ -43,7 +43,7 @@ KeptAreRecords = any.KeptAreRecords idp_rules
 
 -- from the moment of a compaction on it changes no answer
 abbrev pub CompactionsChangeNoAnswer : Type 0
-CompactionsChangeNoAnswer = (now later : ℕ) (old new : Held) → AreRecords old.records → IsCompacted now old new → now ≤ later → AnswerAlike later new old
+CompactionsChangeNoAnswer = (now later : ℕ) (old new : Held) → AreRecords old.records → IsCompacted idp_rules now old new → now ≤ later → AnswerAlike later new old
 
 -- What an Issued was issued for: a login that was pending and not used before, or a session that was not ended.
 pub record HasPending (rows : IdpRows) (pending : List ℕ) : Type 0 where

@@ -8,14 +8,13 @@ use Rattle.idp_rows.specs.Record.{of_option}
 
 -- the IDs of the rows whose records are linked to the one that names them
 abbrev pub named : IdpRecord → List (List ℕ)
-named (kinds.Pending r) = []
 named (kinds.Issued r) = of_option r.pending
 named (kinds.Ended r) = r.cookies
 named (kinds.Left r) = r.cookie ∷ []
 named (kinds.Confirmed r) = r.request ∷ []
-named (kinds.Spoke r) = []
 named (kinds.Round r) = r.cookies
 named (kinds.Told r) = r.request ∷ []
+named other = []
 
 -- the number and the ID by which a record's row is found, where it has one
 abbrev pub session_found : Option (List ℕ) → ℕ → List ℕ → Option Drawn
@@ -29,12 +28,10 @@ next_found first (Some next) = Some (record { number = first; id = next })
 abbrev pub row_found : IdpRecord → Option Drawn
 row_found (kinds.Pending r) = Some (record { number = r.first; id = r.pending })
 row_found (kinds.Issued r) = session_found r.pending r.first r.cookie
-row_found (kinds.Ended r) = None
 row_found (kinds.Left r) = Some (record { number = r.first; id = r.request })
-row_found (kinds.Confirmed r) = None
-row_found (kinds.Spoke r) = None
 row_found (kinds.Round r) = Some (record { number = r.first + 1; id = r.request })
 row_found (kinds.Told r) = next_found r.first r.next
+row_found other = None
 
 -- An Issued in a session that the user had is itself linked to the record that began the session: its cookie.
 abbrev pub where_none : Option (List ℕ) → List ℕ → Option (List ℕ)
@@ -42,14 +39,8 @@ where_none None cookie = Some cookie
 where_none (Some pending) cookie = None
 
 abbrev pub within : IdpRecord → Option (List ℕ)
-within (kinds.Pending r) = None
 within (kinds.Issued r) = where_none r.pending r.cookie
-within (kinds.Ended r) = None
-within (kinds.Left r) = None
-within (kinds.Confirmed r) = None
-within (kinds.Spoke r) = None
-within (kinds.Round r) = None
-within (kinds.Told r) = None
+within other = None
 
 abbrev pub idp_links : any.LinkRules IdpRecord
 idp_links = record { row = row_found; named = named; within = within }

@@ -1,5 +1,5 @@
 -- Which payloads are records of an identity provider's ledger.
-use Rattle.std.specs.Prelude.{ℕ, Bool, List, Result}
+use Rattle.std.specs.Prelude.{ℕ, Bool, List}
 use Rattle.std.specs.List.{flat_map}
 use Rattle.ledger_records.specs.declared.idp_record.IdpRecord.{IdpRecord}
 use Rattle.ledger_records.specs.Found.{idp_record}
@@ -30,10 +30,6 @@ idp_rules = record {
   has_visible = has_visible;
   names = names;
 }
-
--- The records that the payloads of a journal are, or the number of the first payload that is none.
-abbrev pub records_of : List (List ℕ) → Result (List IdpRecord) ℕ
-records_of = any.records_of idp_rules 2
 
 -- each is a record of the ledger behind those before it
 abbrev pub AreRecordsAfter : List IdpRecord → List IdpRecord → Type 0

@@ -1,233 +1,42 @@
-//! An opened ledger.
-ghost use Rattle.std.specs.Prelude.{◌≡◌, true, false, None, IfErr, IfOk, IfSome, IsErrOf, OnOk, OnErr, option_copied};
-ghost use Rattle.owned_values.specs.Gives.{Gives};
-ghost use Rattle.crash_disk.specs.Counts.{CountsFaults};
-ghost use Rattle.crash_disk.specs.Disk.{image_of};
-ghost use Rattle.crash_disk.specs.Moments.{LeavesOnly};
-ghost use Rattle.crash_disk.specs.Plans.{Follows};
-ghost use Rattle.gate_journal.specs.Opening.{open_fault_of, CausesFaults};
-ghost use Rattle.request_rows.specs.Order.{IsOrder};
-ghost use Rattle.idp_rows.specs.Order.{keys_of};
+//! The ledger, and what is found in its rows.
+ghost use Rattle.std.specs.Prelude.{◌≡◌, option_copied};
 ghost use Rattle.idp_rows.specs.Finding.{is_waiting_now, pending_found, session_found};
-ghost use Rattle.idp_ledger.specs.Record.{AreRecords};
-ghost use Rattle.idp_ledger.specs.Ledger.{CanCommit, IsOwn, IsWithOrWithout, LeftByOpening, ledger_in, next_number, rows_in};
-ghost use Rattle.record_ledger.specs.Ledger.{held_with, taken};
-ghost use Rattle.idp_ledger.specs.Calls.{committing, opening, FollowsCompaction};
-ghost use Rattle.idp_ledger.specs.Compacting.{Compacts, IsOldOrCompacted};
+ghost use Rattle.idp_ledger.specs.Ledger.{rows_in};
 
-use crate::draft::Draft;
 use crate::standing::IdpStanding;
-use gate_journal::{Disk, Failed, Header, OpenFault};
-use idp_rows::{IdpKey, IssuedRow, KeptRows, LeftRow, PendingRow, SessionRow};
+use idp_rows::{KeptRows, PendingRow, SessionRow};
 use record_ledger::RecordLedger;
-use round_rows::RoundRow;
-use std::alloc::Global;
-use std::marker::Model;
 
 /// The records of an identity provider in a journal, and the rows that they stand for.
-#[derive(Debug, Drop)]
-pub struct IdpLedger {
-    pub(crate) ledger: RecordLedger<IdpStanding>,
+pub type IdpLedger = RecordLedger<IdpStanding>;
+
+/// The rows of a ledger.
+pub fn rows(ledger: &IdpLedger) -> &KeptRows
+    ensures { result.now.rows ≡ rows_in ledger.now }
+{
+    &ledger.standing().kept
 }
 
-impl Model for IdpLedger {
-    ghost use Rattle.idp_ledger.specs.Ledger.{OpenedLedger};
-
-    ghost Value = { OpenedLedger };
-
-    ghost view = { λ l. l.ledger };
+/// The pending login of an ID: the first one that is not used and is visible; none where there is none.
+pub fn pending<'a>(ledger: &'a IdpLedger, id: &str, now: u64) -> Option<&'a PendingRow>
+    ensures { option_copied result ≡ pending_found (rows_in ledger.now).pendings id.now now ledger.now.held.header.horizon }
+{
+    let horizon = ledger.header().horizon;
+    rows(ledger).pending(id, now, horizon)
 }
 
-impl IdpLedger {
-    /// Opens the ledger of a disk: the records of its journal, or an empty journal where there is none yet. A journal of
-    /// version 1 is made anew in version 2. `key` is the key of the IDs that are drawn.
-    ///
-    /// It begins with a sync of both files. It answers [`OpenFault::Foreign`] exactly where the files are no journal, or a
-    /// payload is no record of an identity provider's ledger: then with the place of the length of the first such payload.
-    /// [`OpenFault::DiskFault`] comes only where the disk's count of faults rose.
-    pub fn start<D: Disk>(
-        alloc: Global,
-        disk: &mut D,
-        key: [u8; 32],
-    ) -> Result<IdpLedger, OpenFault>
-        ensures gives { IfSome (D.shows disk.old).told (λ d. Gives (λ l. l.held) open_fault_of result (taken (ledger_in (image_of d)))) }
-        ensures whole { IfOk result (λ l. (l.broken ≡ false) × (l.key ≡ key)) }
-        ensures own { IfOk result (λ l. IsOwn (D.shows disk.new).told l) }
-        // A crash at any moment of the call leaves what an image at its start stood for, or what is opened from that.
-        ensures moments { LeavesOnly D.shows disk.old disk.new (LeftByOpening (D.shows disk.old).told) }
-        ensures faults { CausesFaults result (D.shows disk.old).faults (D.shows disk.new).faults }
-        ensures calls { Follows D.shows opening disk.old disk.new result }
-    {
-        Ok(IdpLedger {
-            ledger: RecordLedger::start(alloc, disk, key)?,
-        })
-    }
+/// The live session of a cookie: the first one that is not ended and is visible; none where there is none.
+pub fn session<'a>(ledger: &'a IdpLedger, cookie: &str, now: u64) -> Option<&'a SessionRow>
+    ensures { option_copied result ≡ session_found (rows_in ledger.now).sessions cookie.now now ledger.now.held.header.horizon }
+{
+    let horizon = ledger.header().horizon;
+    rows(ledger).session(cookie, now, horizon)
+}
 
-    /// Opens the ledger again, as `start` does. At an error it is broken, and else as it was.
-    pub fn reopen<D: Disk>(&mut self, disk: &mut D) -> Result<(), OpenFault>
-        ensures gives { IfSome (D.shows disk.old).told (λ d. Gives (λ _. self.new.held) open_fault_of result (taken (ledger_in (image_of d)))) }
-        ensures whole { OnOk result (self.new.broken ≡ false) }
-        ensures own { OnOk result (IsOwn (D.shows disk.new).told self.new) }
-        ensures err { OnErr result ((self.new.held ≡ self.old.held) × (self.new.broken ≡ true)) }
-        ensures own_err { OnErr result (IsOwn (D.shows disk.old).told (record self.old { broken = true }) → IsOwn (D.shows disk.new).told self.new) }
-        ensures key { self.new.key ≡ self.old.key }
-        // A crash at any moment of the call leaves what an image at its start stood for, or what is opened from that.
-        ensures moments { LeavesOnly D.shows disk.old disk.new (LeftByOpening (D.shows disk.old).told) }
-        ensures faults { CausesFaults result (D.shows disk.old).faults (D.shows disk.new).faults }
-        ensures calls { Follows D.shows opening disk.old disk.new result }
-    {
-        self.ledger.reopen(disk)
-    }
-
-    /// The rows.
-    pub(crate) fn standing(&self) -> &KeptRows
-        ensures { result.now.rows ≡ rows_in self.now }
-    {
-        &self.ledger.standing().kept
-    }
-
-    /// The logins that are pending, in the order of their records, used and past ones too.
-    pub fn pendings(&self) -> &[PendingRow]
-        ensures { result.now ≡ (rows_in self.now).pendings }
-    {
-        self.standing().pendings()
-    }
-
-    /// The assertions that were issued, in the order of their records.
-    pub fn issues(&self) -> &[IssuedRow]
-        ensures { result.now ≡ (rows_in self.now).issues }
-    {
-        self.standing().issues()
-    }
-
-    /// The sessions, in the order of their records, ended and past ones too.
-    pub fn sessions(&self) -> &[SessionRow]
-        ensures { result.now ≡ (rows_in self.now).sessions }
-    {
-        self.standing().sessions()
-    }
-
-    /// The logouts that were begun here, in the order of their records, confirmed and past ones too.
-    pub fn lefts(&self) -> &[LeftRow]
-        ensures { result.now ≡ (rows_in self.now).lefts }
-    {
-        self.standing().lefts()
-    }
-
-    /// The places of the pending rows or of the sessions, counted from 0, in the order of this key: each place once, and of
-    /// two neighbours the first has the lesser key by bytes, or an equal key and the lesser place. It takes no memory.
-    pub fn order(&self, key: IdpKey) -> &[u32]
-        ensures { IsOrder (keys_of key (rows_in self.now)) result.now }
-    {
-        self.standing().order(key)
-    }
-
-    /// The rounds, in the order of their records, those that are done and past ones too.
-    pub fn rounds(&self) -> &[RoundRow]
-        ensures { result.now ≡ (rows_in self.now).rounds }
-    {
-        self.standing().rounds()
-    }
-
-    /// What the journal's header keeps.
-    pub fn header(&self) -> Header
-        ensures { result ≡ self.now.held.header }
-    {
-        self.ledger.header()
-    }
-
-    /// Whether a call failed since the ledger was opened.
-    pub fn is_broken(&self) -> bool
-        ensures { result ≡ self.now.broken }
-    {
-        self.ledger.is_broken()
-    }
-
-    /// The key of the IDs that are drawn.
-    pub(crate) fn key(&self) -> &[u8; 32]
-        ensures { result.now ≡ self.now.key }
-    {
-        self.ledger.key()
-    }
-
-    /// The next number to be drawn: the larger of the header's and one more than the greatest that a record drew.
-    pub(crate) fn next_number(&self) -> u64
-        ensures { result ≡ next_number self.now.held }
-    {
-        self.ledger.next_number()
-    }
-
-    /// That the records are those of a ledger, each behind those before it. It does nothing.
-    pub fn holds_records(&self)
-        ensures { AreRecords self.now.held.records }
-    {
-        self.ledger.holds_records();
-    }
-
-    /// The pending login of an ID: the first one that is not used and is visible; none where there is none.
-    pub fn pending(&self, id: &str, now: u64) -> Option<&PendingRow>
-        ensures { option_copied result ≡ pending_found (rows_in self.now).pendings id.now now self.now.held.header.horizon }
-    {
-        let horizon = self.header().horizon;
-        self.standing().pending(id, now, horizon)
-    }
-
-    /// The live session of a cookie: the first one that is not ended and is visible; none where there is none.
-    pub fn session(&self, cookie: &str, now: u64) -> Option<&SessionRow>
-        ensures { option_copied result ≡ session_found (rows_in self.now).sessions cookie.now now self.now.held.header.horizon }
-    {
-        let horizon = self.header().horizon;
-        self.standing().session(cookie, now, horizon)
-    }
-
-    /// Whether the logout of a request is visible and not confirmed: one that `draft_confirm` would confirm.
-    pub fn is_waiting(&self, request: &str, now: u64) -> bool
-        ensures { result ≡ is_waiting_now (rows_in self.now).lefts request.now now self.now.held.header.horizon }
-    {
-        let horizon = self.header().horizon;
-        self.standing().is_waiting(request, now, horizon)
-    }
-
-    /// Adds the record of a draft. It takes no memory. At `Failed` the ledger is broken, and has to be opened again; the
-    /// disk then stands for the records with the new one or without.
-    pub fn commit<D: Disk>(&mut self, disk: &mut D, draft: Draft) -> Result<(), Failed>
-        requires own { IsOwn (D.shows disk.old).told self.old }
-        requires whole { self.old.broken ≡ false }
-        requires can { CanCommit self.old draft }
-        ensures ok { OnOk result ((self.new.held ≡ held_with draft self.old.held) × (self.new.broken ≡ false)) }
-        ensures err { OnErr result ((self.new.held ≡ self.old.held) × (self.new.broken ≡ true)) }
-        ensures key { self.new.key ≡ self.old.key }
-        ensures own { IsOwn (D.shows disk.new).told self.new }
-        // A crash at any moment of the call leaves the records from before it, with the new one or without.
-        ensures moments { LeavesOnly D.shows disk.old disk.new (IsWithOrWithout draft self.old.held) }
-        ensures faults { CountsFaults result (D.shows disk.old).faults (D.shows disk.new).faults }
-        ensures calls { Follows D.shows (committing self.old.held draft) disk.old disk.new result }
-    {
-        self.ledger.commit(disk, draft.drafted)
-    }
-
-    /// Leaves out each record that no one can ask for any more from the moment `now` on: a record is kept where a row of it is
-    /// visible, and with it each that it names and each that names it. The journal is made anew in its other file, with the
-    /// same next number, and with the larger of its horizon and `now`. No answer about visible rows changes from `now` on
-    /// ([`laws`](crate::laws)). A ledger of the last generation, 2^64 - 1, stays as it is.
-    ///
-    /// It answers [`OpenFault::NoMemory`] before it changes anything, and [`OpenFault::DiskFault`] only where the disk's count
-    /// of faults rose: then the ledger is broken, and the disk stands for it as before or as made anew. It never answers
-    /// [`OpenFault::Foreign`].
-    pub fn compact<D: Disk>(&mut self, disk: &mut D, now: u64) -> Result<(), OpenFault>
-        requires own { IsOwn (D.shows disk.old).told self.old }
-        requires whole { self.old.broken ≡ false }
-        ensures ok { OnOk result (Compacts now self.old.held self.new.held × (self.new.broken ≡ false)) }
-        ensures failed { IsErrOf result OpenFault.DiskFault → (self.new.held ≡ self.old.held) × (self.new.broken ≡ true) }
-        ensures no_memory { IsErrOf result OpenFault.NoMemory → (self.new ≡ self.old) × (disk.new ≡ disk.old) }
-        ensures not_foreign { IfErr result (λ e. open_fault_of e ≡ None) }
-        ensures key { self.new.key ≡ self.old.key }
-        ensures own { IsOwn (D.shows disk.new).told self.new }
-        // A crash at any moment of the call leaves the ledger from before it, or the one that is made anew.
-        ensures moments { LeavesOnly D.shows disk.old disk.new (IsOldOrCompacted now self.old.held) }
-        ensures faults { CausesFaults result (D.shows disk.old).faults (D.shows disk.new).faults }
-        ensures calls { FollowsCompaction D.shows now self.old.held disk.old disk.new result }
-    {
-        self.ledger.compact(disk, now)
-    }
+/// Whether the logout of a request is visible and not confirmed: one that `draft_confirm` would confirm.
+pub(crate) fn is_waiting(ledger: &IdpLedger, request: &str, now: u64) -> bool
+    ensures { result ≡ is_waiting_now (rows_in ledger.now).lefts request.now now ledger.now.held.header.horizon }
+{
+    let horizon = ledger.header().horizon;
+    rows(ledger).is_waiting(request, now, horizon)
 }

@@ -3,33 +3,35 @@
 //!
 //! ```
 //! let mut ledger = IdpLedger::start(alloc, &mut disk, key)?;          // the records of the disk's journal
-//! let draft = ledger.draft_pending(now, &ask)?;                       // takes all the memory that is needed
-//! let pending = *draft.first();
+//! let draft = draft_pending(&mut ledger, now, &ask)?;                 // takes all the memory that is needed
+//! let id = Text::of(alloc, first_id(draft.entry().entry()))?;
 //! ledger.commit(&mut disk, draft)?;                                   // in every image that a crash may leave from now on
-//! let draft = ledger.draft_login(now, pending.as_str(), user, &attributes)?;
-//! let cookie = *draft.second();
+//! let draft = draft_login(&mut ledger, now, id.as_str(), user, &attributes)?;
+//! let cookie = Text::of(alloc, second_id(draft.entry().entry()))?;
 //! ledger.commit(&mut disk, draft)?;
-//! ledger.session(cookie.as_str(), now);                               // the live session of a cookie
-//! let draft = ledger.draft_round(now, &cookies, Some(&asker), plan.turns.as_slice(), plan.skipped)?;   // a logout of all providers
-//! let request = *draft.first();
+//! session(&ledger, cookie.as_str(), now);                             // the live session of a cookie
+//! let draft = draft_round(&mut ledger, now, &cookies, Some(&asker), plan.turns.as_slice(), plan.skipped)?;   // a logout of all providers
+//! let request = Text::of(alloc, first_id(draft.entry().entry()))?;
 //! ledger.commit(&mut disk, draft)?;
-//! ledger.draft_told(now, request.as_str(), peer, true)?;              // the answer of the first, and a request to the next
+//! draft_told(&mut ledger, now, request.as_str(), peer, true)?;        // the answer of the first, and a request to the next
 //! ledger.compact(&mut disk, now)?;                                    // leaves out what no one can ask for any more
 //! ```
 //!
-//! A contract sees a ledger as its records, the header of its journal, and whether a call failed. Which payloads are records
-//! of a ledger is said in `specs/Record.antt`, and what two files stand for in `specs/Ledger.antt`; for what rows records
-//! stand, and what is looked up in these, is said below, in `idp_rows`. A record is drafted first, which takes all the
-//! memory that it needs and is refused by name ([`DraftFault`]); to commit it takes none, and only the disk can refuse it
-//! ([`Failed`]). After that the ledger is broken, and is opened again by `reopen`.
+//! [`IdpLedger`] is the ledger of `record_ledger` over the rows [`IdpStanding`]: there `start`, `reopen`, `commit` and
+//! `compact` are said once, over the values `idp_rules`, `idp_row_rules` and `idp_links` of this crate. Which payloads are
+//! records of a ledger is said in `specs/Record.antt`; for what rows records stand, and what is looked up in these, is said
+//! below, in `idp_rows`. A record is drafted first, which takes all the memory that it needs and is refused by name
+//! ([`DraftFault`]); to commit it takes none, and only the disk can refuse it ([`Failed`]). After that the ledger is
+//! broken, and is opened again by `reopen`.
 //!
 //! # What is proved
 //!
-//! An identity provider's ledger, with the words and clauses of the service provider's: `IdpLedger::start`, `reopen`,
-//! `commit`, `compact`; drafts of a pending login, a login, an issue in a session, an answer without an assertion, a
-//! logout and its answers, a round of logouts that asks one provider after the other and each answer to it (`Drafts`,
-//! `DraftsSome`); `pending`, `session` and `round` find what is visible, unused, not ended and not done; `parts` are the
-//! providers to which assertions were issued in sessions, `ending` the sessions that a logout would end.
+//! That the records of an identity provider keep what `record_ledger` asks of each kind of records, so all that is proved
+//! there holds of `IdpLedger::start`, `reopen`, `commit` and `compact`; drafts of a pending login, a login, an issue in a
+//! session, an answer without an assertion, a logout and its answers, a round of logouts that asks one provider after the
+//! other and each answer to it (`Drafts`, `DraftsSome`); `pending`, `session` and `turn` find what is visible, unused, not
+//! ended and not done; `parts` are the providers to which assertions were issued in sessions, `ending` the sessions that a
+//! logout would end.
 //! Laws: what an image stands for are records of a ledger, and so is what is kept of them; from the moment of a
 //! compaction on it changes no answer; each Issued names a login that was pending and unused, or lies in a session that
 //! was not ended (`each_issue_has_its_cause`); each row of a round is that of a record that began it, with the answers that
@@ -54,11 +56,14 @@ mod rules;
 mod standing;
 
 pub use ask::Ask;
-pub use draft::Draft;
+pub use draft::{Draft, first_id, is_partial, issued, peer, second_id};
+pub use drafts::{draft_confirm, draft_end, draft_leave, draft_pending, draft_speak, ending};
 pub use gate_journal::{Disk, Failed, FileNo, Header, OpenFault};
 pub use idp_rows::{IdpKey, IssuedRow, LeftRow, Noted, PendingRow, SessionRow};
-pub use ledger::IdpLedger;
+pub use ledger::{IdpLedger, pending, rows, session};
 pub use ledger_rules::DraftFault;
+pub use logins::{draft_issue, draft_login};
 pub use record_ledger::MOST_ROWS;
 pub use round_rows::RoundRow;
+pub use rounds::{draft_round, draft_told, parts, turn};
 pub use standing::IdpStanding;

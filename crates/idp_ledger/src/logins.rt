@@ -9,9 +9,10 @@ ghost use Rattle.record_ledger.specs.Drafts.{SameLedger};
 
 use crate::ask::Ask;
 use crate::draft::Draft;
+use crate::drafting::draft;
 use crate::drafts::copy_of;
 use crate::ids::{LoginIds, login_ids};
-use crate::ledger::IdpLedger;
+use crate::ledger::{IdpLedger, session};
 use idp_rows::{PendingRow, SessionRow};
 use ledger_records::IdpRecord;
 use ledger_records::idp_record::Issued;
@@ -88,70 +89,65 @@ fn issue_record(
     }))
 }
 
-impl IdpLedger {
-    /// Drafts an assertion for the pending login of an ID, which begins a session of `user`. The assertion is accepted for
-    /// 300,000 ms and the session lives for 28,800,000 ms from the moment `now` on, both to the end of the year 9999 at most.
-    /// `first` of the draft is the ID of the answer, `second` the cookie of the session.
-    ///
-    /// The login is visible and not used. Errors are those of `draft_pending`, for the issued rows.
-    pub fn draft_login(
-        &mut self,
-        now: u64,
-        pending: &str,
-        user: &str,
-        attributes: &Attributes,
-    ) -> Result<Draft, DraftFault>
-        requires moment { now ≤ LAST }
-        requires user { is_xml_text user.now ≡ true }
-        requires attributes { AreXmlAttributes attributes.now }
-        requires unused { IsSome (pending_found (rows_in self.old).pendings pending.now now self.old.held.header.horizon) }
-        ensures drafts { IfSome (pending_found (rows_in self.old).pendings pending.now now
-            self.old.held.header.horizon) (λ row. Drafts self.old self.new (login self.old.key (next_number
-            self.old.held) now row user.now attributes.now) result) }
-        ensures same { SameLedger self.old self.new }
-        ensures spare { KeepsSpare self.old self.new }
-    {
-        self.holds_records();
-        let first = self.next_number();
-        let key = self.key();
-        let ids = login_ids(key, first);
-        let Some(row) = self.pending(pending, now) else {
-            unreachable!();
-        };
-        let entry = login_record(
-            self.ledger.allocator(),
-            first,
-            now,
-            &ids,
-            row,
-            user,
-            attributes,
-        )?;
-        self.draft(entry, [Some(ids.message), Some(ids.cookie)])
-    }
+/// Drafts an assertion for the pending login of an ID, which begins a session of `user`. The assertion is accepted for
+/// 300,000 ms and the session lives for 28,800,000 ms from the moment `now` on, both to the end of the year 9999 at most.
+/// `first_id` of the record is the ID of the answer, `second_id` the cookie of the session.
+///
+/// The login is visible and not used. Errors are those of `draft_pending`, for the issued rows.
+pub fn draft_login(
+    ledger: &mut IdpLedger,
+    now: u64,
+    pending: &str,
+    user: &str,
+    attributes: &Attributes,
+) -> Result<Draft, DraftFault>
+    requires moment { now ≤ LAST }
+    requires user { is_xml_text user.now ≡ true }
+    requires attributes { AreXmlAttributes attributes.now }
+    requires unused { IsSome (pending_found (rows_in ledger.old).pendings pending.now now ledger.old.held.header.horizon) }
+    ensures drafts { IfSome (pending_found (rows_in ledger.old).pendings pending.now now
+        ledger.old.held.header.horizon) (λ row. Drafts ledger.old ledger.new (login ledger.old.key (next_number
+        ledger.old.held) now row user.now attributes.now) result) }
+    ensures same { SameLedger ledger.old ledger.new }
+    ensures spare { KeepsSpare ledger.old ledger.new }
+{
+    ledger.holds_records();
+    let first = ledger.next_number();
+    let key = ledger.key();
+    let ids = login_ids(key, first);
+    let Some(row) = crate::ledger::pending(ledger, pending, now) else {
+        unreachable!();
+    };
+    let entry = login_record(ledger.allocator(), first, now, &ids, row, user, attributes)?;
+    draft(ledger, entry)
+}
 
-    /// Drafts an assertion in the live session of a cookie, of whose user it states what the session has. It is accepted for
-    /// 300,000 ms from the moment `now` on, to the end of the year 9999 at most. `first` of the draft is the ID of the answer.
-    ///
-    /// Errors are those of `draft_pending`, for the issued rows.
-    pub fn draft_issue(&mut self, now: u64, cookie: &str, ask: &Ask) -> Result<Draft, DraftFault>
-        requires moment { now ≤ LAST }
-        requires texts { IsXmlAsk ask.now }
-        requires live { IsSome (session_found (rows_in self.old).sessions cookie.now now self.old.held.header.horizon) }
-        ensures drafts { IfSome (session_found (rows_in self.old).sessions cookie.now now
-            self.old.held.header.horizon) (λ row. Drafts self.old self.new (issue self.old.key (next_number
-            self.old.held) now row ask.now) result) }
-        ensures same { SameLedger self.old self.new }
-        ensures spare { KeepsSpare self.old self.new }
-    {
-        self.holds_records();
-        let first = self.next_number();
-        let key = self.key();
-        let ids = login_ids(key, first);
-        let Some(row) = self.session(cookie, now) else {
-            unreachable!();
-        };
-        let entry = issue_record(self.ledger.allocator(), first, now, &ids, row, ask)?;
-        self.draft(entry, [Some(ids.message), None])
-    }
+/// Drafts an assertion in the live session of a cookie, of whose user it states what the session has. It is accepted for
+/// 300,000 ms from the moment `now` on, to the end of the year 9999 at most. `first_id` of the record is the ID of the answer.
+///
+/// Errors are those of `draft_pending`, for the issued rows.
+pub fn draft_issue(
+    ledger: &mut IdpLedger,
+    now: u64,
+    cookie: &str,
+    ask: &Ask,
+) -> Result<Draft, DraftFault>
+    requires moment { now ≤ LAST }
+    requires texts { IsXmlAsk ask.now }
+    requires live { IsSome (session_found (rows_in ledger.old).sessions cookie.now now ledger.old.held.header.horizon) }
+    ensures drafts { IfSome (session_found (rows_in ledger.old).sessions cookie.now now
+        ledger.old.held.header.horizon) (λ row. Drafts ledger.old ledger.new (issue ledger.old.key (next_number
+        ledger.old.held) now row ask.now) result) }
+    ensures same { SameLedger ledger.old ledger.new }
+    ensures spare { KeepsSpare ledger.old ledger.new }
+{
+    ledger.holds_records();
+    let first = ledger.next_number();
+    let key = ledger.key();
+    let ids = login_ids(key, first);
+    let Some(row) = session(ledger, cookie, now) else {
+        unreachable!();
+    };
+    let entry = issue_record(ledger.allocator(), first, now, &ids, row, ask)?;
+    draft(ledger, entry)
 }

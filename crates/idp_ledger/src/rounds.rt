@@ -1,18 +1,18 @@
 //! The rounds of logouts: what a round begins with, and the answers to it.
-ghost use Rattle.std.specs.Prelude.{◌≡◌, ◌≤◌, [], Some, IsSome, IfOk, IfSome, option_copied};
+ghost use Rattle.std.specs.Prelude.{◌≡◌, ◌≤◌, [], Some, IfOk, IfSome, option_copied};
 ghost use Rattle.std.specs.Option.{is_none};
 ghost use Rattle.round_rows.specs.Kept.{IsRoundOf};
-ghost use Rattle.idp_ledger.specs.Draft.{round_told, told_in};
 ghost use Rattle.idp_ledger.specs.Drafts.{round, round_with, told, told_with, is_turn_left, AreLive, AreXmlTurns, IsXmlAsker, Drafts, DraftsSome};
 ghost use Rattle.record_ledger.specs.Drafts.{SameLedger};
-ghost use Rattle.idp_rows.specs.Finding.{part_of, parts_of, round_found, turn_found};
-ghost use Rattle.idp_ledger.specs.Ledger.{CanCommit, KeepsSpare, next_number, rows_in};
+ghost use Rattle.idp_rows.specs.Finding.{part_of, parts_of, turn_found};
+ghost use Rattle.idp_ledger.specs.Ledger.{KeepsSpare, next_number, rows_in};
 ghost use Rattle.idp_rows.specs.Record.{LAST};
 
 use crate::draft::Draft;
+use crate::drafting::draft;
 use crate::drafts::copy_of;
 use crate::ids::{RoundIds, round_ids};
-use crate::ledger::IdpLedger;
+use crate::ledger::{IdpLedger, rows};
 use idp_rows::IssuedRow;
 use ledger_records::IdpRecord;
 use ledger_records::idp_round::{Round, Told};
@@ -110,131 +110,101 @@ fn told_record(
     }))
 }
 
-impl IdpLedger {
-    /// The providers to which assertions were issued in the sessions of these cookies: one part for each assertion, in the
-    /// order of their records. Of the cookies it looks up each in the others.
-    pub fn parts(&self, cookies: &Texts) -> Result<Vec<Part>, NoMemory>
-        ensures { IfOk result (λ parts. parts.items ≡ parts_of cookies.now (rows_in self.now).issues) }
-    {
-        let alloc = self.ledger.allocator();
-        let set = TextSet::of(alloc, cookies)?;
-        let mut parts = Vec::new(alloc);
-        for row in self.issues() {
-            if set.holds(row.cookie.as_str()) {
-                parts.push(part_of(row)?)?;
-            }
-        }
-        Ok(parts)
-    }
-
-    /// The visible round that waits for the answer to a request; none where none does.
-    pub fn round(&self, request: &str, now: u64) -> Option<&RoundRow>
-        ensures { option_copied result ≡ round_found (rows_in self.now).rounds request.now now self.now.held.header.horizon }
-    {
-        let horizon = self.header().horizon;
-        let row = self.standing().waiting_round(request)?;
-        if now.max(horizon) < row.until {
-            Some(row)
-        } else {
-            None
+/// The providers to which assertions were issued in the sessions of these cookies: one part for each assertion, in the
+/// order of their records. Of the cookies it looks up each in the others.
+pub fn parts(ledger: &IdpLedger, cookies: &Texts) -> Result<Vec<Part>, NoMemory>
+    ensures { IfOk result (λ parts. parts.items ≡ parts_of cookies.now (rows_in ledger.now).issues) }
+{
+    let alloc = ledger.allocator();
+    let set = TextSet::of(alloc, cookies)?;
+    let mut parts = Vec::new(alloc);
+    for row in rows(ledger).issues() {
+        if set.holds(row.cookie.as_str()) {
+            parts.push(part_of(row)?)?;
         }
     }
+    Ok(parts)
+}
 
-    /// The same, where the turn of this provider has come.
-    pub fn turn(&self, request: &str, peer: &str, now: u64) -> Option<&RoundRow>
-        ensures found { option_copied result ≡ turn_found (rows_in self.now).rounds request.now peer.now now self.now.held.header.horizon }
-        ensures only { IfSome result (λ row. IsRoundOf (rows_in self.now).rounds request.now (Some row.now)) }
-    {
-        let horizon = self.header().horizon;
-        let row = self.standing().waiting_round(request)?;
-        if now.max(horizon) < row.until && row.is_turn_of(peer) {
-            Some(row)
-        } else {
-            None
-        }
+/// The visible round that waits for the answer to a request, where the turn of this provider has come; none where none does.
+pub fn turn<'a>(ledger: &'a IdpLedger, request: &str, peer: &str, now: u64) -> Option<&'a RoundRow>
+    ensures found { option_copied result ≡ turn_found (rows_in ledger.now).rounds request.now peer.now now ledger.now.held.header.horizon }
+    ensures only { IfSome result (λ row. IsRoundOf (rows_in ledger.now).rounds request.now (Some row.now)) }
+{
+    let horizon = ledger.header().horizon;
+    let row = rows(ledger).waiting_round(request)?;
+    if now.max(horizon) < row.until && row.is_turn_of(peer) {
+        Some(row)
+    } else {
+        None
     }
+}
 
-    /// The round whose answer a drafted Told is. It takes no memory.
-    pub fn told_of(&self, draft: &Draft) -> &RoundRow
-        requires told { IsSome (told_in draft.now) }
-        requires can { CanCommit self.now draft.now }
-        ensures { Some result.now ≡ round_told (rows_in self.now).rounds draft.now }
-    {
-        let IdpRecord::Told(r) = draft.drafted.entry().entry() else {
-            unreachable!();
-        };
-        match self.standing().waiting_round(r.request.as_str()) {
-            Some(row) => row,
-            None => unreachable!(),
-        }
-    }
+/// Drafts a round: the end of the live sessions of these cookies, and a request to the provider of the first turn. Answers
+/// are accepted for 600,000 ms from the moment `now` on. `first_id` of the record is the ID of that request, `second_id`
+/// the one of the answer that the asker gets in the end.
+///
+/// Errors: [`DraftFault::LedgerFull`] exactly where 65,536 rows of rounds are kept or more; else
+/// [`DraftFault::JournalFull`] exactly where the record does not fit; [`DraftFault::NoMemory`].
+pub fn draft_round(
+    ledger: &mut IdpLedger,
+    now: u64,
+    cookies: &Texts,
+    asker: Option<&Asker>,
+    turns: &[Turn],
+    skipped: bool,
+) -> Result<Draft, DraftFault>
+    requires moment { now ≤ LAST }
+    requires live { AreLive (rows_in ledger.old).sessions cookies.now now ledger.old.held.header.horizon }
+    requires some { ¬ (turns.now ≡ []) }
+    requires asker { IsXmlAsker (option_copied asker) }
+    requires turns { AreXmlTurns turns.now }
+    ensures drafts { Drafts ledger.old ledger.new (round ledger.old.key (next_number ledger.old.held) now cookies.now (option_copied asker.entry) turns.now skipped) result }
+    ensures same { SameLedger ledger.old ledger.new }
+    ensures spare { KeepsSpare ledger.old ledger.new }
+{
+    ledger.holds_records();
+    let alloc = ledger.allocator();
+    let first = ledger.next_number();
+    let key = ledger.key();
+    let ids = round_ids(key, first);
+    let entry = round_record(alloc, first, now, &ids, cookies, asker, turns, skipped)?;
+    draft(ledger, entry)
+}
 
-    /// Drafts a round: the end of the live sessions of these cookies, and a request to the provider of the first turn. Answers
-    /// are accepted for 600,000 ms from the moment `now` on. `first` of the draft is the ID of that request, `second` the one
-    /// of the answer that the asker gets in the end.
-    ///
-    /// Errors: [`DraftFault::LedgerFull`] exactly where 65,536 rows of rounds are kept or more; else
-    /// [`DraftFault::JournalFull`] exactly where the record does not fit; [`DraftFault::NoMemory`].
-    pub fn draft_round(
-        &mut self,
-        now: u64,
-        cookies: &Texts,
-        asker: Option<&Asker>,
-        turns: &[Turn],
-        skipped: bool,
-    ) -> Result<Draft, DraftFault>
-        requires moment { now ≤ LAST }
-        requires live { AreLive (rows_in self.old).sessions cookies.now now self.old.held.header.horizon }
-        requires some { ¬ (turns.now ≡ []) }
-        requires asker { IsXmlAsker (option_copied asker) }
-        requires turns { AreXmlTurns turns.now }
-        ensures drafts { Drafts self.old self.new (round self.old.key (next_number self.old.held) now cookies.now (option_copied asker.entry) turns.now skipped) result }
-        ensures same { SameLedger self.old self.new }
-        ensures spare { KeepsSpare self.old self.new }
-    {
-        self.holds_records();
-        let alloc = self.ledger.allocator();
-        let first = self.next_number();
-        let key = self.key();
-        let ids = round_ids(key, first);
-        let entry = round_record(alloc, first, now, &ids, cookies, asker, turns, skipped)?;
-        self.draft(entry, [Some(ids.request), Some(ids.message)])
-    }
-
-    /// Drafts the answer of a provider to the request of a round, with a next request where a turn is left; none exactly where
-    /// `request` is not the one for which a visible round waits at a turn of that provider. `confirmed` says whether the answer
-    /// confirms the logout. `first` of the draft is the ID of the next request.
-    ///
-    /// Errors: [`DraftFault::JournalFull`] exactly where the record does not fit; [`DraftFault::NoMemory`].
-    pub fn draft_told(
-        &mut self,
-        now: u64,
-        request: &str,
-        peer: &str,
-        confirmed: bool,
-    ) -> Result<Option<Draft>, DraftFault>
-        requires moment { now ≤ LAST }
-        ensures drafts { DraftsSome self.old self.new (is_none (turn_found (rows_in self.old).rounds request.now
-            peer.now now self.old.held.header.horizon)) (told self.old.key (next_number self.old.held) now
-            request.now confirmed (is_turn_left (turn_found (rows_in self.old).rounds request.now peer.now now
-            self.old.held.header.horizon))) result }
-        ensures same { SameLedger self.old self.new }
-        ensures spare { KeepsSpare self.old self.new }
-    {
-        self.holds_records();
-        let alloc = self.ledger.allocator();
-        let Some(row) = self.turn(request, peer, now) else {
-            return Ok(None);
-        };
-        if row.is_turn_left() {
-            let first = self.next_number();
-            let key = self.key();
-            let next = id_of(key, Kind::Request, first);
-            let entry = told_record(alloc, first, now, request, confirmed, Some(&next))?;
-            Ok(Some(self.draft(entry, [Some(next), None])?))
-        } else {
-            let entry = told_record(alloc, 0, now, request, confirmed, None)?;
-            Ok(Some(self.draft(entry, [None, None])?))
-        }
+/// Drafts the answer of a provider to the request of a round, with a next request where a turn is left; none exactly where
+/// `request` is not the one for which a visible round waits at a turn of that provider. `confirmed` says whether the answer
+/// confirms the logout. `first_id` of the record is the ID of the next request.
+///
+/// Errors: [`DraftFault::JournalFull`] exactly where the record does not fit; [`DraftFault::NoMemory`].
+pub fn draft_told(
+    ledger: &mut IdpLedger,
+    now: u64,
+    request: &str,
+    peer: &str,
+    confirmed: bool,
+) -> Result<Option<Draft>, DraftFault>
+    requires moment { now ≤ LAST }
+    ensures drafts { DraftsSome ledger.old ledger.new (is_none (turn_found (rows_in ledger.old).rounds request.now
+        peer.now now ledger.old.held.header.horizon)) (told ledger.old.key (next_number ledger.old.held) now
+        request.now confirmed (is_turn_left (turn_found (rows_in ledger.old).rounds request.now peer.now now
+        ledger.old.held.header.horizon))) result }
+    ensures same { SameLedger ledger.old ledger.new }
+    ensures spare { KeepsSpare ledger.old ledger.new }
+{
+    ledger.holds_records();
+    let alloc = ledger.allocator();
+    let Some(row) = turn(ledger, request, peer, now) else {
+        return Ok(None);
+    };
+    if row.is_turn_left() {
+        let first = ledger.next_number();
+        let key = ledger.key();
+        let next = id_of(key, Kind::Request, first);
+        let entry = told_record(alloc, first, now, request, confirmed, Some(&next))?;
+        Ok(Some(draft(ledger, entry)?))
+    } else {
+        let entry = told_record(alloc, 0, now, request, confirmed, None)?;
+        Ok(Some(draft(ledger, entry)?))
     }
 }

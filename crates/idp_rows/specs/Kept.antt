@@ -128,18 +128,12 @@ pub record IsRowAt {X : Type 0} (key : X → List ℕ) (rows : List X) (id : Lis
 
 -- the session that a record begins
 abbrev pub session_begun : IdpRecord → Option SessionRow
-session_begun (kinds.Pending r) = None
 session_begun (kinds.Issued r) = begun_where r.pending
   where
     begun_where : Option (List ℕ) → Option SessionRow
     begun_where None = None
     begun_where (Some pending) = Some (session_row false r)
-session_begun (kinds.Ended r) = None
-session_begun (kinds.Left r) = None
-session_begun (kinds.Confirmed r) = None
-session_begun (kinds.Spoke r) = None
-session_begun (kinds.Round r) = None
-session_begun (kinds.Told r) = None
+session_begun other = None
 
 -- what stands after one record more
 pub record IsAfter (old new : StandingView) (r : IdpRecord) : Type 0 where

@@ -50,14 +50,13 @@ is_answer_free rounds r = list_any (waits_for r.request) rounds && list_all (fit
 -- Each row that a record names is there, and is free for it: a login that is not used, a session that is not ended, a logout
 -- that is not confirmed, a round that waits for that answer.
 abbrev pub is_free : IdpRows → IdpRecord → Bool
-is_free rows (kinds.Pending r) = true
 is_free rows (kinds.Issued r) = is_issue_free rows r.pending r.cookie
 is_free rows (kinds.Ended r) = list_all (is_unended rows.sessions) r.cookies
 is_free rows (kinds.Left r) = is_unended rows.sessions r.cookie
 is_free rows (kinds.Confirmed r) = is_waiting rows.lefts r.request
-is_free rows (kinds.Spoke r) = true
 is_free rows (kinds.Round r) = list_all (is_unended rows.sessions) r.cookies
 is_free rows (kinds.Told r) = is_answer_free rows.rounds r
+is_free rows other = true
 
 -- the next request that a Told draws, where it has one
 abbrev pub next_drawn : (first : ℕ) → (next : Option (List ℕ)) → List Drawn

@@ -24,14 +24,8 @@ round_row r = record {
 
 -- a round behind one record more: a Told changes it where the round waits for the request that it answers
 abbrev pub round_after : RoundRow → IdpRecord → RoundRow
-round_after row (kinds.Pending r) = row
-round_after row (kinds.Issued r) = row
-round_after row (kinds.Ended r) = row
-round_after row (kinds.Left r) = row
-round_after row (kinds.Confirmed r) = row
-round_after row (kinds.Spoke r) = row
-round_after row (kinds.Round r) = row
 round_after row (kinds.Told r) = answered_if (waits_for r.request row) r.confirmed r.next row
+round_after row other = row
 
 -- a round behind these records
 abbrev pub round_behind : RoundRow → List IdpRecord → RoundRow
@@ -41,25 +35,13 @@ round_behind row (r ∷ later) = round_behind (round_after row r) later
 -- a round for each Round, behind the later records
 abbrev pub round_rows : List IdpRecord → List RoundRow
 round_rows [] = []
-round_rows (kinds.Pending r ∷ later) = round_rows later
-round_rows (kinds.Issued r ∷ later) = round_rows later
-round_rows (kinds.Ended r ∷ later) = round_rows later
-round_rows (kinds.Left r ∷ later) = round_rows later
-round_rows (kinds.Confirmed r ∷ later) = round_rows later
-round_rows (kinds.Spoke r ∷ later) = round_rows later
 round_rows (kinds.Round r ∷ later) = round_behind (round_row r) later ∷ round_rows later
-round_rows (kinds.Told r ∷ later) = round_rows later
+round_rows (other ∷ later) = round_rows later
 
 -- The answers to a round among later records: each Told that answers the request for which the round waits then.
 abbrev pub answer_in : RoundRow → IdpRecord → List Told
-answer_in row (kinds.Pending r) = []
-answer_in row (kinds.Issued r) = []
-answer_in row (kinds.Ended r) = []
-answer_in row (kinds.Left r) = []
-answer_in row (kinds.Confirmed r) = []
-answer_in row (kinds.Spoke r) = []
-answer_in row (kinds.Round r) = []
 answer_in row (kinds.Told r) = if waits_for r.request row then r ∷ [] else []
+answer_in row other = []
 
 abbrev pub answers_after : RoundRow → List IdpRecord → List Told
 answers_after row [] = []

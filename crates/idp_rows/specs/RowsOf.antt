@@ -76,84 +76,44 @@ is_pending pending (Some id) = bytes_eq id pending
 
 -- whether a record uses the pending login of this ID: an Issued that names it
 abbrev pub uses : List ℕ → IdpRecord → Bool
-uses pending (kinds.Pending r) = false
 uses pending (kinds.Issued r) = is_pending pending r.pending
-uses pending (kinds.Ended r) = false
-uses pending (kinds.Left r) = false
-uses pending (kinds.Confirmed r) = false
-uses pending (kinds.Spoke r) = false
-uses pending (kinds.Round r) = false
-uses pending (kinds.Told r) = false
+uses pending other = false
 
 -- whether a record ends the session of this cookie: a Left of it, or an Ended or a Round that lists it
 abbrev pub ends : List ℕ → IdpRecord → Bool
-ends cookie (kinds.Pending r) = false
-ends cookie (kinds.Issued r) = false
 ends cookie (kinds.Ended r) = is_among cookie r.cookies
 ends cookie (kinds.Left r) = bytes_eq r.cookie cookie
-ends cookie (kinds.Confirmed r) = false
-ends cookie (kinds.Spoke r) = false
 ends cookie (kinds.Round r) = is_among cookie r.cookies
-ends cookie (kinds.Told r) = false
+ends cookie other = false
 
 -- whether a record confirms the logout of this request
 abbrev pub confirms : List ℕ → IdpRecord → Bool
-confirms request (kinds.Pending r) = false
-confirms request (kinds.Issued r) = false
-confirms request (kinds.Ended r) = false
-confirms request (kinds.Left r) = false
 confirms request (kinds.Confirmed r) = bytes_eq r.request request
-confirms request (kinds.Spoke r) = false
-confirms request (kinds.Round r) = false
-confirms request (kinds.Told r) = false
+confirms request other = false
 
 -- a pending row for each Pending, used where a later Issued names it
 abbrev pub pending_rows : List IdpRecord → List PendingRow
 pending_rows [] = []
 pending_rows (kinds.Pending r ∷ later) = pending_row (list_any (uses r.pending) later) r ∷ pending_rows later
-pending_rows (kinds.Issued r ∷ later) = pending_rows later
-pending_rows (kinds.Ended r ∷ later) = pending_rows later
-pending_rows (kinds.Left r ∷ later) = pending_rows later
-pending_rows (kinds.Confirmed r ∷ later) = pending_rows later
-pending_rows (kinds.Spoke r ∷ later) = pending_rows later
-pending_rows (kinds.Round r ∷ later) = pending_rows later
-pending_rows (kinds.Told r ∷ later) = pending_rows later
+pending_rows (other ∷ later) = pending_rows later
 
 -- an issued row for each Issued
 abbrev pub issued_rows : List IdpRecord → List IssuedRow
 issued_rows [] = []
-issued_rows (kinds.Pending r ∷ later) = issued_rows later
 issued_rows (kinds.Issued r ∷ later) = issued_row r ∷ issued_rows later
-issued_rows (kinds.Ended r ∷ later) = issued_rows later
-issued_rows (kinds.Left r ∷ later) = issued_rows later
-issued_rows (kinds.Confirmed r ∷ later) = issued_rows later
-issued_rows (kinds.Spoke r ∷ later) = issued_rows later
-issued_rows (kinds.Round r ∷ later) = issued_rows later
-issued_rows (kinds.Told r ∷ later) = issued_rows later
+issued_rows (other ∷ later) = issued_rows later
 
 -- a session for each Issued that draws its cookie, ended where a later record ends it
 abbrev pub session_rows : List IdpRecord → List SessionRow
 session_rows [] = []
-session_rows (kinds.Pending r ∷ later) = session_rows later
 session_rows (kinds.Issued r ∷ later) = begun (list_any (ends r.cookie) later) r ++ session_rows later
-session_rows (kinds.Ended r ∷ later) = session_rows later
-session_rows (kinds.Left r ∷ later) = session_rows later
-session_rows (kinds.Confirmed r ∷ later) = session_rows later
-session_rows (kinds.Spoke r ∷ later) = session_rows later
-session_rows (kinds.Round r ∷ later) = session_rows later
-session_rows (kinds.Told r ∷ later) = session_rows later
+session_rows (other ∷ later) = session_rows later
 
 -- a row of a logout for each Left, confirmed where a later record confirms it
 abbrev pub left_rows : List IdpRecord → List LeftRow
 left_rows [] = []
-left_rows (kinds.Pending r ∷ later) = left_rows later
-left_rows (kinds.Issued r ∷ later) = left_rows later
-left_rows (kinds.Ended r ∷ later) = left_rows later
 left_rows (kinds.Left r ∷ later) = left_row (list_any (confirms r.request) later) r ∷ left_rows later
-left_rows (kinds.Confirmed r ∷ later) = left_rows later
-left_rows (kinds.Spoke r ∷ later) = left_rows later
-left_rows (kinds.Round r ∷ later) = left_rows later
-left_rows (kinds.Told r ∷ later) = left_rows later
+left_rows (other ∷ later) = left_rows later
 
 abbrev pub rows_of : List IdpRecord → IdpRows
 rows_of records = record {
@@ -207,9 +167,6 @@ rows_after rows (kinds.Told r) = record rows { rounds = answered r.request r.con
 abbrev pub rows_of_kind : IdpRows → IdpRecord → Option ℕ
 rows_of_kind rows (kinds.Pending r) = Some (length rows.pendings)
 rows_of_kind rows (kinds.Issued r) = Some (length rows.issues)
-rows_of_kind rows (kinds.Ended r) = None
 rows_of_kind rows (kinds.Left r) = Some (length rows.lefts)
-rows_of_kind rows (kinds.Confirmed r) = None
-rows_of_kind rows (kinds.Spoke r) = None
 rows_of_kind rows (kinds.Round r) = Some (length rows.rounds)
-rows_of_kind rows (kinds.Told r) = None
+rows_of_kind rows other = None

@@ -6,7 +6,7 @@ use Rattle.http_wire.specs.Requests.{Request}
 use Rattle.http_wire.specs.Cookies.{cookie_value}
 use Rattle.idp_ledger.specs.Record.{AreRecords, idp_rules}
 use Rattle.idp_ledger.specs.Ledger.{Held}
-use Rattle.idp_ledger.specs.Compacting.{Compacts}
+use Rattle.record_ledger.specs.Compacting.{Compacts}
 use Rattle.idp_ledger.specs.Laws.{AnswerAlike, CompactionsChangeNoAnswer}
 use Rattle.provider_node.proofs.Alike as any
 use Rattle.provider_node.proofs.Alike.{followed_alike}
@@ -25,7 +25,7 @@ alike_self now held = record {
   turn = λ request peer. refl;
 }
 
-pub alike : CompactionsChangeNoAnswer → (now : ℕ) (old new : Held) → AreRecords old.records → Compacts now old new
+pub alike : CompactionsChangeNoAnswer → (now : ℕ) (old new : Held) → AreRecords old.records → Compacts idp_rules now old new
     → AnswerAlike now new old
 alike = any.alike idp_rules AnswerAlike alike_self
 

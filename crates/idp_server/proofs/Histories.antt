@@ -14,9 +14,10 @@ use Rattle.round_rows.specs.Rounds.{is_turn_left}
 use Rattle.idp_server.specs.Rounds.{round_by}
 use Rattle.idp_server.specs.Histories.{WhatIsAcknowledgedIsKept}
 use Rattle.idp_server.specs.Step as steps
-use Rattle.idp_server.specs.Step.{Answers, ask_of, asker_of, ended_by, ending_by, is_in_part, left_by}
+use Rattle.idp_server.specs.Step.{Answers, ask_of, asker_of, ended_by, ending_by, left_by}
 use Rattle.idp_server.proofs.StayingEnded.{stays_dead, stays_ended}
 use Rattle.idp_server.proofs.Told.{said}
+use Rattle.logout_answers.specs.Answers.{is_in_part}
 
 -- ---- the numbers of a record that is added
 

@@ -1,33 +1,12 @@
 -- What IDs hold: no end of a line, and characters that may stand in a document.
-use Rattle.std.proofs.Common.{◌≡◌, ◌≢◌, ℕ, ◌==◌, ◌||◌, not, true, List, [], ◌∷◌, refl, subst, arith}
-use Rattle.std.specs.List.{list_all}
-use Rattle.std.proofs.lemmas.List.Sums.{list_all-from_AllPass}
-use Rattle.std.proofs.lemmas.Bool.Decides.{nat_tests}
-use Rattle.xml_spec.specs.Ascii.{carriage_return, line_feed}
-use Rattle.xml_spec.proofs.Tests.{and_true, both_true}
+use Rattle.std.proofs.Common.{◌≡◌, ◌≢◌, ℕ, true, List, [], subst}
 use Rattle.http_wire.specs.Answers.{is_one_line}
 use Rattle.xml_spec.specs.Characters.{IsText}
 use Rattle.saml_ids.specs.IdText.{id_text}
-use Rattle.saml_ids.specs.Names.{IsIdForm, is_lower_hex}
+use Rattle.saml_ids.specs.Names.{IsIdForm}
 use Rattle.saml_ids.specs.declared.Kind.{Kind}
 use Rattle.saml_ids.proofs.IdForm.{every_id_is_a_name}
-
-ends_no_line : (b : ℕ) → is_lower_hex b ≡ true → not (b == carriage_return || b == line_feed) ≡ true
-ends_no_line b h = grind (arith, nat_tests)
-
-begins_in_line : (b : ℕ) → b ≡ 95 → not (b == carriage_return || b == line_feed) ≡ true
-begins_in_line b is = rw is
-
-digits_in_line : (digits : List ℕ) → list_all is_lower_hex digits ≡ true → is_one_line digits ≡ true
-digits_in_line [] h = refl
-digits_in_line (b ∷ digits) h =
-    let both = both_true (is_lower_hex b) (list_all is_lower_hex digits) h in
-    and_true (not (b == carriage_return || b == line_feed)) (is_one_line digits) (ends_no_line b both.0) (digits_in_line digits both.1)
-
-pub one_line_id : (id : List ℕ) → IsIdForm id → is_one_line id ≡ true
-one_line_id [] form = absurd form
-one_line_id (b ∷ digits) form =
-    and_true (not (b == carriage_return || b == line_feed)) (is_one_line digits) (begins_in_line b form.0) (digits_in_line digits (list_all-from_AllPass is_lower_hex digits form.2))
+use Rattle.provider_node.proofs.Ids.{one_line_id}
 
 -- an ID that is drawn has characters, which may stand in a document
 id_named : (id : List ℕ) → IsIdForm id → id ≢ []
@@ -35,6 +14,9 @@ id_named id form none = subst IsIdForm none form
 
 pub drawn_named : (key : List ℕ) (kind : Kind) (n : ℕ) → id_text key kind n ≢ []
 drawn_named key kind n = id_named (id_text key kind n) (every_id_is_a_name key kind n).form
+
+pub drawn_line : (key : List ℕ) (kind : Kind) (n : ℕ) → is_one_line (id_text key kind n) ≡ true
+drawn_line key kind n = one_line_id (id_text key kind n) (every_id_is_a_name key kind n).form
 
 pub drawn_text : (key : List ℕ) (kind : Kind) (n : ℕ) → IsText (id_text key kind n)
 drawn_text key kind n = (every_id_is_a_name key kind n).text

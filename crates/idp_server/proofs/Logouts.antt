@@ -14,7 +14,6 @@ use Rattle.idp_rows.specs.Finding.{is_empty}
 use Rattle.idp_rows.specs.RowsOf.{rows_of}
 use Rattle.idp_ledger.specs.Record.{idp_rules}
 use Rattle.idp_ledger.specs.Drafts.{confirmed, pending, spoke, told}
-use Rattle.idp_ledger.specs.Draft.{told_in}
 use Rattle.idp_ledger.specs.Ledger.{Held, next_number}
 use Rattle.idp_rules.specs.declared.config.IdpConfig.{IdpConfig}
 use Rattle.provider_node.proofs.Changes.{changes}
@@ -23,13 +22,14 @@ use Rattle.service_routes.specs.declared.route.Route.TheVariants.{To}
 use Rattle.idp_server.specs.declared.route.Service.TheVariants.{Logout, Metadata, SingleLogout}
 use Rattle.idp_server.specs.Routes.{route}
 use Rattle.idp_server.specs.Step as steps
-use Rattle.idp_server.specs.Step.{Answers, ask_of, asker_of, ended_by, ending_by, is_in_part, left_by, session_for}
+use Rattle.idp_server.specs.Step.{Answers, ask_of, asker_of, ended_by, ending_by, left_by, session_for}
 use Rattle.round_rows.specs.Rounds.{is_turn_left}
 use Rattle.idp_server.specs.Rounds.{round_by}
 use Rattle.idp_server.specs.Logouts.{AnswersEndExactly, AsksAllOthers, IsOfLogoutIfEnding, IsOfPeerThatAsks, IsOfProviderInTurn, IsOfPeerThatReplies, IsOfUserWhoLeaves, ServicesEndExactly, WhatIsAnsweredToALogoutIsRecorded}
 use Rattle.idp_server.proofs.Issues.{step_recorded}
 use Rattle.idp_server.proofs.StayingEnded.{begun_sessions}
 use Rattle.idp_server.proofs.Told.{said}
+use Rattle.logout_answers.specs.Answers.{is_in_part}
 
 -- ---- the record of a kind
 
@@ -44,6 +44,10 @@ ended_in other = None
 abbrev pub round_in : IdpRecord → Option Round
 round_in (kinds.Round r) = Some r
 round_in other = None
+
+abbrev told_in : IdpRecord → Option Told
+told_in (kinds.Told r) = Some r
+told_in other = None
 
 pub the_left : (r : Left) (x : IdpRecord) (made : Left) → x ≡ kinds.Left r → left_in x ≡ Some made → made ≡ r
 the_left r x made is has = let both : Some made ≡ Some r = sym has ∙ ap left_in is in cc

@@ -28,12 +28,13 @@ use Rattle.idp_server.specs.Messages.{AsksFirst, AsksNext, EndsRound, IsRoundEnd
 use Rattle.idp_server.specs.Outcomes.{Ends, GoesOn, InRound, IsOutcome, RoundsBeginWithTheFirst, RoundsEndAsConfirmed}
 use Rattle.idp_server.specs.Rounds.{told_by}
 use Rattle.idp_server.specs.Step as steps
-use Rattle.idp_server.specs.Step.{Answers, is_in_part}
+use Rattle.idp_server.specs.Step.{Answers}
 use Rattle.idp_server.proofs.Logouts.{HasAnswer, has_answer, the_told}
 use Rattle.idp_server.proofs.Signed.{waiting_turn}
 use Rattle.idp_server.proofs.Telling.{next_where}
 use Rattle.idp_server.proofs.TurnRows.{IsTurnFound, found_texts, turn_is}
 use Rattle.idp_server.proofs.Told.{said}
+use Rattle.logout_answers.specs.Answers.{is_in_part}
 
 -- ---- where a row of a round is from
 

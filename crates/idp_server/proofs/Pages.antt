@@ -10,7 +10,7 @@ use Rattle.peer_keys.specs.declared.peers.LogoutPeer.{LogoutPeer}
 use Rattle.idp_ledger.specs.declared.ask.Ask.{Ask}
 use Rattle.idp_rows.specs.Record.{LAST}
 use Rattle.idp_ledger.specs.Ledger.{Held}
-use Rattle.idp_ledger.specs.Draft.{first_id, second_id}
+use Rattle.idp_ledger.specs.Draft.{first_id}
 use Rattle.idp_rules.specs.Config.{IsTextPeer}
 use Rattle.idp_rules.specs.declared.config.IdpConfig.{IdpConfig}
 use Rattle.logout_answers.specs.Answers.{end_answer}
@@ -60,12 +60,11 @@ some_page logins refusals setup held request now key (replies.Question ask) r na
     (login_answer id.0, record { id = id.0; named = id.1; full = refl })
 some_page logins refusals setup held request now key (replies.Login id user attributes peer) r name moment w is =
     let can = issued_at_login setup held request now key id user attributes peer r moment w is in
-    let cookie = some_id (second_id r) can.1 in
-    let some = some_issued logins setup w.peer can.0.issued (Some cookie.0) now name can.0.issuable w.told.issued can.0.made can.0.until can.0.ends in (
+    let some = some_issued logins setup w.peer can.0.issued (Some can.1.cookie) now name can.0.issuable w.told.issued can.0.made can.0.until can.0.ends in (
       some.0,
       record {
-        cookie = cookie.0;
-        draws = cookie.1;
+        cookie = can.1.cookie;
+        draws = can.1.named;
         page = record { issued = can.0.issued; is = can.0.is; peer = w.peer; there = w.there; bytes = some.0; answers = some.1; full = refl };
       },
     )

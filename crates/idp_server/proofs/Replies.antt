@@ -33,12 +33,12 @@ use Rattle.logout_answers.specs.Answers.{end_answer}
 use Rattle.protocol_messages.specs.declared.logout.LogoutRequest.{LogoutRequest}
 use Rattle.idp_server.specs.declared.reply.Reply.{Reply}
 use Rattle.idp_server.specs.declared.reply.Reply.TheVariants as replies
-use Rattle.idp_server.specs.Replies.{AsksAnew, AsksForAnEnd, AsksInSession, CanBeShown, HasAssertion, HasRefusal, HasRequest, HasResponse, IsIssuable, IsPage, IsTextAsk, IsTold, IsXmlReply, Leaves, LogsIn, Wants, found_record, is_nothing, record_for, refusal_of, turn_of}
+use Rattle.idp_server.specs.Replies.{AsksAnew, AsksForAnEnd, AsksInSession, CanBeShown, HasAssertion, HasCookie, HasRefusal, HasRequest, HasResponse, IsIssuable, IsPage, IsTextAsk, IsTold, IsXmlReply, Leaves, LogsIn, Wants, found_record, is_nothing, record_for, refusal_of, turn_of}
 use Rattle.idp_server.specs.Rounds.{asks_others, round_waiting}
 use Rattle.idp_server.specs.Step.{Answers, ByIssuing, ByPassive, ByAsking, ByLogin, ByLeaving, ByEnding, ByConfirming, ByNothingToEnd, ByUnknownLogout, IsAnswerFor, IsEndingAnswer, IsLeavingAnswer, asker_of, ended_by, ending_by, is_awaited, left_by, session_used}
 use Rattle.idp_server.proofs.Alike.{session_alike}
 use Rattle.idp_server.proofs.Asking.{asks_still, ending_live, one_live, waiting_still}
-use Rattle.idp_server.proofs.Ids.{drawn_named, drawn_text}
+use Rattle.idp_server.proofs.Ids.{drawn_line, drawn_named, drawn_text}
 use Rattle.idp_server.proofs.Peers.{there_inside}
 use Rattle.idp_server.proofs.Sessions.{all_at}
 use Rattle.idp_server.proofs.Telling.{asker_xml, asking_answers, asks_all_still, first_turn_of, next_step_of, telling_answers, tells_still, turns_xml}
@@ -161,10 +161,10 @@ issued_in_session setup held request now key cookie ask peer r moment w is =
     })
 
 pub issued_at_login : (setup : IdpConfig) (held : Held) (request : Request) (now : ℕ) (key id user : List ℕ) (attributes : List Attribute) (peer : ℕ) (r : IdpRecord) → now ≤ LAST
-    → LogsIn setup held request now id user attributes peer → record_for key held now (replies.Login id user attributes peer) ≡ Some r → CanBeIssued r × IsSome (second_id r)
+    → LogsIn setup held request now id user attributes peer → record_for key held now (replies.Login id user attributes peer) ≡ Some r → CanBeIssued r × HasCookie r
 issued_at_login setup held request now key id user attributes peer r moment w is =
     let n = next_number held in
-    subst (λ (x : IdpRecord). CanBeIssued x × IsSome (second_id x)) (login_record setup held request now key id user attributes peer r w is) (
+    subst (λ (x : IdpRecord). CanBeIssued x × HasCookie x) (login_record setup held request now key id user attributes peer r w is) (
       record {
         issued = _;
         is = refl;
@@ -189,7 +189,7 @@ issued_at_login setup held request now key id user attributes peer r moment w is
         until = w.told.until;
         ends = w.told.ends;
       },
-      refl,
+      record { cookie = _; named = refl; line = drawn_line key _ (n + 2) },
     )
 
 shown_with : (setup : IdpConfig) (place : ℕ) (peer : LogoutPeer) (r : IdpRecord) → slice_get setup.peers place ≡ Some peer → CanBeIssued r → HasAssertion setup place r

@@ -7,7 +7,8 @@ use Rattle.ledger_rules.specs.declared.fault.DraftFault.{DraftFault}
 use Rattle.idp_ledger.specs.Drafts.{DraftsSome}
 use Rattle.record_ledger.specs.Drafts.{SameLedger}
 use Rattle.idp_ledger.specs.Laws.{CompactionsChangeNoAnswer}
-use Rattle.idp_ledger.specs.Ledger.{CanCommit, OpenedLedger}
+use Rattle.record_ledger.specs.Ledger.{CanCommit}
+use Rattle.idp_ledger.specs.Ledger.{OpenedLedger}
 use Rattle.idp_ledger.specs.Record.{idp_rules}
 use Rattle.idp_rows.specs.Record.{LAST}
 use Rattle.idp_ledger.specs.Standing.{idp_row_rules}
@@ -47,7 +48,7 @@ of_record P o r is holds = subst (λ (o : Option IdpRecord). IfSome o P) is hold
 pub idp_drafted : (key : List ℕ) (old new : OpenedLedger) (now : ℕ) (reply : Reply) (r : IdpRecord) (result : Result (Option IdpRecord) DraftFault) → old.key ≡ key → SameLedger old new
     → found_record old.key old.held now reply ≡ Some r
     → IfSome (found_record old.key old.held now reply) (λ r. DraftsSome old new (is_nothing old.held now reply) r result)
-    → IsDrafted idp_rules old.held (CanCommit new) (λ d. d) (record_for key old.held now reply) (drafted_of result)
+    → IsDrafted idp_rules old.held (CanCommit idp_rules idp_row_rules new) (record_for key old.held now reply) (drafted_of result)
 idp_drafted key old new now reply r result same_key same found drafts =
     let own : found_record key old.held now reply ≡ Some r = subst (λ (k : List ℕ). found_record k old.held now reply ≡ Some r) same_key found in
     let if_nothing = λ (b : Bool). if b then None else found_record key old.held now reply in

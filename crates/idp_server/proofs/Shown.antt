@@ -70,7 +70,7 @@ pub record IsLeftWith (setup : IdpConfig) (user index : List ℕ) (r : IdpRecord
   pub name_is : name ≡ user
   pub indexes_are : indexes ≡ index ∷ []
 
-some_same : (one other : List ℕ) → Some one ≡ Some other → one ≡ other
+pub some_same : (one other : List ℕ) → Some one ≡ Some other → one ≡ other
 some_same one other is = cc
 
 pub leaving_page_of : {E : Type 0} (setup : IdpConfig) (user index : List ℕ) (r : IdpRecord) (now place : ℕ) (peer : LogoutPeer) (id goes issuer name : List ℕ) (indexes : List (List ℕ))

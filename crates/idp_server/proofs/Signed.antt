@@ -34,7 +34,7 @@ use Rattle.idp_rules.specs.Asking.{IsAsked}
 use Rattle.idp_rules.specs.declared.asked.Asked.{Asked}
 use Rattle.idp_rules.specs.declared.config.IdpConfig.{IdpConfig}
 use Rattle.idp_answers.specs.Answers.{IsNoPassiveAnswer, session_cookie, signed_assertion, signed_response, signs_assertion, signs_response}
-use Rattle.logout_answers.specs.Answers.{BySending, ByEnding, Ending, Leaving}
+use Rattle.logout_answers.specs.Answers.{ByEnding, BySending, Ending, Leaving, is_in_part}
 use Rattle.logout_turns.specs.declared.part.Asker.{Asker}
 use Rattle.round_rows.specs.declared.row.RoundRow.{RoundRow}
 use Rattle.round_rows.specs.Rounds.{is_turn_left}
@@ -45,7 +45,7 @@ use Rattle.idp_server.specs.Messages.{AsksFirst, AsksNext, EndsRound, IsRequestT
 use Rattle.idp_server.specs.Rounds.{next_in, round_by, round_waiting}
 use Rattle.idp_server.specs.Signed.{Carries, AFirstRequest, ALastReply, ALogout, ANextRequest, AnEnd, AQuestion, AForm, AReply, ARequest, EachSignedElementIsOfARecord, AnAssertion, AResponse, IsSignedFor, IsSignedOf, Waits, signed_elements}
 use Rattle.idp_server.specs.Step as steps
-use Rattle.idp_server.specs.Step.{Answers, IsAnswerFor, IsEndingAnswer, IsLeavingAnswer, IsPeer, ask_of, asker_of, ended_by, ending_by, is_in_part, left_by, session_for}
+use Rattle.idp_server.specs.Step.{Answers, IsAnswerFor, IsEndingAnswer, IsLeavingAnswer, IsPeer, ask_of, asker_of, ended_by, ending_by, left_by, session_for}
 use Rattle.idp_server.proofs.Ending.{IsAtItsPlace, asking_peer}
 use Rattle.idp_server.proofs.Issues.{found_itself, the_issued}
 use Rattle.idp_server.proofs.Logouts.{has_answer, the_ended, the_left, the_round}

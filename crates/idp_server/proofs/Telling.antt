@@ -41,11 +41,12 @@ use Rattle.idp_server.specs.declared.reply.Reply.TheVariants as replies
 use Rattle.idp_server.specs.Messages.{AsksNext, EndsRound, IsRoundEnd, IsToldAnswer}
 use Rattle.idp_server.specs.Replies.{AnswersRound, AreTold, AsksAll, AsksByPlan, HasFirstTurn, HasNextStep, HasNextTurn, IsAskingPage, IsTextAsker, IsTextTurn, IsToldPage, OfPeer, OfUser, Tells, Wants, record_for, turn_of}
 use Rattle.idp_server.specs.Rounds.{asks_others, follows_by, follows_of, has_some, next_in, round_by, round_waiting, skips_for, told_by, turns_for}
-use Rattle.idp_server.specs.Step.{Answers, ByEndingAll, ByLeavingAll, ByTold, RepliesTo, asker_of, ending_by, is_in_part}
+use Rattle.idp_server.specs.Step.{Answers, ByEndingAll, ByLeavingAll, ByTold, RepliesTo, asker_of, ending_by}
 use Rattle.idp_server.proofs.Asking.{LiveIn, asks_still, live_still, skips_still, turns_still}
 use Rattle.idp_server.proofs.Alike.{session_alike}
 use Rattle.idp_server.proofs.Ids.{drawn_named, drawn_text}
 use Rattle.idp_server.proofs.Sessions.{all_at}
+use Rattle.logout_answers.specs.Answers.{is_in_part}
 
 one_of : {X : Type 0} (one other : X) → Some one ≡ Some other → one ≡ other
 one_of one other is = cc

@@ -12,7 +12,8 @@ use Rattle.idp_server.specs.declared.route.Service.TheVariants.{Login, SignOn, L
 use Rattle.idp_server.specs.Routes.{route, service_at}
 use Rattle.idp_server.specs.Signed.{signed_elements}
 use Rattle.protocol_messages.specs.declared.logout.Outcome.TheVariants.{Success, Partial, Other}
-use Rattle.idp_server.specs.Step.{is_in_part, session_used, typed_in}
+use Rattle.idp_server.specs.Step.{session_used, typed_in}
+use Rattle.logout_answers.specs.Answers.{is_in_part}
 
 -- a request without a form
 sent : Method → List ℕ → Request

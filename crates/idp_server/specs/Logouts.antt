@@ -34,7 +34,8 @@ use Rattle.idp_server.specs.declared.route.Service.TheVariants.{Logout, SingleLo
 use Rattle.idp_server.specs.Routes.{route}
 use Rattle.idp_server.specs.Replies.{OfPeer, OfUser}
 use Rattle.idp_server.specs.Rounds.{asks_others, round_by, round_waiting, skips_for, turns_for}
-use Rattle.idp_server.specs.Step.{Provider, Answers, AsksToEnd, HasPlace, OwnsDisk, RepliesTo, Serves, Steps, asker_of, ended_by, ending_by, is_awaited, is_in_part, left_by, session_for}
+use Rattle.idp_server.specs.Step.{Provider, Answers, AsksToEnd, HasPlace, OwnsDisk, RepliesTo, Serves, Steps, asker_of, ended_by, ending_by, is_awaited, left_by, session_for}
+use Rattle.logout_answers.specs.Answers.{is_in_part}
 
 -- ONLY
 

@@ -5,6 +5,7 @@ use Rattle.std.specs.Option.{is_none, option_map}
 use Rattle.xml_spec.specs.Characters.{IsText}
 use Rattle.owned_values.specs.declared.attributes.Attribute.{Attribute}
 use Rattle.assertion_model.specs.Assertion.{IsStatable}
+use Rattle.http_wire.specs.Answers.{is_one_line}
 use Rattle.http_wire.specs.declared.answer.Answer.{Answer}
 use Rattle.http_wire.specs.declared.answer.Answer.TheVariants.{Full}
 use Rattle.http_wire.specs.Requests.{Request}
@@ -39,7 +40,7 @@ use Rattle.idp_rules.specs.declared.config.IdpConfig.{IdpConfig}
 use Rattle.idp_answers.specs.Answers.{IsNoPassiveAnswer, login_answer}
 use Rattle.idp_answers.specs.Stating.{CanBeStated}
 pub use Rattle.idp_answers.specs.Stating.{AreTold, IsTold}
-use Rattle.logout_answers.specs.Answers.{end_answer}
+use Rattle.logout_answers.specs.Answers.{end_answer, is_in_part}
 use Rattle.logout_profile.specs.declared.logout.Logout.TheVariants as messages
 use Rattle.protocol_messages.specs.declared.logout.LogoutRequest.{LogoutRequest}
 use Rattle.protocol_messages.specs.declared.logout.LogoutResponse.{LogoutResponse}
@@ -58,7 +59,7 @@ use Rattle.idp_server.specs.Routes.{route}
 use Rattle.idp_server.specs.Messages.{AsksFirst, IsRequestTo, IsRoundEnd}
 use Rattle.idp_server.specs.Rounds.{asks_others, follows_of, round_waiting, skips_for, turns_for}
 use Rattle.idp_server.specs.Step as step
-use Rattle.idp_server.specs.Step.{Answers, AsksToEnd, IsAnswerFor, IsEndingAnswer, IsLeavingAnswer, IsObeyed, Typed, asker_of, ask_of, ended_by, ending_by, is_awaited, is_in_part, left_by, session_for, session_used, typed}
+use Rattle.idp_server.specs.Step.{Answers, AsksToEnd, IsAnswerFor, IsEndingAnswer, IsLeavingAnswer, IsObeyed, Typed, asker_of, ask_of, ended_by, ending_by, is_awaited, left_by, session_for, session_used, typed}
 
 -- THE RECORD
 
@@ -200,6 +201,12 @@ pub record HasAssertion (setup : IdpConfig) (place : ℕ) (r : IdpRecord) : Type
   pub issuable : IsIssuable issued
   pub known : place < length setup.peers
 
+-- a record that draws a cookie, which may stand in a line of a header
+pub record HasCookie (r : IdpRecord) : Type 0 where
+  pub cookie : List ℕ
+  pub named : second_id r ≡ Some cookie
+  pub line : is_one_line cookie ≡ true
+
 pub record HasRefusal (ask : Ask) (r : IdpRecord) : Type 0 where
   pub message : List ℕ
   pub named : first_id r ≡ Some message
@@ -271,7 +278,7 @@ abbrev pub CanBeShown : IdpConfig → Reply → IdpRecord → Type 0
 CanBeShown setup (replies.InSession cookie ask peer) r = HasAssertion setup peer r
 CanBeShown setup (replies.Passive ask) r = HasRefusal ask r
 CanBeShown setup (replies.Question ask) r = IsSome (first_id r)
-CanBeShown setup (replies.Login id user attributes peer) r = HasAssertion setup peer r × IsSome (second_id r)
+CanBeShown setup (replies.Login id user attributes peer) r = HasAssertion setup peer r × HasCookie r
 CanBeShown setup (replies.Leave cookie user index) r = HasRequest setup user index r
 CanBeShown setup (replies.End asked peer name relay) r = HasResponse setup asked peer r
 CanBeShown setup (replies.Confirm request partial) r = Unit {0}

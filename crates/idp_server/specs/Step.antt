@@ -10,8 +10,6 @@ use Rattle.post_binding.specs.Form.{fields}
 use Rattle.verdict_codes.specs.Codes.{number_of}
 use Rattle.protocol_messages.specs.declared.logout.LogoutRequest.{LogoutRequest}
 use Rattle.protocol_messages.specs.declared.logout.LogoutResponse.{LogoutResponse}
-use Rattle.protocol_messages.specs.declared.logout.Outcome.{Outcome}
-use Rattle.protocol_messages.specs.declared.logout.Outcome.TheVariants as outcomes
 use Rattle.verdict_codes.specs.declared.codes.Verdict.{Verdict}
 use Rattle.verdict_codes.specs.declared.codes.Verdict.TheVariants as verdicts
 use Rattle.ledger_records.specs.declared.idp_record.Ended.{Ended}
@@ -41,7 +39,7 @@ use Rattle.idp_rules.specs.Verdict.{IsRefused}
 use Rattle.idp_rules.specs.declared.asked.Asked.{Asked}
 use Rattle.idp_rules.specs.declared.config.IdpConfig.{IdpConfig}
 use Rattle.idp_answers.specs.Answers.{IsIssuedAnswer, IsNoPassiveAnswer, login_answer, metadata_answer}
-use Rattle.logout_answers.specs.Answers.{end_answer}
+use Rattle.logout_answers.specs.Answers.{end_answer, is_in_part}
 use Rattle.logout_profile.specs.Verdict as logouts
 use Rattle.logout_profile.specs.declared.logout.Logout.{Logout as Message}
 use Rattle.logout_profile.specs.declared.logout.Logout.TheVariants as messages
@@ -135,12 +133,6 @@ asker_of peer asked relay = record { peer = peer.peer.entity; request = asked.id
 -- whether a logout that began here waits for the reply to this request
 abbrev pub is_awaited : Held → ℕ → (request : List ℕ) → Bool
 is_awaited held now request = is_waiting_now (rows_of held.records).lefts request now held.header.horizon
-
--- SAML Core, 3.2.2.2: a logout ended at each participant only where this is said
-abbrev pub is_in_part : Outcome → Bool
-is_in_part outcomes.Success = false
-is_in_part outcomes.Partial = true
-is_in_part outcomes.Other = true
 
 -- ---- the answers that stand for records
 

@@ -13,7 +13,8 @@ use crate::role::IdpRole;
 use idp_answers::{
     Statement, issued_answer, just, login_answer, no_passive_answer, stated_login, text_of,
 };
-use idp_ledger::{Ask, Draft};
+use idp_ledger::{Ask, first_id, is_partial, issued, peer, second_id};
+use ledger_records::IdpRecord;
 use ledger_records::idp_record::Issued;
 use logout_answers::{end_answer, ending_answer, leaving_answer};
 use owned_values::{Blob, NoMemory, Text};
@@ -38,20 +39,20 @@ fn statement_of(issued: &Issued) -> Statement<'_>
 }
 
 impl IdpRole {
-    /// The answer with the Assertion of a draft, for the peer at this place, which sets this cookie where there is one.
+    /// The answer with the Assertion of a record, for the peer at this place, which sets this cookie where there is one.
     fn assertion_page(
         &self,
-        draft: &Draft,
+        entry: &IdpRecord,
         peer: usize,
         cookie: Option<&str>,
         now: u64,
     ) -> Result<Blob, NoMemory>
         requires moment { now ≤ LAST }
-        requires shown { HasAssertion self.now peer draft.now }
+        requires shown { HasAssertion self.now peer entry.now }
         requires cookie { ForSome cookie (λ token. IsTrue (is_one_line token.now)) }
-        ensures { IfOk result (λ bytes. IsAssertionPage self.now peer (option_map (λ text. text.now) cookie.entry) draft.now now (Full bytes)) }
+        ensures { IfOk result (λ bytes. IsAssertionPage self.now peer (option_map (λ text. text.now) cookie.entry) entry.now now (Full bytes)) }
     {
-        let issued = draft.issued();
+        let issued = issued(entry);
         let statement = statement_of(issued);
         let login = stated_login(self.alloc, self.config.entity.as_str(), &statement)?;
         issued_answer(
@@ -67,16 +68,16 @@ impl IdpRole {
         )
     }
 
-    /// The answer without an Assertion of a draft.
-    fn passive_page(&self, draft: &Draft, ask: &Ask, now: u64) -> Result<Blob, NoMemory>
+    /// The answer without an Assertion that a record stands for.
+    fn passive_page(&self, entry: &IdpRecord, ask: &Ask, now: u64) -> Result<Blob, NoMemory>
         requires moment { now ≤ LAST }
-        requires shown { HasRefusal ask.now draft.now }
-        ensures { IfOk result (λ bytes. IsPassivePage self.now ask.now draft.now now (Full bytes)) }
+        requires shown { HasRefusal ask.now entry.now }
+        ensures { IfOk result (λ bytes. IsPassivePage self.now ask.now entry.now now (Full bytes)) }
     {
         no_passive_answer(
             self.alloc,
             self.config.entity.as_str(),
-            draft.first().as_str(),
+            first_id(entry),
             ask.request.as_str(),
             ask.consumer.as_str(),
             text_of(&ask.relay),
@@ -84,26 +85,26 @@ impl IdpRole {
         )
     }
 
-    /// The answer to this user, who leaves the session with this index: a request to the peer of the draft, where it is known.
+    /// The answer to this user, who leaves the session with this index: a request to the peer of the record, where it is known.
     fn leaving_page(
         &self,
-        draft: &Draft,
+        entry: &IdpRecord,
         user: &Text,
         index: &Text,
         now: u64,
     ) -> Result<Blob, NoMemory>
         requires moment { now ≤ LAST }
-        requires shown { HasRequest self.now user.now index.now draft.now }
-        ensures { IfOk result (λ bytes. IsLeavingPage self.now user.now index.now draft.now now (Full bytes)) }
+        requires shown { HasRequest self.now user.now index.now entry.now }
+        ensures { IfOk result (λ bytes. IsLeavingPage self.now user.now index.now entry.now now (Full bytes)) }
     {
-        let Some(place) = self.config.peers.place_of(draft.peer()) else {
+        let Some(place) = self.config.peers.place_of(peer(entry)) else {
             return end_answer(self.alloc, true);
         };
         let indexes = just(self.alloc, index)?;
         leaving_answer(
             self.alloc,
             self.config.peers.at(place),
-            draft.first().as_str(),
+            first_id(entry),
             self.config.entity.as_str(),
             now,
             user.as_str(),
@@ -114,52 +115,57 @@ impl IdpRole {
     /// The answer to the peer at this place, which asked to end sessions.
     fn ending_page(
         &self,
-        draft: &Draft,
+        entry: &IdpRecord,
         asked: &LogoutRequest,
         peer: usize,
         relay: &Option<Text>,
         now: u64,
     ) -> Result<Blob, NoMemory>
         requires moment { now ≤ LAST }
-        requires shown { HasResponse self.now asked.now peer draft.now }
-        ensures { IfOk result (λ bytes. IsEndingPage self.now peer relay.now draft.now now (Full bytes)) }
+        requires shown { HasResponse self.now asked.now peer entry.now }
+        ensures { IfOk result (λ bytes. IsEndingPage self.now peer relay.now entry.now now (Full bytes)) }
     {
         ending_answer(
             self.alloc,
             self.config.peers.at(peer),
-            draft.first().as_str(),
+            first_id(entry),
             self.config.entity.as_str(),
             now,
             asked.id.as_str(),
-            draft.partial(),
+            is_partial(entry),
             text_of(relay),
         )
     }
 
-    /// The answer that stands for the draft of a reply.
-    pub(crate) fn page_of(&self, reply: &Reply, draft: &Draft, now: u64) -> Result<Blob, NoMemory>
+    /// The answer that stands for the record of a reply.
+    pub(crate) fn page_of(
+        &self,
+        reply: &Reply,
+        entry: &IdpRecord,
+        now: u64,
+    ) -> Result<Blob, NoMemory>
         requires moment { now ≤ LAST }
-        requires shown { CanBeShown self.now reply.now draft.now }
-        ensures { IfOk result (λ bytes. IsPage self.now reply.now draft.now now (Full bytes)) }
+        requires shown { CanBeShown self.now reply.now entry.now }
+        ensures { IfOk result (λ bytes. IsPage self.now reply.now entry.now now (Full bytes)) }
     {
         match reply {
-            Reply::InSession { peer, .. } => self.assertion_page(draft, *peer, None, now),
-            Reply::Passive { ask } => self.passive_page(draft, ask, now),
-            Reply::Question { .. } => login_answer(self.alloc, draft.first().as_str()),
+            Reply::InSession { peer, .. } => self.assertion_page(entry, *peer, None, now),
+            Reply::Passive { ask } => self.passive_page(entry, ask, now),
+            Reply::Question { .. } => login_answer(self.alloc, first_id(entry)),
             Reply::Login { peer, .. } => {
-                let cookie = draft.second().as_str();
-                self.assertion_page(draft, *peer, Some(cookie), now)
+                let cookie = second_id(entry);
+                self.assertion_page(entry, *peer, Some(cookie), now)
             }
-            Reply::Leave { user, index, .. } => self.leaving_page(draft, user, index, now),
+            Reply::Leave { user, index, .. } => self.leaving_page(entry, user, index, now),
             Reply::End {
                 asked,
                 peer,
                 relay,
                 ..
-            } => self.ending_page(draft, asked, *peer, relay, now),
+            } => self.ending_page(entry, asked, *peer, relay, now),
             Reply::Confirm { partial, .. } => end_answer(self.alloc, *partial),
-            Reply::AskAll { plan, .. } => self.asking_page(plan, draft, now),
-            Reply::Told { follows, .. } => self.told_page(follows, draft, now),
+            Reply::AskAll { plan, .. } => self.asking_page(plan, entry, now),
+            Reply::Told { follows, .. } => self.told_page(follows, entry, now),
         }
     }
 }

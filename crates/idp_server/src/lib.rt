@@ -63,7 +63,6 @@
 mod issuing;
 pub mod laws;
 mod leave;
-mod ledger;
 mod login;
 mod reply;
 mod replying;

@@ -19,7 +19,7 @@ use crate::role::IdpRole;
 use fault_verdicts::Judged;
 use http_wire::HttpRequest;
 use idp_answers::laws::{each_moment_is_told, what_is_recorded_may_stand};
-use idp_ledger::{IdpLedger, PendingRow};
+use idp_ledger::IdpLedger;
 use owned_values::{NoMemory, Text, Texts};
 use post_binding::read_fields;
 use saml_time::LAST;
@@ -59,7 +59,7 @@ impl IdpRole {
         each_moment_is_told();
         let (pending, user, password) = (given.at(0), given.at(1), given.at(2));
         ledger.holds_records();
-        let Some(row) = ledger.pending(pending.as_str(), now) else {
+        let Some(row) = idp_ledger::pending(ledger, pending.as_str(), now) else {
             return Err(Judged::Code(Verdict::NoSuchPending));
         };
         let Some(peer) = self.config.peers.place_of(row.peer.as_str()) else {

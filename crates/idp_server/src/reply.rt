@@ -6,7 +6,10 @@ ghost use Rattle.idp_ledger.specs.Drafts.{DraftsSome};
 ghost use Rattle.record_ledger.specs.Drafts.{SameLedger};
 ghost use Rattle.idp_server.specs.Replies.{CanDraft, IsXmlReply, found_record, is_nothing, refusal_of};
 
-use idp_ledger::{Ask, Draft, DraftFault, IdpLedger};
+use idp_ledger::{
+    Ask, Draft, DraftFault, IdpLedger, draft_confirm, draft_end, draft_issue, draft_leave,
+    draft_login, draft_pending, draft_round, draft_speak, draft_told,
+};
 use logout_fanout::Plan;
 use logout_turns::{Asker, Turn};
 use owned_values::{Attributes, Text, Texts};
@@ -102,15 +105,15 @@ impl Reply {
     {
         match self {
             Reply::InSession { cookie, ask, .. } => {
-                let draft = ledger.draft_issue(now, cookie.as_str(), ask)?;
+                let draft = draft_issue(ledger, now, cookie.as_str(), ask)?;
                 Ok(Some(draft))
             }
             Reply::Passive { ask } => {
-                let draft = ledger.draft_speak(now, ask)?;
+                let draft = draft_speak(ledger, now, ask)?;
                 Ok(Some(draft))
             }
             Reply::Question { ask } => {
-                let draft = ledger.draft_pending(now, ask)?;
+                let draft = draft_pending(ledger, now, ask)?;
                 Ok(Some(draft))
             }
             Reply::Login {
@@ -119,28 +122,29 @@ impl Reply {
                 attributes,
                 ..
             } => {
-                let draft = ledger.draft_login(now, pending.as_str(), user.as_str(), attributes)?;
+                let draft = draft_login(ledger, now, pending.as_str(), user.as_str(), attributes)?;
                 Ok(Some(draft))
             }
             Reply::Leave { cookie, .. } => {
-                let draft = ledger.draft_leave(now, cookie.as_str())?;
+                let draft = draft_leave(ledger, now, cookie.as_str())?;
                 Ok(Some(draft))
             }
-            Reply::End { asked, name, .. } => ledger.draft_end(
+            Reply::End { asked, name, .. } => draft_end(
+                ledger,
                 now,
                 name.as_str(),
                 asked.name.as_str(),
                 &asked.indexes,
                 asked.id.as_str(),
             ),
-            Reply::Confirm { request, .. } => ledger.draft_confirm(now, request.as_str()),
+            Reply::Confirm { request, .. } => draft_confirm(ledger, now, request.as_str()),
             Reply::AskAll {
                 cookies,
                 asker,
                 plan,
             } => {
                 let turns = plan.turns.as_slice();
-                let draft = ledger.draft_round(now, cookies, asker.as_ref(), turns, plan.skipped)?;
+                let draft = draft_round(ledger, now, cookies, asker.as_ref(), turns, plan.skipped)?;
                 Ok(Some(draft))
             }
             Reply::Told {
@@ -148,7 +152,7 @@ impl Reply {
                 peer,
                 confirms,
                 ..
-            } => ledger.draft_told(now, request.as_str(), peer.as_str(), *confirms),
+            } => draft_told(ledger, now, request.as_str(), peer.as_str(), *confirms),
         }
     }
 

@@ -16,7 +16,7 @@ use http_wire::{Answer, HttpRequest};
 use idp_answers::laws::each_login_has_an_answer;
 use idp_answers::metadata_answer;
 use idp_ledger::laws::compactions_change_no_answer;
-use idp_ledger::{Draft, IdpLedger};
+use idp_ledger::{Draft, IdpLedger, IdpStanding};
 use owned_values::{Blob, NoMemory};
 use provider_node::{DraftOutcome, Replied, Role};
 use service_routes::{Route, route_to};
@@ -57,6 +57,8 @@ impl IdpRole {
 impl Role for IdpRole {
     ghost use Rattle.idp_server.specs.Replies.{idp_replies};
     ghost use Rattle.idp_server.specs.Step.{Answers};
+
+    type Rows = IdpStanding;
 
     type Reply = Reply;
 
@@ -103,7 +105,7 @@ impl Role for IdpRole {
     }
 
     fn page(&self, reply: &Reply, draft: &Draft, now: u64) -> Result<Blob, NoMemory> {
-        self.page_of(reply, draft, now)
+        self.page_of(reply, draft.entry().entry(), now)
     }
 
     fn refusal(&self, reply: &Reply) -> u16 {

@@ -13,7 +13,8 @@ use crate::reply::{Follows, Reply};
 use crate::role::IdpRole;
 use idp_answers::laws::what_is_recorded_may_stand;
 use idp_answers::{just, text_of};
-use idp_ledger::{Draft, IdpLedger, RoundRow};
+use idp_ledger::{IdpLedger, RoundRow, ending, first_id, parts, turn};
+use ledger_records::IdpRecord;
 use logout_answers::{end_answer, ending_answer, leaving_answer};
 use logout_fanout::{Next, Plan, Round, make_plan};
 use logout_turns::{Asker, Turn};
@@ -90,7 +91,7 @@ impl IdpRole {
         ensures turns { IfOk result (λ plan. IfSome plan (λ p. p.turns ≡ turns_for self.now ledger.now.held asker.now cookies.now)) }
         ensures skipped { IfOk result (λ plan. IfSome plan (λ p. p.skipped ≡ skips_for self.now ledger.now.held asker.now cookies.now)) }
     {
-        let parts = ledger.parts(cookies)?;
+        let parts = parts(ledger, cookies)?;
         let peers = self.config.peers.as_slice();
         let plan = make_plan(self.alloc, parts.as_slice(), name_of(asker), peers)?;
         if plan.turns.is_empty() {
@@ -152,7 +153,13 @@ impl IdpRole {
         if !self.config.fanout {
             return Ok(None);
         }
-        let cookies = ledger.ending(now, name.as_str(), asked.name.as_str(), &asked.indexes)?;
+        let cookies = ending(
+            ledger,
+            now,
+            name.as_str(),
+            asked.name.as_str(),
+            &asked.indexes,
+        )?;
         let asker = Asker {
             peer: name.copy()?,
             request: asked.id.copy()?,
@@ -177,7 +184,7 @@ impl IdpRole {
         }
         what_is_recorded_may_stand();
         ledger.holds_records();
-        let Some(row) = ledger.turn(request.as_str(), peer.as_str(), now) else {
+        let Some(row) = turn(ledger, request.as_str(), peer.as_str(), now) else {
             return Ok(None);
         };
         Ok(Some(Reply::Told {
@@ -239,27 +246,32 @@ impl IdpRole {
     }
 
     /// The answer that begins a round: a request to the provider of its first turn.
-    pub(crate) fn asking_page(&self, plan: &Plan, draft: &Draft, now: u64) -> Result<Blob, NoMemory>
+    pub(crate) fn asking_page(
+        &self,
+        plan: &Plan,
+        entry: &IdpRecord,
+        now: u64,
+    ) -> Result<Blob, NoMemory>
         requires moment { now ≤ LAST }
-        requires shown { HasFirstTurn self.now plan.now draft.now }
-        ensures { IfOk result (λ bytes. IsAskingPage self.now draft.now now (Full bytes)) }
+        requires shown { HasFirstTurn self.now plan.now entry.now }
+        ensures { IfOk result (λ bytes. IsAskingPage self.now entry.now now (Full bytes)) }
     {
-        self.request_page(plan.turns.at(0), draft.first().as_str(), now)
+        self.request_page(plan.turns.at(0), first_id(entry), now)
     }
 
     /// The answer to a provider that answered in its turn.
     pub(crate) fn told_page(
         &self,
         follows: &Follows,
-        draft: &Draft,
+        entry: &IdpRecord,
         now: u64,
     ) -> Result<Blob, NoMemory>
         requires moment { now ≤ LAST }
-        requires shown { HasNextStep self.now follows.now draft.now }
-        ensures { IfOk result (λ bytes. IsToldPage self.now follows.now draft.now now (Full bytes)) }
+        requires shown { HasNextStep self.now follows.now entry.now }
+        ensures { IfOk result (λ bytes. IsToldPage self.now follows.now entry.now now (Full bytes)) }
     {
         match follows {
-            Follows::Turn(turn) => self.request_page(turn, draft.first().as_str(), now),
+            Follows::Turn(turn) => self.request_page(turn, first_id(entry), now),
             Follows::End {
                 message,
                 asker,

@@ -22,7 +22,7 @@ use crate::role::IdpRole;
 use fault_verdicts::Judged;
 use http_wire::{HttpRequest, cookie_of};
 use idp_answers::laws::{each_moment_is_told, what_is_recorded_may_stand};
-use idp_ledger::{Ask, IdpLedger, SessionRow};
+use idp_ledger::{Ask, IdpLedger, SessionRow, session};
 use idp_rules::laws::the_texts_of_a_request_are_texts;
 use idp_rules::{Asked, judge_request, sign_on_address};
 use owned_values::NoMemory;
@@ -39,7 +39,7 @@ pub(crate) fn session_for<'a>(
     ensures { option_copied result ≡ session_for ledger.now.held now (request_view request.now) }
 {
     let cookie = cookie_of(request.cookie?, SESSION_COOKIE)?;
-    ledger.session(cookie, now)
+    session(ledger, cookie, now)
 }
 
 /// The same where the user need not be authenticated anew.

@@ -8,7 +8,6 @@ ghost use Rattle.idp_rules.specs.Config.{logout};
 ghost use Rattle.service_routes.specs.declared.route.Route.TheVariants.{To};
 ghost use Rattle.idp_server.specs.declared.route.Service.TheVariants.{SingleLogout};
 ghost use Rattle.idp_server.specs.Routes.{route};
-ghost use Rattle.idp_server.specs.Step as spec;
 ghost use Rattle.idp_server.specs.Step.{IsNotObeyed, IsObeyed};
 ghost use Rattle.idp_server.specs.Replies.{Wants};
 
@@ -19,30 +18,12 @@ use http_wire::HttpRequest;
 use idp_answers::laws::each_moment_is_told;
 use idp_ledger::IdpLedger;
 use idp_rules::IdpConfig;
+use logout_answers::{is_in_part, logout_address};
 use logout_profile::laws::what_an_obeyed_form_says;
 use logout_profile::{Logout, judge_logout};
 use owned_values::{NoMemory, Text};
-use protocol_messages::{LogoutRequest, LogoutResponse, Outcome};
+use protocol_messages::{LogoutRequest, LogoutResponse};
 use std::alloc::Global;
-
-/// The address to which messages of a logout are posted (SAML Metadata, 2.4.2, SingleLogoutService).
-fn logout_address(alloc: Global, config: &IdpConfig) -> Result<Text, NoMemory>
-    ensures { IfOk result (λ address. address ≡ logout config.now) }
-{
-    let mut address = Text::of(alloc, config.base.as_str())?;
-    address.push("/slo")?;
-    Ok(address)
-}
-
-/// Whether a logout ended in part at most (SAML Core, 3.2.2.2).
-fn is_in_part(outcome: Outcome) -> bool
-    ensures { result ≡ spec.is_in_part outcome }
-{
-    match outcome {
-        Outcome::Success => false,
-        Outcome::Partial | Outcome::Other => true,
-    }
-}
 
 impl IdpRole {
     /// What a posted form asks or replies of a logout.
@@ -55,7 +36,7 @@ impl IdpRole {
         ensures obeyed { IfOk result (IsObeyed self.now now request.now.body.now) }
         ensures refused { IfErr result (IsJudged (IsNotObeyed self.now now request.now.body.now)) }
     {
-        let address = logout_address(self.alloc, &self.config)?;
+        let address = logout_address(self.alloc, self.config.base.as_str())?;
         let peers = self.config.peers.as_slice();
         let skew = self.config.skew;
         judge_logout(self.alloc, peers, address.as_str(), skew, now, request.body)

@@ -1,10 +1,22 @@
 -- What a provider answers in a single logout: SAML Profiles, 4.4.3, with the HTTP POST binding (SAML Bindings, 3.5).
-use Rattle.std.specs.Prelude.{◌≡◌, ℕ, Bool, true, List, Option, None}
+use Rattle.std.specs.Prelude.{◌≡◌, ℕ, Bool, true, false, List, ◌++◌, codes, Option, None}
 use Rattle.post_binding.specs.Pages.{auto_form, end_page}
 use Rattle.post_binding.specs.declared.posted.Field.TheVariants as fields
 use Rattle.http_wire.specs.Answers.{answer}
+use Rattle.protocol_messages.specs.declared.logout.Outcome.{Outcome}
+use Rattle.protocol_messages.specs.declared.logout.Outcome.TheVariants as outcomes
 use Rattle.peer_keys.specs.declared.peers.LogoutPeer.{LogoutPeer}
 use Rattle.logout_profile.specs.Making.{IsRequest, IsResponse}
+
+-- SAML Metadata, 2.4.2: the Location of the SingleLogoutService of the provider with this base
+abbrev pub logout_address : (base : List ℕ) → List ℕ
+logout_address base = base ++ codes "/slo"
+
+-- Core, 3.2.2.2: a logout of which success is not said ended in part at most
+abbrev pub is_in_part : Outcome → Bool
+is_in_part outcomes.Success = false
+is_in_part outcomes.Partial = true
+is_in_part outcomes.Other = true
 
 -- Profiles, 4.4.3.1: "the session participant .. issues a <LogoutRequest>", here to the peer's address for logout, by a form that the
 -- user's browser sends on. It has no relay.

@@ -10,14 +10,39 @@ ghost use Rattle.logout_answers.specs.Answers as spec;
 
 use http_wire::full_answer;
 use logout_profile::{logout_request, logout_response};
-use owned_values::{Blob, NoMemory, Texts};
+use owned_values::{Blob, NoMemory, Text, Texts};
 use peer_keys::LogoutPeer;
 use post_binding::{Field, auto_form, end_page};
+use protocol_messages::Outcome;
 use saml_time::LAST;
 use std::alloc::Global;
 
 /// The status of a page.
 const OK: u16 = 200;
+
+/// The address to which messages of a logout are posted at the provider whose addresses begin with `base` (SAML Metadata, 2.4.2,
+/// SingleLogoutService).
+///
+/// # Errors
+///
+/// `NoMemory` alone.
+pub fn logout_address(alloc: Global, base: &str) -> Result<Text, NoMemory>
+    ensures { IfOk result (λ address. address ≡ spec.logout_address base.now) }
+{
+    let mut address = Text::of(alloc, base)?;
+    address.push("/slo")?;
+    Ok(address)
+}
+
+/// Whether a logout ended in part at most (SAML Core, 3.2.2.2).
+pub fn is_in_part(outcome: Outcome) -> bool
+    ensures { result ≡ spec.is_in_part outcome }
+{
+    match outcome {
+        Outcome::Success => false,
+        Outcome::Partial | Outcome::Other => true,
+    }
+}
 
 /// The answer with a form that sends a message on to this address, with the relay where there is one (SAML Bindings, 3.5.4).
 fn form_answer(

@@ -14,10 +14,11 @@
 //!
 //! `leaving_answer`, `ending_answer` and `end_answer` are the bytes of their definitions: a form that sends a
 //! LogoutRequest or a LogoutResponse on to the peer's address, or the page at the end where it has none. There is an
-//! answer to each user who leaves and to each peer that asks (`laws::each_logout_has_an_answer`).
+//! answer to each user who leaves and to each peer that asks (`laws::each_logout_has_an_answer`). Which outcomes are
+//! partial (`is_in_part`), and where messages of a logout are posted (`logout_address`).
 #![tactic(auto)]
 
 mod answers;
 pub mod laws;
 
-pub use answers::{end_answer, ending_answer, leaving_answer};
+pub use answers::{end_answer, ending_answer, is_in_part, leaving_answer, logout_address};

@@ -22,7 +22,7 @@ module _ {R S : Type 0} (rules : RecordRules R) (row_rules : RowRules R S) where
 
   -- there is none where a draft is refused for it
   no_place : (old : OpenedLedger R S) (r : R) (wanted : Option R) (fault : DraftFault) → wanted ≡ Some r → IsCause rules old r fault
-      → IsDrafted {D = R} rules old.held (λ d. CanCommit rules row_rules old d) (λ d. d) wanted (drafted_of (Err fault))
+      → IsDrafted rules old.held (CanCommit rules row_rules old) wanted (drafted_of (Err fault))
   no_place old r wanted (LedgerFull kept) is cause = record { r = r; is = is; none = λ place. let clash = sym cause.0 ∙ place.few in cc }
   no_place old r wanted (JournalFull long room next) is cause = record { r = r; is = is; none = λ place. cause.1 place.fits }
   no_place old r wanted NoMemory is cause = tt
@@ -30,7 +30,7 @@ module _ {R S : Type 0} (rules : RecordRules R) (row_rules : RowRules R S) where
   -- where there may be nothing to record
   pub drafted_some : (old new : OpenedLedger R S) (nothing : Bool) (r : R) (wanted : Option R) (result : Result (Option R) DraftFault) → SameLedger old new
       → (nothing ≡ true → wanted ≡ None) → (nothing ≡ false → wanted ≡ Some r) → DraftsSome rules row_rules old new nothing r result
-      → IsDrafted rules old.held (CanCommit rules row_rules new) (λ d. d) wanted (drafted_of result)
+      → IsDrafted rules old.held (CanCommit rules row_rules new) wanted (drafted_of result)
   drafted_some old new nothing r wanted (Ok None) same none some drafts = none drafts
   drafted_some old new nothing r wanted (Ok (Some drafted)) same none some drafts = (
     some drafts.0 ∙ ap Some (sym drafts.1.is),

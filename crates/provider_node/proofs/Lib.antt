@@ -20,3 +20,4 @@ pub mod StayingShut
 pub mod Wanted
 pub mod Replying
 pub mod Drafting
+pub mod Ids

@@ -38,14 +38,12 @@ pub record HasNoPlace {R : Type 0} (rules : RecordRules R) (held : Held R) (want
 
 -- What became of the draft of what is to be recorded: a draft of it, which can be committed and has its place; there
 -- was nothing to record; there is no place for it; there was no memory.
-abbrev pub IsDrafted : {R D : Type 0} → RecordRules R → Held R
-    → (CanCommit : D → Type 0) (record_of : D → R) (wanted : Option R)
-    → DraftOutcome D → Type 0
-IsDrafted rules held CanCommit record_of wanted (drafts.Ready draft) =
-    (wanted ≡ Some (record_of draft)) × CanCommit draft × HasPlace rules held (record_of draft)
-IsDrafted rules held CanCommit record_of wanted drafts.Nothing = wanted ≡ None
-IsDrafted rules held CanCommit record_of wanted drafts.NoPlace = HasNoPlace rules held wanted
-IsDrafted rules held CanCommit record_of wanted drafts.NoMemory = Unit {0}
+abbrev pub IsDrafted : {R : Type 0} → RecordRules R → Held R → (CanCommit : R → Type 0) (wanted : Option R)
+    → DraftOutcome R → Type 0
+IsDrafted rules held CanCommit wanted (drafts.Ready r) = (wanted ≡ Some r) × CanCommit r × HasPlace rules held r
+IsDrafted rules held CanCommit wanted drafts.Nothing = wanted ≡ None
+IsDrafted rules held CanCommit wanted drafts.NoPlace = HasNoPlace rules held wanted
+IsDrafted rules held CanCommit wanted drafts.NoMemory = Unit {0}
 
 module _ {Setup R Reply : Type 0} (replies : ReplyRules Setup R Reply) where
   -- a reply that a request wanted over some ledger, and the record for which it stood there

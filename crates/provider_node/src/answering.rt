@@ -17,45 +17,45 @@ impl<R: Role> Node for ProviderNode<R> {
     ghost use Rattle.provider_node.specs.Step.{OwnsDisk, StepsOnDisk, StepLeaves};
     ghost use Rattle.provider_node.specs.Owning.{own_may_open};
 
-    ghost own = { OwnsDisk R.rules };
+    ghost own = { OwnsDisk R.Rows.rules };
 
     ghost step = { λ old disk request now before after answer new later.
-        StepsOnDisk R.rules R.answers old disk request now (Rose before after) answer new later };
+        StepsOnDisk R.Rows.rules R.answers old disk request now (Rose before after) answer new later };
 
-    ghost leaves = { StepLeaves R.rules R.answers };
+    ghost leaves = { StepLeaves R.Rows.rules R.answers };
 
-    ghost may_open = { MayOpen R.rules };
+    ghost may_open = { MayOpen R.Rows.rules };
 
-    ghost reopens = { λ old disk _ _ result new later. Restarts R.rules old disk result new later };
+    ghost reopens = { λ old disk _ _ result new later. Restarts R.Rows.rules old disk result new later };
 
-    ghost reopening_leaves = { λ _ disk. OpeningLeaves R.rules disk };
+    ghost reopening_leaves = { λ _ disk. OpeningLeaves R.Rows.rules disk };
 
     ghost compacts = { λ old disk now _ _ result new later.
-        CompactionOf R.rules old disk now result new later };
+        CompactionOf R.Rows.rules old disk now result new later };
 
-    ghost compaction_leaves = { CompactionLeaves R.rules };
+    ghost compaction_leaves = { CompactionLeaves R.Rows.rules };
 
-    ghost own_may_open = { λ node disk. own_may_open R.rules disk node.ledger };
+    ghost own_may_open = { λ node disk. own_may_open R.Rows.rules disk node.ledger };
 
     fn answer<D: Disk>(&mut self, request: &HttpRequest<'_>, now: u64, disk: &mut D) -> Answer {
-        if !R::is_broken(&self.ledger) {
+        if !self.ledger.is_broken() {
             return answer_whole(&self.role, &mut self.ledger, request, now, disk);
         }
-        if let Err(fault) = R::reopen(&mut self.ledger, disk) {
+        if let Err(fault) = self.ledger.reopen(disk) {
             return Answer::Fixed(code_of(fault));
         }
         answer_whole(&self.role, &mut self.ledger, request, now, disk)
     }
 
     fn restart<D: Disk>(&mut self, disk: &mut D) -> Result<(), OpenFault> {
-        R::reopen(&mut self.ledger, disk)
+        self.ledger.reopen(disk)
     }
 
     fn compact<D: Disk>(&mut self, disk: &mut D, now: u64) -> Result<(), OpenFault> {
-        if !R::is_broken(&self.ledger) {
-            return R::compact(&mut self.ledger, disk, now);
+        if !self.ledger.is_broken() {
+            return self.ledger.compact(disk, now);
         }
-        R::reopen(&mut self.ledger, disk)?;
-        R::compact(&mut self.ledger, disk, now)
+        self.ledger.reopen(disk)?;
+        self.ledger.compact(disk, now)
     }
 }

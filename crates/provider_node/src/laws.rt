@@ -7,11 +7,11 @@ use crate::role::Role;
 /// Each record that stands in an image which a crash inside the answer to a request may leave, or one behind it, and
 /// stood nowhere before, is one that this request adds, whatever was answered.
 pub fn what_is_new_is_of_the_request<R: Role>()
-    ensures { WhatIsNewIsOfTheRequest R.rules R.answers }
+    ensures { WhatIsNewIsOfTheRequest R.Rows.rules R.answers }
 {}
 
 /// Where there was no memory for an answer and the ledger was not broken, each row that was visible at the moment of
 /// the request is visible behind it.
 pub fn what_is_visible_stays<R: Role>()
-    ensures { WhatIsVisibleStays R.rules R.answers }
+    ensures { WhatIsVisibleStays R.Rows.rules R.answers }
 {}

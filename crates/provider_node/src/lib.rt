@@ -6,9 +6,9 @@
 //! }
 //! ```
 //!
-//! A provider of any role is one struct, [`ProviderNode`], over its ledger on a disk. Its [`Role`] says where a
-//! request goes and what is replied to it ([`Replied`]), how a reply is drafted ([`DraftOutcome`]), and how it is shown;
-//! [`KeepsLedger`] says which ledger it keeps.
+//! A provider of any role is one struct, [`ProviderNode`], over its ledger on a disk, which is a
+//! [`RecordLedger`](record_ledger::RecordLedger). Its [`Role`] says for which rows the records of this stand, where a
+//! request goes and what is replied to it ([`Replied`]), how a reply is drafted ([`DraftOutcome`]), and how it is shown.
 //!
 //! What a provider answers to a request, and which record it adds with an answer, is a definition of its own
 //! (`AnswersBy`). What comes of it is one definition, `Steps` of `specs/Step.antt`, by named cases: nothing is
@@ -34,8 +34,8 @@
 //! # What is proved
 //!
 //! A provider of any role, as a `Node` (`ProviderNode`): its step over its ledger stands once. A role says how a
-//! request is replied to, how a reply is drafted and which page shows it (`Role::reply`, `draft`, `page`), and which
-//! ledger it keeps (`KeepsLedger`); what it answers to a request and records with it is a parameter (`AnswersBy`).
+//! request is replied to, how a reply is drafted and which page shows it (`Role::reply`, `draft`, `page`), and for which
+//! rows its records stand (`Role::Rows`); what it answers to a request and records with it is a parameter (`AnswersBy`).
 //! `Steps` has a case for each thing that may come of a request: nothing is recorded; a record is added; it is added
 //! after one compaction, which comes only where it had no place; there is no room (51); the disk failed (50); it holds
 //! no ledger (53); there was no memory (52). In the same case it says which calls are made on the disk (`StepCalls`):
@@ -56,7 +56,6 @@ mod answering;
 mod codes;
 mod drafted;
 pub mod laws;
-mod ledger;
 mod provider;
 mod replied;
 mod role;
@@ -64,7 +63,6 @@ mod steps;
 
 pub use codes::{DISK_FAULT, FOREIGN, FULL, NO_MEMORY, code_of};
 pub use drafted::DraftOutcome;
-pub use ledger::KeepsLedger;
 pub use provider::ProviderNode;
 pub use replied::Replied;
 pub use role::Role;

@@ -7,11 +7,12 @@ ghost use Rattle.crash_disk.specs.Plans.{Follows};
 ghost use Rattle.gate_journal.specs.Opening.{open_fault_of, CausesFaults};
 ghost use Rattle.record_ledger.specs.Calls.{opening};
 ghost use Rattle.record_ledger.specs.Ledger.{LeftByOpening, ledger_in, taken};
-ghost use Rattle.provider_node.specs.Step.{OwnsDisk};
+ghost use Rattle.provider_node.specs.Step.{OwnsDisk, seen};
 
 use crate::role::Role;
 use crash_disk::Disk;
 use gate_journal::OpenFault;
+use record_ledger::RecordLedger;
 use std::alloc::Global;
 use std::marker::Model;
 
@@ -19,45 +20,45 @@ use std::marker::Model;
 #[derive(Drop)]
 pub struct ProviderNode<R: Role> {
     pub(crate) role: R,
-    pub(crate) ledger: R::Ledger,
+    pub(crate) ledger: RecordLedger<R::Rows>,
 }
 
 impl<R: Role> Model for ProviderNode<R> {
     ghost use Rattle.std.specs.Prelude.{◌≡◌};
-    ghost use Rattle.provider_node.specs.Step.{Provider, provider};
+    ghost use Rattle.provider_node.specs.Step.{Provider, provider, seen};
 
-    ghost Value = { Provider R R.Record };
+    ghost Value = { Provider R R.Rows.Record };
 
-    ghost view = { λ n. provider n.role (R.seen n.ledger) };
+    ghost view = { λ n. provider n.role (seen n.ledger) };
 
-    ghost invariant = { λ n. (R.seen n.ledger).key ≡ R.key n.role };
+    ghost invariant = { λ n. (seen n.ledger).key ≡ R.key n.role };
 }
 
 impl<R: Role> ProviderNode<R> {
     /// Starts a provider: its ledger is opened from the disk. The answers are those of
-    /// [`KeepsLedger::open`](crate::KeepsLedger::open).
+    /// [`RecordLedger::start`].
     pub fn start<D: Disk>(
         alloc: Global,
         role: R,
         disk: &mut D,
     ) -> Result<ProviderNode<R>, OpenFault>
         ensures gives { IfSome (D.shows disk.old).told (λ d.
-            Gives (λ n. n.ledger.held) open_fault_of result (taken (ledger_in R.rules (image_of d)))) }
+            Gives (λ n. n.ledger.held) open_fault_of result (taken (ledger_in R.Rows.rules (image_of d)))) }
         ensures setup { IfOk result (λ n. n.setup ≡ role) }
         ensures whole { IfOk result (λ n. n.ledger.broken ≡ false) }
         ensures key { IfOk result (λ n. n.ledger.key ≡ R.key role) }
-        ensures own { IfOk result (λ n. OwnsDisk R.rules n (D.shows disk.new).told) }
-        ensures moments { LeavesOnly D.shows disk.old disk.new (LeftByOpening R.rules (D.shows disk.old).told) }
+        ensures own { IfOk result (λ n. OwnsDisk R.Rows.rules n (D.shows disk.new).told) }
+        ensures moments { LeavesOnly D.shows disk.old disk.new (LeftByOpening R.Rows.rules (D.shows disk.old).told) }
         ensures faults { CausesFaults result (D.shows disk.old).faults (D.shows disk.new).faults }
-        ensures calls { Follows D.shows (opening R.rules) disk.old disk.new result }
+        ensures calls { Follows D.shows (opening R.Rows.rules) disk.old disk.new result }
     {
-        let ledger = R::open(alloc, disk, role.id_key())?;
+        let ledger = RecordLedger::start(alloc, disk, role.id_key())?;
         Ok(ProviderNode { role, ledger })
     }
 
     /// The ledger.
-    pub fn ledger(&self) -> &R::Ledger
-        ensures { R.seen result.now ≡ self.now.ledger }
+    pub fn ledger(&self) -> &RecordLedger<R::Rows>
+        ensures { seen result.now ≡ self.now.ledger }
     {
         &self.ledger
     }

@@ -3,19 +3,23 @@ ghost use Rattle.std.specs.Prelude.{◌≡◌, ◌≤◌, ℕ, List, IfOk, IsTru
 ghost use Rattle.http_wire.specs.Answers.{is_fixed};
 ghost use Rattle.http_wire.specs.Requests.{Request};
 ghost use Rattle.http_wire.specs.Views.{request_view};
-ghost use Rattle.provider_node.specs.Step.{AnswersBy};
+ghost use Rattle.record_ledger.specs.Ledger.{CanCommit};
+ghost use Rattle.provider_node.specs.Step.{AnswersBy, seen};
 ghost use Rattle.provider_node.specs.Replies.{AreReplies, IsDrafted, IsReplied, IsWanted, ReplyRules};
 
 use crate::drafted::DraftOutcome;
-use crate::ledger::KeepsLedger;
 use crate::replied::Replied;
 use http_wire::HttpRequest;
 use owned_values::{Blob, NoMemory};
+use record_ledger::{DraftedRecord, RecordLedger, Standing};
 use saml_time::LAST;
 
 /// The role of a provider, with what it is set up with. It says where a request goes and what is replied to it, how a
 /// reply is drafted, and how it is shown.
-pub trait Role: KeepsLedger {
+pub trait Role: Drop {
+    /// The rows that the records of its ledger stand for.
+    type Rows: Standing;
+
     /// A reply that stands for a record.
     type Reply: Drop;
 
@@ -23,10 +27,10 @@ pub trait Role: KeepsLedger {
     ghost key: { Self → List ℕ };
 
     /// What is answered to a request, and which record is added with it.
-    ghost answers: { AnswersBy Self Self.Record };
+    ghost answers: { AnswersBy Self Self.Rows.Record };
 
     /// What is said of the replies.
-    ghost replies: { ReplyRules Self Self.Record Self.Reply };
+    ghost replies: { ReplyRules Self Self.Rows.Record Self.Reply };
 
     /// The key of the IDs that are drawn.
     fn id_key(&self) -> [u8; 32]
@@ -36,35 +40,40 @@ pub trait Role: KeepsLedger {
     /// does.
     fn reply(
         &self,
-        ledger: &Self::Ledger,
+        ledger: &RecordLedger<Self::Rows>,
         request: &HttpRequest<'_>,
         now: u64,
     ) -> Result<Replied<Self::Reply>, NoMemory>
         requires { now ≤ LAST }
         ensures { IfOk result (IsReplied
-            (λ answer. answers self.now (Self.seen ledger.now).held (request_view request.now) now answer None)
-            (replies.wants self.now (Self.seen ledger.now).held (request_view request.now) now)) };
+            (λ answer. answers self.now ledger.now.held (request_view request.now) now answer None)
+            (replies.wants self.now ledger.now.held (request_view request.now) now)) };
 
     /// Drafts the record of a reply.
     fn draft(
         &self,
         reply: &Self::Reply,
-        ledger: &mut Self::Ledger,
+        ledger: &mut RecordLedger<Self::Rows>,
         now: u64,
-    ) -> DraftOutcome<Self::Draft>
+    ) -> DraftOutcome<DraftedRecord<Self::Rows>>
         requires moment { now ≤ LAST }
-        requires key { (Self.seen ledger.old).key ≡ key self.now }
+        requires key { ledger.old.key ≡ key self.now }
         requires wanted { (request : Request)
-            × replies.wants self.now (Self.seen ledger.old).held request now reply.now }
-        ensures drafts { IsDrafted Self.rules (Self.seen ledger.old).held (Self.can_commit ledger.new) Self.record_of
-            (replies.record_for self.now (Self.seen ledger.old).held now reply.now) result }
-        ensures same { Self.seen ledger.new ≡ Self.seen ledger.old };
+            × replies.wants self.now ledger.old.held request now reply.now }
+        ensures drafts { IsDrafted Self.Rows.rules ledger.old.held
+            (CanCommit Self.Rows.rules Self.Rows.row_rules ledger.new) (replies.record_for self.now ledger.old.held now reply.now) result }
+        ensures same { seen ledger.new ≡ seen ledger.old };
 
     /// The bytes of the page of a reply whose record was drafted.
-    fn page(&self, reply: &Self::Reply, draft: &Self::Draft, now: u64) -> Result<Blob, NoMemory>
+    fn page(
+        &self,
+        reply: &Self::Reply,
+        draft: &DraftedRecord<Self::Rows>,
+        now: u64,
+    ) -> Result<Blob, NoMemory>
         requires moment { now ≤ LAST }
-        requires wanted { IsWanted replies self.now now reply.now (Self.record_of draft.now) }
-        ensures { IfOk result (replies.shows self.now reply.now (Self.record_of draft.now) now) };
+        requires wanted { IsWanted replies self.now now reply.now draft.now }
+        ensures { IfOk result (replies.shows self.now reply.now draft.now now) };
 
     /// The code that says that there is nothing to record.
     fn refusal(&self, reply: &Self::Reply) -> u16
@@ -74,5 +83,5 @@ pub trait Role: KeepsLedger {
     /// That what is said of the replies agrees with the answers. It does nothing.
     fn laws_hold(&self, now: u64)
         requires { now ≤ LAST }
-        ensures { AreReplies replies Self.rules answers self.now now };
+        ensures { AreReplies replies Self.Rows.rules answers self.now now };
 }

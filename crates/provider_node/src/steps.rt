@@ -5,10 +5,11 @@ ghost use Rattle.crash_disk.specs.Moments.{LeavesOnly};
 ghost use Rattle.http_wire.specs.Views.{request_view};
 ghost use Rattle.http_wire.specs.declared.answer.Answer.TheVariants.{Fixed};
 ghost use Rattle.serve_loop.specs.Worlds.{HasBytes};
+ghost use Rattle.record_ledger.specs.Ledger.{CanCommit};
 ghost use Rattle.provider_node.specs.Calls.{CommittingLeaves, MakesCompaction};
 ghost use Rattle.provider_node.specs.Replies.{HasNoPlace, IsAgain, IsPage, IsWanted};
 ghost use Rattle.provider_node.specs.Serving.{Adds, CanServe, code_of};
-ghost use Rattle.provider_node.specs.Step.{Owns, ServesOnDisk, ServingLeaves, provider};
+ghost use Rattle.provider_node.specs.Step.{Owns, ServesOnDisk, ServingLeaves, provider, seen};
 
 use crate::codes::{DISK_FAULT, FULL, NO_MEMORY, code_of};
 use crate::drafted::DraftOutcome;
@@ -17,33 +18,34 @@ use crate::role::Role;
 use crash_disk::Disk;
 use gate_journal::OpenFault;
 use http_wire::{Answer, HttpRequest};
+use record_ledger::{DraftedRecord, RecordLedger};
 
 /// Makes the page of a reply whose record was drafted, and then records it.
 fn added<R: Role, D: Disk>(
     role: &R,
-    ledger: &mut R::Ledger,
+    ledger: &mut RecordLedger<R::Rows>,
     reply: &R::Reply,
-    draft: R::Draft,
+    draft: DraftedRecord<R::Rows>,
     now: u64,
     disk: &mut D,
 ) -> Answer
-    requires can { CanServe R.rules (R.key role.now) (R.seen ledger.old) (D.shows disk.old).told now }
-    requires wanted { IsWanted R.replies role.now now reply.now (R.record_of draft) }
-    requires fits { R.can_commit ledger.old draft }
-    ensures adds { Adds R.rules (IsPage R.replies role.now reply.now (R.record_of draft) now) (R.record_of draft)
+    requires can { CanServe R.Rows.rules (R.key role.now) (seen ledger.old) (D.shows disk.old).told now }
+    requires wanted { IsWanted R.replies role.now now reply.now draft }
+    requires fits { CanCommit R.Rows.rules R.Rows.row_rules ledger.old draft }
+    ensures adds { Adds R.Rows.rules (IsPage R.replies role.now reply.now draft now) draft
         (Rose (D.shows disk.old).faults (D.shows disk.new).faults) result
-        (provider role.now (R.seen ledger.old)) (provider role.now (R.seen ledger.new))
+        (provider role.now (seen ledger.old)) (provider role.now (seen ledger.new))
         (D.shows disk.old).told (D.shows disk.new).told }
     ensures has_bytes { HasBytes result }
-    ensures own { Owns R.rules (D.shows disk.new).told (R.seen ledger.new) }
+    ensures own { Owns R.Rows.rules (D.shows disk.new).told (seen ledger.new) }
     ensures moments { LeavesOnly D.shows disk.old disk.new
-        (CommittingLeaves R.rules (R.record_of draft) (R.seen ledger.old).held (D.shows disk.old).told) }
+        (CommittingLeaves R.Rows.rules draft (seen ledger.old).held (D.shows disk.old).told) }
     ensures faults { (D.shows disk.old).faults ≤ (D.shows disk.new).faults }
 {
     let Ok(bytes) = role.page(reply, &draft, now) else {
         return Answer::Fixed(NO_MEMORY);
     };
-    if R::commit(ledger, disk, draft).is_err() {
+    if ledger.commit(disk, draft).is_err() {
         return Answer::Fixed(DISK_FAULT);
     }
     Answer::Full(bytes)
@@ -52,57 +54,57 @@ fn added<R: Role, D: Disk>(
 /// Makes room by a compaction, as there was no place for the record of a reply.
 fn make_room<R: Role, D: Disk>(
     role: &R,
-    ledger: &mut R::Ledger,
+    ledger: &mut RecordLedger<R::Rows>,
     request: &HttpRequest<'_>,
     reply: &R::Reply,
     now: u64,
     disk: &mut D,
 ) -> Result<(), OpenFault>
-    requires can { CanServe R.rules (R.key role.now) (R.seen ledger.old) (D.shows disk.old).told now }
-    requires wants { R.replies.wants role.now (R.seen ledger.old).held (request_view request.now) now reply.now }
-    requires full { HasNoPlace R.rules (R.seen ledger.old).held
-        (R.replies.record_for role.now (R.seen ledger.old).held now reply.now) }
-    ensures again { OnOk result (IsAgain R.replies R.rules R.answers role.now now
-        (R.seen ledger.old) (R.seen ledger.new) (request_view request.now) reply.now) }
+    requires can { CanServe R.Rows.rules (R.key role.now) (seen ledger.old) (D.shows disk.old).told now }
+    requires wants { R.replies.wants role.now (seen ledger.old).held (request_view request.now) now reply.now }
+    requires full { HasNoPlace R.Rows.rules (seen ledger.old).held
+        (R.replies.record_for role.now (seen ledger.old).held now reply.now) }
+    ensures again { OnOk result (IsAgain R.replies R.Rows.rules R.answers role.now now
+        (seen ledger.old) (seen ledger.new) (request_view request.now) reply.now) }
     ensures made { OnOk result
-        (MakesCompaction R.rules now (R.seen ledger.old).held (D.shows disk.old).told (D.shows disk.new).told) }
+        (MakesCompaction R.Rows.rules now (seen ledger.old).held (D.shows disk.old).told (D.shows disk.new).told) }
     ensures serves { IfErr result (λ fault.
-        ServesOnDisk R.rules R.answers (R.seen ledger.old).held (request_view request.now) now
+        ServesOnDisk R.Rows.rules R.answers (seen ledger.old).held (request_view request.now) now
         (Rose (D.shows disk.old).faults (D.shows disk.new).faults) (Fixed (code_of fault))
-        (provider role.now (R.seen ledger.old)) (provider role.now (R.seen ledger.new))
+        (provider role.now (seen ledger.old)) (provider role.now (seen ledger.new))
         (D.shows disk.old).told (D.shows disk.new).told) }
-    ensures own { Owns R.rules (D.shows disk.new).told (R.seen ledger.new) }
+    ensures own { Owns R.Rows.rules (D.shows disk.new).told (seen ledger.new) }
     ensures moments { LeavesOnly D.shows disk.old disk.new
-        (ServingLeaves R.rules R.answers role.now (R.seen ledger.old).held (request_view request.now) now
+        (ServingLeaves R.Rows.rules R.answers role.now (seen ledger.old).held (request_view request.now) now
         (D.shows disk.old).told) }
     ensures faults { (D.shows disk.old).faults ≤ (D.shows disk.new).faults }
 {
     role.laws_hold(now);
-    R::holds_records(ledger);
-    R::compact(ledger, disk, now)
+    ledger.holds_records();
+    ledger.compact(disk, now)
 }
 
 /// Answers with a reply after a compaction, as there was no place for its record.
 fn serve_again<R: Role, D: Disk>(
     role: &R,
-    ledger: &mut R::Ledger,
+    ledger: &mut RecordLedger<R::Rows>,
     request: &HttpRequest<'_>,
     reply: &R::Reply,
     now: u64,
     disk: &mut D,
 ) -> Answer
-    requires can { CanServe R.rules (R.key role.now) (R.seen ledger.old) (D.shows disk.old).told now }
-    requires wants { R.replies.wants role.now (R.seen ledger.old).held (request_view request.now) now reply.now }
-    requires full { HasNoPlace R.rules (R.seen ledger.old).held
-        (R.replies.record_for role.now (R.seen ledger.old).held now reply.now) }
-    ensures serves { ServesOnDisk R.rules R.answers (R.seen ledger.old).held (request_view request.now) now
+    requires can { CanServe R.Rows.rules (R.key role.now) (seen ledger.old) (D.shows disk.old).told now }
+    requires wants { R.replies.wants role.now (seen ledger.old).held (request_view request.now) now reply.now }
+    requires full { HasNoPlace R.Rows.rules (seen ledger.old).held
+        (R.replies.record_for role.now (seen ledger.old).held now reply.now) }
+    ensures serves { ServesOnDisk R.Rows.rules R.answers (seen ledger.old).held (request_view request.now) now
         (Rose (D.shows disk.old).faults (D.shows disk.new).faults) result
-        (provider role.now (R.seen ledger.old)) (provider role.now (R.seen ledger.new))
+        (provider role.now (seen ledger.old)) (provider role.now (seen ledger.new))
         (D.shows disk.old).told (D.shows disk.new).told }
     ensures has_bytes { HasBytes result }
-    ensures own { Owns R.rules (D.shows disk.new).told (R.seen ledger.new) }
+    ensures own { Owns R.Rows.rules (D.shows disk.new).told (seen ledger.new) }
     ensures moments { LeavesOnly D.shows disk.old disk.new
-        (ServingLeaves R.rules R.answers role.now (R.seen ledger.old).held (request_view request.now) now
+        (ServingLeaves R.Rows.rules R.answers role.now (seen ledger.old).held (request_view request.now) now
         (D.shows disk.old).told) }
     ensures faults { (D.shows disk.old).faults ≤ (D.shows disk.new).faults }
 {
@@ -121,22 +123,22 @@ fn serve_again<R: Role, D: Disk>(
 /// Answers with a reply: a second time after a compaction where there was no place for its record.
 fn serve<R: Role, D: Disk>(
     role: &R,
-    ledger: &mut R::Ledger,
+    ledger: &mut RecordLedger<R::Rows>,
     request: &HttpRequest<'_>,
     reply: &R::Reply,
     now: u64,
     disk: &mut D,
 ) -> Answer
-    requires can { CanServe R.rules (R.key role.now) (R.seen ledger.old) (D.shows disk.old).told now }
-    requires wants { R.replies.wants role.now (R.seen ledger.old).held (request_view request.now) now reply.now }
-    ensures serves { ServesOnDisk R.rules R.answers (R.seen ledger.old).held (request_view request.now) now
+    requires can { CanServe R.Rows.rules (R.key role.now) (seen ledger.old) (D.shows disk.old).told now }
+    requires wants { R.replies.wants role.now (seen ledger.old).held (request_view request.now) now reply.now }
+    ensures serves { ServesOnDisk R.Rows.rules R.answers (seen ledger.old).held (request_view request.now) now
         (Rose (D.shows disk.old).faults (D.shows disk.new).faults) result
-        (provider role.now (R.seen ledger.old)) (provider role.now (R.seen ledger.new))
+        (provider role.now (seen ledger.old)) (provider role.now (seen ledger.new))
         (D.shows disk.old).told (D.shows disk.new).told }
     ensures has_bytes { HasBytes result }
-    ensures own { Owns R.rules (D.shows disk.new).told (R.seen ledger.new) }
+    ensures own { Owns R.Rows.rules (D.shows disk.new).told (seen ledger.new) }
     ensures moments { LeavesOnly D.shows disk.old disk.new
-        (ServingLeaves R.rules R.answers role.now (R.seen ledger.old).held (request_view request.now) now
+        (ServingLeaves R.Rows.rules R.answers role.now (seen ledger.old).held (request_view request.now) now
         (D.shows disk.old).told) }
     ensures faults { (D.shows disk.old).faults ≤ (D.shows disk.new).faults }
 {
@@ -152,20 +154,20 @@ fn serve<R: Role, D: Disk>(
 /// Answers a request over a ledger that is whole.
 pub(crate) fn answer_whole<R: Role, D: Disk>(
     role: &R,
-    ledger: &mut R::Ledger,
+    ledger: &mut RecordLedger<R::Rows>,
     request: &HttpRequest<'_>,
     now: u64,
     disk: &mut D,
 ) -> Answer
-    requires can { CanServe R.rules (R.key role.now) (R.seen ledger.old) (D.shows disk.old).told now }
-    ensures serves { ServesOnDisk R.rules R.answers (R.seen ledger.old).held (request_view request.now) now
+    requires can { CanServe R.Rows.rules (R.key role.now) (seen ledger.old) (D.shows disk.old).told now }
+    ensures serves { ServesOnDisk R.Rows.rules R.answers (seen ledger.old).held (request_view request.now) now
         (Rose (D.shows disk.old).faults (D.shows disk.new).faults) result
-        (provider role.now (R.seen ledger.old)) (provider role.now (R.seen ledger.new))
+        (provider role.now (seen ledger.old)) (provider role.now (seen ledger.new))
         (D.shows disk.old).told (D.shows disk.new).told }
     ensures has_bytes { HasBytes result }
-    ensures own { Owns R.rules (D.shows disk.new).told (R.seen ledger.new) }
+    ensures own { Owns R.Rows.rules (D.shows disk.new).told (seen ledger.new) }
     ensures moments { LeavesOnly D.shows disk.old disk.new
-        (ServingLeaves R.rules R.answers role.now (R.seen ledger.old).held (request_view request.now) now
+        (ServingLeaves R.Rows.rules R.answers role.now (seen ledger.old).held (request_view request.now) now
         (D.shows disk.old).told) }
     ensures faults { (D.shows disk.old).faults ≤ (D.shows disk.new).faults }
 {

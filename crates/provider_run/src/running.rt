@@ -30,17 +30,17 @@ fn listen_and_serve<R: RunsProvider, L: Link, D: Disk, C: Clock>(
     clock: &mut C,
     budget: u64,
 ) -> Result<Ended, RunFault>
-    requires { OwnsDisk R.Role.rules node.old (D.shows disk.old).told }
+    requires { OwnsDisk R.Role.Rows.rules node.old (D.shows disk.old).told }
     // Where it was set up and started so, this is how the run goes.
     ensures runs { (turns : List (Turn _))
         × ((told : Option (List File)) (file : List ℕ) (before : Outside) →
-        Begins R.sets_up R.Role.key R.Role.rules told file before node.old
+        Begins R.sets_up R.Role.key R.Role.Rows.rules told file before node.old
         (outside (D.shows disk.old) (L.shows link.old) (C.to_come clock.old)) →
-        Runs R.sets_up R.is_bad R.Role.key R.Role.rules R.Role.answers (D.shows disk.new).left_since told file
+        Runs R.sets_up R.is_bad R.Role.key R.Role.Rows.rules R.Role.answers (D.shows disk.new).left_since told file
         budget before turns result
         (outside (D.shows disk.new) (L.shows link.new) (C.to_come clock.new)))
         × LeavesOnly D.shows disk.old disk.new
-        (MightLeave (StepLeaves R.Role.rules R.Role.answers) (D.shows disk.old).told turns) }
+        (MightLeave (StepLeaves R.Role.Rows.rules R.Role.answers) (D.shows disk.old).told turns) }
     ensures disk_never_falls { (D.shows disk.old).faults ≤ (D.shows disk.new).faults }
     ensures link_never_falls { (L.shows link.old).faults ≤ (L.shows link.new).faults }
     ensures set_up { ¬ (IsNotSetUp result) }
@@ -63,11 +63,11 @@ fn run_by<R: RunsProvider, L: Link, D: Disk, C: Clock>(
     // Where it was set up so, this is how the run goes.
     ensures runs { (turns : List (Turn _))
         × ((told : Option (List File)) (file : List ℕ) → R.sets_up told file role →
-        Runs R.sets_up R.is_bad R.Role.key R.Role.rules R.Role.answers (D.shows disk.new).left_since told file budget
+        Runs R.sets_up R.is_bad R.Role.key R.Role.Rows.rules R.Role.answers (D.shows disk.new).left_since told file budget
         (outside (D.shows disk.old) (L.shows link.old) (C.to_come clock.old)) turns result
         (outside (D.shows disk.new) (L.shows link.new) (C.to_come clock.new)))
         × LeavesOnly D.shows disk.old disk.new
-        (RunLeaves R.Role.rules R.Role.answers (D.shows disk.old).told turns) }
+        (RunLeaves R.Role.Rows.rules R.Role.answers (D.shows disk.old).told turns) }
     ensures disk_never_falls { (D.shows disk.old).faults ≤ (D.shows disk.new).faults }
     ensures link_never_falls { (L.shows link.old).faults ≤ (L.shows link.new).faults }
     ensures set_up { ¬ (IsNotSetUp result) }
@@ -101,7 +101,7 @@ pub fn run<R: RunsProvider, F: Files, L: Link, D: Disk, C: Clock>(
     // The run goes so, it carries the headline of its role, and a crash at any moment of it leaves what one inside the
     // opening or inside an answer may leave.
     ensures runs { (turns : List (Turn _))
-        × Runs R.sets_up R.is_bad R.Role.key R.Role.rules R.Role.answers (D.shows disk.new).left_since (F.holds files.old)
+        × Runs R.sets_up R.is_bad R.Role.key R.Role.Rows.rules R.Role.answers (D.shows disk.new).left_since (F.holds files.old)
         config.now budget
         (outside (D.shows disk.old) (L.shows link.old) (C.to_come clock.old)) turns result
         (outside (D.shows disk.new) (L.shows link.new) (C.to_come clock.new))
@@ -109,7 +109,7 @@ pub fn run<R: RunsProvider, F: Files, L: Link, D: Disk, C: Clock>(
         (outside (D.shows disk.old) (L.shows link.old) (C.to_come clock.old)) turns
         (outside (D.shows disk.new) (L.shows link.new) (C.to_come clock.new))
         × LeavesOnly D.shows disk.old disk.new
-        (RunLeaves R.Role.rules R.Role.answers (D.shows disk.old).told turns) }
+        (RunLeaves R.Role.Rows.rules R.Role.answers (D.shows disk.old).told turns) }
 
     // Each fault has a cause.
     ensures read_fault { result ≡ Err RunFault.ReadFault → Rose (F.faults_of files.old) (F.faults_of files.new) }
@@ -117,7 +117,7 @@ pub fn run<R: RunsProvider, F: Files, L: Link, D: Disk, C: Clock>(
     ensures link_fault { result ≡ Err RunFault.LinkFault → Rose (L.shows link.old).faults (L.shows link.new).faults }
 
     // Where the provider can be run and no fault kept it from that, it served, or there was no memory.
-    ensures complete { IsRunnable R.sets_up R.Role.rules (F.holds files.old) config.now (D.shows disk.old).told →
+    ensures complete { IsRunnable R.sets_up R.Role.Rows.rules (F.holds files.old) config.now (D.shows disk.old).told →
         ¬ (Rose (F.faults_of files.old) (F.faults_of files.new)) →
         ¬ (Rose (L.shows link.old).faults (L.shows link.new).faults) → result ≢ Err RunFault.DiskFault →
         IsServed result ⊎ (result ≡ Err RunFault.NoMemory) }

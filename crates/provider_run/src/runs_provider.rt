@@ -24,7 +24,7 @@ pub trait RunsProvider {
     ghost is_bad: { Option (List File) → List ℕ → List ℕ → ℕ → Type 0 };
 
     /// What is said of each run.
-    ghost headline: { HeadlineOf Self.Role Self.Role.Record };
+    ghost headline: { HeadlineOf Self.Role Self.Role.Rows.Record };
 
     /// Sets a provider up by the config in a file and the files that this names.
     fn set_up<F: Files>(
@@ -48,6 +48,6 @@ pub trait RunsProvider {
 
     /// Each run carries the headline. It does nothing.
     fn carries_headline<D: Disk>()
-        ensures { (disk : D) → EachRunCarries sets_up is_bad Self.Role.key Self.Role.rules Self.Role.answers headline
+        ensures { (disk : D) → EachRunCarries sets_up is_bad Self.Role.key Self.Role.Rows.rules Self.Role.answers headline
             (D.shows disk).left_since };
 }

@@ -10,6 +10,7 @@ pub mod LinkSteps
 pub mod KeptMarks
 pub mod KeptFlags
 pub mod KeptRecords
+pub mod FreeRows
 pub mod Images
 pub mod CompactLaws
 pub mod CompactSteps

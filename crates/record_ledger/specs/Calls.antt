@@ -1,7 +1,7 @@
 -- Which changing calls of a disk the calls of a ledger make, in their order.
 use Rattle.std.specs.Prelude.{ℕ, ◌⊎◌, ◌==◌, if◌then◌else◌, List, [], ◌++◌, Option, None, Some, Result, Ok, Err}
 use Rattle.crash_disk.specs.declared.change.Change.{Change}
-use Rattle.crash_disk.specs.Disk.{Image, DiskState, image_of}
+use Rattle.crash_disk.specs.Disk.{DiskState, image_of}
 use Rattle.crash_disk.specs.Moments.{DiskShown}
 use Rattle.crash_disk.specs.Plans.{Follows}
 use Rattle.gate_journal.specs.Format.{Fault}

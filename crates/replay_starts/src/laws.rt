@@ -5,5 +5,5 @@ use provider_node::Role;
 
 /// What a replay does to two providers is a list of starts of either, in which it was asked what the agents sent.
 pub fn a_replay_is_starts<S: Role, P: Role>()
-    ensures { AReplayIsStarts S.rules S.answers P.rules P.answers }
+    ensures { AReplayIsStarts S.Rows.rules S.answers P.Rows.rules P.answers }
 {}

@@ -39,8 +39,7 @@ had_visible now later horizon (kinds.Opened r) first seen =
           (visible_before r.assertion_until now later horizon first assertion)
     ]
 had_visible now later horizon (kinds.Left r) first seen = visible_before r.until now later horizon first seen
-had_visible now later horizon (kinds.Ended r) first seen = seen
-had_visible now later horizon (kinds.Confirmed r) first seen = seen
+had_visible now later horizon other first seen = seen
 
 -- the rows that count are alike
 record SameSeen (later horizon : ℕ) (records some : List SpRecord) : Type 0 where

@@ -19,18 +19,13 @@ use Rattle.request_ledger.proofs.KeptMarks.{Marked, NamersOf, AreClosed}
 
 -- what closes a session names its record, and what confirms a logout
 closer_names : (r : Opened) (x : SpRecord) → closes r.token x ≡ true → names x (kinds.Opened r) ≡ true
-closer_names r (kinds.Asked x) here = absurd (false≢true here)
-closer_names r (kinds.Opened x) here = absurd (false≢true here)
 closer_names r (kinds.Left x) here = or_left (bytes_eq x.token r.token) false here
 closer_names r (kinds.Ended x) here = here
-closer_names r (kinds.Confirmed x) here = absurd (false≢true here)
+closer_names r other here = absurd (false≢true here)
 
 confirmer_names : (r : Left) (x : SpRecord) → confirms r.request x ≡ true → names x (kinds.Left r) ≡ true
-confirmer_names r (kinds.Asked x) here = absurd (false≢true here)
-confirmer_names r (kinds.Opened x) here = absurd (false≢true here)
-confirmer_names r (kinds.Left x) here = absurd (false≢true here)
-confirmer_names r (kinds.Ended x) here = absurd (false≢true here)
 confirmer_names r (kinds.Confirmed x) here = other_way x.request r.request here
+confirmer_names r other here = absurd (false≢true here)
 
 same_closed : (r : Opened) (later : List Marked) → NamersOf (true, kinds.Opened r) later → list_any (closes r.token) (kept later) ≡ list_any (closes r.token) (all later)
 same_closed r later namers =

@@ -17,11 +17,8 @@ use Rattle.request_ledger.proofs.KeptMarks.{Marked, NamersOf, AreClosed}
 
 -- what opens a session for a request names the record that asked with it
 opener_names : (request : List ℕ) (x r : SpRecord) → names_asked request r ≡ true → opens request x ≡ true → names x r ≡ true
-opener_names request (kinds.Asked o) r asked here = absurd (false≢true here)
 opener_names request (kinds.Opened o) r asked here = subst (λ q. names_asked q r ≡ true) (sym (same_text o.request request here)) asked
-opener_names request (kinds.Left o) r asked here = absurd (false≢true here)
-opener_names request (kinds.Ended o) r asked here = absurd (false≢true here)
-opener_names request (kinds.Confirmed o) r asked here = absurd (false≢true here)
+opener_names request other r asked here = absurd (false≢true here)
 
 openers_kept : (request : List ℕ) (r : SpRecord) (later : List Marked) → names_asked request r ≡ true → NamersOf (true, r) later → KeepsAll (opens request) later
 openers_kept request r later asked =

@@ -47,10 +47,7 @@ asked_as least (kinds.Asked r) request fresh here =
       small = own.0.small;
       begins = subst (λ id. has_number r.first id ≡ true) (same_text r.request request here) own.0.begins;
     }
-asked_as least (kinds.Opened r) request fresh here = absurd (false≢true here)
-asked_as least (kinds.Left r) request fresh here = absurd (false≢true here)
-asked_as least (kinds.Ended r) request fresh here = absurd (false≢true here)
-asked_as least (kinds.Confirmed r) request fresh here = absurd (false≢true here)
+asked_as least other request fresh here = absurd (false≢true here)
 
 -- no record asks with a request that begins with a number that was drawn
 pub not_asked : (least : ℕ) (r : SpRecord) (request : List ℕ) → are_fresh least (drawn r) ≡ true → HasNumber request least → names_asked request r ≡ false

@@ -15,11 +15,8 @@ use Rattle.request_ledger.specs.Naming.{names_asked}
 
 -- whether a record opens a session for this request
 abbrev pub opens : List ℕ → SpRecord → Bool
-opens request (kinds.Asked r) = false
 opens request (kinds.Opened r) = bytes_eq r.request request
-opens request (kinds.Left r) = false
-opens request (kinds.Ended r) = false
-opens request (kinds.Confirmed r) = false
+opens request other = false
 
 -- what holds of each
 abbrev pub Each : {X : Type 0} → (X → Type 0) → List X → Type 0
@@ -34,18 +31,12 @@ each_at P (t ∷ texts) each (suc k) within = each_at P texts each.1 k (omega ar
 pub asked_any : (records : List SpRecord) (request : List ℕ) → is_asked (asked_rows records) request ≡ list_any (names_asked request) records
 asked_any [] request = refl
 asked_any (kinds.Asked r ∷ later) request = ap (λ b. bytes_eq r.request request || b) (asked_any later request)
-asked_any (kinds.Opened r ∷ later) request = asked_any later request
-asked_any (kinds.Left r ∷ later) request = asked_any later request
-asked_any (kinds.Ended r ∷ later) request = asked_any later request
-asked_any (kinds.Confirmed r ∷ later) request = asked_any later request
+asked_any (other ∷ later) request = asked_any later request
 
 pub spent_any : (records : List SpRecord) (request : List ℕ) → is_spent (opened_rows records) request ≡ list_any (opens request) records
 spent_any [] request = refl
-spent_any (kinds.Asked r ∷ later) request = spent_any later request
 spent_any (kinds.Opened r ∷ later) request = ap (λ b. bytes_eq r.request request || b) (spent_any later request)
-spent_any (kinds.Left r ∷ later) request = spent_any later request
-spent_any (kinds.Ended r ∷ later) request = spent_any later request
-spent_any (kinds.Confirmed r ∷ later) request = spent_any later request
+spent_any (other ∷ later) request = spent_any later request
 
 -- The four parts of what makes a record one of the ledger.
 pub record NextParts (before : List SpRecord) (r : SpRecord) : Type 0 where
@@ -82,7 +73,6 @@ pub record OpensRightly (before : List SpRecord) (request : List ℕ) : Type 0 w
   pub unspent : list_any (opens request) before ≡ false
 
 pub opens_rightly : (before : List SpRecord) (r : SpRecord) (request : List ℕ) → is_record before r ≡ true → opens request r ≡ true → OpensRightly before request
-opens_rightly before (kinds.Asked r) request is here = absurd (false≢true here)
 opens_rightly before (kinds.Opened r) request is here =
     let same = same_text r.request request here in
     let both = and_parts (is_asked (asked_rows before) r.request) (not (is_spent (opened_rows before) r.request)) (parts before (kinds.Opened r) is).free in
@@ -90,9 +80,7 @@ opens_rightly before (kinds.Opened r) request is here =
       asked = subst (λ q. list_any (names_asked q) before ≡ true) same (sym (asked_any before r.request) ∙ both.0);
       unspent = subst (λ q. list_any (opens q) before ≡ false) same (sym (spent_any before r.request) ∙ not-true (is_spent (opened_rows before) r.request) both.1);
     }
-opens_rightly before (kinds.Left r) request is here = absurd (false≢true here)
-opens_rightly before (kinds.Ended r) request is here = absurd (false≢true here)
-opens_rightly before (kinds.Confirmed r) request is here = absurd (false≢true here)
+opens_rightly before other request is here = absurd (false≢true here)
 
 -- none among all: none at the front, and not the last
 pub none_push : {X : Type 0} (test : X → Bool) (xs : List X) (x : X) → list_any test (xs ++ x ∷ []) ≡ false → (list_any test xs ≡ false) × (test x ≡ false)

@@ -7,6 +7,7 @@ pub mod LawWords
 pub mod LawNumbers
 pub mod RunOnce
 pub mod KeptMarks
+pub mod FreeTokens
 pub mod KeptRecords
 pub mod KeptSpent
 pub mod KeptRows

@@ -24,28 +24,19 @@ list_any-push test xs x = list_any-append test xs (x ∷ []) ∙ ap (λ b. list_
 asked_rows-append : (records more : List SpRecord) → asked_rows (records ++ more) ≡ asked_rows records ++ asked_rows more
 asked_rows-append [] more = refl
 asked_rows-append (kinds.Asked r ∷ later) more = ap (λ rows. asked_row r ∷ rows) (asked_rows-append later more)
-asked_rows-append (kinds.Opened r ∷ later) more = asked_rows-append later more
-asked_rows-append (kinds.Left r ∷ later) more = asked_rows-append later more
-asked_rows-append (kinds.Ended r ∷ later) more = asked_rows-append later more
-asked_rows-append (kinds.Confirmed r ∷ later) more = asked_rows-append later more
+asked_rows-append (other ∷ later) more = asked_rows-append later more
 
 opened_rows-push : (records : List SpRecord) (r : SpRecord) → opened_rows (records ++ r ∷ []) ≡ closed_where (λ row. closes row.token r) (opened_rows records) ++ opened_rows (r ∷ [])
 opened_rows-push [] r = refl
-opened_rows-push (kinds.Asked o ∷ later) r = opened_rows-push later r
 opened_rows-push (kinds.Opened o ∷ later) r =
     λ i. opened_row (list_any-push (closes o.token) later r i) o ∷ opened_rows-push later r i
-opened_rows-push (kinds.Left o ∷ later) r = opened_rows-push later r
-opened_rows-push (kinds.Ended o ∷ later) r = opened_rows-push later r
-opened_rows-push (kinds.Confirmed o ∷ later) r = opened_rows-push later r
+opened_rows-push (other ∷ later) r = opened_rows-push later r
 
 left_rows-push : (records : List SpRecord) (r : SpRecord) → left_rows (records ++ r ∷ []) ≡ confirmed_where (λ row. confirms row.request r) (left_rows records) ++ left_rows (r ∷ [])
 left_rows-push [] r = refl
-left_rows-push (kinds.Asked o ∷ later) r = left_rows-push later r
-left_rows-push (kinds.Opened o ∷ later) r = left_rows-push later r
 left_rows-push (kinds.Left o ∷ later) r =
     λ i. left_row (list_any-push (confirms o.request) later r i) o ∷ left_rows-push later r i
-left_rows-push (kinds.Ended o ∷ later) r = left_rows-push later r
-left_rows-push (kinds.Confirmed o ∷ later) r = left_rows-push later r
+left_rows-push (other ∷ later) r = left_rows-push later r
 
 -- where no row is meant all stay
 pub closed_where-nothing : (rows : List OpenedRow) → closed_where (λ _. false) rows ≡ rows

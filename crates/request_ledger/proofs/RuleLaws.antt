@@ -72,8 +72,7 @@ pub rows_of_records : AreRowsOfRecords request_rules
 rows_of_records records (kinds.Asked r) = asked_few records
 rows_of_records records (kinds.Opened r) = opened_few records
 rows_of_records records (kinds.Left r) = left_few records
-rows_of_records records (kinds.Ended r) = tt
-rows_of_records records (kinds.Confirmed r) = tt
+rows_of_records records other = tt
 
 -- ---- one record more
 
@@ -98,11 +97,9 @@ keeps_itself standing = record { asked = omega arith; opened = omega arith; left
 -- ---- how records are linked
 
 found_drawn : (r : SpRecord) (d : Drawn) → row_found r ≡ Some d → (k : ℕ) × (slice_get (drawn r) k ≡ Some d)
-found_drawn (kinds.Asked r) d is = (0, is)
-found_drawn (kinds.Opened r) d is = (0, is)
-found_drawn (kinds.Left r) d is = (0, is)
 found_drawn (kinds.Ended r) d is = absurd (cc)
 found_drawn (kinds.Confirmed r) d is = absurd (cc)
+found_drawn other d is = (0, is)
 
 pub link_laws : LinkLaws request_rules request_links
 link_laws = record {

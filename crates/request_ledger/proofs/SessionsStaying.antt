@@ -52,11 +52,8 @@ row_of (kinds.Confirmed x ∷ later) row there = one_before (kinds.Confirmed x) 
 has_row : (before behind : List SpRecord) (r : Opened) →
     Contains (opened_rows (before ++ kinds.Opened r ∷ behind)) (opened_row (list_any (closes r.token) behind) r)
 has_row [] behind r = (0, omega arith, refl)
-has_row (kinds.Asked x ∷ before) behind r = has_row before behind r
 has_row (kinds.Opened x ∷ before) behind r = let there = has_row before behind r in (suc there.0, omega (arith, there.1), there.2)
-has_row (kinds.Left x ∷ before) behind r = has_row before behind r
-has_row (kinds.Ended x ∷ before) behind r = has_row before behind r
-has_row (kinds.Confirmed x ∷ before) behind r = has_row before behind r
+has_row (other ∷ before) behind r = has_row before behind r
 
 -- it is visible where its end is behind a moment and a horizon
 seen : (r : Opened) (now horizon : ℕ) → now < r.until → horizon < r.until → request_rules.has_visible now horizon (kinds.Opened r) ≡ true

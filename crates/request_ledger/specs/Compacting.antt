@@ -1,6 +1,5 @@
 -- Which records are kept where others are left out.
 use Rattle.std.specs.Prelude.{ℕ, List}
-use Rattle.crash_disk.specs.Disk.{Image}
 use Rattle.ledger_records.specs.declared.sp_record.SpRecord.{SpRecord}
 use Rattle.record_ledger.specs.Compacting as any
 use Rattle.request_ledger.specs.Record.{request_rules}
@@ -19,7 +18,3 @@ IsCompacted = any.IsCompacted request_rules
 -- what a compaction makes of a ledger
 abbrev pub Compacts : ℕ → Held → Held → Type 0
 Compacts = any.Compacts request_rules
-
--- The image stands for the ledger from before, or for the one that was made anew.
-abbrev pub IsOldOrCompacted : ℕ → Held → Image → Type 0
-IsOldOrCompacted = any.IsOldOrCompacted request_rules

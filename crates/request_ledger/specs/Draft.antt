@@ -1,5 +1,5 @@
--- The IDs that a drafted record draws.
-use Rattle.std.specs.Prelude.{◌≡◌, ℕ, List, [], ◌∷◌, Option, IsSome, slice_get}
+-- The IDs that a record draws.
+use Rattle.std.specs.Prelude.{ℕ, List, Option, IsSome, slice_get}
 use Rattle.std.specs.Option.{option_map}
 use Rattle.ledger_records.specs.declared.sp_record.SpRecord.{SpRecord}
 use Rattle.ledger_rules.specs.Numbers.{Drawn}
@@ -11,7 +11,3 @@ drawn_id r k = option_map (λ (d : Drawn). d.id) (slice_get (drawn r) k)
 
 abbrev pub IsDrawn : SpRecord → ℕ → Type 0
 IsDrawn r k = IsSome (drawn_id r k)
-
--- a record draws two at most, and these are they
-abbrev pub HoldsIds : List (Option (List ℕ)) → SpRecord → Type 0
-HoldsIds ids r = ids ≡ drawn_id r 0 ∷ drawn_id r 1 ∷ []

@@ -16,7 +16,7 @@ use Rattle.request_ledger.specs.Record.{of_option, of_attribute, request_rules}
 use Rattle.request_rows.specs.Rows.{visible}
 use Rattle.saml_ids.specs.IdText.{id_text}
 use Rattle.saml_ids.specs.declared.Kind.TheVariants.{Request, Relay, Cookie, Message}
-use Rattle.request_ledger.specs.RowsOf.{SpRows, is_among, rows_of_kind}
+use Rattle.request_ledger.specs.RowsOf.{is_among}
 use Rattle.request_ledger.specs.Standing.{request_row_rules}
 use Rattle.request_ledger.specs.Ledger.{Held, OpenedLedger}
 pub use Rattle.ledger_rules.specs.Texts.{is_empty}
@@ -96,19 +96,6 @@ confirmed now request = kinds.Confirmed (record { moment = now; request = reques
 abbrev pub is_waiting_now : List LeftRow → (request : List ℕ) (now horizon : ℕ) → Bool
 is_waiting_now left request now horizon =
     list_any (λ row. bytes_eq row.request request && not row.confirmed && visible row.until now horizon) left
-
--- whether there are as many rows of a record's kind as there may be, or more
-abbrev pub is_full : SpRows → SpRecord → Bool
-is_full rows r = any.is_most (rows_of_kind rows r)
-
--- Why a record is not drafted, the first of these that holds: as many rows of its kind are kept as there may be; it does not
--- fit. Want of memory may come in place of each.
-abbrev pub IsCause : OpenedLedger → SpRecord → DraftFault → Type 0
-IsCause = any.IsCause request_rules
-
--- a draft of this record, for which nothing but memory was missing, and which can be committed now
-abbrev pub IsDraftOf : OpenedLedger → OpenedLedger → SpRecord → SpRecord → Type 0
-IsDraftOf = any.IsDraftOf request_rules request_row_rules
 
 -- what a draft call answers: a draft of this record, or the cause of the refusal
 abbrev pub Drafts : OpenedLedger → OpenedLedger → SpRecord → Result SpRecord DraftFault → Type 0

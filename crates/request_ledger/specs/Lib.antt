@@ -5,7 +5,6 @@ pub mod Standing
 pub mod Ledger
 pub mod Draft
 pub mod Drafts
-pub mod Calls
 pub mod Compacting
 pub mod Linking
 pub mod Runs

@@ -18,8 +18,7 @@ abbrev pub row_found : SpRecord → Option Drawn
 row_found (kinds.Asked r) = Some (record { number = r.first; id = r.request })
 row_found (kinds.Opened r) = Some (record { number = r.first; id = r.token })
 row_found (kinds.Left r) = Some (record { number = r.first; id = r.request })
-row_found (kinds.Ended r) = None
-row_found (kinds.Confirmed r) = None
+row_found other = None
 
 -- no record is itself linked to one that it names
 abbrev pub request_links : any.LinkRules SpRecord

@@ -11,30 +11,20 @@ abbrev pub has_visible : (now horizon : ℕ) → SpRecord → Bool
 has_visible now horizon (kinds.Asked r) = visible r.until now horizon
 has_visible now horizon (kinds.Opened r) = visible r.until now horizon || visible r.assertion_until now horizon
 has_visible now horizon (kinds.Left r) = visible r.until now horizon
-has_visible now horizon (kinds.Ended r) = false
-has_visible now horizon (kinds.Confirmed r) = false
+has_visible now horizon other = false
 
 -- whether the first record names a row of the second
 abbrev pub names_asked : List ℕ → SpRecord → Bool
 names_asked request (kinds.Asked r) = bytes_eq r.request request
-names_asked request (kinds.Opened r) = false
-names_asked request (kinds.Left r) = false
-names_asked request (kinds.Ended r) = false
-names_asked request (kinds.Confirmed r) = false
+names_asked request other = false
 
 abbrev pub names_opened : List (List ℕ) → SpRecord → Bool
-names_opened tokens (kinds.Asked r) = false
 names_opened tokens (kinds.Opened r) = is_among r.token tokens
-names_opened tokens (kinds.Left r) = false
-names_opened tokens (kinds.Ended r) = false
-names_opened tokens (kinds.Confirmed r) = false
+names_opened tokens other = false
 
 abbrev pub names_left : List ℕ → SpRecord → Bool
-names_left request (kinds.Asked r) = false
-names_left request (kinds.Opened r) = false
 names_left request (kinds.Left r) = bytes_eq r.request request
-names_left request (kinds.Ended r) = false
-names_left request (kinds.Confirmed r) = false
+names_left request other = false
 
 abbrev pub names : SpRecord → SpRecord → Bool
 names (kinds.Asked r) earlier = false

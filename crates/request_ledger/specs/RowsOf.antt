@@ -43,46 +43,32 @@ left_row confirmed r = record { request = r.request; until = r.until; confirmed 
 
 -- whether a record closes the session of this token: a Left of it, or an Ended that lists it
 abbrev pub closes : List ℕ → SpRecord → Bool
-closes token (kinds.Asked r) = false
-closes token (kinds.Opened r) = false
 closes token (kinds.Left r) = bytes_eq r.token token
 closes token (kinds.Ended r) = is_among token r.tokens
-closes token (kinds.Confirmed r) = false
+closes token other = false
 
 -- whether a record confirms the logout of this request
 abbrev pub confirms : List ℕ → SpRecord → Bool
-confirms request (kinds.Asked r) = false
-confirms request (kinds.Opened r) = false
-confirms request (kinds.Left r) = false
-confirms request (kinds.Ended r) = false
 confirms request (kinds.Confirmed r) = bytes_eq r.request request
+confirms request other = false
 
 -- an asked row for each Asked
 abbrev pub asked_rows : List SpRecord → List AskedRow
 asked_rows [] = []
 asked_rows (kinds.Asked r ∷ later) = asked_row r ∷ asked_rows later
-asked_rows (kinds.Opened r ∷ later) = asked_rows later
-asked_rows (kinds.Left r ∷ later) = asked_rows later
-asked_rows (kinds.Ended r ∷ later) = asked_rows later
-asked_rows (kinds.Confirmed r ∷ later) = asked_rows later
+asked_rows (other ∷ later) = asked_rows later
 
 -- an opened row for each Opened, closed where a later record closes the session of its token
 abbrev pub opened_rows : List SpRecord → List OpenedRow
 opened_rows [] = []
-opened_rows (kinds.Asked r ∷ later) = opened_rows later
 opened_rows (kinds.Opened r ∷ later) = opened_row (list_any (closes r.token) later) r ∷ opened_rows later
-opened_rows (kinds.Left r ∷ later) = opened_rows later
-opened_rows (kinds.Ended r ∷ later) = opened_rows later
-opened_rows (kinds.Confirmed r ∷ later) = opened_rows later
+opened_rows (other ∷ later) = opened_rows later
 
 -- a row of a logout for each Left, confirmed where a later record confirms it
 abbrev pub left_rows : List SpRecord → List LeftRow
 left_rows [] = []
-left_rows (kinds.Asked r ∷ later) = left_rows later
-left_rows (kinds.Opened r ∷ later) = left_rows later
 left_rows (kinds.Left r ∷ later) = left_row (list_any (confirms r.request) later) r ∷ left_rows later
-left_rows (kinds.Ended r ∷ later) = left_rows later
-left_rows (kinds.Confirmed r ∷ later) = left_rows later
+left_rows (other ∷ later) = left_rows later
 
 abbrev pub rows_of : List SpRecord → SpRows
 rows_of records = record { asked = asked_rows records; opened = opened_rows records; left = left_rows records }
@@ -113,5 +99,4 @@ abbrev pub rows_of_kind : SpRows → SpRecord → Option ℕ
 rows_of_kind rows (kinds.Asked r) = Some (length rows.asked)
 rows_of_kind rows (kinds.Opened r) = Some (length rows.opened)
 rows_of_kind rows (kinds.Left r) = Some (length rows.left)
-rows_of_kind rows (kinds.Ended r) = None
-rows_of_kind rows (kinds.Confirmed r) = None
+rows_of_kind rows other = None

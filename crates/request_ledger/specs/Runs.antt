@@ -20,11 +20,8 @@ Leads = any.Leads request_rules
 -- the requests for which sessions were opened: those of the records at the start, and of those that were added since, whether
 -- they are still kept or not
 abbrev pub request_opened : SpRecord → List (List ℕ)
-request_opened (kinds.Asked r) = []
 request_opened (kinds.Opened r) = r.request ∷ []
-request_opened (kinds.Left r) = []
-request_opened (kinds.Ended r) = []
-request_opened (kinds.Confirmed r) = []
+request_opened other = []
 
 abbrev pub requests_opened : List SpRecord → List (List ℕ)
 requests_opened records = map (λ (row : OpenedRow). row.request) (opened_rows records)
@@ -32,8 +29,7 @@ requests_opened records = map (λ (row : OpenedRow). row.request) (opened_rows r
 abbrev pub requests_added : List Event → List (List ℕ)
 requests_added [] = []
 requests_added (Adds r ∷ past) = request_opened r ++ requests_added past
-requests_added (Compacts now ∷ past) = requests_added past
-requests_added (Opens ∷ past) = requests_added past
+requests_added (other ∷ past) = requests_added past
 
 abbrev pub requests_of_run : Held → List Event → List (List ℕ)
 requests_of_run start events = requests_added events ++ requests_opened start.records

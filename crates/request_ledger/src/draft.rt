@@ -3,43 +3,33 @@ ghost use Rattle.std.specs.Prelude.{◌≡◌, Some};
 ghost use Rattle.request_ledger.specs.Draft.{IsDrawn, drawn_id};
 
 use crate::marked::Marked;
+use ledger_records::SpRecord;
 use record_ledger::DraftedRecord;
-use saml_ids::Id;
-use std::marker::Model;
 
-/// A record that was drafted, and the IDs that it draws. Contracts see it as the record.
-#[derive(Drop)]
-pub struct Draft {
-    pub(crate) drafted: DraftedRecord<Marked>,
-    pub(crate) ids: [Option<Id>; 2],
-}
+/// A record that was drafted. Contracts see it as the record.
+pub type Draft = DraftedRecord<Marked>;
 
-impl Model for Draft {
-    ghost use Rattle.ledger_records.specs.declared.sp_record.SpRecord.{SpRecord};
-    ghost use Rattle.request_ledger.specs.Draft.{HoldsIds};
-
-    ghost Value = { SpRecord };
-
-    ghost view = { λ d. d.drafted };
-
-    ghost invariant = { λ d. HoldsIds d.ids d.drafted };
-}
-
-impl Draft {
-    /// The first ID that the record draws: the request of an Asked or a Left, the token of an Opened, the message of an
-    /// Ended.
-    pub fn first(&self) -> &Id
-        requires { IsDrawn self.now 0 }
-        ensures { Some result.now ≡ drawn_id self.now 0 }
-    {
-        self.ids[0].as_ref().unwrap()
+/// The first ID that a record draws: the request of an Asked or a Left, the token of an Opened, the message of an Ended.
+pub fn first_id(entry: &SpRecord) -> &str
+    requires { IsDrawn entry.now 0 }
+    ensures { Some result.now ≡ drawn_id entry.now 0 }
+{
+    match entry {
+        SpRecord::Asked(r) => r.request.as_str(),
+        SpRecord::Opened(r) => r.token.as_str(),
+        SpRecord::Left(r) => r.request.as_str(),
+        SpRecord::Ended(r) => r.message.as_str(),
+        SpRecord::Confirmed(_) => unreachable!(),
     }
+}
 
-    /// The second ID that the record draws: the relay state of an Asked.
-    pub fn second(&self) -> &Id
-        requires { IsDrawn self.now 1 }
-        ensures { Some result.now ≡ drawn_id self.now 1 }
-    {
-        self.ids[1].as_ref().unwrap()
+/// The second ID that a record draws: the relay state of an Asked.
+pub fn second_id(entry: &SpRecord) -> &str
+    requires { IsDrawn entry.now 1 }
+    ensures { Some result.now ≡ drawn_id entry.now 1 }
+{
+    match entry {
+        SpRecord::Asked(r) => r.relay.as_str(),
+        _ => unreachable!(),
     }
 }

@@ -1,6 +1,5 @@
 pub mod Alike
 pub mod Histories
-pub mod Ids
 pub mod Live
 pub mod Obeying
 pub mod Opening

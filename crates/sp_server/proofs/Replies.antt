@@ -12,7 +12,8 @@ use Rattle.request_rows.specs.Rows.{session_row}
 use Rattle.request_ledger.specs.Drafts.{asked, is_empty, DraftsSome}
 use Rattle.record_ledger.specs.Drafts.{SameLedger}
 use Rattle.request_ledger.specs.Laws.{AnswerAlike, CompactionsChangeNoAnswer}
-use Rattle.request_ledger.specs.Ledger.{CanCommit, Held, OpenedLedger, next_number}
+use Rattle.record_ledger.specs.Ledger.{CanCommit}
+use Rattle.request_ledger.specs.Ledger.{Held, OpenedLedger, next_number}
 use Rattle.request_ledger.specs.Record.{request_rules}
 use Rattle.request_ledger.specs.RowsOf.{rows_of}
 use Rattle.request_ledger.specs.Standing.{request_row_rules}
@@ -20,13 +21,13 @@ use Rattle.request_ledger.proofs.Draftable.{text_is_allowed}
 use Rattle.saml_ids.specs.IdText.{id_text}
 use Rattle.saml_ids.specs.declared.Kind.TheVariants.{Cookie, Request as RequestKind, Relay, Message}
 use Rattle.saml_ids.proofs.IdForm.{every_id_is_a_name}
-use Rattle.logout_answers.specs.Answers.{Leaving, end_answer}
+use Rattle.logout_answers.specs.Answers.{Leaving, end_answer, is_in_part}
 use Rattle.logout_answers.specs.Laws.{EachUserIsAnswered, EachPeerIsAnswered}
 use Rattle.sp_rules.specs.declared.config.SpConfig.{SpConfig}
 use Rattle.sp_server.specs.declared.reply.Reply.{Reply}
 use Rattle.sp_server.specs.declared.reply.Reply.TheVariants as kinds
 use Rattle.sp_server.specs.Config.{IsUsable}
-use Rattle.sp_server.specs.Peer.{idp_at, is_partial}
+use Rattle.sp_server.specs.Peer.{idp_at}
 use Rattle.sp_server.specs.Step.{Setup, Answers, ByAsking, ByLeaving, ByEnding, ByNothingToEnd, ByConfirming, ByUnknownLogout, HasId, HasIds, is_awaited, left_record}
 use Rattle.sp_answers.specs.Answers.{ask_page, opened_answer}
 use Rattle.ledger_rules.specs.Numbers.{is_xml_text}
@@ -107,7 +108,7 @@ page_of setup held request now (kinds.End asked relay) law usable asks =
     let made = law.ending (idp_at setup.config now) id setup.config.entity asked.id false relay usable.logout (every_id_is_a_name setup.config.id_key Message (next_number held)).text usable.texts.entity
     asks.1 in
     (made.0, record { id = id; has = refl; ends = made.1 })
-page_of setup held request now (kinds.Confirm response) law usable asks = (end_answer (is_partial response.outcome), refl)
+page_of setup held request now (kinds.Confirm response) law usable asks = (end_answer (is_in_part response.outcome), refl)
 
 -- ---- it can be drafted and answered
 
@@ -125,10 +126,11 @@ can_draft setup held request now (kinds.Confirm response) asks = tt
 
 answerable_as : (setup : Setup) (held : Held) (request : Request) (now : ℕ) (key : List ℕ) (reply : Reply) → Wants setup held request now reply
     → IsAnswerable (record_for key setup.config held now reply) reply
-answerable_as setup held request now key (kinds.Ask target) asks = (refl, refl)
-answerable_as setup held request now key (kinds.Open accepted) asks = refl
-answerable_as setup held request now key (kinds.Leave token name indexes) asks = (refl, asks.name_text, asks.index_texts)
-answerable_as setup held request now key (kinds.End asked relay) asks = (refl, asks.1)
+answerable_as setup held request now key (kinds.Ask target) asks = (every_id_is_a_name key RequestKind (next_number held), refl)
+answerable_as setup held request now key (kinds.Open accepted) asks = every_id_is_a_name key Cookie (next_number held)
+answerable_as setup held request now key (kinds.Leave token name indexes) asks =
+    (every_id_is_a_name key RequestKind (next_number held), asks.name_text, asks.index_texts)
+answerable_as setup held request now key (kinds.End asked relay) asks = (every_id_is_a_name key Message (next_number held), asks.1)
 answerable_as setup held request now key (kinds.Confirm response) asks = tt
 
 -- ---- behind a compaction it is asked for as before
@@ -193,7 +195,7 @@ sp_laws setup now law usable compactions = record {
 -- what became of a draft
 pub sp_drafted : (setup : Setup) (old new : OpenedLedger) (now : ℕ) (reply : Reply) (result : Result (Option SpRecord) DraftFault) → old.key ≡ setup.config.id_key → SameLedger old new
     → DraftsSome old new (is_nothing setup.config old.held now reply) (record_for old.key setup.config old.held now reply) result
-    → IsDrafted request_rules old.held (CanCommit new) (λ d. d) (stands_for setup old.held now reply) (drafted_of result)
+    → IsDrafted request_rules old.held (CanCommit request_rules request_row_rules new) (stands_for setup old.held now reply) (drafted_of result)
 sp_drafted setup old new now reply result key same drafts =
     let own = record_for setup.config.id_key setup.config old.held now reply in
     drafted_some request_rules request_row_rules old new (is_nothing setup.config old.held now reply) (record_for old.key setup.config old.held now reply) (stands_for setup old.held now reply) result same

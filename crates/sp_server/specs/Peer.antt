@@ -1,9 +1,8 @@
 -- The identity provider, as a service provider takes part in a logout with it: SAML Profiles, 4.4.
-use Rattle.std.specs.Prelude.{ℕ, Bool, true, false, List, [], ◌∷◌, ◌++◌, codes, Option, None, Some}
+use Rattle.std.specs.Prelude.{ℕ, List, [], ◌∷◌, Option, None, Some}
 use Rattle.peer_keys.specs.declared.peers.LogoutPeer.{LogoutPeer}
-use Rattle.protocol_messages.specs.declared.logout.Outcome.{Outcome}
-use Rattle.protocol_messages.specs.declared.logout.Outcome.TheVariants as outcomes
 use Rattle.verdict_codes.specs.declared.codes.Verdict.{Verdict}
+use Rattle.logout_answers.specs.Answers as answers
 use Rattle.logout_profile.specs.declared.logout.Logout.{Logout}
 use Rattle.logout_profile.specs.Verdict.{IsRefused, IsAccepted}
 use Rattle.sp_rules.specs.declared.config.SpConfig.{SpConfig}
@@ -28,7 +27,7 @@ second_key config now = second_bytes (usable config now)
 
 -- SAML Metadata, 2.4.2: the Location of the provider's SingleLogoutService
 abbrev pub logout_address : SpConfig → List ℕ
-logout_address config = config.base ++ codes "/slo"
+logout_address config = answers.logout_address config.base
 
 -- what the form that is posted there asks or replies of a logout, or what it is refused for
 abbrev pub IsObeyed : SpConfig → (now : ℕ) → (body : List ℕ) → Logout → Type 0
@@ -36,9 +35,3 @@ IsObeyed config now body logout = IsAccepted (idp_at config now ∷ []) (second_
 
 abbrev pub IsNotObeyed : SpConfig → (now : ℕ) → (body : List ℕ) → Verdict → Type 0
 IsNotObeyed config now body verdict = IsRefused (idp_at config now ∷ []) (second_key config now) (logout_address config) config.skew now body verdict
-
--- SAML Core, 3.2.2.2: a logout of which success is not said ended in part at most
-abbrev pub is_partial : Outcome → Bool
-is_partial outcomes.Success = false
-is_partial outcomes.Partial = true
-is_partial outcomes.Other = true

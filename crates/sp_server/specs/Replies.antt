@@ -1,5 +1,5 @@
 -- How the code answers with a record: what a request wants, the record of it, and the answer.
-use Rattle.std.specs.Prelude.{◌≡◌, ◌⊎◌, ℕ, Bool, true, false, not, List, Option, None, Some, IfSome, IsSome, if◌then◌else◌}
+use Rattle.std.specs.Prelude.{◌≡◌, ◌⊎◌, ℕ, Bool, true, false, not, List, Option, None, Some, IfSome, IsSome, IsSomeAnd, if◌then◌else◌}
 use Rattle.std.specs.List.{AllByRecursion}
 use Rattle.std.specs.Option.{option_to_list}
 use Rattle.xml_spec.specs.Characters.{IsText}
@@ -13,11 +13,12 @@ use Rattle.request_rows.specs.declared.row.NewSession.{NewSession}
 use Rattle.request_rows.specs.Rows.{asked_row, is_spent, session_row}
 use Rattle.request_ledger.specs.RowsOf.{rows_of}
 use Rattle.request_ledger.specs.Ledger.{Held, next_number}
-use Rattle.request_ledger.specs.Draft.{IsDrawn}
+use Rattle.request_ledger.specs.Draft.{IsDrawn, drawn_id}
 use Rattle.request_ledger.specs.Drafts.{asked, opened, left, ended, confirmed, is_empty, AreSessionTexts}
+use Rattle.saml_ids.specs.Laws.{IsUsableId}
 use Rattle.logout_profile.specs.declared.logout.Logout.{Logout}
 use Rattle.logout_profile.specs.declared.logout.Logout.TheVariants as logouts
-use Rattle.logout_answers.specs.Answers.{Leaving, Ending, end_answer}
+use Rattle.logout_answers.specs.Answers.{Ending, Leaving, end_answer, is_in_part}
 use Rattle.sp_rules.specs.declared.config.SpConfig.{SpConfig}
 use Rattle.sp_rules.specs.declared.accepted.Accepted.{Accepted}
 use Rattle.sp_rules.specs.Shown.{IsOpening}
@@ -30,7 +31,7 @@ use Rattle.sp_server.specs.declared.reply.Reply.TheVariants as replies
 use Rattle.service_routes.specs.declared.route.Route.TheVariants.{To}
 use Rattle.sp_server.specs.declared.route.Service.TheVariants.{App, Consumer, Logout as ToLogout, SingleLogout}
 use Rattle.sp_server.specs.Routes.{route}
-use Rattle.sp_server.specs.Peer.{idp_at, is_partial, IsObeyed}
+use Rattle.sp_server.specs.Peer.{idp_at, IsObeyed}
 use Rattle.sp_server.specs.Step.{Setup, Answers, HasId, HasIds, HasToken, ended_by, is_awaited, is_expired, rows_seen, session_for}
 
 -- ---- what is wanted
@@ -135,11 +136,15 @@ pub record HoldsAddresses (config : SpConfig) : Type 0 where
   pub texts : HoldsTexts config
   pub logout : IfSome config.idp.logout IsText
 
+-- a record draws an ID first
+abbrev pub DrawsId : SpRecord → Type 0
+DrawsId r = IsSomeAnd (drawn_id r 0) IsUsableId
+
 abbrev pub IsAnswerable : SpRecord → Reply → Type 0
-IsAnswerable r (replies.Ask target) = IsDrawn r 0 × IsDrawn r 1
-IsAnswerable r (replies.Open accepted) = IsDrawn r 0
-IsAnswerable r (replies.Leave token name indexes) = IsDrawn r 0 × IsText name × AllByRecursion IsText indexes
-IsAnswerable r (replies.End asked relay) = IsDrawn r 0 × IsText asked.id
+IsAnswerable r (replies.Ask target) = DrawsId r × IsDrawn r 1
+IsAnswerable r (replies.Open accepted) = DrawsId r
+IsAnswerable r (replies.Leave token name indexes) = DrawsId r × IsText name × AllByRecursion IsText indexes
+IsAnswerable r (replies.End asked relay) = DrawsId r × IsText asked.id
 IsAnswerable r (replies.Confirm response) = Unit {0}
 
 pub record IsAskingAnswer (config : SpConfig) (r : SpRecord) (now : ℕ) (bytes : List ℕ) : Type 0 where
@@ -168,7 +173,7 @@ IsAnswerTo config r now (replies.Ask target) bytes = IsAskingAnswer config r now
 IsAnswerTo config r now (replies.Open accepted) bytes = IsOpeningAnswer accepted r bytes
 IsAnswerTo config r now (replies.Leave token name indexes) bytes = IsLeavingAnswer config r now name indexes bytes
 IsAnswerTo config r now (replies.End asked relay) bytes = IsEndingAnswer config r now asked.id relay bytes
-IsAnswerTo config r now (replies.Confirm response) bytes = bytes ≡ end_answer (is_partial response.outcome)
+IsAnswerTo config r now (replies.Confirm response) bytes = bytes ≡ end_answer (is_in_part response.outcome)
 
 -- ---- in the words of a step
 

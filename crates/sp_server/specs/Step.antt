@@ -12,7 +12,7 @@ use Rattle.verdict_codes.specs.declared.codes.Verdict.TheVariants.{NoSuchSession
 use Rattle.protocol_messages.specs.declared.logout.LogoutRequest.{LogoutRequest}
 use Rattle.protocol_messages.specs.declared.logout.LogoutResponse.{LogoutResponse}
 use Rattle.logout_profile.specs.declared.logout.Logout.TheVariants as logouts
-use Rattle.logout_answers.specs.Answers.{Leaving, Ending, end_answer}
+use Rattle.logout_answers.specs.Answers.{Ending, Leaving, end_answer, is_in_part}
 use Rattle.access_policy.specs.declared.rule.Rule.{Rule}
 use Rattle.access_policy.specs.Decide as policies
 use Rattle.ledger_records.specs.declared.sp_record.SpRecord.{SpRecord}
@@ -34,7 +34,7 @@ use Rattle.service_routes.specs.declared.route.Route.TheVariants.{To, Refused}
 use Rattle.sp_server.specs.declared.route.Service.TheVariants.{App, Consumer, Metadata, Logout, SingleLogout, Guard}
 use Rattle.sp_server.specs.Routes.{route}
 use Rattle.sp_server.specs.Guard.{guard_answer}
-use Rattle.sp_server.specs.Peer.{idp_at, is_partial, IsObeyed, IsNotObeyed}
+use Rattle.sp_server.specs.Peer.{idp_at, IsObeyed, IsNotObeyed}
 
 -- what a provider is set up with: its config, the rules of its policy where it has one, the moment at which its registry of metadata
 -- ends where it has one, and whether it has a guard
@@ -153,7 +153,7 @@ pub data Answers (setup : Setup) (held : Held) (request : Request) (now : ℕ) (
   ByConfirming : (response : LogoutResponse) → route request ≡ To SingleLogout → is_expired setup.expiry now ≡ false
       → IsObeyed setup.config now request.body (logouts.Reply response 0) → is_awaited held now response.request ≡ true
       → adds ≡ Some (confirmed now response.request)
-      → answer ≡ Full (end_answer (is_partial response.outcome)) → Answers setup held request now answer adds
+      → answer ≡ Full (end_answer (is_in_part response.outcome)) → Answers setup held request now answer adds
   -- no such logout waits for a response
   ByUnknownLogout : (response : LogoutResponse) → route request ≡ To SingleLogout → is_expired setup.expiry now ≡ false
       → IsObeyed setup.config now request.body (logouts.Reply response 0) → is_awaited held now response.request ≡ false

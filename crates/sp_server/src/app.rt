@@ -13,7 +13,7 @@ use crate::role::SpRole;
 use http_wire::{Answer, HttpRequest, cookie_of};
 use owned_values::{Blob, NoMemory, Text};
 use provider_node::Replied;
-use request_ledger::Ledger;
+use request_ledger::{Ledger, session};
 use request_rows::OpenedRow;
 use sp_answers::{denied_answer, user_answer};
 
@@ -29,7 +29,7 @@ pub(crate) fn session_for<'a>(
     ensures { option_copied result ≡ session_for ledger.now.held now (request_view request.now) }
 {
     let token = cookie_of(request.cookie?, SESSION_COOKIE)?;
-    ledger.session(token, now)
+    session(ledger, token, now)
 }
 
 impl SpRole {

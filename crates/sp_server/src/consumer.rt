@@ -12,7 +12,7 @@ use crate::role::SpRole;
 use http_wire::{Answer, HttpRequest};
 use owned_values::NoMemory;
 use provider_node::Replied;
-use request_ledger::Ledger;
+use request_ledger::{Ledger, rows};
 use saml_time::LAST;
 use sp_answers::laws::{like_rows_are_judged_alike, what_is_accepted_can_be_recorded};
 use sp_rules::{Judged, judge};
@@ -39,7 +39,7 @@ impl SpRole {
         match judge(
             self.alloc,
             &self.config,
-            ledger.rows(),
+            rows(ledger),
             horizon,
             now,
             request.body,

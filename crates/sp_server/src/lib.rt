@@ -64,7 +64,6 @@ mod consumer;
 mod guard;
 pub mod laws;
 mod leave;
-mod ledger;
 mod peer;
 mod reply;
 mod replying;

@@ -5,7 +5,7 @@ ghost use Rattle.sp_rules.specs.Keys.{usable};
 ghost use Rattle.sp_server.specs.Peer as spec;
 
 use metadata::Peer;
-use owned_values::{Blob, NoMemory, Text};
+use owned_values::{Blob, NoMemory};
 use peer_keys::LogoutPeer;
 use sp_rules::{SpConfig, UsableKeys};
 use std::alloc::Global;
@@ -58,13 +58,4 @@ pub(crate) fn idp_at(alloc: Global, config: &SpConfig, now: u64) -> Result<Logou
         key_in: Blob::of(alloc, first_key(config, now))?,
         key_out: config.key_out.copy()?,
     })
-}
-
-/// The address to which messages of a logout are posted (SAML Metadata, 2.4.2).
-pub(crate) fn logout_address(alloc: Global, config: &SpConfig) -> Result<Text, NoMemory>
-    ensures { IfOk result (λ address. address ≡ spec.logout_address config.now) }
-{
-    let mut address = Text::of(alloc, config.base.as_str())?;
-    address.push("/slo")?;
-    Ok(address)
 }

@@ -1,20 +1,23 @@
 //! How a request is replied to with a record.
-ghost use Rattle.std.specs.Prelude.{◌≡◌, ◌≤◌, IfOk, IfSome, IsTrue};
+ghost use Rattle.std.specs.Prelude.{◌≡◌, ◌≤◌, IfOk, IfSome, IsTrue, Some};
 ghost use Rattle.std.specs.Option.{option_map};
 ghost use Rattle.http_wire.specs.Answers.{is_fixed};
-ghost use Rattle.request_ledger.specs.Draft.{IsDrawn};
+ghost use Rattle.request_ledger.specs.Draft.{IsDrawn, drawn_id};
 ghost use Rattle.request_ledger.specs.Drafts.{DraftsSome};
 ghost use Rattle.record_ledger.specs.Drafts.{SameLedger};
+ghost use Rattle.saml_ids.specs.Laws.{IsUsableId};
 ghost use Rattle.sp_answers.specs.Answers.{HoldsTexts};
 ghost use Rattle.xml_spec.specs.Characters.{IsText};
-ghost use Rattle.sp_server.specs.Peer.{is_partial};
-ghost use Rattle.sp_server.specs.Replies.{CanDraft, HoldsAddresses, IsAnswerable, IsAnswerTo, IsAskingAnswer, IsEndingAnswer, IsOpeningAnswer, is_nothing, record_for, refusal_of};
+ghost use Rattle.sp_server.specs.Replies.{CanDraft, DrawsId, HoldsAddresses, IsAnswerable, IsAnswerTo, IsAskingAnswer, IsEndingAnswer, IsOpeningAnswer, is_nothing, record_for, refusal_of};
 
 use crate::peer::idp_at;
-use logout_answers::{end_answer, ending_answer, leaving_answer};
+use logout_answers::{end_answer, ending_answer, is_in_part, leaving_answer};
 use owned_values::{Blob, NoMemory, Text, Texts};
-use protocol_messages::{LogoutRequest, LogoutResponse, Outcome};
-use request_ledger::{Draft, DraftFault, Ledger};
+use protocol_messages::{LogoutRequest, LogoutResponse};
+use request_ledger::{
+    Draft, DraftFault, Ledger, draft_ask, draft_confirm, draft_end, draft_leave, draft_session,
+    first_id, second_id,
+};
 use saml_time::LAST;
 use sp_answers::{ask_answer, opened_answer};
 use sp_rules::{Accepted, SpConfig};
@@ -57,16 +60,6 @@ pub enum Reply {
     },
 }
 
-/// Whether a logout ended in part at most (SAML Core, 3.2.2.2).
-fn is_partial(outcome: Outcome) -> bool
-    ensures { result ≡ is_partial outcome }
-{
-    match outcome {
-        Outcome::Success => false,
-        Outcome::Partial | Outcome::Other => true,
-    }
-}
-
 /// A relay state, where there is one.
 fn relay_of(relay: &Option<Text>) -> Option<&str>
     ensures { option_map (λ text. text.now) result ≡ relay.now }
@@ -75,6 +68,15 @@ fn relay_of(relay: &Option<Text>) -> Option<&str>
         Some(relay) => Some(relay.as_str()),
         None => None,
     }
+}
+
+/// The first ID that a draft draws.
+fn drawn_id_of(draft: &Draft) -> &str
+    requires { DrawsId draft.now }
+    ensures is { Some result.now ≡ drawn_id draft.now 0 }
+    ensures usable { IsUsableId result.now }
+{
+    first_id(draft.entry())
 }
 
 impl Reply {
@@ -92,25 +94,26 @@ impl Reply {
     {
         match self {
             Reply::Ask { target } => {
-                let draft = ledger.draft_ask(now, target.as_str())?;
+                let draft = draft_ask(ledger, now, target.as_str())?;
                 Ok(Some(draft))
             }
             Reply::Open { accepted } => {
-                let draft = ledger.draft_session(now, &accepted.session)?;
+                let draft = draft_session(ledger, now, &accepted.session)?;
                 Ok(Some(draft))
             }
             Reply::Leave { token, .. } => {
-                let draft = ledger.draft_leave(now, token.as_str())?;
+                let draft = draft_leave(ledger, now, token.as_str())?;
                 Ok(Some(draft))
             }
-            Reply::End { asked, .. } => ledger.draft_end(
+            Reply::End { asked, .. } => draft_end(
+                ledger,
                 now,
                 config.idp.entity.as_str(),
                 asked.name.as_str(),
                 &asked.indexes,
                 asked.id.as_str(),
             ),
-            Reply::Confirm { response } => ledger.draft_confirm(now, response.request.as_str()),
+            Reply::Confirm { response } => draft_confirm(ledger, now, response.request.as_str()),
         }
     }
 
@@ -130,20 +133,20 @@ impl Reply {
     fn asking(alloc: Global, config: &SpConfig, draft: &Draft, now: u64) -> Result<Blob, NoMemory>
         requires moment { now ≤ LAST }
         requires texts { HoldsTexts config.now }
-        requires drawn { IsDrawn draft.now 0 × IsDrawn draft.now 1 }
+        requires drawn { DrawsId draft.now × IsDrawn draft.now 1 }
         ensures { IfOk result (IsAskingAnswer config.now draft.now now) }
     {
-        let id = draft.first().as_str();
-        let relay = draft.second().as_str();
+        let id = drawn_id_of(draft);
+        let relay = second_id(draft.entry());
         ask_answer(alloc, config, id, relay, now)
     }
 
     /// The answer to a form that opens a session, whose record was drafted.
     fn opening(alloc: Global, accepted: &Accepted, draft: &Draft) -> Result<Blob, NoMemory>
-        requires { IsDrawn draft.now 0 }
+        requires { DrawsId draft.now }
         ensures { IfOk result (IsOpeningAnswer accepted.now draft.now) }
     {
-        let token = draft.first().as_str();
+        let token = drawn_id_of(draft);
         opened_answer(alloc, accepted.target.as_str(), token)
     }
 
@@ -159,11 +162,11 @@ impl Reply {
         requires moment { now ≤ LAST }
         requires addresses { HoldsAddresses config.now }
         requires times { IfSome config.now.next_in (λ next. next.from ≤ next.until) }
-        requires answerable { IsDrawn draft.now 0 × IsText asked.now.id }
+        requires answerable { DrawsId draft.now × IsText asked.now.id }
         ensures { IfOk result (IsEndingAnswer config.now draft.now now asked.now.id relay.now) }
     {
         let idp = idp_at(alloc, config, now)?;
-        let id = draft.first().as_str();
+        let id = drawn_id_of(draft);
         let entity = config.entity.as_str();
         let relay = relay_of(relay);
         let request = asked.id.as_str();
@@ -189,14 +192,14 @@ impl Reply {
             Reply::Open { accepted } => Reply::opening(alloc, accepted, draft),
             Reply::Leave { name, indexes, .. } => {
                 let idp = idp_at(alloc, config, now)?;
-                let id = draft.first().as_str();
+                let id = drawn_id_of(draft);
                 let entity = config.entity.as_str();
                 leaving_answer(alloc, &idp, id, entity, now, name.as_str(), indexes)
             }
             Reply::End { asked, relay } => {
                 Reply::ending(alloc, config, draft, now, asked, relay)
             }
-            Reply::Confirm { response } => end_answer(alloc, is_partial(response.outcome)),
+            Reply::Confirm { response } => end_answer(alloc, is_in_part(response.outcome)),
         }
     }
 }

@@ -9,7 +9,7 @@ use logout_answers::laws::each_logout_has_an_answer;
 use owned_values::{Blob, NoMemory};
 use provider_node::{DraftOutcome, Replied, Role};
 use request_ledger::laws::compactions_change_no_answer;
-use request_ledger::{Draft, Ledger};
+use request_ledger::{Draft, Ledger, Marked};
 use saml_time::{LAST, each_moment_is_told};
 use service_routes::Route;
 use sp_answers::metadata_answer;
@@ -20,6 +20,8 @@ pub(crate) const REGISTRY_EXPIRED: u16 = 70;
 impl Role for SpRole {
     ghost use Rattle.sp_server.specs.Replies.{sp_replies};
     ghost use Rattle.sp_server.specs.Step.{Answers};
+
+    type Rows = Marked;
 
     type Reply = Reply;
 

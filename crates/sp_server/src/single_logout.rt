@@ -8,11 +8,12 @@ ghost use Rattle.service_routes.specs.declared.route.Route.TheVariants.{To};
 ghost use Rattle.sp_server.specs.declared.route.Service.TheVariants.{SingleLogout};
 ghost use Rattle.sp_server.specs.Routes.{route};
 
-use crate::peer::{idp_at, logout_address, second_key};
+use crate::peer::{idp_at, second_key};
 use crate::reply::Reply;
 use crate::replying::REGISTRY_EXPIRED;
 use crate::role::SpRole;
 use http_wire::{Answer, HttpRequest};
+use logout_answers::logout_address;
 use logout_profile::laws::what_an_obeyed_form_says;
 use logout_profile::{Judged, Logout, judge_logout_with};
 use owned_values::NoMemory;
@@ -34,7 +35,7 @@ impl SpRole {
         what_an_obeyed_form_says();
         let config = &self.config;
         let peers = [idp_at(self.alloc, config, now)?];
-        let address = logout_address(self.alloc, config)?;
+        let address = logout_address(self.alloc, config.base.as_str())?;
         let second = second_key(config, now);
         let logout = judge_logout_with(
             self.alloc,

@@ -7,6 +7,7 @@ use Rattle.crash_disk.specs.Disk.{DiskState}
 use Rattle.crash_disk.specs.Plans.{IsCarriedOut}
 use Rattle.provider_node.specs.Calls.{Begins, Makes}
 use Rattle.provider_node.specs.Serving.{Lost}
+use Rattle.provider_node.specs.Step.{seen}
 use Rattle.provider_node.proofs.Calling.{carried_err, carried_ok, committing_leaves}
 use Rattle.provider_node.proofs.steps.added.Goals as goal
 
@@ -41,14 +42,14 @@ returns-then-is_err-clause-adds g c =
 
 pub returns-then-is_err-clause-moments : goal.returns-then-is_err-clause-moments
 returns-then-is_err-clause-moments g c =
-    committing_leaves g.D.Disk.shows g.R.KeepsLedger.rules c.args.disk.now
+    committing_leaves g.D.Disk.shows g.R.Rows.Standing.rules c.args.disk.now
     c.commit.new.disk
-    (g.R.KeepsLedger.record_of c.args.draft) (g.R.KeepsLedger.seen c.args.ledger.now).held c.commit.result
+    c.args.draft (seen c.args.ledger.now).held c.commit.result
     c.commit.ensures.moments c.commit.ensures.calls
 
 pub returns-clause-moments : goal.returns-clause-moments
 returns-clause-moments g c =
-    committing_leaves g.D.Disk.shows g.R.KeepsLedger.rules c.args.disk.now
+    committing_leaves g.D.Disk.shows g.R.Rows.Standing.rules c.args.disk.now
     c.commit.new.disk
-    (g.R.KeepsLedger.record_of c.args.draft) (g.R.KeepsLedger.seen c.args.ledger.now).held c.commit.result
+    c.args.draft (seen c.args.ledger.now).held c.commit.result
     c.commit.ensures.moments c.commit.ensures.calls

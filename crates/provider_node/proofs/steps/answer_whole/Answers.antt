@@ -1,21 +1,21 @@
 use Rattle.std.proofs.Common.{inl, refl}
 use Rattle.crash_disk.specs.Steps.{started}
 use Rattle.http_wire.specs.Views.{request_view}
-use Rattle.provider_node.specs.Step.{Starved}
+use Rattle.provider_node.specs.Step.{Starved, seen}
 use Rattle.provider_node.proofs.Serving.{first_leaves}
 use Rattle.provider_node.proofs.steps.answer_whole.Goals as goal
 
 pub returns-in-Ok-Plain-clause-moments : goal.returns-in-Ok-Plain-clause-moments
 returns-in-Ok-Plain-clause-moments g c =
-    let old = g.R.KeepsLedger.seen c.args.ledger.now in
+    let old = seen c.args.ledger.now in
     started g.D.Disk.shows c.args.disk.now _
-    (λ image left. first_leaves g.R.KeepsLedger.rules g.R.Role.answers c.args.role.now old
+    (λ image left. first_leaves g.R.Rows.Standing.rules g.R.Role.answers c.args.role.now old
     (request_view c.args.request.now) c.args.now (g.D.Disk.shows c.args.disk.now).told
     c.requires.can.whole c.requires.can.own image (g.met.D.Disk.only_now c.args.disk.now image left))
 
 pub returns-in-Err-clause-serves : goal.returns-in-Err-clause-serves
 returns-in-Err-clause-serves g c =
-    let old = g.R.KeepsLedger.seen c.args.ledger.now in
+    let old = seen c.args.ledger.now in
     record {
       serves = Starved old.held (inl refl) refl
           (record { setup = refl; key = refl; unbroken = c.requires.can.whole; is = refl });
@@ -24,8 +24,8 @@ returns-in-Err-clause-serves g c =
 
 pub returns-in-Err-clause-moments : goal.returns-in-Err-clause-moments
 returns-in-Err-clause-moments g c =
-    let old = g.R.KeepsLedger.seen c.args.ledger.now in
+    let old = seen c.args.ledger.now in
     started g.D.Disk.shows c.args.disk.now _
-    (λ image left. first_leaves g.R.KeepsLedger.rules g.R.Role.answers c.args.role.now old
+    (λ image left. first_leaves g.R.Rows.Standing.rules g.R.Role.answers c.args.role.now old
     (request_view c.args.request.now) c.args.now (g.D.Disk.shows c.args.disk.now).told
     c.requires.can.whole c.requires.can.own image (g.met.D.Disk.only_now c.args.disk.now image left))

@@ -20,7 +20,7 @@ returns-in_err-listen-clause-runs g c =
     let only = only_listened disk (g.L.Link.shows link) (g.L.Link.shows heard) clock c.in_err-listen.ensures.same c.in_err-listen.ensures.send_faults in (
       [],
       λ files file before begins. Deaf c.args.node.now opened begins is c.in_err-listen.ensures.faults.failed refl only,
-      started g.D.Disk.shows c.args.disk.now (MightLeave (StepLeaves g.R.Role.KeepsLedger.rules g.R.Role.Role.answers) disk.told []) (λ image left. inl (g.met.D.Disk.only_now c.args.disk.now image left)),
+      started g.D.Disk.shows c.args.disk.now (MightLeave (StepLeaves g.R.Role.Rows.Standing.rules g.R.Role.Role.answers) disk.told []) (λ image left. inl (g.met.D.Disk.only_now c.args.disk.now image left)),
     )
 
 pub returns-clause-runs : goal.returns-clause-runs
@@ -36,8 +36,8 @@ returns-clause-runs g c =
     let only = only_listened disk (g.L.Link.shows link) (g.L.Link.shows heard) clock c.in_ok-listen.ensures.same c.in_ok-listen.ensures.send_faults in
     let (turns, serves, leaves) = c.serve.ensures.serves in (
       turns,
-      λ files file before begins. served_so (IsProviders g.R.Role.KeepsLedger.rules g.R.Role.Role.answers) (StepLeaves g.R.Role.KeepsLedger.rules g.R.Role.Role.answers) (g.D.Disk.shows now.disk).left_since (g.R.RunsProvider.is_bad files file)
-          (IsNotOpened g.R.RunsProvider.sets_up g.R.Role.KeepsLedger.rules files file before) (Begins g.R.RunsProvider.sets_up g.R.Role.Role.key g.R.Role.KeepsLedger.rules files file before) c.args.budget turns c.serve.result c.ended_of.result
+      λ files file before begins. served_so (IsProviders g.R.Role.Rows.Standing.rules g.R.Role.Role.answers) (StepLeaves g.R.Role.Rows.Standing.rules g.R.Role.Role.answers) (g.D.Disk.shows now.disk).left_since (g.R.RunsProvider.is_bad files file)
+          (IsNotOpened g.R.RunsProvider.sets_up g.R.Role.Rows.Standing.rules files file before) (Begins g.R.RunsProvider.sets_up g.R.Role.Role.key g.R.Role.Rows.Standing.rules files file before) c.args.budget turns c.serve.result c.ended_of.result
           c.args.node.now now.node before opened listening after only serves c.ended_of.ensures begins,
       leaves,
     )

@@ -23,7 +23,7 @@ returns-in-Ok-clause-complete g c = λ can no_read no_link no_disk.
     let result = c.run_by.result in
     let unread : result ≢ Err faults.ReadFault = λ e. c.run_by.ensures.set_up (subst IsNotSetUp (sym e) tt) in
     let unlinked : result ≢ Err faults.LinkFault = λ e. no_link (c.run_by.ensures.link_fault e) in
-    complete g.R.RunsProvider.sets_up g.R.RunsProvider.is_bad g.R.Role.Role.key g.R.Role.KeepsLedger.rules g.R.Role.Role.answers result unread no_disk unlinked c.never_both.ensures (g.D.Disk.shows c.run_by.new.disk).left_since told c.args.config.now c.args.budget _ _ turns can
+    complete g.R.RunsProvider.sets_up g.R.RunsProvider.is_bad g.R.Role.Role.key g.R.Role.Rows.Standing.rules g.R.Role.Role.answers result unread no_disk unlinked c.never_both.ensures (g.D.Disk.shows c.run_by.new.disk).left_since told c.args.config.now c.args.budget _ _ turns can
     (goes told c.args.config.now from)
 
 pub returns-in-Ok-clause-untouched : goal.returns-in-Ok-clause-untouched
@@ -37,9 +37,9 @@ returns-in-Err-BadFile-clause-runs g c =
       BadSetUp c.in-Err-BadFile.file c.in-Err-BadFile.line is refl refl refl,
       c.carries_headline.ensures c.args.disk.now (g.F.Files.holds c.args.files.now) c.args.config.now c.args.budget _ [] _ _
           (BadSetUp c.in-Err-BadFile.file c.in-Err-BadFile.line is refl refl refl),
-      untouched g.D.Disk.shows (OpeningLeaves g.R.Role.KeepsLedger.rules)
-          (StepLeaves g.R.Role.KeepsLedger.rules g.R.Role.Role.answers)
-          (λ disk image left. leaves_opening g.R.Role.KeepsLedger.rules (g.D.Disk.shows disk).told image (g.met.D.Disk.only_now disk image left)) c.args.disk.now [],
+      untouched g.D.Disk.shows (OpeningLeaves g.R.Role.Rows.Standing.rules)
+          (StepLeaves g.R.Role.Rows.Standing.rules g.R.Role.Role.answers)
+          (λ disk image left. leaves_opening g.R.Role.Rows.Standing.rules (g.D.Disk.shows disk).told image (g.met.D.Disk.only_now disk image left)) c.args.disk.now [],
     )
 
 pub returns-in-Err-BadFile-clause-complete : goal.returns-in-Err-BadFile-clause-complete
@@ -53,9 +53,9 @@ returns-in-Err-ReadFault-clause-runs g c = (
   NotSetUp (inl refl) refl refl,
   c.carries_headline.ensures c.args.disk.now (g.F.Files.holds c.args.files.now) c.args.config.now c.args.budget _ [] _ _
       (NotSetUp (inl refl) refl refl),
-  untouched g.D.Disk.shows (OpeningLeaves g.R.Role.KeepsLedger.rules)
-      (StepLeaves g.R.Role.KeepsLedger.rules g.R.Role.Role.answers)
-      (λ disk image left. leaves_opening g.R.Role.KeepsLedger.rules (g.D.Disk.shows disk).told image (g.met.D.Disk.only_now disk image left)) c.args.disk.now [],
+  untouched g.D.Disk.shows (OpeningLeaves g.R.Role.Rows.Standing.rules)
+      (StepLeaves g.R.Role.Rows.Standing.rules g.R.Role.Role.answers)
+      (λ disk image left. leaves_opening g.R.Role.Rows.Standing.rules (g.D.Disk.shows disk).told image (g.met.D.Disk.only_now disk image left)) c.args.disk.now [],
 )
 
 pub returns-in-Err-NoMemory-clause-runs : goal.returns-in-Err-NoMemory-clause-runs
@@ -64,7 +64,7 @@ returns-in-Err-NoMemory-clause-runs g c = (
   NotSetUp (inr refl) refl refl,
   c.carries_headline.ensures c.args.disk.now (g.F.Files.holds c.args.files.now) c.args.config.now c.args.budget _ [] _ _
       (NotSetUp (inr refl) refl refl),
-  untouched g.D.Disk.shows (OpeningLeaves g.R.Role.KeepsLedger.rules)
-      (StepLeaves g.R.Role.KeepsLedger.rules g.R.Role.Role.answers)
-      (λ disk image left. leaves_opening g.R.Role.KeepsLedger.rules (g.D.Disk.shows disk).told image (g.met.D.Disk.only_now disk image left)) c.args.disk.now [],
+  untouched g.D.Disk.shows (OpeningLeaves g.R.Role.Rows.Standing.rules)
+      (StepLeaves g.R.Role.Rows.Standing.rules g.R.Role.Role.answers)
+      (λ disk image left. leaves_opening g.R.Role.Rows.Standing.rules (g.D.Disk.shows disk).told image (g.met.D.Disk.only_now disk image left)) c.args.disk.now [],
 )

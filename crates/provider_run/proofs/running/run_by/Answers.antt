@@ -19,17 +19,17 @@ returns-in-Ok-clause-runs g c =
         set_up = subst (λ (s : g.row.R-Role.Denot). g.R.RunsProvider.sets_up told file s) (sym starts.setup) set_up;
         started = record { key_is = starts.key ∙ ap g.R.Role.Role.key (sym starts.setup); whole = starts.whole; holds = starts.gives };
         opens =
-            follows_ok g.D.Disk.shows (opening g.R.Role.KeepsLedger.rules) disk
+            follows_ok g.D.Disk.shows (opening g.R.Role.Rows.Standing.rules) disk
             c.start.new.disk _ starts.calls;
         own = starts.own;
         tells = g.met.D.Disk.tells_always c.start.new.disk ∙ sym (g.met.D.Disk.tells_always disk);
         reads = g.met.D.Disk.reads_an_image c.start.new.disk;
         same = refl;
       }),
-      served g.D.Disk.shows (OpeningLeaves g.R.Role.KeepsLedger.rules)
-          (StepLeaves g.R.Role.KeepsLedger.rules g.R.Role.Role.answers) g.met.D.Disk.counts_now disk c.start.new.disk
+      served g.D.Disk.shows (OpeningLeaves g.R.Role.Rows.Standing.rules)
+          (StepLeaves g.R.Role.Rows.Standing.rules g.R.Role.Role.answers) g.met.D.Disk.counts_now disk c.start.new.disk
           c.listen_and_serve.new.disk turns
-          (opening_leaves g.D.Disk.shows g.R.Role.KeepsLedger.rules disk
+          (opening_leaves g.D.Disk.shows g.R.Role.Rows.Standing.rules disk
           c.start.new.disk _ starts.moments starts.calls) leaves,
     )
 
@@ -42,12 +42,12 @@ returns-in-Err-Foreign-clause-runs g c =
         setup = c.args.role;
         set_up = set_up;
         fails = why;
-        calls = follows_err g.D.Disk.shows (opening g.R.Role.KeepsLedger.rules) c.args.disk.now c.start.new.disk _
+        calls = follows_err g.D.Disk.shows (opening g.R.Role.Rows.Standing.rules) c.args.disk.now c.start.new.disk _
             c.in-Err-Foreign.ensures.calls;
       }) refl refl,
-      opened g.D.Disk.shows (OpeningLeaves g.R.Role.KeepsLedger.rules)
-          (StepLeaves g.R.Role.KeepsLedger.rules g.R.Role.Role.answers) c.args.disk.now c.start.new.disk []
-          (opening_leaves g.D.Disk.shows g.R.Role.KeepsLedger.rules c.args.disk.now
+      opened g.D.Disk.shows (OpeningLeaves g.R.Role.Rows.Standing.rules)
+          (StepLeaves g.R.Role.Rows.Standing.rules g.R.Role.Role.answers) c.args.disk.now c.start.new.disk []
+          (opening_leaves g.D.Disk.shows g.R.Role.Rows.Standing.rules c.args.disk.now
           c.start.new.disk _ c.in-Err-Foreign.ensures.moments c.in-Err-Foreign.ensures.calls),
     )
 
@@ -59,12 +59,12 @@ returns-in-Err-DiskFault-clause-runs g c =
         setup = c.args.role;
         set_up = set_up;
         fails = failed;
-        calls = follows_err g.D.Disk.shows (opening g.R.Role.KeepsLedger.rules) c.args.disk.now c.start.new.disk _
+        calls = follows_err g.D.Disk.shows (opening g.R.Role.Rows.Standing.rules) c.args.disk.now c.start.new.disk _
             c.in-Err-DiskFault.ensures.calls;
       }) refl refl,
-      opened g.D.Disk.shows (OpeningLeaves g.R.Role.KeepsLedger.rules)
-          (StepLeaves g.R.Role.KeepsLedger.rules g.R.Role.Role.answers) c.args.disk.now c.start.new.disk []
-          (opening_leaves g.D.Disk.shows g.R.Role.KeepsLedger.rules c.args.disk.now
+      opened g.D.Disk.shows (OpeningLeaves g.R.Role.Rows.Standing.rules)
+          (StepLeaves g.R.Role.Rows.Standing.rules g.R.Role.Role.answers) c.args.disk.now c.start.new.disk []
+          (opening_leaves g.D.Disk.shows g.R.Role.Rows.Standing.rules c.args.disk.now
           c.start.new.disk _ c.in-Err-DiskFault.ensures.moments c.in-Err-DiskFault.ensures.calls),
     )
 
@@ -75,11 +75,11 @@ returns-in-Err-NoMemory-clause-runs g c = (
     setup = c.args.role;
     set_up = set_up;
     fails = tt;
-    calls = follows_err g.D.Disk.shows (opening g.R.Role.KeepsLedger.rules) c.args.disk.now c.start.new.disk _
+    calls = follows_err g.D.Disk.shows (opening g.R.Role.Rows.Standing.rules) c.args.disk.now c.start.new.disk _
         c.in-Err-NoMemory.ensures.calls;
   }) refl refl,
-  opened g.D.Disk.shows (OpeningLeaves g.R.Role.KeepsLedger.rules)
-      (StepLeaves g.R.Role.KeepsLedger.rules g.R.Role.Role.answers) c.args.disk.now c.start.new.disk []
-      (opening_leaves g.D.Disk.shows g.R.Role.KeepsLedger.rules c.args.disk.now
+  opened g.D.Disk.shows (OpeningLeaves g.R.Role.Rows.Standing.rules)
+      (StepLeaves g.R.Role.Rows.Standing.rules g.R.Role.Role.answers) c.args.disk.now c.start.new.disk []
+      (opening_leaves g.D.Disk.shows g.R.Role.Rows.Standing.rules c.args.disk.now
       c.start.new.disk _ c.in-Err-NoMemory.ensures.moments c.in-Err-NoMemory.ensures.calls),
 )

@@ -1,5 +1,5 @@
-use Rattle.std.specs.Prelude.{ℕ, IfSome, IfNone, IsOk, Option, None, Some}
-use Rattle.std.proofs.Common.{◌≡◌, ◌⊎◌, subst, Ok, refl, ⊎_elim, ◌++◌, ℕ}
+use Rattle.std.specs.Prelude.{IfSome, IfNone, IsOk, Option, None, Some}
+use Rattle.std.proofs.Common.{◌≡◌, ◌⊎◌, subst, Ok, refl, ⊎_elim, ◌++◌}
 use Rattle.crash_disk.specs.Disk.{DiskState, Image, MayLeave, image_of}
 use Rattle.crash_disk.specs.Moments.{DiskShown, Leaves, LeavesOnly}
 use Rattle.crash_disk.specs.Steps.{then, weaker}

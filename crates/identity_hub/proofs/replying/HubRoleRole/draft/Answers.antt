@@ -1,6 +1,7 @@
 use Rattle.std.proofs.Common.{subst, sym}
-use Rattle.hub_ledger.specs.Ledger.{CanCommit}
+use Rattle.record_ledger.specs.Ledger.{CanCommit}
 use Rattle.hub_ledger.specs.Record.{hub_rules}
+use Rattle.hub_ledger.specs.Standing.{hub_row_rules}
 use Rattle.provider_node.specs.Replies.{IsDrafted}
 use Rattle.provider_node.proofs.Drafting.{seen_same}
 use Rattle.identity_hub.specs.Replies.{record_for}
@@ -17,7 +18,7 @@ returns-clause-drafts c =
     let old = c.args.ledger.now in
     let found =
     record_there c.args.self.now old.held c.requires.wanted.0 c.args.now old.key c.args.reply.now c.requires.wanted.1 in
-    subst (IsDrafted hub_rules old.held (CanCommit c.draft.new.ledger) (λ d. d)
+    subst (IsDrafted hub_rules old.held (CanCommit hub_rules hub_row_rules c.draft.new.ledger)
     (record_for c.args.self.now.upstream.id_key old.held c.args.now c.args.reply.now)) (sym c.of.ensures)
     (hub_drafted c.args.self.now.upstream.id_key old c.draft.new.ledger c.args.now c.args.reply.now found.0 c.draft.result
     c.requires.key c.draft.ensures.same found.1 c.draft.ensures.drafts)

@@ -1,6 +1,7 @@
 use Rattle.std.proofs.Common.{subst, sym}
-use Rattle.idp_ledger.specs.Ledger.{CanCommit}
+use Rattle.record_ledger.specs.Ledger.{CanCommit}
 use Rattle.idp_ledger.specs.Record.{idp_rules}
+use Rattle.idp_ledger.specs.Standing.{idp_row_rules}
 use Rattle.provider_node.specs.Replies.{IsDrafted}
 use Rattle.provider_node.proofs.Drafting.{seen_same}
 use Rattle.idp_server.specs.Replies.{record_for}
@@ -18,7 +19,7 @@ pub returns-clause-drafts : goal.returns-clause-drafts
 returns-clause-drafts c =
     let old = c.args.ledger.now in
     let found = found_record_of c.args.self.now old.held c.requires.wanted.0 c.args.now old.key c.args.reply.now c.requires.wanted.1 in
-    subst (IsDrafted idp_rules old.held (CanCommit c.draft.new.ledger) (λ d. d) (record_for c.args.self.now.id_key old.held c.args.now c.args.reply.now)) (sym c.of.ensures)
+    subst (IsDrafted idp_rules old.held (CanCommit idp_rules idp_row_rules c.draft.new.ledger) (record_for c.args.self.now.id_key old.held c.args.now c.args.reply.now)) (sym c.of.ensures)
     (idp_drafted c.args.self.now.id_key old c.draft.new.ledger c.args.now c.args.reply.now found.0 c.draft.result c.requires.key c.draft.ensures.same found.1 c.draft.ensures.drafts)
 
 pub returns-clause-same : goal.returns-clause-same

@@ -1,4 +1,5 @@
-use Rattle.std.proofs.Common.{◌≡◌, ℕ, subst, ◌∙◌}
+use Rattle.std.proofs.Common.{◌≡◌, ℕ, ap, subst, ◌∙◌}
+use Rattle.logout_answers.specs.Answers as answers
 use Rattle.logout_profile.specs.declared.logout.Logout.{Logout}
 use Rattle.logout_profile.specs.declared.logout.Logout.TheVariants as logouts
 use Rattle.sp_server.specs.Peer.{idp_at, second_key, logout_address, IsObeyed}
@@ -11,7 +12,8 @@ returns-in-Ask-clause-ok c =
     let config = c.self.inside.config in
     let now = c.args.now in
     let body = c.args.body.now in
-    let address : c.as_str.result.now ≡ logout_address config = c.as_str.ensures ∙ c.in_ok-address.ensures in
+    let address : c.as_str-2.result.now ≡ logout_address config =
+    c.as_str-2.ensures ∙ c.in_ok-address.ensures ∙ ap answers.logout_address c.as_str.ensures in
     let one : IsObeyed config now body c.in_ok-logout.logout =
     obeyed_of _ (idp_at config now) _ (second_key config now) _ (logout_address config) config.skew now body c.in_ok-logout.logout c.in_ok-idp_at.ensures c.second_key-second.ensures address
     c.in_ok-logout.ensures.accepted in

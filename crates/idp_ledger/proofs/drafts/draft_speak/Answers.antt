@@ -1,0 +1,20 @@
+use Rattle.std.proofs.Common.{◌≡◌, ◌∙◌, sym, ap, subst}
+use Rattle.ledger_records.specs.declared.idp_record.IdpRecord.{IdpRecord}
+use Rattle.ledger_records.specs.declared.idp_record.IdpRecord.TheVariants as kinds
+use Rattle.idp_ledger.specs.Drafts.{spoke, IsDraftable}
+use Rattle.idp_ledger.proofs.DraftedRecords.{spoke_draftable}
+use Rattle.idp_ledger.proofs.drafts.draft_speak.Goals as goal
+
+pub draft-requires : goal.draft-requires
+draft-requires c =
+    let held = c.args.ledger.now.held in
+    let key = c.key-key.result.now in
+    let first = c.next_number-first.result in
+    let ask = c.args.ask.now in
+    let id = c.in_ok-of.ensures ∙ c.as_str.ensures.value ∙ c.id_of-message.ensures in
+    let request = c.in_ok-copy.ensures in
+    let peer = c.in_ok-copy-2.ensures in
+    let made : IdpRecord = kinds.Spoke (record { first = first; moment = c.args.now; message = c.in_ok-of.field-0; request = c.in_ok-copy.field-0; peer = c.in_ok-copy-2.field-0 }) in
+    let same : made ≡ spoke key first c.args.now ask = λ i. kinds.Spoke (record { first = first; moment = c.args.now; message = id i; request = request i; peer = peer i }) in
+    let is = same ∙ ap (λ n. spoke key n c.args.now ask) c.next_number-first.ensures in
+    subst (IsDraftable held) (sym is) (spoke_draftable held key c.args.now ask c.requires.moment c.requires.texts)
