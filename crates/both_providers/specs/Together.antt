@@ -57,8 +57,9 @@ pub record OpensExactly (asked : Asked sp.Provider) : Type 0 where
       → sp.Answers asked.node.setup held asked.request asked.now answer (Some (sp_kinds.Opened r))
       → GivesSession asked.node.setup held asked.request asked.now (sp_kinds.Opened r) answer
   pub wherever : (found : Held) (faults later : ℕ) (new : sp.Provider) (b : Brought) (row : AskedRow)
-      → OpensOver asked.node.setup found asked.request asked.now b row → HasRoom asked.node.setup found asked.now b → ¬ (Rose faults later)
       → sp.Serves found asked.request asked.now (Rose faults later) asked.answer asked.node new
+      → OpensOver asked.node.setup found asked.request asked.now b row → HasRoom asked.node.setup found asked.now b
+      → ¬ (Rose faults later)
       → (asked.answer ≡ Fixed NO_MEMORY) ⊎ IsOpened asked.node.setup found asked.request asked.now b asked.answer new.ledger.held
 
 -- Sessions are opened exactly where forms open them. Each that is given, with whatever answer, is of a recorded login: for each list of

@@ -5,7 +5,7 @@ use Rattle.http_wire.specs.declared.answer.Answer.TheVariants as answers
 use Rattle.serve_loop.specs.Turns.{Asked, Asks, asked_in}
 use Rattle.serve_loop.specs.Worlds.{World}
 use Rattle.provider_run.specs.Headlines.{EachRunCarries}
-use Rattle.provider_run.proofs.Headlines.{adds_its_own, carries, each_goes, keeps_visible, kept_since, stepped, stepped_to}
+use Rattle.provider_run.proofs.Headlines.{adds_its_own, carries, each_goes, keeps_visible, kept_since, stepped, stepped_to, of_asked}
 use Rattle.provider_run.proofs.Setups.{asked_same}
 use Rattle.provider_run.specs.Runs.{world_of}
 use Rattle.provider_node.specs.Starts.{asked_over}
@@ -47,9 +47,7 @@ module _ (laws : Laws) (asked : Asked Provider) where
   passes_exactly before after = record {
     only = λ held answer r answers. laws.only asked.node.setup held asked.request asked.now answer r answers;
     back = λ held answer r answers. laws.back asked.node.setup held asked.request asked.now answer r answers;
-    wherever = λ found b row peer serves can room calm.
-        laws.wherever found asked.request asked.now before.disk_faults after.disk_faults asked.answer asked.node
-        after.node b row peer can room calm serves;
+    wherever = of_asked asked before after laws.wherever;
   }
 
   signs_only : (before after : World Provider) → Asks IsHubs asked before after → SignsOnlyItsRecords asked after

@@ -6,6 +6,7 @@ use Rattle.crash_disk.specs.Disk.{Image}
 use Rattle.serve_loop.specs.Turns.{Turn}
 use Rattle.hub_ledger.specs.Laws.{ImagesHoldRecords}
 use Rattle.hub_ledger.specs.Record.{hub_rules}
+use Rattle.provider_node.proofs.Histories.{kept_then}
 use Rattle.provider_run.specs.Runs.{Outside, world_of}
 use Rattle.provider_run.specs.Headlines.{ServedRun}
 use Rattle.provider_run.proofs.Headlines.{left_then, of_service}
@@ -20,8 +21,5 @@ module _ (hold : ImagesHoldRecords) (left : ℕ → Image → Type 0) (told : Op
   pub kept_once : WhatIsAcknowledgedIsKeptOnce → AreKeptOnce (world_of run.provider run.opened) (world_of run.last after) turns
   kept_once law =
       let is = of_service IsSetUp key hub_rules Answers hold left told file before turns after run tells AreKeptOnce law in
-      record {
-        records = is.records;
-        are = is.are;
-        kept = λ image may. is.kept image (left_then IsSetUp key hub_rules Answers hold left told file before turns after run tells image may);
-      }
+      kept_then Answers _ run.serves.last turns is (world_of run.last after)
+      (left_then IsSetUp key hub_rules Answers hold left told file before turns after run tells)

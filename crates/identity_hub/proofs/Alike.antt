@@ -12,7 +12,7 @@ use Rattle.sp_rules.specs.Shown.{IsOpening}
 use Rattle.sp_answers.specs.Judging.{LikeRowsOpenAlike, RowsAnswerAlike}
 use Rattle.identity_hub.specs.Step.{rows_seen}
 
-alike_self : (now : ℕ) (held : Held) → AnswerAlike now held held
+pub alike_self : (now : ℕ) (held : Held) → AnswerAlike now held held
 alike_self now held =
     record { asked = λ request. refl; spent = λ request is. refl; seen = λ issuer assertion. refl; routed = λ request. refl }
 

@@ -1,16 +1,17 @@
 -- What is kept of a service, and over several starts.
-use Rattle.std.specs.Prelude.{Option, Some}
-use Rattle.std.proofs.Common.{◌≡◌, ℕ, ◌≤◌, All, subst, refl, arith}
+use Rattle.std.specs.Prelude.{Contains, Option, Some}
+use Rattle.std.proofs.Common.{◌≡◌, ℕ, refl, arith}
 use Rattle.http_wire.specs.declared.answer.Answer.{Answer}
 use Rattle.http_wire.specs.Requests.{Request}
 use Rattle.ledger_records.specs.declared.hub_record.HubRecord.{HubRecord}
-use Rattle.provider_node.proofs.Histories.{DrawsAbove, IsAbove, above_of_each, what_is_kept}
-use Rattle.provider_node.proofs.Starts.{kept_over}
+use Rattle.provider_node.specs.Histories.{moments_of}
+use Rattle.provider_node.proofs.Histories.{DrawsAbove, IsAbove, above_of_each, came_so, kept_so, what_is_kept}
+use Rattle.provider_node.proofs.Starts.{kept_over, kept_over_so}
 use Rattle.hub_ledger.specs.Laws.{ImagesHoldRecords, NoRequestBacksTwiceInARun}
-use Rattle.hub_ledger.specs.Ledger.{Held, next_number}
-use Rattle.hub_ledger.specs.Record.{drawn, hub_rules}
+use Rattle.hub_ledger.specs.Ledger.{Held}
+use Rattle.hub_ledger.specs.Record.{hub_rules}
 use Rattle.identity_hub.specs.declared.config.HubConfig.{HubConfig}
-use Rattle.identity_hub.specs.Histories.{WhatIsAcknowledgedIsKeptOnce, WhatIsAcknowledgedIsKeptOnceOverStarts}
+use Rattle.identity_hub.specs.Histories.{PassOnce, WhatIsAcknowledgedIsKeptOnce, WhatIsAcknowledgedIsKeptOnceOverStarts}
 use Rattle.identity_hub.specs.Step as steps
 use Rattle.identity_hub.specs.Step.{Answers, backed_for, below_of, routed_for, spoken_for}
 
@@ -36,31 +37,11 @@ pub kept_once : ImagesHoldRecords → NoRequestBacksTwiceInARun → WhatIsAcknow
 kept_once law never_twice first last turns kept at tells run =
     let start = first.node.ledger.held in
     let is = what_is_kept hub_rules Answers law draws_above first last turns kept at tells run in
-    record {
-      records = is.records;
-      are = is.are;
-      kept = λ image left.
-          let (held, there, came) = is.kept image left in
-          record {
-            held = held;
-            is = there;
-            came = came;
-            once = never_twice start held came.events at.records came.leads;
-          };
-    }
+    kept_so Answers _ last turns is _
+    (came_so hub_rules PassOnce (Contains (moments_of turns)) start
+    (λ held events leads. never_twice start held events at.records leads) is.records)
 
 pub kept_once_over : ImagesHoldRecords → NoRequestBacksTwiceInARun → WhatIsAcknowledgedIsKeptOnceOverStarts
 kept_once_over law never_twice start starts are begun =
-    let is = kept_over hub_rules Answers law draws_above start starts begun in
-    record {
-      records = is.records;
-      are = is.are;
-      kept = λ image left.
-          let opens = is.kept image left in
-          record {
-            held = opens.held;
-            opens = opens.opens;
-            came = opens.came;
-            once = never_twice start opens.held opens.came.events are opens.came.leads;
-          };
-    }
+    kept_over_so hub_rules Answers PassOnce start starts (λ held events leads. never_twice start held events are leads)
+    (kept_over hub_rules Answers law draws_above start starts begun)

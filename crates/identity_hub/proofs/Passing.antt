@@ -1,6 +1,6 @@
 -- When a login is passed on.
-use Rattle.std.specs.Prelude.{Option, None, Some}
-use Rattle.std.proofs.Common.{◌≡◌, ◌⊎◌, inl, inr, ℕ, true, false, List, sym, subst, refl, ap, ◌∙◌, arith}
+use Rattle.std.specs.Prelude.{Option, Some}
+use Rattle.std.proofs.Common.{◌≡◌, ◌⊎◌, inl, inr, ℕ, true, false, List, sym, subst, refl, ap, ◌∙◌}
 use Rattle.crash_disk.specs.Counts.{Rose}
 use Rattle.http_wire.specs.declared.answer.Answer.{Answer}
 use Rattle.http_wire.specs.declared.answer.Answer.TheVariants.{Fixed}
@@ -12,11 +12,8 @@ use Rattle.ledger_records.specs.declared.hub_record.HubRecord.TheVariants as kin
 use Rattle.peer_keys.specs.declared.peers.LogoutPeer.{LogoutPeer}
 use Rattle.request_rows.specs.Rows.{RowsView}
 use Rattle.request_rows.specs.declared.row.AskedRow.{AskedRow}
-use Rattle.hub_ledger.specs.Compacting.{Compacts}
-use Rattle.hub_ledger.specs.Laws.{CompactionsChangeNoAnswer}
+use Rattle.hub_ledger.specs.Laws.{AnswerAlike, CompactionsChangeNoAnswer}
 use Rattle.hub_ledger.specs.Ledger.{Held}
-use Rattle.record_ledger.specs.Ledger.{held_with}
-use Rattle.hub_ledger.specs.Record.{AreRecords}
 use Rattle.hub_ledger.specs.RowsOf.{Route, rows_of}
 use Rattle.idp_rules.specs.Asking.{IsAsked}
 use Rattle.idp_rules.specs.declared.asked.Asked.{Asked}
@@ -25,15 +22,15 @@ use Rattle.sp_rules.specs.Opening.{Brought, Opens}
 use Rattle.sp_rules.specs.Verdict.{IsRefused}
 use Rattle.sp_answers.specs.Judging.{LikeRowsOpenAlike}
 use Rattle.idp_answers.specs.Answers.{IsNoPassiveAnswer}
-use Rattle.provider_node.specs.Step as any
+use Rattle.provider_node.proofs.Wanted.{IsAdded, IsBehind, alike_behind, comes_of_wanted}
 use Rattle.provider_node.specs.declared.codes.TheConstants.{NO_MEMORY}
 use Rattle.hub_ledger.specs.Record.{hub_rules}
 use Rattle.identity_hub.specs.declared.config.HubConfig.{HubConfig}
 use Rattle.identity_hub.specs.Config.{sign_on}
-use Rattle.identity_hub.specs.Passing.{CanPassOn, HasRoom, IsPassedOn, IsOfLogin, IsSpoken, NothingIsAskedOfAUserWhoMayNotBeAsked, OnlyWhereALoginIsBrought, PassesLogin, WhereverALoginIsBrought}
+use Rattle.identity_hub.specs.Passing.{CanPassOn, IsPassedOn, IsOfLogin, IsSpoken, NothingIsAskedOfAUserWhoMayNotBeAsked, OnlyWhereALoginIsBrought, PassesLogin, WhereverALoginIsBrought}
 use Rattle.identity_hub.specs.Step as steps
-use Rattle.identity_hub.specs.Step.{Answers, HasPlace, IsFor, Provider, Serves, backed_for, rows_seen}
-use Rattle.identity_hub.proofs.Alike.{rows_alike}
+use Rattle.identity_hub.specs.Step.{Answers, IsFor, backed_for, rows_seen}
+use Rattle.identity_hub.proofs.Alike.{alike_self, rows_alike}
 
 -- a form that brings a login is refused for nothing
 abbrev pub IsNotRefused : Type 0
@@ -165,25 +162,13 @@ module _ (not_refused : IsNotRefused) (one_login : IsOneLogin) where
             (steps.ByPassing other asked its_row its_peer r bytes brings is_for is adds_is page shown));
       }
 
-  its_own : (setup : HubConfig) (held : Held) (request : Request) (now : ℕ) (answer : Answer) (r : HubRecord) (b : Brought)
-      (row : Route) (peer : LogoutPeer) → CanPassOn setup held request now b row peer
-      → Answers setup held request now answer (Some r)
-      → (r ≡ backed_for setup held now b row.below) × PassesLogin setup held request now (backed_for setup held now b row.below)
-      answer
-  its_own setup held request now answer r b row peer can answers =
-      let is = answered setup held request now answer (Some r) b row peer can answers in
-      let same : is.r ≡ r = (let e = is.is in cc) in
-      (sym same ∙ is.own, is.passes)
-
 -- behind a compaction at the moment the form brings the login as before
 passes_behind : CompactionsChangeNoAnswer → LikeRowsOpenAlike
     → (setup : HubConfig) (found held : Held) (request : Request) (now : ℕ) (b : Brought) (row : Route) (peer : LogoutPeer)
-    → AreRecords found.records → Compacts now found held → CanPassOn setup found request now b row peer
+    → IsBehind hub_rules found now held → CanPassOn setup found request now b row peer
     → CanPassOn setup held request now b row peer
-passes_behind law opens setup found held request now b row peer are (inl (last, same)) can =
-    subst (λ (h : Held). CanPassOn setup h request now b row peer) (sym same) can
-passes_behind law opens setup found held request now b row peer are (inr (less, made)) can =
-    let like = law now now found held are made (omega arith) in
+passes_behind law opens setup found held request now b row peer behind can =
+    let like = alike_behind hub_rules found now AnswerAlike alike_self law held behind in
     record {
       asked = can.asked;
       brings =
@@ -202,56 +187,32 @@ passes_behind law opens setup found held request now b row peer are (inr (less, 
           };
     }
 
-module _ (not_refused : IsNotRefused) (one_login : IsOneLogin) (law : CompactionsChangeNoAnswer) (opens : LikeRowsOpenAlike)
-    (found : Held) (request : Request) (now faults later : ℕ) (answer : Answer) (old new : Provider) (b : Brought)
-    (row : Route) (peer : LogoutPeer) (can : CanPassOn old.setup found request now b row peer) (calm : ¬ (Rose faults later)) where
-  abbrev Comes : Type 0
-  Comes = (answer ≡ Fixed NO_MEMORY) ⊎ IsPassedOn old.setup found request now b row answer new.ledger.held
-
-  -- a compaction is made only where there was no place for the record
-  no_place : (held : Held) → any.MakesRoom hub_rules Answers old.setup found request now held
-      → ¬ (HasPlace found (backed_for old.setup found now b row.below))
-  no_place held made place =
-      let its = its_own not_refused one_login old.setup found request now made.other made.wanted b row peer can made.wants in
-      made.none (subst (HasPlace found) (sym its.0) place)
-
-  -- behind it there is one
-  place_behind : (held : Held) → any.MakesRoom hub_rules Answers old.setup found request now held
-      → HasRoom old.setup found now b row
-      → CanPassOn old.setup held request now b row peer × HasPlace held (backed_for old.setup held now b row.below)
-  place_behind held made (inl place) = absurd (no_place held made place)
-  place_behind held made (inr (are, there)) =
-      (passes_behind law opens old.setup found held request now b row peer are made.made can, there held made.made)
-
-  of_case : HasRoom old.setup found now b row → Serves found request now (Rose faults later) answer old new → Comes
-  of_case room (any.Plain answers whole) =
-      absurd (let e = (answered not_refused one_login old.setup found request now answer None b row peer can answers).is in cc)
-  of_case room (any.Recorded r answers place whole) =
-      let its = its_own not_refused one_login old.setup found request now answer r b row peer can answers in
-      inr (record {
-        held = found;
-        over = inl refl;
-        passes = its.1;
-        added = whole.is ∙ ap (λ (x : HubRecord). held_with x found) its.0;
-      })
-  of_case room (any.RecordedAfterCompaction held r made answers place whole) =
-      let its = its_own not_refused one_login old.setup held request now answer r b row peer (place_behind held made room).0 answers in
-      inr (record {
-        held = held;
-        over = inr (no_place held made, made.made);
-        passes = its.1;
-        added = whole.is ∙ ap (λ (x : HubRecord). held_with x held) its.0;
-      })
-  of_case room (any.NoPlace held r another made answers still is whole) =
-      let (brings, place) = place_behind held made room in
-      let its = its_own not_refused one_login old.setup held request now another r b row peer brings answers in
-      absurd (still (subst (HasPlace held) (sym its.0) place))
-  of_case room (any.Failed wanted other wants risen is broken) = absurd (calm risen)
-  of_case room (any.Starved held which is whole) = inl is
-
 pub wherever : IsNotRefused → IsOneLogin → CompactionsChangeNoAnswer → LikeRowsOpenAlike → WhereverALoginIsBrought
-wherever not_refused one_login law opens found request now faults later answer old new b row peer can room calm serves =
-    of_case not_refused one_login law opens found request now faults later answer old new b row peer can calm room serves
+wherever not_refused one_login law opens found request now faults later answer old new b row peer serves can room calm =
+    of_case
+    (comes_of_wanted hub_rules Answers found request now (Rose faults later) answer old new recorded
+    (λ held behind other adds answers.
+    let is = answered not_refused one_login old.setup held request now other adds b row peer (passes held behind) answers in
+    is.is ∙ ap Some is.own) room calm serves)
+  where
+    recorded : Held → HubRecord
+    recorded held = backed_for old.setup held now b row.below
+
+    passes : (held : Held) → IsBehind hub_rules found now held → CanPassOn old.setup held request now b row peer
+    passes held behind = passes_behind law opens old.setup found held request now b row peer behind can
+
+    of_case : (answer ≡ Fixed NO_MEMORY)
+        ⊎ IsAdded hub_rules Answers found request now (Rose faults later) answer old new recorded
+        → (answer ≡ Fixed NO_MEMORY) ⊎ IsPassedOn old.setup found request now b row answer new.ledger.held
+    of_case (inl is) = inl is
+    of_case (inr one) = inr (record {
+      held = one.held;
+      over = one.over;
+      passes =
+          (answered not_refused one_login old.setup one.held request now answer (Some (recorded one.held)) b row peer
+          (passes one.held one.behind) one.answers).passes;
+      added = one.added;
+    })
 
 -- ---- where the user may not be asked
 

@@ -9,18 +9,19 @@ use Rattle.ledger_records.specs.declared.hub_record.HubRecord.{HubRecord}
 use Rattle.ledger_records.specs.declared.hub_record.HubRecord.TheVariants as kinds
 use Rattle.peer_keys.specs.declared.peers.LogoutPeer.{LogoutPeer}
 use Rattle.request_rows.specs.declared.row.AskedRow.{AskedRow}
-use Rattle.hub_ledger.specs.Compacting.{Compacts}
 use Rattle.hub_ledger.specs.Ledger.{Held}
 use Rattle.record_ledger.specs.Ledger.{held_with}
-use Rattle.hub_ledger.specs.Record.{AreRecords, LAST}
+use Rattle.hub_ledger.specs.Record.{LAST, hub_rules}
 use Rattle.hub_ledger.specs.RowsOf.{Route}
 use Rattle.idp_rules.specs.declared.asked.Asked.{Asked}
 use Rattle.sp_rules.specs.Opening.{Brought}
 use Rattle.sp_rules.specs.Shown.{session_end}
 use Rattle.idp_answers.specs.Answers.{IsNoPassiveAnswer}
+use Rattle.provider_node.specs.Room as any
+use Rattle.provider_node.specs.Room.{IsRecordedOver}
 use Rattle.provider_node.specs.declared.codes.TheConstants.{NO_MEMORY}
 use Rattle.identity_hub.specs.declared.config.HubConfig.{HubConfig}
-use Rattle.identity_hub.specs.Step.{Answers, AsksFor, BringsLogin, HasPlace, IsAnswerFor, IsFor, Provider, Serves, backed_for}
+use Rattle.identity_hub.specs.Step.{Answers, AsksFor, BringsLogin, IsAnswerFor, IsFor, Provider, Serves, backed_for}
 
 -- Over a ledger, at a moment, the form that a request posts brings a login that can be passed on: for this request below, of this peer.
 pub record CanPassOn (setup : HubConfig) (held : Held) (request : Request) (now : ℕ) (b : Brought) (row : Route)
@@ -66,19 +67,16 @@ OnlyWhereALoginIsBrought =
     → Answers setup held request now answer (Some (kinds.Backed r))
     → PassesLogin setup held request now (kinds.Backed r) answer
 
--- There is room for the record: there is a place for it at once, or in a ledger of records behind one compaction at the moment.
+-- There is room for the record, at once or behind one compaction.
 abbrev pub HasRoom : HubConfig → (found : Held) → (now : ℕ) → Brought → Route → Type 0
-HasRoom setup found now b row =
-    HasPlace found (backed_for setup found now b row.below)
-    ⊎ (AreRecords found.records × ((held : Held) → Compacts now found held → HasPlace held
-    (backed_for setup held now b row.below)))
+HasRoom setup found now b row = any.HasRoom hub_rules found now (λ held. backed_for setup held now b row.below)
 
 -- The login is recorded behind the records of the ledger that was found, or, where there was no place behind these, of what one
 -- compaction made of it; and it is passed on.
 pub record IsPassedOn (setup : HubConfig) (found : Held) (request : Request) (now : ℕ) (b : Brought) (row : Route)
     (answer : Answer) (new : Held) : Type 0 where
   pub held : Held
-  pub over : (held ≡ found) ⊎ (¬ (HasPlace found (backed_for setup found now b row.below)) × Compacts now found held)
+  pub over : IsRecordedOver hub_rules found now (λ other. backed_for setup other now b row.below) held
   pub passes : PassesLogin setup held request now (backed_for setup held now b row.below) answer
   pub added : new ≡ held_with (backed_for setup held now b row.below) held
 
@@ -88,8 +86,8 @@ abbrev pub WhereverALoginIsBrought : Type 0
 WhereverALoginIsBrought =
     (found : Held) (request : Request) (now faults later : ℕ) (answer : Answer) (old new : Provider) (b : Brought)
     (row : Route) (peer : LogoutPeer)
-    → CanPassOn old.setup found request now b row peer → HasRoom old.setup found now b row
-    → ¬ (Rose faults later) → Serves found request now (Rose faults later) answer old new
+    → Serves found request now (Rose faults later) answer old new → CanPassOn old.setup found request now b row peer
+    → HasRoom old.setup found now b row → ¬ (Rose faults later)
     → (answer ≡ Fixed NO_MEMORY) ⊎ IsPassedOn old.setup found request now b row answer new.ledger.held
 
 -- ---- where the user may not be asked

@@ -1,9 +1,8 @@
 -- How a request is replied to with a record: what it asks for, the record that stands for it, and the page.
-use Rattle.std.specs.Prelude.{◌≡◌, ◌≢◌, ◌⊎◌, ℕ, ◌<◌, min, Bool, true, false, List, [], length, Option, None, Some, IsSome, slice_get}
+use Rattle.std.specs.Prelude.{◌≡◌, ◌≢◌, ◌⊎◌, ℕ, ◌<◌, min, Bool, true, false, List, [], length, Option, None, Some, IsSome, slice_get, Result}
 use Rattle.std.specs.Option.{option_map}
 use Rattle.xml_spec.specs.Characters.{IsText}
 use Rattle.http_wire.specs.Requests.{Request}
-use Rattle.verdict_codes.specs.Codes.{number_of}
 use Rattle.verdict_codes.specs.declared.codes.Verdict.TheVariants.{UnknownIssuer}
 use Rattle.ledger_records.specs.declared.hub_record.Backed.{Backed}
 use Rattle.ledger_records.specs.declared.hub_record.Routed.{Routed}
@@ -24,7 +23,9 @@ use Rattle.sp_answers.specs.Answers.{IsAskAnswer}
 use Rattle.sp_answers.specs.Judging.{CanBeRecorded}
 use Rattle.idp_answers.specs.Answers.{IsNoPassiveAnswer}
 use Rattle.idp_answers.specs.Stating.{AreTold, CanBeStated, IsTold}
-use Rattle.provider_node.specs.Replies.{IsReplied, ReplyRules}
+use Rattle.fault_verdicts.specs.declared.judged.Judged.{Judged}
+use Rattle.provider_node.specs.Replies as any
+use Rattle.provider_node.specs.Replies.{ReplyRules}
 use Rattle.provider_node.specs.declared.replied.Replied.{Replied}
 use Rattle.service_routes.specs.declared.route.Route.TheVariants.{To}
 use Rattle.identity_hub.specs.declared.config.HubConfig.{HubConfig}
@@ -155,10 +156,10 @@ hub_replies = record {
   wants = Wants;
   record_for = λ setup held now reply. record_for setup.upstream.id_key held now reply;
   shows = λ setup reply r now bytes. IsPage setup reply r now bytes;
-  refusal = λ reply. number_of UnknownIssuer;
+  refusal = λ reply. UnknownIssuer;
 }
 
 -- what is replied to a request
-abbrev pub RepliesTo : HubConfig → Held → Request → (now : ℕ) → Replied Reply → Type 0
+abbrev pub RepliesTo : HubConfig → Held → Request → (now : ℕ) → Result (Replied Reply) Judged → Type 0
 RepliesTo setup held request now =
-    IsReplied (λ answer. Answers setup held request now answer None) (Wants setup held request now)
+    any.Replies (λ answer. Answers setup held request now answer None) (Wants setup held request now)

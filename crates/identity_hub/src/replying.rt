@@ -3,6 +3,7 @@
 use crate::reply::Reply;
 use crate::role::HubRole;
 use crate::route::{Service, service_at};
+use fault_verdicts::Judged;
 use http_wire::{Answer, HttpRequest};
 use hub_ledger::laws::compactions_change_no_answer;
 use hub_ledger::{Draft, HubLedger, HubStanding};
@@ -37,7 +38,7 @@ impl Role for HubRole {
         ledger: &HubLedger,
         request: &HttpRequest<'_>,
         now: u64,
-    ) -> Result<Replied<Reply>, NoMemory> {
+    ) -> Result<Replied<Reply>, Judged> {
         match route_to(request, service_at(request.path)) {
             Route::Refused(status) => Ok(Replied::Plain(Answer::Fixed(status))),
             Route::To(Service::Metadata(role)) => {
@@ -60,8 +61,8 @@ impl Role for HubRole {
     }
 
     // There is something to record for each reply: this is never asked.
-    fn refusal(&self, _reply: &Reply) -> u16 {
-        Verdict::UnknownIssuer.number()
+    fn refusal(&self, _reply: &Reply) -> Verdict {
+        Verdict::UnknownIssuer
     }
 
     fn laws_hold(&self, now: u64) {

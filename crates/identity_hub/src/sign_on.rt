@@ -14,7 +14,7 @@ ghost use Rattle.identity_hub.specs.Replies.{RepliesTo, Wants};
 use crate::reply::Reply;
 use crate::role::HubRole;
 use fault_verdicts::Judged;
-use http_wire::{Answer, HttpRequest};
+use http_wire::HttpRequest;
 use hub_ledger::{BelowRow, HubLedger};
 use idp_answers::laws::each_moment_is_told;
 use idp_rules::laws::the_texts_of_a_request_are_texts;
@@ -75,25 +75,24 @@ impl HubRole {
     }
 
     /// What is replied to a form that was posted for sign-on.
+    ///
+    /// # Errors
+    ///
+    /// The verdict on the form. `NoMemory` may come in place of any other answer.
     pub(crate) fn reply_sign_on(
         &self,
         ledger: &HubLedger,
         request: &HttpRequest<'_>,
         now: u64,
-    ) -> Result<Replied<Reply>, NoMemory>
+    ) -> Result<Replied<Reply>, Judged>
         requires moment { now ≤ LAST }
         requires route { route (request_view request.now) ≡ To SignOn }
-        ensures { IfOk result (RepliesTo self.now ledger.now.held (request_view request.now) now) }
+        ensures { RepliesTo self.now ledger.now.held (request_view request.now) now result }
     {
         let address = self.sign_on_address()?;
         let peers = self.config.peers.as_slice();
-        match judge_request(self.alloc, peers, address.as_str(), request.body) {
-            Ok(asked) => {
-                let reply = self.reply_to(ledger, request, asked, now)?;
-                Ok(Replied::ForRecord(reply))
-            }
-            Err(Judged::Code(verdict)) => Ok(Replied::Plain(Answer::Fixed(verdict.number()))),
-            Err(Judged::NoMemory) => Err(NoMemory),
-        }
+        let asked = judge_request(self.alloc, peers, address.as_str(), request.body)?;
+        let reply = self.reply_to(ledger, request, asked, now)?;
+        Ok(Replied::ForRecord(reply))
     }
 }

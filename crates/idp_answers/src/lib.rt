@@ -14,12 +14,12 @@
 //! # What is proved
 //!
 //! `login_answer`, `issued_answer`, `no_passive_answer` and `metadata_answer` are the bytes of their definitions; the
-//! Response for a login is signed by its mode, the Assertion first. In the modes that sign the Response it is vouched
-//! for where it is read again, with the Assertion of the login in it (`laws::a_signed_response_is_vouched_for`). In the
-//! modes that sign the Assertion it is vouched for there, too (`laws::a_signed_assertion_is_vouched_for`); in each mode
-//! the login that is read of the sent Response is the one that was issued (`laws::an_issued_login_is_read`), the
-//! Response is read as a success with that one Assertion (`laws::a_sent_response_is_read`), and what a mode does not
-//! sign has no Signature (`laws::what_is_not_signed_has_no_signature`). `stated_login` is the login of what is stated of
+//! Response for a login is signed by its mode, the Assertion first. What a mode signs is vouched for where it is read
+//! again with an ID and no more bytes than a document may have (`laws::a_signed_response_is_vouched_for`,
+//! `laws::a_signed_assertion_is_vouched_for`); in each mode the login that is read of the sent Response is the one that was
+//! issued, where it can be read (`laws::an_issued_login_is_read`), the Response is read as a success with that Assertion
+//! where its ID has 1 to 256 bytes (`laws::a_sent_response_is_read`), and what a mode does not sign has no Signature
+//! (`laws::what_is_not_signed_has_no_signature`). `stated_login` is the login of what is stated of
 //! a user to a peer, and there is an answer to each that may be stated (`laws::each_login_has_an_answer`); of a Response
 //! nothing is signed but what its mode says (`laws::a_response_is_signed_by_its_mode`);
 //! `plain_metadata_answer` is the metadata of a provider without logout, in either role.

@@ -25,7 +25,7 @@
 //! the rows that it names are there and free, its numbers are greater than all before, a document may hold its texts, and it is
 //! dated; `put_entry` makes of the rows what they are after that record (`rows_after`). `pending`, `session`, `is_waiting`,
 //! `waiting_round`, `last_peer` and `has_issued` give what their definitions give over the lists; `order` is each place once, by
-//! key and place. `make_room` may want memory, and changes nothing else; the other calls can't fail.
+//! key and place. `Noted::new` and `make_room` may want memory, and change nothing else; the other calls can't fail.
 #![tactic(auto)]
 
 mod checks;

@@ -5,7 +5,7 @@ use Rattle.http_wire.specs.declared.answer.Answer.TheVariants as answers
 use Rattle.serve_loop.specs.Turns.{Asked, Asks}
 use Rattle.serve_loop.specs.Worlds.{World}
 use Rattle.provider_run.specs.Headlines.{EachRunCarries}
-use Rattle.provider_run.proofs.Headlines.{adds_its_own, carries, each_goes, keeps_visible, kept_since, sessions_stay, stepped, stepped_to}
+use Rattle.provider_run.proofs.Headlines.{adds_its_own, carries, each_goes, keeps_visible, kept_since, sessions_stay, stepped, stepped_to, of_asked}
 use Rattle.idp_ledger.specs.Laws.{AnswerAlike, ImagesHoldRecords}
 use Rattle.idp_ledger.specs.Record.{idp_rules}
 use Rattle.idp_ledger.specs.Turns.{RoundsAskInTurn}
@@ -64,12 +64,8 @@ module _ (laws : Laws) (asked : Asked Provider) where
     nothing_else = λ found serves whole.
         laws.services found asked.request asked.now before.disk_faults after.disk_faults asked.answer asked.node
         after.node serves whole;
-    wherever_left = λ found row serves leaves place calm.
-        laws.wherever_left found asked.request asked.now before.disk_faults after.disk_faults asked.answer asked.node
-        after.node row leaves place calm serves;
-    wherever_ended = λ found message peer cookie serves over among place calm.
-        laws.wherever_ended found asked.request asked.now before.disk_faults after.disk_faults asked.answer asked.node
-        after.node message peer cookie over among place calm serves;
+    wherever_left = of_asked asked before after laws.wherever_left;
+    wherever_ended = of_asked asked before after laws.wherever_ended;
   }
 
   goes_exactly : GoesExactly asked

@@ -6,12 +6,12 @@ use Rattle.crash_disk.specs.Moments.{Leaves}
 use Rattle.idp_ledger.specs.Laws.{ImagesHoldRecords}
 use Rattle.idp_ledger.specs.Record.{idp_rules}
 use Rattle.serve_loop.specs.Turns.{Turn}
-use Rattle.serve_loop.specs.Worlds.{World}
 use Rattle.provider_run.specs.Runs.{Outside, world_of}
 use Rattle.provider_run.specs.Headlines.{ServedRun}
 use Rattle.provider_run.proofs.Headlines.{left_then, of_service, points_so}
 use Rattle.saml_outside.specs.Files.{File}
 use Rattle.provider_node.specs.Points.{points}
+use Rattle.provider_node.proofs.Histories.{kept_then}
 use Rattle.idp_server.specs.Histories.{AreKept, SessionsStayEndedInAService, StayEnded, WhatIsAcknowledgedIsKept}
 use Rattle.idp_server.specs.Step.{Provider, Answers}
 use Rattle.idp_setup.specs.Setup.{IsSetUp}
@@ -27,9 +27,7 @@ module _ (hold : ImagesHoldRecords) (left : ℕ → Image → Type 0) (told : Op
   kept_behind law =
       let is = of_service IsSetUp key idp_rules Answers hold left told file before turns after run tells AreKept law in
       record {
-        records = is.records;
-        are = is.are;
-        kept = λ image may. is.kept image (left_before image may);
+        all = kept_then Answers _ run.serves.last turns is.all (world_of run.last after) left_before;
         ended = λ r cookie has ends image may. is.ended r cookie has ends image (left_before image may);
         stays = λ cookie was image may. is.stays cookie was image (left_before image may);
       }

@@ -25,6 +25,7 @@ use Rattle.idp_rows.specs.RowsOf.{is_among}
 use Rattle.provider_node.specs.declared.codes.TheConstants.{NO_MEMORY}
 use Rattle.provider_node.specs.Lasting.{AreKeptSince}
 use Rattle.provider_node.specs.Points.{points}
+use Rattle.provider_node.specs.Room.{HasRoom}
 use Rattle.idp_ledger.specs.Laws.{AnswerAlike}
 use Rattle.idp_ledger.specs.Record.{AreRecords, idp_rules}
 use Rattle.idp_ledger.specs.Turns.{RoundsAskInTurn}
@@ -38,7 +39,7 @@ use Rattle.idp_server.specs.declared.route.Service.TheVariants.{Login, Logout, S
 use Rattle.idp_server.specs.Routes.{route}
 use Rattle.idp_server.specs.Signed.{Carries}
 use Rattle.idp_server.specs.Staying.{SessionsStay, WhatWasBegunIsAsLeft}
-use Rattle.idp_server.specs.Step.{Provider, Answers, HasPlace, ending_by}
+use Rattle.idp_server.specs.Step.{Provider, Answers, ending_by}
 use Rattle.idp_rules.specs.declared.config.IdpConfig.{IdpConfig}
 use Rattle.idp_setup.specs.Setup.{IsSetUp}
 
@@ -64,8 +65,8 @@ pub record IssuesOnlyToUsers (asked : Asked Provider) (before after : World Prov
 
 -- A record that ends a session is added, with whatever answer, only where the user of that live session leaves it, or a
 -- peer asks for it by a LogoutRequest that is accepted; and nothing but a record and a compaction changes the ledger.
--- And wherever one of them does, over the ledger that the step found, where there is room and the disk does not fail,
--- the session is ended behind the step; or there was no memory.
+-- And wherever one of them does, over the ledger that the step found, where there is room, at once or behind one
+-- compaction, and the disk does not fail, the session is ended behind the step; or there was no memory.
 pub record EndsExactly (asked : Asked Provider) (before after : World Provider) : Type 0 where
   pub only : (held : Held) (answer : Answer) (r : IdpRecord)
       → Answers asked.node.setup held asked.request asked.now answer (Some r)
@@ -74,14 +75,14 @@ pub record EndsExactly (asked : Asked Provider) (before after : World Provider) 
       → after.node.ledger.broken ≡ false → Ends asked.node.setup found asked.request asked.now after.node
   pub wherever_left : (found : Held) (row : SessionRow) → ServedOver idp_rules Answers found asked before after
       → LeavesOver found asked.request asked.now row
-      → HasPlace found (leaving_record asked.node.setup found asked.now row.cookie)
+      → HasRoom idp_rules found asked.now (λ held. leaving_record asked.node.setup held asked.now row.cookie)
       → ¬ (Rose before.disk_faults after.disk_faults)
       → (asked.answer ≡ Fixed NO_MEMORY) ⊎ IsEnded after.node.ledger.held row.cookie
   pub wherever_ended : (found : Held) (message : LogoutRequest) (peer : LogoutPeer) (cookie : List ℕ)
       → ServedOver idp_rules Answers found asked before after
       → (over : EndsOver asked.node.setup asked.request asked.now message peer)
       → is_among cookie (ending_by found asked.now peer.peer.entity message) ≡ true
-      → HasPlace found (ending_record asked.node.setup found asked.now peer message over.relay)
+      → HasRoom idp_rules found asked.now (λ held. ending_record asked.node.setup held asked.now peer message over.relay)
       → ¬ (Rose before.disk_faults after.disk_faults)
       → (asked.answer ≡ Fixed NO_MEMORY) ⊎ IsEnded after.node.ledger.held cookie
 

@@ -8,7 +8,7 @@
 //! }
 //! ```
 //!
-//! A contract sees how a run goes as one of the five cases of `provider_run` (`Runs` of `specs/Runs.antt`), with the provider's own
+//! A contract sees how a run goes as one of the five cases of `provider_run` (`Runs` of its `specs/Providers.antt`), with the provider's own
 //! setup, ledger and steps. It carries the headline ([`laws`]): each Assertion is issued to a user with a password or a session,
 //! each signed element is one of a record, and no form is sent before its record is durable. A session is ended exactly where its
 //! user leaves it or a peer asks for it, and never lives again. A crash at any moment of a run leaves what one inside the opening may
@@ -19,7 +19,8 @@
 //! [`run`] over [`IdentityProvider`]: a run of an identity provider goes by the five cases, with its own setup, ledger and steps, and carries
 //! its headline (`runs`, by `Runs` and `Headline`): at each request an Assertion is issued to a user with a password or
 //! a session alone, each signed element is one that its record stands for, the record is durable before the answer is
-//! sent, and sessions are ended exactly where their users leave them or a peer ends them; and where the disk tells,
+//! sent, and sessions are ended exactly where their users leave them or a peer ends them, where there is room, the disk
+//! does not fail and memory is found; and where the disk tells,
 //! what was acknowledged is kept, and a session that was ended is live at no later request and behind the run; a logout
 //! that asks all others asks each in its turn and once, and says Success exactly where each confirmed (`AsksInTurn`); and each
 //! image that a crash might leave since a point of the run, also inside later requests, has in its history the records

@@ -19,6 +19,7 @@ use Rattle.protocol_messages.specs.declared.logout.LogoutResponse.{LogoutRespons
 use Rattle.verdict_codes.specs.declared.codes.Verdict.{Verdict}
 use Rattle.idp_rows.specs.declared.row.SessionRow.{SessionRow}
 use Rattle.idp_rows.specs.Finding.{is_empty, is_ending}
+use Rattle.idp_ledger.specs.Laws.{AnswerAlike, CompactionsChangeNoAnswer}
 use Rattle.idp_ledger.specs.Ledger.{Held}
 use Rattle.record_ledger.specs.Ledger.{held_with}
 use Rattle.idp_rows.specs.RowsOf.{ends, is_among, issued_rows, session_rows}
@@ -27,7 +28,7 @@ use Rattle.record_ledger.proofs.Words.{same_text, text_itself}
 use Rattle.idp_ledger.proofs.RowTexts.{any_there}
 use Rattle.idp_rules.specs.declared.config.IdpConfig.{IdpConfig}
 use Rattle.provider_node.proofs.Sessions.{chosen_there, found_itself, shut_among, shut_one, some_among}
-use Rattle.provider_node.proofs.Wanted.{comes_of_wanted}
+use Rattle.provider_node.proofs.Wanted.{IsBehind, alike_behind, holds_of_wanted}
 use Rattle.idp_server.specs.Histories.{IsEnded}
 use Rattle.logout_turns.specs.declared.part.Asker.{Asker}
 use Rattle.idp_server.specs.Logouts.{AnswersEndExactly, EndsOver, IsOfLogoutIfEnding, LeavesOver, SessionsEndBeforeTheAnswer, WhatIsAnsweredToALogoutIsRecorded, WhereverAPeerEnds, WhereverAUserLeaves, ending_record, leaving_record}
@@ -35,6 +36,7 @@ use Rattle.idp_server.specs.Replies.{OfPeer, OfUser}
 use Rattle.idp_server.specs.Rounds.{asks_others, round_by}
 use Rattle.idp_server.specs.Step as steps
 use Rattle.idp_server.specs.Step.{Answers, AsksToEnd, RepliesTo, asker_of, ended_by, ending_by, left_by, session_for}
+use Rattle.idp_server.proofs.Alike.{alike_self, session_alike}
 use Rattle.idp_server.proofs.StayingEnded.{begun_sessions, ended_behind}
 use Rattle.idp_server.proofs.Told.{said}
 
@@ -95,11 +97,21 @@ left_added setup held request now answer adds row over (steps.ByLeavingAll other
 left_added setup held request now answer adds row over other =
     absurd (let says = (said setup held request now answer adds other).is in cc)
 
-pub wherever_left : WhereverAUserLeaves
-wherever_left found request now faults later answer old new row over room calm serves =
-    comes_of_wanted idp_rules Answers (λ (h : Held). IsEnded h row.cookie) found request now (Rose faults later) answer
-    old new (leaving_record old.setup found now row.cookie) (leaving_ends old.setup found now request row over.live)
-    (λ other adds answers. left_added old.setup found request now other adds row over answers) room calm serves
+pub wherever_left : CompactionsChangeNoAnswer → WhereverAUserLeaves
+wherever_left same found request now faults later answer old new row serves over room calm =
+    holds_of_wanted idp_rules Answers found request now (Rose faults later) answer old new
+    (λ held. leaving_record old.setup held now row.cookie)
+    (λ held behind other adds answers. left_added old.setup held request now other adds row (leaves held behind) answers)
+    (λ held. IsEnded held row.cookie)
+    (λ held behind. leaving_ends old.setup held now request row (leaves held behind).live) room calm serves
+  where
+    leaves : (held : Held) → IsBehind idp_rules found now held → LeavesOver held request now row
+    leaves held behind = record {
+      posted = over.posted;
+      live =
+          session_alike now held found request (alike_behind idp_rules found now AnswerAlike alike_self same held behind)
+          ∙ over.live;
+    }
 
 -- ---- a peer that asks
 
@@ -254,10 +266,18 @@ module _ (law : IsOneLogout) where
   ended_added setup held request now answer adds asked peer cookie over among other =
       absurd (let says = (said setup held request now answer adds other).is in cc)
 
-  pub wherever_ended : WhereverAPeerEnds
-  wherever_ended found request now faults later answer old new asked peer cookie over among room calm serves =
-      comes_of_wanted idp_rules Answers (λ (h : Held). IsEnded h cookie) found request now (Rose faults later) answer
-      old new (ending_record old.setup found now peer asked over.relay)
-      (ending_ends old.setup found now peer asked over.relay cookie among)
-      (λ other adds answers. ended_added old.setup found request now other adds asked peer cookie over among answers)
-      room calm serves
+  pub wherever_ended : CompactionsChangeNoAnswer → WhereverAPeerEnds
+  wherever_ended same found request now faults later answer old new asked peer cookie serves over among room calm =
+      holds_of_wanted idp_rules Answers found request now (Rose faults later) answer old new
+      (λ held. ending_record old.setup held now peer asked over.relay)
+      (λ held behind other adds answers. ended_added old.setup held request now other adds asked peer cookie over
+      (still held behind) answers)
+      (λ held. IsEnded held cookie)
+      (λ held behind. ending_ends old.setup held now peer asked over.relay cookie (still held behind)) room calm serves
+    where
+      still : (held : Held) → IsBehind idp_rules found now held
+          → is_among cookie (ending_by held now peer.peer.entity asked) ≡ true
+      still held behind =
+          let like = alike_behind idp_rules found now AnswerAlike alike_self same held behind in
+          subst (λ (cookies : List (List ℕ)). is_among cookie cookies ≡ true)
+          (sym (like.ending peer.peer.entity asked.name asked.indexes)) among

@@ -59,9 +59,7 @@ what_is_kept law alike first last turns kept at tells run =
     let start = first.node.ledger.held in
     let is = any.what_is_kept idp_rules Answers law draws_above first last turns kept at tells run in
     record {
-      records = is.records;
-      are = is.are;
-      kept = is.kept;
+      all = is;
       ended = λ r cookie has ending image left.
           let (held, there, came) = is.kept image left in
           (held, there, stays_dead alike start at.records r cookie ending came.events is.records held came.includes has came.leads);

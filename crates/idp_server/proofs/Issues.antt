@@ -34,7 +34,7 @@ use Rattle.idp_server.specs.declared.route.Service.TheVariants.{Login, Metadata,
 use Rattle.idp_server.specs.Routes.{route}
 use Rattle.idp_server.specs.Step as steps
 use Rattle.idp_server.specs.Step.{Provider, Answers, OwnsDisk, Steps, ask_of, session_for}
-use Rattle.idp_server.specs.Issues.{AnswersHaveUsers, IsOfSession, IsOfUser, IsOfUserIfIssued, IsRecorded, LeavesLedger, ServicesHaveUsers, WhatIsAnsweredIsRecorded}
+use Rattle.idp_server.specs.Issues.{AnswersHaveUsers, IsOfSession, IsOfUserIfIssued, IsRecorded, LeavesLedger, ServicesHaveUsers, WhatIsAnsweredIsRecorded}
 use Rattle.idp_server.proofs.StayingEnded.{begun_sessions}
 use Rattle.idp_server.proofs.Told.{said}
 

@@ -5,7 +5,6 @@ pub mod Ending
 pub mod Histories
 pub mod Ids
 pub mod Issues
-pub mod Judged
 pub mod Logouts
 pub mod Sessions
 pub mod StayingEnded

@@ -31,6 +31,7 @@ use Rattle.idp_rules.specs.declared.config.IdpConfig.{IdpConfig}
 use Rattle.idp_answers.specs.Answers.{IsNoPassiveAnswer}
 use Rattle.logout_answers.specs.Answers.{end_answer}
 use Rattle.protocol_messages.specs.declared.logout.LogoutRequest.{LogoutRequest}
+use Rattle.verdict_codes.specs.Codes.{number_of}
 use Rattle.idp_server.specs.declared.reply.Reply.{Reply}
 use Rattle.idp_server.specs.declared.reply.Reply.TheVariants as replies
 use Rattle.idp_server.specs.Replies.{AsksAnew, AsksForAnEnd, AsksInSession, CanBeShown, HasAssertion, HasCookie, HasRefusal, HasRequest, HasResponse, IsIssuable, IsPage, IsTextAsk, IsTold, IsXmlReply, Leaves, LogsIn, Wants, found_record, is_nothing, record_for, refusal_of, turn_of}
@@ -431,7 +432,7 @@ nothing_where true found own some none = refl
 nothing_where false found own some none = let clash = sym some ∙ none in cc
 
 pub refused_at : (setup : IdpConfig) (held : Held) (request : Request) (now : ℕ) (reply : Reply) → Wants setup held request now reply → is_nothing held now reply ≡ true
-    → Answers setup held request now (Fixed (refusal_of reply)) None
+    → Answers setup held request now (Fixed (number_of (refusal_of reply))) None
 refused_at setup held request now (replies.End asked peer name relay) w none =
     ByNothingToEnd asked w.peer relay w.to (record { place = peer; there = w.there; obeyed = w.obeyed })
     (subst (λ (n : List ℕ). is_empty (ending_by held now n asked) ≡ true) w.name_is none) refl refl

@@ -21,21 +21,14 @@ use Rattle.idp_ledger.proofs.RuleLaws.{freshly_drawn}
 use Rattle.record_ledger.specs.Runs.{Event, Leads}
 use Rattle.record_ledger.proofs.Words.{same_text}
 use Rattle.provider_node.specs.Histories.{Includes}
-use Rattle.provider_node.proofs.Sessions.{IsShut, Sessions, open_there, shut_among, shut_one}
-use Rattle.provider_node.proofs.StayingShut.{Becomes, KeepsSessions, More, Same, Shut, shut_behind, stays_shut}
+use Rattle.provider_node.proofs.Sessions.{IsShut, Sessions, open_there, sessions_by, shut_among, shut_one}
+use Rattle.provider_node.proofs.StayingShut.{Becomes, KeepsSessions, More, Same, Shut, keeps_sessions, shut_behind, stays_shut}
 use Rattle.idp_server.specs.Histories.{AnEndedSessionStaysEnded, IsDead, IsEnded}
 
 -- a session is found by its cookie until it ends, unless it was ended
 abbrev pub begun_sessions : Sessions SessionRow
-begun_sessions = record {
-  key = λ row. row.cookie;
-  shut = λ row. row.ended;
-  until = λ row. row.until;
-  shut_if = ended_if;
-  same_key = λ now row. refl;
-  shut_then = λ now row. refl;
-  same_until = λ now row. refl;
-}
+begun_sessions =
+    sessions_by (λ row. row.cookie) (λ row. row.ended) (λ row. row.until) ended_if (λ now row. (refl, refl, refl))
 
 -- an Issued begins a session where a login was pending
 issued : (old : List SessionRow) (r : Issued) (p : Option (List ℕ))
@@ -61,13 +54,9 @@ becomes records r =
     after other = Same refl
 
 keeps : CompactionsChangeNoAnswer → KeepsSessions idp_rules begun_sessions session_rows
-keeps law = record {
-  kept = kept_are_records;
-  fresh = freshly_drawn;
-  none = refl;
-  becomes = becomes;
-  alike = λ now later old new key are made from. (law now later old new are made from).session key;
-}
+keeps law =
+    keeps_sessions idp_rules begun_sessions session_rows kept_are_records freshly_drawn refl becomes
+    (λ now later old new key are made from. (law now later old new are made from).session key)
 
 pub stays_ended : CompactionsChangeNoAnswer → AnEndedSessionStaysEnded
 stays_ended law =

@@ -47,11 +47,8 @@ HoldsItDead cookie image = (held : Held) × (ledger_in image ≡ Ok (Some held))
 -- Of the records for which the answers of a service stand: each is in the history of every ledger that a crash may leave behind it.
 -- And in none of these ledgers lives a session that one of the records ended, or that was ended at the start.
 pub record AreKept (first last : World Provider) (turns : List (Turn Provider)) : Type 0 where
-  pub records : List IdpRecord
-  pub are : AreAcknowledged Answers turns records
-  pub kept : (image : Image) → Leaves last.disk image
-      → HoldsWhatCame idp_rules (Contains (moments_of turns)) first.node.ledger.held records image
-  pub ended : (r : IdpRecord) (cookie : List ℕ) → Contains records r → ends cookie r ≡ true → (image : Image) → Leaves last.disk image
+  pub all : any.AreKept idp_rules Answers first last turns
+  pub ended : (r : IdpRecord) (cookie : List ℕ) → Contains all.records r → ends cookie r ≡ true → (image : Image) → Leaves last.disk image
       → HoldsItDead cookie image
   pub stays : (cookie : List ℕ) → IsEnded first.node.ledger.held cookie → (image : Image) → Leaves last.disk image → HoldsItDead cookie image
 

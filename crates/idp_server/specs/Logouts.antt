@@ -26,6 +26,7 @@ use Rattle.idp_ledger.specs.Ledger.{Held}
 use Rattle.record_ledger.specs.Ledger.{held_with}
 use Rattle.idp_rules.specs.declared.config.IdpConfig.{IdpConfig}
 use Rattle.provider_node.specs.Changes as any
+use Rattle.provider_node.specs.Room.{HasRoom}
 use Rattle.provider_node.specs.declared.codes.TheConstants.{NO_MEMORY}
 use Rattle.idp_server.specs.Histories.{IsEnded}
 use Rattle.idp_server.specs.Issues.{IsRecorded, LeavesLedger}
@@ -34,7 +35,7 @@ use Rattle.idp_server.specs.declared.route.Service.TheVariants.{Logout, SingleLo
 use Rattle.idp_server.specs.Routes.{route}
 use Rattle.idp_server.specs.Replies.{OfPeer, OfUser}
 use Rattle.idp_server.specs.Rounds.{asks_others, round_by, round_waiting, skips_for, turns_for}
-use Rattle.idp_server.specs.Step.{Provider, Answers, AsksToEnd, HasPlace, OwnsDisk, RepliesTo, Serves, Steps, asker_of, ended_by, ending_by, is_awaited, left_by, session_for}
+use Rattle.idp_server.specs.Step.{Provider, Answers, AsksToEnd, OwnsDisk, RepliesTo, Serves, Steps, asker_of, ended_by, ending_by, is_awaited, left_by, session_for}
 use Rattle.logout_answers.specs.Answers.{is_in_part}
 
 -- ONLY
@@ -143,21 +144,21 @@ ending_record setup held now peer asked relay =
     if asks_others setup held asker cookies then round_by setup held now asker cookies
     else ended_by setup.id_key held now peer.peer.entity asked
 
--- Wherever a session is left or a peer asks to end it, there is room for the record and the disk does not fail, it is ended behind the
--- step; or there was no memory.
+-- Wherever a session is left or a peer asks to end it, there is room for the record, at once or behind one compaction, and the disk does
+-- not fail, it is ended behind the step; or there was no memory.
 abbrev pub WhereverAUserLeaves : Type 0
 WhereverAUserLeaves =
     (found : Held) (request : Request) (now faults later : ℕ) (answer : Answer) (old new : Provider) (row : SessionRow)
-    → LeavesOver found request now row → HasPlace found (leaving_record old.setup found now row.cookie)
-    → ¬ (Rose faults later) → Serves found request now (Rose faults later) answer old new
+    → Serves found request now (Rose faults later) answer old new → LeavesOver found request now row
+    → HasRoom idp_rules found now (λ held. leaving_record old.setup held now row.cookie) → ¬ (Rose faults later)
     → (answer ≡ Fixed NO_MEMORY) ⊎ IsEnded new.ledger.held row.cookie
 
 abbrev pub WhereverAPeerEnds : Type 0
 WhereverAPeerEnds =
     (found : Held) (request : Request) (now faults later : ℕ) (answer : Answer) (old new : Provider) (asked : LogoutRequest) (peer : LogoutPeer) (cookie : List ℕ)
-    → (over : EndsOver old.setup request now asked peer) → is_among cookie (ending_by found now peer.peer.entity asked) ≡ true
-    → HasPlace found (ending_record old.setup found now peer asked over.relay)
-    → ¬ (Rose faults later) → Serves found request now (Rose faults later) answer old new
+    → Serves found request now (Rose faults later) answer old new → (over : EndsOver old.setup request now asked peer)
+    → is_among cookie (ending_by found now peer.peer.entity asked) ≡ true
+    → HasRoom idp_rules found now (λ held. ending_record old.setup held now peer asked over.relay) → ¬ (Rose faults later)
     → (answer ≡ Fixed NO_MEMORY) ⊎ IsEnded new.ledger.held cookie
 
 -- WHAT IS ANSWERED

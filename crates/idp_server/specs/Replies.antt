@@ -44,10 +44,9 @@ use Rattle.logout_answers.specs.Answers.{end_answer, is_in_part}
 use Rattle.logout_profile.specs.declared.logout.Logout.TheVariants as messages
 use Rattle.protocol_messages.specs.declared.logout.LogoutRequest.{LogoutRequest}
 use Rattle.protocol_messages.specs.declared.logout.LogoutResponse.{LogoutResponse}
-use Rattle.verdict_codes.specs.Codes.{number_of}
+use Rattle.verdict_codes.specs.declared.codes.Verdict.{Verdict}
 use Rattle.verdict_codes.specs.declared.codes.Verdict.TheVariants.{NoSuchSession, UnknownLogout}
-use Rattle.provider_node.specs.Replies.{IsReplied, ReplyRules}
-use Rattle.provider_node.specs.declared.replied.Replied.{Replied}
+use Rattle.provider_node.specs.Replies.{ReplyRules}
 use Rattle.idp_server.specs.declared.reply.Follows.{Follows}
 use Rattle.idp_server.specs.declared.reply.Follows.TheVariants as follows
 use Rattle.idp_server.specs.declared.reply.Reply.{Reply}
@@ -92,9 +91,9 @@ is_nothing held now (replies.Confirm request partial) = not (is_awaited held now
 is_nothing held now (replies.Told request peer confirms next) = is_none (turn_of held now request peer)
 is_nothing held now other = false
 
-abbrev pub refusal_of : Reply → ℕ
-refusal_of (replies.Confirm request partial) = number_of UnknownLogout
-refusal_of other = number_of NoSuchSession
+abbrev pub refusal_of : Reply → Verdict
+refusal_of (replies.Confirm request partial) = UnknownLogout
+refusal_of other = NoSuchSession
 
 -- the record that stands for a reply
 abbrev pub record_for : (key : List ℕ) → Held → ℕ → Reply → Option IdpRecord
@@ -515,7 +514,3 @@ idp_replies = record {
   shows = λ setup reply r now bytes. IsPage setup reply r now (Full bytes);
   refusal = refusal_of;
 }
-
--- what is replied to a request
-abbrev pub RepliesTo : IdpConfig → Held → Request → (now : ℕ) → Replied Reply → Type 0
-RepliesTo setup held request now = IsReplied (λ answer. Answers setup held request now answer None) (Wants setup held request now)

@@ -31,6 +31,7 @@ pub fn a_session_is_ended_exactly()
     ensures wherever_ended { WhereverAPeerEnds }
 {
     logout_profile::laws::a_logout_form_has_one_verdict();
+    idp_ledger::laws::compactions_change_no_answer();
 }
 
 /// A session that was ended is never found live again, whatever is recorded, compacted and opened since.

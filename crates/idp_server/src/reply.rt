@@ -1,10 +1,9 @@
 //! How a request is replied to with a record.
-ghost use Rattle.std.specs.Prelude.{◌≡◌, ◌≤◌, IfSome, IsSome, IsTrue};
-ghost use Rattle.http_wire.specs.Answers.{is_fixed};
+ghost use Rattle.std.specs.Prelude.{◌≡◌, ◌≤◌, IfSome, IsSome};
 ghost use Rattle.saml_time.specs.declared.TheConstants.{LAST};
 ghost use Rattle.idp_ledger.specs.Drafts.{DraftsSome};
 ghost use Rattle.record_ledger.specs.Drafts.{SameLedger};
-ghost use Rattle.idp_server.specs.Replies.{CanDraft, IsXmlReply, found_record, is_nothing, refusal_of};
+ghost use Rattle.idp_server.specs.Replies.{CanDraft, IsXmlReply, found_record, is_nothing};
 
 use idp_ledger::{
     Ask, Draft, DraftFault, IdpLedger, draft_confirm, draft_end, draft_issue, draft_leave,
@@ -14,7 +13,6 @@ use logout_fanout::Plan;
 use logout_turns::{Asker, Turn};
 use owned_values::{Attributes, Text, Texts};
 use protocol_messages::LogoutRequest;
-use verdict_codes::Verdict;
 
 /// A reply that stands for a record.
 #[derive(Debug, Drop)]
@@ -129,14 +127,10 @@ impl Reply {
                 let draft = draft_leave(ledger, now, cookie.as_str())?;
                 Ok(Some(draft))
             }
-            Reply::End { asked, name, .. } => draft_end(
-                ledger,
-                now,
-                name.as_str(),
-                asked.name.as_str(),
-                &asked.indexes,
-                asked.id.as_str(),
-            ),
+            Reply::End { asked, name, .. } => {
+                let (user, request) = (asked.name.as_str(), asked.id.as_str());
+                draft_end(ledger, now, name.as_str(), user, &asked.indexes, request)
+            }
             Reply::Confirm { request, .. } => draft_confirm(ledger, now, request.as_str()),
             Reply::AskAll {
                 cookies,
@@ -153,18 +147,6 @@ impl Reply {
                 confirms,
                 ..
             } => draft_told(ledger, now, request.as_str(), peer.as_str(), *confirms),
-        }
-    }
-
-    /// The code that says that there is nothing to record: no session to end, or no logout that waits. For all else
-    /// it is never asked.
-    pub(crate) fn refusal(&self) -> u16
-        ensures is { result ≡ refusal_of self.now }
-        ensures page { IsTrue (is_fixed result) }
-    {
-        match self {
-            Reply::Confirm { .. } => Verdict::UnknownLogout.number(),
-            _ => Verdict::NoSuchSession.number(),
         }
     }
 }

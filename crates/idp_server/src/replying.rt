@@ -1,12 +1,6 @@
 //! How an identity provider replies: where a request goes, and how a reply is drafted and shown.
-ghost use Rattle.std.specs.Prelude.{◌≡◌, IfErr, IfOk, None};
-ghost use Rattle.fault_verdicts.specs.Judging.{IsJudged};
-ghost use Rattle.http_wire.specs.declared.answer.Answer.TheVariants.{Fixed};
-ghost use Rattle.http_wire.specs.Views.{request_view};
-ghost use Rattle.verdict_codes.specs.Codes.{number_of};
+ghost use Rattle.std.specs.Prelude.{◌≡◌, IfOk};
 ghost use Rattle.idp_answers.specs.Answers.{metadata_answer};
-ghost use Rattle.idp_server.specs.Replies.{RepliesTo, Wants};
-ghost use Rattle.idp_server.specs.Step.{Answers};
 
 use crate::reply::Reply;
 use crate::role::IdpRole;
@@ -20,28 +14,9 @@ use idp_ledger::{Draft, IdpLedger, IdpStanding};
 use owned_values::{Blob, NoMemory};
 use provider_node::{DraftOutcome, Replied, Role};
 use service_routes::{Route, route_to};
+use verdict_codes::Verdict;
 
 impl IdpRole {
-    /// A reply, or the code of a refusal.
-    fn replied(
-        &self,
-        ledger: &IdpLedger,
-        request: &HttpRequest<'_>,
-        now: u64,
-        reply: Result<Reply, Judged>,
-    ) -> Result<Replied<Reply>, NoMemory>
-        requires wants { IfOk reply (Wants self.now ledger.now.held (request_view request.now) now) }
-        requires refused { IfErr reply (IsJudged (λ verdict.
-            Answers self.now ledger.now.held (request_view request.now) now (Fixed (number_of verdict)) None)) }
-        ensures { IfOk result (RepliesTo self.now ledger.now.held (request_view request.now) now) }
-    {
-        match reply {
-            Ok(reply) => Ok(Replied::ForRecord(reply)),
-            Err(Judged::Code(verdict)) => Ok(Replied::Plain(Answer::Fixed(verdict.number()))),
-            Err(Judged::NoMemory) => Err(NoMemory),
-        }
-    }
-
     /// The metadata of the provider.
     fn metadata(&self) -> Result<Blob, NoMemory>
         ensures { IfOk result (λ bytes. bytes ≡ metadata_answer self.now.entity self.now.base) }
@@ -77,25 +52,17 @@ impl Role for IdpRole {
         ledger: &IdpLedger,
         request: &HttpRequest<'_>,
         now: u64,
-    ) -> Result<Replied<Reply>, NoMemory> {
+    ) -> Result<Replied<Reply>, Judged> {
         match route_to(request, service_at(request.path)) {
             Route::Refused(status) => Ok(Replied::Plain(Answer::Fixed(status))),
             Route::To(Service::Metadata) => Ok(Replied::Plain(Answer::Full(self.metadata()?))),
             Route::To(Service::SignOn) => {
-                let reply = self.sign_on(ledger, request, now);
-                self.replied(ledger, request, now, reply)
+                Ok(Replied::ForRecord(self.sign_on(ledger, request, now)?))
             }
-            Route::To(Service::Login) => {
-                let reply = self.log_in(ledger, request, now);
-                self.replied(ledger, request, now, reply)
-            }
-            Route::To(Service::Logout) => {
-                let reply = self.leave(ledger, request, now);
-                self.replied(ledger, request, now, reply)
-            }
+            Route::To(Service::Login) => Ok(Replied::ForRecord(self.log_in(ledger, request, now)?)),
+            Route::To(Service::Logout) => Ok(Replied::ForRecord(self.leave(ledger, request, now)?)),
             Route::To(Service::SingleLogout) => {
-                let reply = self.single_logout(ledger, request, now);
-                self.replied(ledger, request, now, reply)
+                Ok(Replied::ForRecord(self.single_logout(ledger, request, now)?))
             }
         }
     }
@@ -108,8 +75,12 @@ impl Role for IdpRole {
         self.page_of(reply, draft.entry().entry(), now)
     }
 
-    fn refusal(&self, reply: &Reply) -> u16 {
-        reply.refusal()
+    // There is a session to end, or a logout that waits, for all others: for these it is never asked.
+    fn refusal(&self, reply: &Reply) -> Verdict {
+        match reply {
+            Reply::Confirm { .. } => Verdict::UnknownLogout,
+            _ => Verdict::NoSuchSession,
+        }
     }
 
     fn laws_hold(&self, now: u64) {

@@ -18,7 +18,7 @@
 //!
 //! # What is proved
 //!
-//! The payloads of both providers' records: `payload` writes exactly the bytes of the definition, `read_sp_record`,
+//! The payloads of the records of all three roles: `payload` writes exactly the bytes of the definition, `read_sp_record`,
 //! `read_idp_record` and `read_hub_record` give the record exactly where a payload is one, and none exactly where it is
 //! the bytes of none; a payload is one record at most, and that is a function of its bytes (`is`, `laws`). A session of
 //! a version 1 journal is read with the first key.

@@ -1,4 +1,4 @@
-//! What the ledgers of both providers have in common: numbers and the IDs that have them, what is checked of each record, which
+//! What the ledgers of all providers have in common: numbers and the IDs that have them, what is checked of each record, which
 //! records are kept where others are left out, and why no record was drafted.
 //!
 //! ```
@@ -25,8 +25,8 @@
 //!
 //! `has_number`, `is_xml_text` are exact, and what the latter lets through is a text that a document may hold
 //! (`laws::an_allowed_text_may_stand`); `Numbers` are numbers that ascend, and `RowPlaces` finds by them the only row
-//! whose ID a text may be; `TextSet` says whether a text is among those of a list, in n log n; the checks that the
-//! readings of both ledgers share; `keep` sets the flags of exactly those records from which steps between records that
+//! whose ID a text may be; `TextSet` says whether a text is among those of a list; the checks that the readings of all
+//! ledgers share; `keep` sets the flags of exactly those records from which steps between records that
 //! name one another lead to one that is seen (`AreFlagsOf`).
 #![tactic(auto)]
 

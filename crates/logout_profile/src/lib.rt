@@ -26,8 +26,8 @@
 //! `IsRefused`). A form has one verdict (`laws::a_logout_form_has_one_verdict`), and it can't be that it is neither
 //! accepted nor refused (`laws::each_logout_form_is_judged`); what is obeyed is vouched for
 //! (`laws::what_is_obeyed_is_vouched_for`), and a request that is obeyed has a text as its ID
-//! (`laws::what_an_obeyed_form_says`). `logout_request` and `logout_response` are the signed messages of their
-//! definitions, and are vouched for with the same key where they are read again (`laws::what_is_made_is_vouched_for`).
+//! (`laws::what_an_obeyed_form_says`). `logout_request` and `logout_response` are the signed messages of their definitions,
+//! vouched for with that key where read again with an ID, no longer than a document (`laws::what_is_made_is_vouched_for`).
 #![tactic(auto)]
 
 mod judging;

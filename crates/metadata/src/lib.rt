@@ -14,8 +14,8 @@
 //! `read_peer_at`: the provider that an element describes in a role, or the first of WrongShape and NoPostService,
 //! exactly (`Gives`); `read_peer` the same for the root of a document, with the reader's fault where the text is none.
 //! `put_metadata` and `put_plain_metadata` write exactly the elements of the definitions. What is written for a role is
-//! read as the provider in that role with its addresses, where its name is not empty, and as WrongShape in the other
-//! (`laws::written_metadata_is_read`).
+//! read as the provider in that role with its addresses, where its name is not empty, and what `put_metadata` writes as
+//! WrongShape in the other (`laws::written_metadata_is_read`).
 #![tactic(auto)]
 
 mod fault;

@@ -19,11 +19,11 @@ use Rattle.record_ledger.specs.Compacting.{Compacts, IsOldOrCompacted}
 use Rattle.record_ledger.specs.Laws.{ImagesHoldRecords}
 use Rattle.record_ledger.specs.Linking.{as_list}
 use Rattle.record_ledger.specs.Runs as events
-use Rattle.record_ledger.specs.Runs.{Adds, Opens}
+use Rattle.record_ledger.specs.Runs.{Event, Adds, Opens, Leads}
 use Rattle.record_ledger.proofs.Records.{record_there}
 use Rattle.provider_node.specs.declared.codes.TheConstants.{DISK_FAULT, FOREIGN, FULL, NO_MEMORY}
 use Rattle.serve_loop.proofs.Telling.{goes_on_reading, goes_on_telling}
-use Rattle.provider_node.specs.Histories.{Another, AreAcknowledged, AreBehind, AreKept, CameFrom, moments_of, ForCode, ForNone, ForRecord, HoldsWhatCame, IsAtStart, IsProviders, Nothing, Stands, StepOf, This}
+use Rattle.provider_node.specs.Histories.{Another, AreAcknowledged, AreBehind, AreKept, AreKeptSo, CameFrom, moments_of, ForCode, ForNone, ForRecord, HoldsWhatCame, HoldsWhatCameSo, IsAtStart, IsProviders, Nothing, Stands, StepOf, This}
 use Rattle.provider_node.specs.Calls.{CompactingLeaves, MakesCompaction}
 use Rattle.provider_node.specs.Node as node
 use Rattle.provider_node.specs.Node.{CompactionLeaves}
@@ -550,3 +550,27 @@ module _ {Setup R : Type 0} (rules : RecordRules R) (Answers : AnswersBy Setup R
       (begins rules IsMoment first at) told.0
       (moments_are IsMoment turns (λ now there. there)) run in
       record { records = knows.0; are = knows.1; kept = knows.2.disk }
+
+-- ---- what else holds of what is kept
+
+module _ {Setup R : Type 0} (Answers : AnswersBy Setup R) (Holds : List R → Image → Type 0)
+    (last : World (Provider Setup R)) (turns : List (Turn (Provider Setup R)))
+    (kept : AreKeptSo Answers Holds last turns) where
+  abbrev pub kept_so : (IsSo : List R → Image → Type 0)
+      → ((image : Image) → Holds kept.records image → IsSo kept.records image) → AreKeptSo Answers IsSo last turns
+  kept_so IsSo so =
+      record { records = kept.records; are = kept.are; kept = λ image left. so image (kept.kept image left) }
+
+  -- and of a disk that leaves nothing more
+  abbrev pub kept_then : (later : World (Provider Setup R))
+      → ((image : Image) → Leaves later.disk image → Leaves last.disk image) → AreKeptSo Answers Holds later turns
+  kept_then later no_more =
+      record { records = kept.records; are = kept.are; kept = λ image left. kept.kept image (no_more image left) }
+
+-- and of its history, where it holds of each
+pub came_so : {R : Type 0} (rules : RecordRules R) (IsSo : Held R → List (Event R) → Type 0) (IsMoment : ℕ → Type 0)
+    (start : Held R) → ((held : Held R) (events : List (Event R)) → Leads rules start events held → IsSo start events)
+    → (records : List R) (image : Image) → HoldsWhatCame rules IsMoment start records image
+    → HoldsWhatCameSo rules IsSo IsMoment start records image
+came_so rules IsSo IsMoment start so records image (held, is, came) =
+    record { held = held; is = is; came = came; so = so held came.events came.leads }

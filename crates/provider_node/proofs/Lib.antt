@@ -21,3 +21,4 @@ pub mod Wanted
 pub mod Replying
 pub mod Drafting
 pub mod Ids
+pub mod Judged

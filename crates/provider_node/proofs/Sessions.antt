@@ -106,6 +106,20 @@ pub record Sessions (S : Type 0) : Type 0 where
   pub shut_then : (now : Bool) (row : S) → shut (shut_if now row) ≡ (shut row || now)
   pub same_until : (now : Bool) (row : S) → until (shut_if now row) ≡ until row
 
+-- such rows, of which it is to be seen that being shut changes neither the key nor the moment
+abbrev pub sessions_by : {S : Type 0} (key : S → List ℕ) (shut : S → Bool) (until : S → ℕ) (shut_if : Bool → S → S)
+    → ((now : Bool) (row : S) → (key (shut_if now row) ≡ key row) × (shut (shut_if now row) ≡ (shut row || now))
+    × (until (shut_if now row) ≡ until row)) → Sessions S
+sessions_by key shut until shut_if laws = record {
+  key = key;
+  shut = shut;
+  until = until;
+  shut_if = shut_if;
+  same_key = λ now row. (laws now row).0;
+  shut_then = λ now row. (laws now row).1;
+  same_until = λ now row. (laws now row).2;
+}
+
 module _ {S : Type 0} (sessions : Sessions S) where
   -- a row is found by its key while it is not shut and has not ended
   abbrev pub lives : (key : List ℕ) (now horizon : ℕ) → S → Bool

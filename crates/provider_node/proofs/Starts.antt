@@ -13,7 +13,7 @@ use Rattle.serve_loop.proofs.Telling.{goes_on_reading}
 use Rattle.provider_node.specs.Step.{AnswersBy, Provider, OwnsDisk, StepLeaves}
 use Rattle.provider_node.specs.Histories.{AnyMoment, Another, CameFrom, CompactsWhere, HoldsWhatCame, Includes, Nothing, StepOf, This}
 use Rattle.provider_node.specs.Points.{AClosedSessionStaysClosed}
-use Rattle.provider_node.specs.Starts.{AreKeptOver, AreKeptOverAt, AreStarts, AreStartsAt, Behind, Cut, InAnswer, InCompaction, IsNextAt, LeftFromAt, OpensWhatCame, Served, StandsAsOpened, Start, StayClosedOverStarts, Unopened}
+use Rattle.provider_node.specs.Starts.{AreKeptOver, AreKeptOverAt, AreKeptOverSo, LeftBehind, OpensWhatCameSo, AreStarts, AreStartsAt, Behind, Cut, InAnswer, InCompaction, IsNextAt, LeftFromAt, OpensWhatCame, Served, StandsAsOpened, Start, StayClosedOverStarts, Unopened}
 use Rattle.provider_node.proofs.Histories.{DrawsAbove, Holds, all_told, an_image, begins, came_itself, compaction_left, known, known_behind, moments_are, step_left}
 
 -- ---- one history behind another
@@ -216,3 +216,22 @@ closed_over {Setup} {R} rules Answers law numbers IsClosed IsOver stays start he
     let same : opens.held ≡ held = (let e = sym opens.opens ∙ is in cc) in
     subst (λ (h : Held R). IsOver h token) same
     (stays start opens.held opens.came.events token are closed opens.came.leads)
+
+-- what else holds of the histories of what is kept, where it holds of each
+abbrev pub kept_over_so : {Setup R : Type 0} (rules : RecordRules R) (Answers : AnswersBy Setup R)
+    (IsSo : Held R → List (Event R) → Type 0) (start : Held R) (starts : List (Start (Provider Setup R)))
+    → ((held : Held R) (events : List (Event R)) → Leads rules start events held → IsSo start events)
+    → AreKeptOver rules Answers start starts
+    → AreKeptOverSo Answers (LeftBehind rules Answers start starts) (OpensWhatCameSo rules IsSo AnyMoment start) starts
+kept_over_so rules Answers IsSo start starts so kept = record {
+  records = kept.records;
+  are = kept.are;
+  kept = λ image left.
+      let opens = kept.kept image left in
+      record {
+        held = opens.held;
+        opens = opens.opens;
+        came = opens.came;
+        so = so opens.held opens.came.events opens.came.leads;
+      };
+}

@@ -77,6 +77,18 @@ pub record KeepsSessions {R S : Type 0} (rules : RecordRules R) (sessions : Sess
       → found sessions (rows new.records) key later new.header.horizon
       ≡ found sessions (rows old.records) key later old.header.horizon
 
+-- by its parts
+pub keeps_sessions : {R S : Type 0} (rules : RecordRules R) (sessions : Sessions S) (rows : List R → List S)
+    → KeptAreRecords rules → AreFreshlyDrawn rules → rows [] ≡ []
+    → ((records : List R) (r : R) → Becomes sessions (rules.drawn r) (rows records) (rows (records ++ r ∷ [])))
+    → ((now later : ℕ) (old new : Held R) (key : List ℕ) → AreRecords rules old.records
+    → IsCompacted rules now old new → now ≤ later
+    → found sessions (rows new.records) key later new.header.horizon
+    ≡ found sessions (rows old.records) key later old.header.horizon)
+    → KeepsSessions rules sessions rows
+keeps_sessions rules sessions rows kept fresh none becomes alike =
+    record { kept = kept; fresh = fresh; none = none; becomes = becomes; alike = alike }
+
 module _ {R S : Type 0} (rules : RecordRules R) (sessions : Sessions S) (rows : List R → List S)
     (keeps : KeepsSessions rules sessions rows) where
   -- the key of a session begins with a number that was drawn

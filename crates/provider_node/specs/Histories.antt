@@ -84,6 +84,14 @@ abbrev pub HoldsWhatCame : {R : Type 0} → RecordRules R → (IsMoment : ℕ �
 HoldsWhatCame {R} rules IsMoment start records image =
     (held : Held R) × (ledger_in rules image ≡ Ok (Some held)) × CameFrom rules IsMoment start records held
 
+-- and this is said of its history
+pub record HoldsWhatCameSo {R : Type 0} (rules : RecordRules R) (IsSo : Held R → List (Event R) → Type 0)
+    (IsMoment : ℕ → Type 0) (start : Held R) (records : List R) (image : Image) : Type 0 where
+  pub held : Held R
+  pub is : ledger_in rules image ≡ Ok (Some held)
+  pub came : CameFrom rules IsMoment start records held
+  pub so : IsSo start came.events
+
 -- a provider whose ledger is whole, on its own disk
 pub record IsAtStart {Setup R : Type 0} (rules : RecordRules R) (first : World (Provider Setup R)) : Type 0 where
   pub whole : first.node.ledger.broken ≡ false
@@ -93,11 +101,17 @@ pub record IsAtStart {Setup R : Type 0} (rules : RecordRules R) (first : World (
 
 -- WHAT IS KEPT
 
--- Of the records for which the answers of a service stand: each is in the history of every ledger that a crash may
--- leave behind it; in this each compaction was at the moment of one of its requests.
-pub record AreKept {Setup R : Type 0} (rules : RecordRules R) (Answers : AnswersBy Setup R)
-    (first last : World (Provider Setup R)) (turns : List (Turn (Provider Setup R))) : Type 0 where
+-- Of the records for which the answers of a service stand this holds, and of every image that a crash may leave behind
+-- it.
+pub record AreKeptSo {Setup R : Type 0} (Answers : AnswersBy Setup R) (Holds : List R → Image → Type 0)
+    (last : World (Provider Setup R)) (turns : List (Turn (Provider Setup R))) : Type 0 where
   pub records : List R
   pub are : AreAcknowledged Answers turns records
-  pub kept : (image : Image) → Leaves last.disk image
-      → HoldsWhatCame rules (Contains (moments_of turns)) first.node.ledger.held records image
+  pub kept : (image : Image) → Leaves last.disk image → Holds records image
+
+-- Each of them is in the history of every ledger that a crash may leave behind it; in this each compaction was at the
+-- moment of one of its requests.
+abbrev pub AreKept : {Setup R : Type 0} → RecordRules R → AnswersBy Setup R → (first last : World (Provider Setup R))
+    → List (Turn (Provider Setup R)) → Type 0
+AreKept rules Answers first last turns =
+    AreKeptSo Answers (HoldsWhatCame rules (Contains (moments_of turns)) first.node.ledger.held) last turns

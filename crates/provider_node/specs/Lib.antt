@@ -15,3 +15,4 @@ pub mod Lasting
 pub mod Staying
 pub mod Recorded
 pub mod Changes
+pub mod Room

@@ -1,9 +1,13 @@
 -- What a role of a provider says of its replies, and what its calls give.
-use Rattle.std.specs.Prelude.{◌≡◌, ℕ, true, List, Option, None, Some, is_some}
+use Rattle.std.specs.Prelude.{◌≡◌, ℕ, true, List, Option, None, Some, is_some, Result, Ok, Err}
 use Rattle.http_wire.specs.declared.answer.Answer.{Answer}
 use Rattle.http_wire.specs.declared.answer.Answer.TheVariants.{Fixed, Full}
 use Rattle.http_wire.specs.Requests.{Request}
 use Rattle.serve_loop.specs.Worlds.{HasBytes}
+use Rattle.fault_verdicts.specs.Judging.{IsJudged}
+use Rattle.fault_verdicts.specs.declared.judged.Judged.{Judged}
+use Rattle.verdict_codes.specs.Codes.{number_of}
+use Rattle.verdict_codes.specs.declared.codes.Verdict.{Verdict}
 use Rattle.record_ledger.specs.Rules.{RecordRules, AreRecords}
 use Rattle.record_ledger.specs.Ledger.{Held}
 use Rattle.record_ledger.specs.Compacting.{Compacts}
@@ -21,14 +25,20 @@ pub record ReplyRules (Setup R Reply : Type 0) : Type 1 where
   pub record_for : Setup → Held R → (now : ℕ) → Reply → Option R
   -- the page of it and of its record has these bytes
   pub shows : Setup → Reply → R → (now : ℕ) → List ℕ → Type 0
-  -- the code that is answered where there is nothing to record
-  pub refusal : Reply → ℕ
+  -- the verdict that is answered where there is nothing to record
+  pub refusal : Reply → Verdict
 
 -- a reply to a request: an answer that stands for no record, or a reply that is wanted
 abbrev pub IsReplied : {Reply : Type 0} (IsAnswer : Answer → Type 0) (IsWanted : Reply → Type 0) → Replied Reply
     → Type 0
 IsReplied IsAnswer IsWanted (Plain answer) = IsAnswer answer × HasBytes answer
 IsReplied IsAnswer IsWanted (ForRecord reply) = IsWanted reply
+
+-- what is replied to a request: so, or it is refused with the verdict whose page is the answer
+abbrev pub Replies : {Reply : Type 0} (IsAnswer : Answer → Type 0) (IsWanted : Reply → Type 0)
+    → Result (Replied Reply) Judged → Type 0
+Replies IsAnswer IsWanted (Ok replied) = IsReplied IsAnswer IsWanted replied
+Replies IsAnswer IsWanted (Err judged) = IsJudged (λ verdict. IsAnswer (Fixed (number_of verdict))) judged
 
 -- there is something to record, and no place for it
 pub record HasNoPlace {R : Type 0} (rules : RecordRules R) (held : Held R) (wanted : Option R) : Type 0 where
@@ -81,10 +91,10 @@ module _ {Setup R Reply : Type 0} (replies : ReplyRules Setup R Reply) where
     pub has_page : (held : Held R) (request : Request) (reply : Reply) (r : R)
         → replies.wants setup held request now reply
         → replies.record_for setup held now reply ≡ Some r → (bytes : List ℕ) × replies.shows setup reply r now bytes
-    -- where there is nothing to record the answer is its code
+    -- where there is nothing to record the answer is its verdict
     pub refused : (held : Held R) (request : Request) (reply : Reply) → replies.wants setup held request now reply
         → replies.record_for setup held now reply ≡ None
-        → Answers setup held request now (Fixed (replies.refusal reply)) None
+        → Answers setup held request now (Fixed (number_of (replies.refusal reply))) None
     -- behind a compaction the reply is wanted as before it, and there is something to record as before
     pub still : (old new : Held R) (request : Request) (reply : Reply) → AreRecords rules old.records
         → Compacts rules now old new

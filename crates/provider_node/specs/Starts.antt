@@ -9,6 +9,7 @@ use Rattle.serve_loop.specs.Turns.{Asked, Turn, Run, asked_in}
 use Rattle.serve_loop.specs.Worlds.{World}
 use Rattle.record_ledger.specs.Rules.{RecordRules, AreRecords}
 use Rattle.record_ledger.specs.Ledger.{Held, LeftByOpening, ledger_in, migrated, taken}
+use Rattle.record_ledger.specs.Runs.{Event}
 use Rattle.provider_node.specs.Node.{CompactionLeaves}
 use Rattle.provider_node.specs.Step.{AnswersBy, OwnsDisk, Provider, StepLeaves}
 use Rattle.provider_node.specs.Histories.{AnyMoment, AreAcknowledged, CameFrom, IsAtStart, IsProviders, moments_of}
@@ -70,6 +71,14 @@ pub record OpensWhatCame {R : Type 0} (rules : RecordRules R) (IsMoment : ℕ �
   pub opens : taken (ledger_in rules image) ≡ Ok held
   pub came : CameFrom rules IsMoment start records held
 
+-- and this is said of its history
+pub record OpensWhatCameSo {R : Type 0} (rules : RecordRules R) (IsSo : Held R → List (Event R) → Type 0)
+    (IsMoment : ℕ → Type 0) (start : Held R) (records : List R) (image : Image) : Type 0 where
+  pub held : Held R
+  pub opens : taken (ledger_in rules image) ≡ Ok held
+  pub came : CameFrom rules IsMoment start records held
+  pub so : IsSo start came.events
+
 module _ {Setup R : Type 0} (Answers : AnswersBy Setup R) where
   -- the records for which the answers of starts stand, the latest first
   abbrev pub AreAcknowledgedIn : List (Start (Provider Setup R)) → List R → Type 0
@@ -81,6 +90,13 @@ module _ {Setup R : Type 0} (Answers : AnswersBy Setup R) where
   AreAcknowledgedIn (Unopened first turns kept last ∷ earlier) records =
       (latest : List R) × (former : List R) × AreAcknowledged Answers turns latest × AreAcknowledgedIn earlier former ×
       (records ≡ latest ++ former)
+
+  -- of these records this holds, and of every image that may be left behind the starts
+  pub record AreKeptOverSo (IsLeft : Image → Type 0) (Holds : List R → Image → Type 0)
+      (starts : List (Start (Provider Setup R))) : Type 0 where
+    pub records : List R
+    pub are : AreAcknowledgedIn starts records
+    pub kept : (image : Image) → IsLeft image → Holds records image
 
 -- `IsMoment` says of the moments of these starts, at each of which a request was asked or a compaction was begun.
 module _ {Setup R : Type 0} (rules : RecordRules R) (Answers : AnswersBy Setup R) (IsMoment : ℕ → Type 0) where

@@ -42,8 +42,8 @@
 //! none where nothing is recorded, those of the opening of a ledger that had failed, of one compaction, of one commit,
 //! all or a beginning; `StepLeaves` is what a crash inside may leave, amid these calls. A record that stands in an
 //! image that a crash may leave, and stood nowhere before, is one that this request adds, whatever was answered
-//! (`laws::what_is_new_is_of_the_request`); where there was no memory what was visible stays visible
-//! (`laws::what_is_visible_stays`). Over them: what was acknowledged in a service and how its ledger came from the one
+//! (`laws::what_is_new_is_of_the_request`); where there was no memory and the ledger was not broken what was visible
+//! stays visible (`laws::what_is_visible_stays`). Over them: what was acknowledged in a service and how its ledger came from the one
 //! at the start (`specs/Histories.antt`), the worlds between requests (`specs/Points.antt`), lists of starts with
 //! crashes between, each of which opens what one may have left (`specs/Starts.antt`), and that runs which a crash cut
 //! join into one service (`specs/Joining.antt`). A compaction in a history is bound to a moment of the run. A page is

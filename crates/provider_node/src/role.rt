@@ -1,18 +1,19 @@
 //! The role of a provider: what it is set up with, and how it replies.
-ghost use Rattle.std.specs.Prelude.{◌≡◌, ◌≤◌, ℕ, List, IfOk, IsTrue, None};
-ghost use Rattle.http_wire.specs.Answers.{is_fixed};
+ghost use Rattle.std.specs.Prelude.{◌≡◌, ◌≤◌, ℕ, List, IfOk, None};
 ghost use Rattle.http_wire.specs.Requests.{Request};
 ghost use Rattle.http_wire.specs.Views.{request_view};
 ghost use Rattle.record_ledger.specs.Ledger.{CanCommit};
 ghost use Rattle.provider_node.specs.Step.{AnswersBy, seen};
-ghost use Rattle.provider_node.specs.Replies.{AreReplies, IsDrafted, IsReplied, IsWanted, ReplyRules};
+ghost use Rattle.provider_node.specs.Replies.{AreReplies, IsDrafted, IsWanted, Replies, ReplyRules};
 
 use crate::drafted::DraftOutcome;
 use crate::replied::Replied;
+use fault_verdicts::Judged;
 use http_wire::HttpRequest;
 use owned_values::{Blob, NoMemory};
 use record_ledger::{DraftedRecord, RecordLedger, Standing};
 use saml_time::LAST;
+use verdict_codes::Verdict;
 
 /// The role of a provider, with what it is set up with. It says where a request goes and what is replied to it, how a
 /// reply is drafted, and how it is shown.
@@ -38,16 +39,21 @@ pub trait Role: Drop {
 
     /// What is replied to a request over a ledger at a moment: an answer that stands for no record, or a reply that
     /// does.
+    ///
+    /// # Errors
+    ///
+    /// The verdict that the request is refused with, whose page is answered. `NoMemory` may come in place of any other
+    /// answer.
     fn reply(
         &self,
         ledger: &RecordLedger<Self::Rows>,
         request: &HttpRequest<'_>,
         now: u64,
-    ) -> Result<Replied<Self::Reply>, NoMemory>
+    ) -> Result<Replied<Self::Reply>, Judged>
         requires { now ≤ LAST }
-        ensures { IfOk result (IsReplied
+        ensures { Replies
             (λ answer. answers self.now ledger.now.held (request_view request.now) now answer None)
-            (replies.wants self.now ledger.now.held (request_view request.now) now)) };
+            (replies.wants self.now ledger.now.held (request_view request.now) now) result };
 
     /// Drafts the record of a reply.
     fn draft(
@@ -75,10 +81,9 @@ pub trait Role: Drop {
         requires wanted { IsWanted replies self.now now reply.now draft.now }
         ensures { IfOk result (replies.shows self.now reply.now draft.now now) };
 
-    /// The code that says that there is nothing to record.
-    fn refusal(&self, reply: &Self::Reply) -> u16
-        ensures is { result ≡ replies.refusal reply.now }
-        ensures page { IsTrue (is_fixed result) };
+    /// The verdict that says that there is nothing to record.
+    fn refusal(&self, reply: &Self::Reply) -> Verdict
+        ensures { result ≡ replies.refusal reply.now };
 
     /// That what is said of the replies agrees with the answers. It does nothing.
     fn laws_hold(&self, now: u64)

@@ -16,6 +16,7 @@ use crate::drafted::DraftOutcome;
 use crate::replied::Replied;
 use crate::role::Role;
 use crash_disk::Disk;
+use fault_verdicts::Judged;
 use gate_journal::OpenFault;
 use http_wire::{Answer, HttpRequest};
 use record_ledger::{DraftedRecord, RecordLedger};
@@ -145,7 +146,7 @@ fn serve<R: Role, D: Disk>(
     role.laws_hold(now);
     match role.draft(reply, ledger, now) {
         DraftOutcome::Ready(draft) => added(role, ledger, reply, draft, now, disk),
-        DraftOutcome::Nothing => Answer::Fixed(role.refusal(reply)),
+        DraftOutcome::Nothing => Answer::Fixed(role.refusal(reply).number()),
         DraftOutcome::NoPlace => serve_again(role, ledger, request, reply, now, disk),
         DraftOutcome::NoMemory => Answer::Fixed(NO_MEMORY),
     }
@@ -174,6 +175,7 @@ pub(crate) fn answer_whole<R: Role, D: Disk>(
     match role.reply(ledger, request, now) {
         Ok(Replied::Plain(answer)) => answer,
         Ok(Replied::ForRecord(reply)) => serve(role, ledger, request, &reply, now, disk),
-        Err(_) => Answer::Fixed(NO_MEMORY),
+        Err(Judged::Code(verdict)) => Answer::Fixed(verdict.number()),
+        Err(Judged::NoMemory) => Answer::Fixed(NO_MEMORY),
     }
 }

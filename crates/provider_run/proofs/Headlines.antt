@@ -31,6 +31,15 @@ use Rattle.provider_run.proofs.Kept.{of_turn}
 
 -- ---- a request
 
+-- what a law says of all that is served, of a request that was asked between two worlds
+abbrev pub of_asked : {N H : Type 0} {Says : H → Request → (now faults later : ℕ) → Answer → (old new : N) → Type 0}
+    (asked : Asked N) (before after : World N)
+    → ((found : H) (request : Request) (now faults later : ℕ) (answer : Answer) (old new : N)
+    → Says found request now faults later answer old new) → (found : H)
+    → Says found asked.request asked.now before.disk_faults after.disk_faults asked.answer asked.node after.node
+of_asked asked before after law found =
+    law found asked.request asked.now before.disk_faults after.disk_faults asked.answer asked.node after.node
+
 module _ {Setup R : Type 0} (rules : RecordRules R) (Answers : AnswersBy Setup R) (asked : Asked (Provider Setup R)) where
   -- what it does, by the provider and the disk that it came to
   pub stepped : (before told : World (Provider Setup R)) → Asks (IsProviders rules Answers) asked before told

@@ -4,8 +4,8 @@
 //! let status = run(alloc, &words, &mut link, &mut disk, &mut clock, &mut files, &mut out);
 //! ```
 //!
-//! `canon` prints the canonical form of an element, `vouch` whether a signature vouches for one, `check` what a service
-//! provider answers to a posted form at a moment, `records` the records of a journal; `sp`, `idp` and `hub`
+//! `canon` prints the canonical form of an element, `vouch` whether a signature vouches for one, `check` the verdict on a
+//! posted form at a moment, over the rows that its config names, `records` the records of a journal; `sp`, `idp` and `hub`
 //! serve until their events are taken. What is printed and the status are the definition's answer for the words and for what files, link, disk and clock tell (`ends`), and where
 //! one of them failed, its count of faults rose in this run (`read_fault`, `write_fault`, `disk_fault`, `link_fault`).
 //!
@@ -23,11 +23,13 @@
 //! NOW`, `records ROLE`, `sp CONFIG EVENTS`, `idp CONFIG EVENTS`, `hub CONFIG EVENTS`, `replay SCHEDULE` and `make N START`. What `replay`
 //! and `make` print is what the steps of the schedule come to by the definitions of both providers' own steps (`Goes`).
 //! A run carries its headline (`ends`, by `Carries`): with `sp` each request opens a session exactly where the posted
-//! form opens one, each of a login that was signed, and no two of one request; with `idp` each Assertion is issued to a
+//! form opens one, where there is room, the disk does not fail and memory is found, each of a login that was signed, if no
+//! HMAC is forged and no hash collides, and no two of one request; with `idp` each Assertion is issued to a
 //! user with a password or a session, and each signed element is one of a record that was durable before it was sent;
 //! with `hub` a login from above is passed on exactly where a posted form brings it for a request of a provider below,
 //! with its name and attributes and to that provider alone, no request upwards backs two, and each session below is of a
-//! login that the provider above recorded, where nobody else makes HMACs that match;
+//! login that the provider above recorded, or of a record that the hub had at the start, where nobody else makes HMACs that
+//! match and no hash collides;
 //! with any of them, where the disk tells, each image that a crash might leave since a point of the service, also inside
 //! later requests, has in its history the records for which the answers up to that point stand. With `replay` and
 //! `make` the whole sentence that joins both providers holds of what was replayed, restarts, stops and failures of the

@@ -11,7 +11,7 @@ use Rattle.http_wire.specs.Requests.{Request}
 use Rattle.serve_loop.specs.Turns.{Asked, Asks, Run, Turn}
 use Rattle.serve_loop.specs.Worlds.{World}
 use Rattle.provider_run.specs.Headlines.{EachRunCarries}
-use Rattle.provider_run.proofs.Headlines.{adds_its_own, carries, each_goes, keeps_visible, kept_since, sessions_stay, stepped, stepped_to}
+use Rattle.provider_run.proofs.Headlines.{adds_its_own, carries, each_goes, keeps_visible, kept_since, sessions_stay, stepped, stepped_to, of_asked}
 use Rattle.provider_run.specs.Runs.{Outside, world_of}
 use Rattle.sp_server.specs.Guarding.{AGuardTellsExactly, OnlyASessionIsVouchedFor}
 use Rattle.sp_server.specs.Histories.{IsProviders}
@@ -66,9 +66,7 @@ module _ (laws : Laws) (asked : Asked Provider) where
   opens_exactly : (before after : World Provider) → OpensExactly asked before after
   opens_exactly before after = record {
     only = λ held answer r answers. laws.opens_only asked.node.setup held asked.request asked.now answer r answers;
-    wherever = λ found b row serves opens place calm.
-        laws.opens_wherever found asked.request asked.now before.disk_faults after.disk_faults asked.answer asked.node
-        after.node b row opens place calm serves;
+    wherever = of_asked asked before after laws.opens_wherever;
   }
 
   closes_exactly : (before after : World Provider) → ClosesExactly asked before after
@@ -79,12 +77,8 @@ module _ (laws : Laws) (asked : Asked Provider) where
     nothing_else = λ found token row are serves whole live none.
         laws.nothing_else found asked.request asked.now before.disk_faults after.disk_faults asked.answer asked.node
         after.node token row are serves whole live none;
-    wherever_left = λ found row serves leaves place calm.
-        laws.wherever_left found asked.request asked.now before.disk_faults after.disk_faults asked.answer asked.node
-        after.node row leaves place calm serves;
-    wherever_ended = λ found message relay token serves ends among place calm.
-        laws.wherever_ended found asked.request asked.now before.disk_faults after.disk_faults asked.answer asked.node
-        after.node message relay token ends among place calm serves;
+    wherever_left = of_asked asked before after laws.wherever_left;
+    wherever_ended = of_asked asked before after laws.wherever_ended;
   }
 
   recorded_first : (before after : World Provider) → Asks IsProviders asked before after

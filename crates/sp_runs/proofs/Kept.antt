@@ -1,14 +1,15 @@
 -- What a run acknowledged is kept, once.
-use Rattle.std.specs.Prelude.{IsSome, Option}
-use Rattle.std.proofs.Common.{ℕ, List, subst}
-use Rattle.crash_disk.specs.Disk.{Image, DiskState}
+use Rattle.std.specs.Prelude.{Option}
+use Rattle.std.proofs.Common.{subst}
+use Rattle.crash_disk.specs.Disk.{DiskState}
 use Rattle.crash_disk.specs.Moments.{Leaves}
 use Rattle.request_ledger.specs.Record.{request_rules}
 use Rattle.request_ledger.specs.Laws.{ImagesHoldRecords}
-use Rattle.sp_server.specs.Step.{Provider, Answers}
+use Rattle.sp_server.specs.Step.{Answers}
 use Rattle.sp_server.specs.Histories.{WhatIsAcknowledgedIsKeptOnce}
 use Rattle.sp_server.specs.Logouts.{SessionsStayClosedInAService, StayClosed}
-use Rattle.provider_run.specs.Runs.{Outside, world_of}
+use Rattle.provider_node.proofs.Histories.{kept_then}
+use Rattle.provider_run.specs.Runs.{world_of}
 use Rattle.provider_run.proofs.Ending.{at_end}
 use Rattle.provider_run.proofs.Kept as any
 use Rattle.sp_runs.specs.Laws.{SessionsStayClosedInARun, WhatARunAcknowledgedIsKeptOnce}
@@ -20,9 +21,8 @@ kept_once hold acknowledged told file budget before opened after provider last t
     (any.still_tells IsServedBy key request_rules Answers hold told file before opened provider tells begins) run in
     let same = at_end budget turns behind (world_of last after) served ends in
     record {
-      records = is.records;
-      are = is.are;
-      kept = λ image left. is.kept image (subst (λ (d : Option DiskState). Leaves d image) same.1 left);
+      all = kept_then Answers _ behind turns is.all (world_of last after)
+          (λ image left. subst (λ (d : Option DiskState). Leaves d image) same.1 left);
       once = is.once;
     }
 

@@ -2,7 +2,7 @@
 -- opens two, and where only the identity provider makes HMACs that match, each session is a login that it signed; they
 -- are closed exactly where their users leave them or the identity provider ends them, and one that is closed is never
 -- live again.
-use Rattle.std.specs.Prelude.{◌≡◌, ◌≢◌, ◌≤◌, ◌⊎◌, ℕ, true, false, List, [], ◌∷◌, Contains, Option, IsSome, None, Some, Ok, Result}
+use Rattle.std.specs.Prelude.{◌≡◌, ◌≢◌, ◌≤◌, ◌⊎◌, ℕ, true, false, List, Contains, Option, IsSome, None, Some}
 use Rattle.std.specs.List.{AllByRecursion}
 use Rattle.saml_outside.specs.Files.{File}
 use Rattle.crash_disk.specs.Counts.{Rose}
@@ -44,8 +44,9 @@ use Rattle.sp_server.specs.Sessions.{GivesSession, HasRoom, IsOpened, OpensOver}
 use Rattle.provider_node.specs.declared.codes.TheConstants.{NO_MEMORY}
 use Rattle.provider_node.specs.Lasting.{AreKeptSince}
 use Rattle.provider_node.specs.Points.{points}
+use Rattle.provider_node.specs.Room as room
 use Rattle.provider_node.specs.Step.{IsWhole}
-use Rattle.sp_server.specs.Step.{Provider, Answers, HasPlace, Setup, ended_by, ended_record, left_record, session_for, shown_to, REGISTRY_EXPIRED}
+use Rattle.sp_server.specs.Step.{Provider, Answers, Setup, ended_by, ended_record, left_record, session_for, shown_to, REGISTRY_EXPIRED}
 use Rattle.provider_run.specs.Headlines.{AddsOnlyItsOwn, EachGoes, GoesOnDisk, HeadlineBy, HeadlineOf, KeepsWhatIsVisible, ServedOver, ServedRun, WhereAsked}
 use Rattle.provider_run.specs.Providers.{Begins}
 use Rattle.provider_run.specs.Runs.{Outside, world_of}
@@ -72,7 +73,8 @@ pub record OpensExactly (asked : Asked Provider) (before after : World Provider)
 -- A session is closed, with whatever answer, only by a Left of its token, which a POST to /logout with its cookie adds
 -- while it lives, or by an Ended that lists it, which a request with a LogoutRequest of the identity provider that is
 -- obeyed adds; nothing else closes one. And wherever one of them does, over the ledger that the step found, where there
--- is room and the disk does not fail, the session is closed behind the step; or there was no memory.
+-- is room, at once or behind one compaction, and the disk does not fail, the session is closed behind the step; or there
+-- was no memory.
 pub record ClosesExactly (asked : Asked Provider) (before after : World Provider) : Type 0 where
   pub only_left : (held : Held) (answer : Answer) (r : LeftRecord)
       → Answers asked.node.setup held asked.request asked.now answer (Some (kinds.Left r))
@@ -88,14 +90,14 @@ pub record ClosesExactly (asked : Asked Provider) (before after : World Provider
       → IsClosedWith asked.node.setup found asked.request asked.now asked.answer token
   pub wherever_left : (found : Held) (row : OpenedRow) → ServedOver request_rules Answers found asked before after
       → LeavesOver asked.node.setup found asked.request asked.now row
-      → HasPlace found (left_record asked.node.setup.config found asked.now row.token)
+      → room.HasRoom request_rules found asked.now (λ held. left_record asked.node.setup.config held asked.now row.token)
       → ¬ (Rose before.disk_faults after.disk_faults)
       → (asked.answer ≡ Fixed NO_MEMORY) ⊎ IsClosed after.node.ledger.held row.token
   pub wherever_ended : (found : Held) (message : LogoutRequest) (relay : Option (List ℕ)) (token : List ℕ)
       → ServedOver request_rules Answers found asked before after
       → EndsOver asked.node.setup asked.request asked.now message relay
       → is_among token (ended_by asked.node.setup.config found asked.now message) ≡ true
-      → HasPlace found (ended_record asked.node.setup.config found asked.now message)
+      → room.HasRoom request_rules found asked.now (λ held. ended_record asked.node.setup.config held asked.now message)
       → ¬ (Rose before.disk_faults after.disk_faults)
       → (asked.answer ≡ Fixed NO_MEMORY) ⊎ IsClosed after.node.ledger.held token
 

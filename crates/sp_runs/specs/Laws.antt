@@ -20,7 +20,6 @@ use Rattle.serve_loop.specs.Worlds.{World}
 use Rattle.provider_config.specs.declared.config.RegistryLine.{RegistryLine}
 use Rattle.provider_config.specs.declared.config.SpFile.TheVariants.{Registry}
 use Rattle.request_ledger.specs.Ledger.{Held, ledger_in}
-use Rattle.request_ledger.specs.Record.{request_rules}
 use Rattle.request_ledger.specs.Runs.{AreDifferent, requests_opened}
 use Rattle.request_rows.specs.declared.row.OpenedRow.{OpenedRow}
 use Rattle.sp_answers.specs.Answers.{metadata_answer}
@@ -30,7 +29,7 @@ use Rattle.sp_server.specs.declared.route.Service.TheVariants.{App}
 use Rattle.sp_server.specs.Routes.{route}
 use Rattle.provider_node.specs.declared.codes.TheConstants.{NO_MEMORY}
 use Rattle.provider_node.specs.Points.{points}
-use Rattle.sp_server.specs.Step.{Provider, Answers, Setup, Steps, session_for, shown_to, REGISTRY_EXPIRED}
+use Rattle.sp_server.specs.Step.{Provider, Setup, Steps, session_for, shown_to, REGISTRY_EXPIRED}
 use Rattle.sp_server.specs.Sessions.{GivesSession}
 use Rattle.sp_server.specs.Histories.{IsProviders, Stands, AreKeptOnce}
 use Rattle.sp_server.specs.Logouts.{StayClosed}

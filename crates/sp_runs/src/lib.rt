@@ -8,7 +8,8 @@
 //! }
 //! ```
 //!
-//! A contract sees how a run goes as one of five cases (`Runs` of `specs/Runs.antt`): a file can't be used; the provider was
+//! A contract sees how a run goes as one of five cases (`Runs` of `specs/Providers.antt` of
+//! `provider_run`): a file can't be used; the provider was
 //! not set up; its ledger was not opened; the link did not listen; it served. Of serving it says what `serve_loop` says of a
 //! list of turns, with the provider's own steps.
 //!
@@ -21,8 +22,9 @@
 //! what the disk holds is no ledger (exactly the fault of its image), or the disk failed; the link does not listen; it
 //! served, as `serve_loop` says, with the provider's own steps. The run carries the headline (`runs`, by `Headline`):
 //! each request that the provider was asked opens a session exactly where the posted form opens one, of a login that
-//! was signed, and closes sessions exactly where their users leave them or the identity provider ends them, and was
-//! answered once its record was durable; and where the disk tells, what was acknowledged is kept, no two sessions are
+//! was signed if no HMAC is forged and no hash collides, and closes sessions exactly where their users leave them or the
+//! identity provider ends them, where there is room, the disk does not fail and memory is found, and was answered once its
+//! record was durable; and where the disk tells, what was acknowledged is kept, no two sessions are
 //! of one request, and a session that is closed is live at no later request; and each image that a crash might leave
 //! since a point of the run, also inside later requests, has in its history the records for which the answers up to
 //! that point stand (`AreKeptSince`). At any moment a crash leaves what one inside the opening or inside an answer may

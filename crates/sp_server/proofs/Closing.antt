@@ -11,6 +11,7 @@ use Rattle.peer_keys.specs.declared.peers.LogoutPeer.{LogoutPeer}
 use Rattle.verdict_codes.specs.declared.codes.Verdict.{Verdict}
 use Rattle.request_rows.specs.declared.row.OpenedRow.{OpenedRow}
 use Rattle.request_ledger.specs.Drafts.{is_empty, is_ending}
+use Rattle.request_ledger.specs.Laws.{AnswerAlike, CompactionsChangeNoAnswer}
 use Rattle.request_ledger.specs.Ledger.{Held}
 use Rattle.record_ledger.specs.Ledger.{held_with}
 use Rattle.request_ledger.specs.Record.{request_rules}
@@ -20,10 +21,11 @@ use Rattle.logout_profile.specs.declared.logout.Logout.{Logout}
 use Rattle.logout_profile.specs.Verdict.{IsAccepted, IsRefused}
 use Rattle.sp_rules.specs.declared.config.SpConfig.{SpConfig}
 use Rattle.provider_node.proofs.Sessions.{IsShut, chosen_there, found_itself, shut_among, shut_one, some_among}
-use Rattle.provider_node.proofs.Wanted.{comes_of_wanted}
+use Rattle.provider_node.proofs.Wanted.{IsBehind, alike_behind, holds_of_wanted}
 use Rattle.sp_server.specs.Step as steps
 use Rattle.sp_server.specs.Step.{Setup, Answers, ended_by, ended_record, left_record, session_for}
 use Rattle.sp_server.specs.Logouts.{LeavesOver, EndsOver, IsClosed, OnlyWhereAUserLeaves, OnlyWhereSessionsEnd, WhereverAUserLeaves, WhereverSessionsEnd}
+use Rattle.sp_server.proofs.Alike.{alike_self, session_alike}
 use Rattle.sp_server.proofs.StayingClosed.{opened_sessions}
 use Rattle.sp_server.proofs.Told.{said}
 
@@ -74,7 +76,7 @@ ended_closes config held now asked token among =
     (shut_among opened_sessions rows _ token (ended_by config held now asked) refl
     (chosen_there opened_sessions rows token chosen among) among)
 
--- ---- wherever
+-- ---- what is added wherever one leaves, or some are ended
 
 left_added : (setup : Setup) (held : Held) (request : Request) (now : ℕ) (answer : Answer) (adds : Option SpRecord)
     (row : OpenedRow) → LeavesOver setup held request now row → Answers setup held request now answer adds
@@ -86,13 +88,6 @@ left_added setup held request now answer adds row over
     is ∙ ap (λ (r : OpenedRow). Some (left_record setup.config held now r.token)) same
 left_added setup held request now answer adds row over other =
     absurd (let says = (said setup held request now answer adds other).is in cc)
-
-pub wherever_left : WhereverAUserLeaves
-wherever_left found request now faults later answer old new row over room calm serves =
-    comes_of_wanted request_rules Answers (λ (h : Held). IsClosed h row.token) found request now (Rose faults later)
-    answer old new (left_record old.setup.config found now row.token)
-    (left_closes old.setup.config found now request row over.live)
-    (λ other adds answers. left_added old.setup found request now other adds row over answers) room calm serves
 
 -- a form that is obeyed asks one thing, and is not refused
 pub record IsOneLogout : Type 0 where
@@ -125,9 +120,36 @@ module _ (law : IsOneLogout) where
   ended_added setup held request now answer adds asked relay token over among other =
       absurd (let says = (said setup held request now answer adds other).is in cc)
 
-  pub wherever_ended : WhereverSessionsEnd
-  wherever_ended found request now faults later answer old new asked relay token over among room calm serves =
-      comes_of_wanted request_rules Answers (λ (h : Held). IsClosed h token) found request now (Rose faults later) answer
-      old new (ended_record old.setup.config found now asked) (ended_closes old.setup.config found now asked token among)
-      (λ other adds answers. ended_added old.setup found request now other adds asked relay token over among answers)
+  pub wherever_ended : CompactionsChangeNoAnswer → WhereverSessionsEnd
+  wherever_ended same found request now faults later answer old new asked relay token serves over among room calm =
+      holds_of_wanted request_rules Answers found request now (Rose faults later) answer old new
+      (λ held. ended_record old.setup.config held now asked)
+      (λ held behind other adds answers. ended_added old.setup held request now other adds asked relay token over
+      (still held behind) answers)
+      (λ held. IsClosed held token) (λ held behind. ended_closes old.setup.config held now asked token (still held behind))
       room calm serves
+    where
+      still : (held : Held) → IsBehind request_rules found now held
+          → is_among token (ended_by old.setup.config held now asked) ≡ true
+      still held behind =
+          let like = alike_behind request_rules found now AnswerAlike alike_self same held behind in
+          subst (λ (tokens : List (List ℕ)). is_among token tokens ≡ true)
+          (sym (like.ending old.setup.config.idp.entity asked.name asked.indexes)) among
+
+-- and so for a user who leaves
+pub wherever_left : CompactionsChangeNoAnswer → WhereverAUserLeaves
+wherever_left same found request now faults later answer old new row serves over room calm =
+    holds_of_wanted request_rules Answers found request now (Rose faults later) answer old new
+    (λ held. left_record old.setup.config held now row.token)
+    (λ held behind other adds answers. left_added old.setup held request now other adds row (leaves held behind) answers)
+    (λ held. IsClosed held row.token)
+    (λ held behind. left_closes old.setup.config held now request row (leaves held behind).live) room calm serves
+  where
+    leaves : (held : Held) → IsBehind request_rules found now held → LeavesOver old.setup held request now row
+    leaves held behind = record {
+      posted = over.posted;
+      unexpired = over.unexpired;
+      live =
+          session_alike now held found request (alike_behind request_rules found now AnswerAlike alike_self same held behind)
+          ∙ over.live;
+    }

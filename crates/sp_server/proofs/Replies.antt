@@ -32,6 +32,7 @@ use Rattle.sp_server.specs.Step.{Setup, Answers, ByAsking, ByLeaving, ByEnding, 
 use Rattle.sp_answers.specs.Answers.{ask_page, opened_answer}
 use Rattle.ledger_rules.specs.Numbers.{is_xml_text}
 use Rattle.saml_time.specs.Instant.{TellsInFull}
+use Rattle.verdict_codes.specs.Codes.{number_of}
 use Rattle.provider_node.specs.Drafted.{drafted_of}
 use Rattle.provider_node.specs.Replies.{AreReplies, IsDrafted, IsWanted}
 use Rattle.provider_node.proofs.Drafting.{drafted_some}
@@ -77,7 +78,7 @@ replies_own setup held request now (kinds.Confirm response) bytes asks some page
 
 -- and where there is nothing to reply
 unanswered : (setup : Setup) (held : Held) (request : Request) (now : ℕ) (reply : Reply) → Wants setup held request now reply → is_nothing setup.config held now reply ≡ true
-    → Answers setup held request now (Fixed (refusal_of reply)) None
+    → Answers setup held request now (Fixed (number_of (refusal_of reply))) None
 unanswered setup held request now (kinds.End asked relay) asks none = ByNothingToEnd asked relay asks.0.to asks.0.unexpired asks.0.obeyed none refl refl
 unanswered setup held request now (kinds.Confirm response) asks none =
     ByUnknownLogout response asks.to asks.unexpired asks.obeyed (not_true (is_awaited held now response.request) none) refl refl

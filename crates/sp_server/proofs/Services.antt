@@ -1,10 +1,11 @@
 -- No request opens two sessions over a service.
+use Rattle.std.specs.Prelude.{Contains}
 use Rattle.std.proofs.Common.{◌≢◌, ℕ, suc, ◌<◌, List, [], ◌∷◌, ◌++◌, length, slice_index_or, sym, arith}
 use Rattle.std.specs.List.{flat_map}
 use Rattle.ledger_records.specs.declared.sp_record.SpRecord.{SpRecord}
 use Rattle.ledger_records.specs.declared.sp_record.SpRecord.TheVariants as kinds
-use Rattle.provider_node.specs.Histories.{Includes, Nothing, This, Another}
-use Rattle.provider_node.proofs.Histories.{some_left, what_is_kept}
+use Rattle.provider_node.specs.Histories.{Includes, Nothing, This, Another, moments_of}
+use Rattle.provider_node.proofs.Histories.{came_so, kept_so, some_left, what_is_kept}
 use Rattle.record_ledger.specs.Runs.{Adds}
 use Rattle.request_ledger.specs.Record.{request_rules}
 use Rattle.request_ledger.specs.Runs.{Event, AreDifferent, request_opened, requests_added, requests_opened}
@@ -12,7 +13,7 @@ use Rattle.request_ledger.specs.Laws.{ImagesHoldRecords, NoRequestOpensTwiceInAR
 use Rattle.request_ledger.proofs.LawWords.{Each}
 use Rattle.request_ledger.proofs.RunOnce.{one_more}
 use Rattle.sp_server.specs.Step.{Answers}
-use Rattle.sp_server.specs.Histories.{WhatIsAcknowledgedIsKeptOnce}
+use Rattle.sp_server.specs.Histories.{OpenOnce, WhatIsAcknowledgedIsKeptOnce}
 use Rattle.sp_server.proofs.Histories.{draws_above}
 
 -- ---- none stands twice
@@ -58,10 +59,8 @@ kept_once law never_twice first last turns kept at tells run =
     let (image, left) = some_left request_rules Answers first last turns kept at tells run in
     let (found, stands, witness) = is.kept image left in
     record {
-      records = is.records;
-      are = is.are;
-      kept = λ image left.
-          let (held, there, came) = is.kept image left in
-          record { held = held; is = there; came = came; once = never_twice start held came.events at.records came.leads };
+      all = kept_so Answers _ last turns is _
+          (came_so request_rules OpenOnce (Contains (moments_of turns)) start
+          (λ held events leads. never_twice start held events at.records leads) is.records);
       once = still_differ witness.events is.records (requests_opened start.records) witness.includes (never_twice start found witness.events at.records witness.leads);
     }

@@ -1,8 +1,9 @@
 -- What is kept over several starts of a provider.
-use Rattle.provider_node.proofs.Starts.{kept_over}
+use Rattle.provider_node.proofs.Starts.{kept_over, kept_over_so}
 use Rattle.request_ledger.specs.Laws.{ImagesHoldRecords, NoRequestOpensTwiceInARun}
 use Rattle.request_ledger.specs.Record.{request_rules}
 use Rattle.request_ledger.specs.Runs.{requests_opened}
+use Rattle.sp_server.specs.Histories.{OpenOnce}
 use Rattle.sp_server.specs.Starts.{WhatIsAcknowledgedIsKeptOnceOverStarts}
 use Rattle.sp_server.specs.Step.{Answers}
 use Rattle.sp_server.proofs.Histories.{draws_above}
@@ -13,10 +14,7 @@ kept_once_over law never_twice start starts are begun =
     let is = kept_over request_rules Answers law draws_above start starts begun in
     let (found, came) = is.history in
     record {
-      records = is.records;
-      are = is.are;
-      kept = λ image left.
-          let opens = is.kept image left in
-          record { held = opens.held; opens = opens.opens; came = opens.came; once = never_twice start opens.held opens.came.events are opens.came.leads };
+      all = kept_over_so request_rules Answers OpenOnce start starts
+          (λ held events leads. never_twice start held events are leads) is;
       once = still_differ came.events is.records (requests_opened start.records) came.includes (never_twice start found came.events are came.leads);
     }

@@ -10,21 +10,14 @@ use Rattle.request_ledger.specs.RowsOf.{SpRows, closed_if, is_among, opened_row,
 use Rattle.request_ledger.proofs.KeptRecords.{kept_are_records}
 use Rattle.request_ledger.proofs.RowLaws.{rows_of-push}
 use Rattle.request_ledger.proofs.RuleLaws.{freshly_drawn}
-use Rattle.provider_node.proofs.Sessions.{Sessions}
-use Rattle.provider_node.proofs.StayingShut.{Becomes, KeepsSessions, More, Same, Shut, stays_shut}
+use Rattle.provider_node.proofs.Sessions.{Sessions, sessions_by}
+use Rattle.provider_node.proofs.StayingShut.{Becomes, KeepsSessions, More, Same, Shut, keeps_sessions, stays_shut}
 use Rattle.sp_server.specs.Logouts.{AClosedSessionStaysClosed, IsClosed}
 
 -- a session is found by its token until it ends, unless it is closed
 abbrev pub opened_sessions : Sessions OpenedRow
-opened_sessions = record {
-  key = λ row. row.token;
-  shut = λ row. row.closed;
-  until = λ row. row.until;
-  shut_if = closed_if;
-  same_key = λ now row. refl;
-  shut_then = λ now row. refl;
-  same_until = λ now row. refl;
-}
+opened_sessions =
+    sessions_by (λ row. row.token) (λ row. row.closed) (λ row. row.until) closed_if (λ now row. (refl, refl, refl))
 
 becomes : (records : List SpRecord) (r : SpRecord)
     → Becomes opened_sessions (drawn r) (opened_rows records) (opened_rows (records ++ r ∷ []))
@@ -40,13 +33,9 @@ becomes records r =
     after other = Same refl
 
 keeps : CompactionsChangeNoAnswer → KeepsSessions request_rules opened_sessions opened_rows
-keeps law = record {
-  kept = kept_are_records;
-  fresh = freshly_drawn;
-  none = refl;
-  becomes = becomes;
-  alike = λ now later old new key are made from. (law now later old new are made from).session key;
-}
+keeps law =
+    keeps_sessions request_rules opened_sessions opened_rows kept_are_records freshly_drawn refl becomes
+    (λ now later old new key are made from. (law now later old new are made from).session key)
 
 pub stays_closed : CompactionsChangeNoAnswer → AClosedSessionStaysClosed
 stays_closed law =

@@ -1,17 +1,15 @@
 -- What became of a ledger over a service: what was acknowledged is kept, and no request opens two sessions.
-use Rattle.std.specs.Prelude.{◌≡◌, ℕ, List, ◌++◌, Contains, Option, IsSome, Ok, Some}
+use Rattle.std.specs.Prelude.{List, ◌++◌, Contains, Option, IsSome}
 use Rattle.std.specs.List.{flat_map}
-use Rattle.crash_disk.specs.Disk.{Image}
-use Rattle.crash_disk.specs.Moments.{Leaves}
 use Rattle.conn_table.specs.Table.{Table}
 use Rattle.serve_loop.specs.Worlds.{World, NodeStep}
 use Rattle.serve_loop.specs.Turns.{Asked, Turn, Run}
 use Rattle.ledger_records.specs.declared.sp_record.SpRecord.{SpRecord}
-use Rattle.request_ledger.specs.Ledger.{Held, ledger_in}
+use Rattle.request_ledger.specs.Ledger.{Held}
 use Rattle.request_ledger.specs.Record.{request_rules}
-use Rattle.request_ledger.specs.Runs.{AreDifferent, request_opened, requests_of_run, requests_opened}
+use Rattle.request_ledger.specs.Runs.{AreDifferent, Event, request_opened, requests_of_run, requests_opened}
 use Rattle.provider_node.specs.Histories as any
-use Rattle.provider_node.specs.Histories.{CameFrom, moments_of}
+use Rattle.provider_node.specs.Histories.{AreKeptSo, HoldsWhatCameSo, moments_of}
 use Rattle.sp_server.specs.Step.{Provider, Answers}
 
 -- what an answer of a provider does, and what a crash may leave
@@ -30,25 +28,18 @@ AreAcknowledged = any.AreAcknowledged Answers
 abbrev pub IsAtStart : World Provider → Type 0
 IsAtStart = any.IsAtStart request_rules
 
--- The image stands for a ledger that came from another one by events, in which these records were added and each
--- compaction was at such a moment; and no two of the sessions that were opened on the way or stood at the start are of
--- one request, those that were let go, and those whose answer was lost, included.
-pub record HoldsWhatCameOnce (IsMoment : ℕ → Type 0) (start : Held) (records : List SpRecord) (image : Image) : Type 0
-  where
-    pub held : Held
-    pub is : ledger_in image ≡ Ok (Some held)
-    pub came : CameFrom request_rules IsMoment start records held
-    pub once : AreDifferent (requests_of_run start came.events)
+-- No two of the sessions that were opened in a history or stood at its start are of one request, those that were let go,
+-- and those whose answer was lost, included.
+abbrev pub OpenOnce : Held → List Event → Type 0
+OpenOnce start events = AreDifferent (requests_of_run start events)
 
 -- Of the records for which the answers of a service stand: each is in the history of every ledger that a crash may
 -- leave behind it, in which each compaction was at the moment of one of its requests, and no two sessions of such a
 -- history are of one request; so no two of their sessions, with those of the ledger at the start, are.
 pub record AreKeptOnce (first last : World Provider) (turns : List (Turn Provider)) : Type 0 where
-  pub records : List SpRecord
-  pub are : AreAcknowledged turns records
-  pub kept : (image : Image) → Leaves last.disk image
-      → HoldsWhatCameOnce (Contains (moments_of turns)) first.node.ledger.held records image
-  pub once : AreDifferent (flat_map request_opened records ++ requests_opened first.node.ledger.held.records)
+  pub all : AreKeptSo Answers
+      (HoldsWhatCameSo request_rules OpenOnce (Contains (moments_of turns)) first.node.ledger.held) last turns
+  pub once : AreDifferent (flat_map request_opened all.records ++ requests_opened first.node.ledger.held.records)
 
 abbrev pub WhatIsAcknowledgedIsKeptOnce : Type 0
 WhatIsAcknowledgedIsKeptOnce =

@@ -23,13 +23,14 @@ use Rattle.request_ledger.specs.Ledger.{Held}
 use Rattle.logout_profile.specs.declared.logout.Logout.TheVariants as logouts
 use Rattle.provider_node.specs.Points as any
 use Rattle.provider_node.specs.Points.{Point, points}
+use Rattle.provider_node.specs.Room.{HasRoom}
 use Rattle.sp_server.specs.Histories.{IsProviders, IsAtStart}
 use Rattle.provider_node.specs.declared.codes.TheConstants.{NO_MEMORY}
 use Rattle.service_routes.specs.declared.route.Route.TheVariants.{To}
 use Rattle.sp_server.specs.declared.route.Service.TheVariants.{Logout, SingleLogout}
 use Rattle.sp_server.specs.Routes.{route}
 use Rattle.sp_server.specs.Peer.{IsObeyed}
-use Rattle.sp_server.specs.Step.{Setup, Provider, Answers, HasPlace, Serves, ended_by, ended_record, is_expired, left_record, session_for}
+use Rattle.sp_server.specs.Step.{Setup, Provider, Answers, Serves, ended_by, ended_record, is_expired, left_record, session_for}
 
 -- Over a ledger, at a moment, the user of a request leaves the session of this row: the session lives, and the request has its cookie.
 pub record LeavesOver (setup : Setup) (held : Held) (request : Request) (now : ℕ) (row : OpenedRow) : Type 0 where
@@ -84,21 +85,21 @@ NothingElseCloses =
     → session_row (rows_of new.ledger.held.records).opened token now new.ledger.held.header.horizon ≡ None
     → IsClosedWith old.setup found request now answer token
 
--- And wherever one is left or ended, there is room for the record and the disk does not fail, it is closed behind the step; or there was
--- no memory.
+-- And wherever one is left or ended, there is room for the record, at once or behind one compaction, and the disk does not fail, it is
+-- closed behind the step; or there was no memory.
 abbrev pub WhereverAUserLeaves : Type 0
 WhereverAUserLeaves =
     (found : Held) (request : Request) (now faults later : ℕ) (answer : Answer) (old new : Provider) (row : OpenedRow)
-    → LeavesOver old.setup found request now row → HasPlace found (left_record old.setup.config found now row.token)
-    → ¬ (Rose faults later) → Serves found request now (Rose faults later) answer old new
+    → Serves found request now (Rose faults later) answer old new → LeavesOver old.setup found request now row
+    → HasRoom request_rules found now (λ held. left_record old.setup.config held now row.token) → ¬ (Rose faults later)
     → (answer ≡ Fixed NO_MEMORY) ⊎ IsClosed new.ledger.held row.token
 
 abbrev pub WhereverSessionsEnd : Type 0
 WhereverSessionsEnd =
     (found : Held) (request : Request) (now faults later : ℕ) (answer : Answer) (old new : Provider) (asked : LogoutRequest) (relay : Option (List ℕ)) (token : List ℕ)
-    → EndsOver old.setup request now asked relay → is_among token (ended_by old.setup.config found now asked) ≡ true
-    → HasPlace found (ended_record old.setup.config found now asked)
-    → ¬ (Rose faults later) → Serves found request now (Rose faults later) answer old new
+    → Serves found request now (Rose faults later) answer old new → EndsOver old.setup request now asked relay
+    → is_among token (ended_by old.setup.config found now asked) ≡ true
+    → HasRoom request_rules found now (λ held. ended_record old.setup.config held now asked) → ¬ (Rose faults later)
     → (answer ≡ Fixed NO_MEMORY) ⊎ IsClosed new.ledger.held token
 
 -- No session of this token lives over a ledger, at any moment.

@@ -1,10 +1,10 @@
 -- How the code answers with a record: what a request wants, the record of it, and the answer.
-use Rattle.std.specs.Prelude.{◌≡◌, ◌⊎◌, ℕ, Bool, true, false, not, List, Option, None, Some, IfSome, IsSome, IsSomeAnd, if◌then◌else◌}
+use Rattle.std.specs.Prelude.{◌≡◌, ◌⊎◌, ℕ, Bool, true, false, not, List, Option, None, Some, IfSome, IsSome, IsSomeAnd, if◌then◌else◌, Result}
 use Rattle.std.specs.List.{AllByRecursion}
 use Rattle.std.specs.Option.{option_to_list}
 use Rattle.xml_spec.specs.Characters.{IsText}
 use Rattle.http_wire.specs.Requests.{Request}
-use Rattle.verdict_codes.specs.Codes.{number_of}
+use Rattle.verdict_codes.specs.declared.codes.Verdict.{Verdict}
 use Rattle.verdict_codes.specs.declared.codes.Verdict.TheVariants.{NoSuchSession, UnknownLogout}
 use Rattle.ledger_records.specs.declared.sp_record.SpRecord.{SpRecord}
 use Rattle.ledger_rules.specs.Numbers.{is_xml_text}
@@ -24,7 +24,9 @@ use Rattle.sp_rules.specs.declared.accepted.Accepted.{Accepted}
 use Rattle.sp_rules.specs.Shown.{IsOpening}
 use Rattle.sp_answers.specs.Answers.{HoldsTexts, IsAskAnswer, opened_answer}
 use Rattle.sp_answers.specs.Judging.{CanBeRecorded}
-use Rattle.provider_node.specs.Replies.{IsReplied, ReplyRules}
+use Rattle.fault_verdicts.specs.declared.judged.Judged.{Judged}
+use Rattle.provider_node.specs.Replies as any
+use Rattle.provider_node.specs.Replies.{ReplyRules}
 use Rattle.provider_node.specs.declared.replied.Replied.{Replied}
 use Rattle.sp_server.specs.declared.reply.Reply.{Reply}
 use Rattle.sp_server.specs.declared.reply.Reply.TheVariants as replies
@@ -96,15 +98,15 @@ IsOfForm config now body other = ⊥
 
 -- ---- its record
 
--- whether there is nothing to record, and the code that says so
+-- whether there is nothing to record, and the verdict that says so
 abbrev pub is_nothing : SpConfig → Held → (now : ℕ) → Reply → Bool
 is_nothing config held now (replies.End asked relay) = is_empty (ended_by config held now asked)
 is_nothing config held now (replies.Confirm response) = not (is_awaited held now response.request)
 is_nothing config held now other = false
 
-abbrev pub refusal_of : Reply → ℕ
-refusal_of (replies.Confirm response) = number_of UnknownLogout
-refusal_of other = number_of NoSuchSession
+abbrev pub refusal_of : Reply → Verdict
+refusal_of (replies.Confirm response) = UnknownLogout
+refusal_of other = NoSuchSession
 
 -- what is recorded of it
 abbrev pub record_for : (key : List ℕ) → SpConfig → Held → (now : ℕ) → Reply → SpRecord
@@ -191,5 +193,6 @@ sp_replies = record {
 }
 
 -- what is replied to a request
-abbrev pub RepliesTo : Setup → Held → Request → (now : ℕ) → Replied Reply → Type 0
-RepliesTo setup held request now = IsReplied (λ answer. Answers setup held request now answer None) (Wants setup held request now)
+abbrev pub RepliesTo : Setup → Held → Request → (now : ℕ) → Result (Replied Reply) Judged → Type 0
+RepliesTo setup held request now =
+    any.Replies (λ answer. Answers setup held request now answer None) (Wants setup held request now)

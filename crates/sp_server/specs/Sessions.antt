@@ -9,19 +9,20 @@ use Rattle.ledger_records.specs.declared.sp_record.SpRecord.{SpRecord}
 use Rattle.ledger_records.specs.declared.sp_record.SpRecord.TheVariants as kinds
 use Rattle.request_rows.specs.declared.row.AskedRow.{AskedRow}
 use Rattle.request_ledger.specs.RowsOf.{rows_of}
-use Rattle.request_ledger.specs.Compacting.{Compacts}
 use Rattle.request_ledger.specs.Ledger.{Held, next_number}
 use Rattle.record_ledger.specs.Ledger.{held_with}
-use Rattle.request_ledger.specs.Record.{AreRecords}
+use Rattle.request_ledger.specs.Record.{request_rules}
 use Rattle.request_ledger.specs.Drafts.{opened}
 use Rattle.sp_rules.specs.Opening.{Brought, Opens}
 use Rattle.sp_rules.specs.Shown.{session_of}
 use Rattle.sp_answers.specs.Answers.{opened_answer}
+use Rattle.provider_node.specs.Room as any
+use Rattle.provider_node.specs.Room.{IsRecordedOver}
 use Rattle.provider_node.specs.declared.codes.TheConstants.{NO_MEMORY}
 use Rattle.service_routes.specs.declared.route.Route.TheVariants.{To}
 use Rattle.sp_server.specs.declared.route.Service.TheVariants.{Consumer}
 use Rattle.sp_server.specs.Routes.{route}
-use Rattle.sp_server.specs.Step.{Setup, Provider, Answers, HasPlace, HasToken, Serves, is_expired, rows_seen}
+use Rattle.sp_server.specs.Step.{Setup, Provider, Answers, HasToken, Serves, is_expired, rows_seen}
 
 -- Over a ledger, at a moment, the form that a request posts opens a session: the login that it brings answers this
 -- asked row.
@@ -55,20 +56,16 @@ OnlyWhereAFormOpens =
     → Answers setup held request now answer (Some (kinds.Opened r))
     → GivesSession setup held request now (kinds.Opened r) answer
 
--- There is room for the session of a login: there is a place for its record at once, or in a ledger of records behind
--- one compaction at the moment.
+-- There is room for the session of a login, at once or behind one compaction.
 abbrev pub HasRoom : Setup → (found : Held) → (now : ℕ) → Brought → Type 0
-HasRoom setup found now b =
-    HasPlace found (record_of setup found now b)
-    ⊎ (AreRecords found.records × ((held : Held) → Compacts now found held → HasPlace held
-    (record_of setup held now b)))
+HasRoom setup found now b = any.HasRoom request_rules found now (λ held. record_of setup held now b)
 
 -- The session of a login is recorded behind the records of the ledger that was found, or, where there was no place
 -- behind these, of what one compaction made of it; and it is given.
 pub record IsOpened (setup : Setup) (found : Held) (request : Request) (now : ℕ) (b : Brought) (answer : Answer)
     (new : Held) : Type 0 where
   pub held : Held
-  pub over : (held ≡ found) ⊎ (¬ (HasPlace found (record_of setup found now b)) × Compacts now found held)
+  pub over : IsRecordedOver request_rules found now (λ other. record_of setup other now b) held
   pub gives : GivesSession setup held request now (record_of setup held now b) answer
   pub added : new ≡ held_with (record_of setup held now b) held
 
@@ -78,6 +75,6 @@ abbrev pub WhereverAFormOpens : Type 0
 WhereverAFormOpens =
     (found : Held) (request : Request) (now faults later : ℕ) (answer : Answer) (old new : Provider) (b : Brought)
     (row : AskedRow)
-    → OpensOver old.setup found request now b row → HasRoom old.setup found now b
-    → ¬ (Rose faults later) → Serves found request now (Rose faults later) answer old new
+    → Serves found request now (Rose faults later) answer old new → OpensOver old.setup found request now b row
+    → HasRoom old.setup found now b → ¬ (Rose faults later)
     → (answer ≡ Fixed NO_MEMORY) ⊎ IsOpened old.setup found request now b answer new.ledger.held

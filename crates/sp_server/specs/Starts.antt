@@ -1,16 +1,16 @@
 -- What became of a ledger over several starts of its provider: what was acknowledged is kept, and no request opens two sessions, wherever
 -- a crash stops.
-use Rattle.std.specs.Prelude.{◌≡◌, List, ◌++◌, Ok}
+use Rattle.std.specs.Prelude.{List, ◌++◌}
 use Rattle.std.specs.List.{flat_map}
 use Rattle.crash_disk.specs.Disk.{Image}
 use Rattle.ledger_records.specs.declared.sp_record.SpRecord.{SpRecord}
-use Rattle.request_ledger.specs.Ledger.{Held, ledger_in}
-use Rattle.record_ledger.specs.Ledger.{taken}
+use Rattle.request_ledger.specs.Ledger.{Held}
 use Rattle.request_ledger.specs.Record.{request_rules, AreRecords}
-use Rattle.request_ledger.specs.Runs.{AreDifferent, request_opened, requests_of_run, requests_opened}
-use Rattle.provider_node.specs.Histories.{AnyMoment, CameFrom}
+use Rattle.request_ledger.specs.Runs.{AreDifferent, request_opened, requests_opened}
+use Rattle.provider_node.specs.Histories.{AnyMoment}
 use Rattle.provider_node.specs.Starts as any
-use Rattle.provider_node.specs.Starts.{Start}
+use Rattle.provider_node.specs.Starts.{AreKeptOverSo, OpensWhatCameSo, Start}
+use Rattle.sp_server.specs.Histories.{OpenOnce}
 use Rattle.sp_server.specs.Logouts.{IsClosed, IsOver}
 use Rattle.sp_server.specs.Step.{Provider, Answers}
 
@@ -25,21 +25,11 @@ AreStarts = any.AreStarts request_rules Answers
 abbrev pub AreAcknowledgedIn : List (Start Provider) → List SpRecord → Type 0
 AreAcknowledgedIn = any.AreAcknowledgedIn Answers
 
--- From the image a ledger is opened that came from another one by events, in which these records were added; and no two of the sessions
--- that were opened on the way or stood at the start are of one request, those that were let go, and those whose answer was lost, included.
-pub record OpensWhatCameOnce (start : Held) (records : List SpRecord) (image : Image) : Type 0 where
-  pub held : Held
-  pub opens : taken (ledger_in image) ≡ Ok held
-  pub came : CameFrom request_rules AnyMoment start records held
-  pub once : AreDifferent (requests_of_run start came.events)
-
 -- Of the records for which the answers of starts stand: each is in the history of every ledger that may be opened behind them, whatever
 -- a crash left, and no two sessions of such a history are of one request; so no two of their sessions, with those at the start, are.
 pub record AreKeptOnceOver (start : Held) (starts : List (Start Provider)) : Type 0 where
-  pub records : List SpRecord
-  pub are : AreAcknowledgedIn starts records
-  pub kept : (image : Image) → LeftBehind start starts image → OpensWhatCameOnce start records image
-  pub once : AreDifferent (flat_map request_opened records ++ requests_opened start.records)
+  pub all : AreKeptOverSo Answers (LeftBehind start starts) (OpensWhatCameSo request_rules OpenOnce AnyMoment start) starts
+  pub once : AreDifferent (flat_map request_opened all.records ++ requests_opened start.records)
 
 abbrev pub WhatIsAcknowledgedIsKeptOnceOverStarts : Type 0
 WhatIsAcknowledgedIsKeptOnceOverStarts = (start : Held) (starts : List (Start Provider)) → AreRecords start.records → AreStarts start starts → AreKeptOnceOver start starts

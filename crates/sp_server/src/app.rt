@@ -10,6 +10,7 @@ ghost use Rattle.sp_server.specs.Step.{session_for, shown_to};
 use crate::reply::Reply;
 use crate::replying::REGISTRY_EXPIRED;
 use crate::role::SpRole;
+use fault_verdicts::Judged;
 use http_wire::{Answer, HttpRequest, cookie_of};
 use owned_values::{Blob, NoMemory, Text};
 use provider_node::Replied;
@@ -52,9 +53,9 @@ impl SpRole {
         ledger: &Ledger,
         request: &HttpRequest<'_>,
         now: u64,
-    ) -> Result<Replied<Reply>, NoMemory>
+    ) -> Result<Replied<Reply>, Judged>
         requires { route (request_view request.now) ≡ To App }
-        ensures { IfOk result (RepliesTo self.now ledger.now.held (request_view request.now) now) }
+        ensures { RepliesTo self.now ledger.now.held (request_view request.now) now result }
     {
         if let Some(row) = session_for(ledger, request, now) {
             let bytes = self.shown(request.path, row)?;

@@ -1,5 +1,5 @@
 //! POST of a form at the address to which responses are sent.
-ghost use Rattle.std.specs.Prelude.{◌≡◌, ◌≤◌, IfOk};
+ghost use Rattle.std.specs.Prelude.{◌≡◌, ◌≤◌};
 ghost use Rattle.http_wire.specs.Views.{request_view};
 ghost use Rattle.sp_server.specs.Replies.{RepliesTo};
 ghost use Rattle.service_routes.specs.declared.route.Route.TheVariants.{To};
@@ -10,7 +10,6 @@ use crate::reply::Reply;
 use crate::replying::REGISTRY_EXPIRED;
 use crate::role::SpRole;
 use http_wire::{Answer, HttpRequest};
-use owned_values::NoMemory;
 use provider_node::Replied;
 use request_ledger::{Ledger, rows};
 use saml_time::LAST;
@@ -19,15 +18,19 @@ use sp_rules::{Judged, judge};
 
 impl SpRole {
     /// What is replied to a posted form.
+    ///
+    /// # Errors
+    ///
+    /// The verdict on the form. `NoMemory` may come in place of any other answer.
     pub(crate) fn reply_form(
         &self,
         ledger: &Ledger,
         request: &HttpRequest<'_>,
         now: u64,
-    ) -> Result<Replied<Reply>, NoMemory>
+    ) -> Result<Replied<Reply>, Judged>
         requires moment { now ≤ LAST }
         requires route { route (request_view request.now) ≡ To Consumer }
-        ensures { IfOk result (RepliesTo self.now ledger.now.held (request_view request.now) now) }
+        ensures { RepliesTo self.now ledger.now.held (request_view request.now) now result }
     {
         if self.is_expired(now) {
             return Ok(Replied::Plain(Answer::Fixed(REGISTRY_EXPIRED)));
@@ -36,17 +39,14 @@ impl SpRole {
         what_is_accepted_can_be_recorded();
         like_rows_are_judged_alike();
         let horizon = ledger.header().horizon;
-        match judge(
+        let accepted = judge(
             self.alloc,
             &self.config,
             rows(ledger),
             horizon,
             now,
             request.body,
-        ) {
-            Ok(accepted) => Ok(Replied::ForRecord(Reply::Open { accepted })),
-            Err(Judged::Code(verdict)) => Ok(Replied::Plain(Answer::Fixed(verdict.number()))),
-            Err(Judged::NoMemory) => Err(NoMemory),
-        }
+        )?;
+        Ok(Replied::ForRecord(Reply::Open { accepted }))
     }
 }

@@ -13,6 +13,7 @@ use crate::reply::Reply;
 use crate::role::SpRole;
 use crate::route::{is_app, is_target};
 use access_policy::{Decision, Policy};
+use fault_verdicts::Judged;
 use http_wire::{Answer, HttpRequest, Method, vouched_answer};
 use owned_values::{Blob, NoMemory};
 use provider_node::Replied;
@@ -102,9 +103,9 @@ impl SpRole {
         ledger: &Ledger,
         request: &HttpRequest<'_>,
         now: u64,
-    ) -> Result<Replied<Reply>, NoMemory>
+    ) -> Result<Replied<Reply>, Judged>
         requires { route (request_view request.now) ≡ To Guard }
-        ensures { IfOk result (RepliesTo self.now ledger.now.held (request_view request.now) now) }
+        ensures { RepliesTo self.now ledger.now.held (request_view request.now) now result }
     {
         if !self.guard {
             return Ok(Replied::Plain(Answer::Fixed(404)));

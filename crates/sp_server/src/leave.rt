@@ -14,6 +14,7 @@ use crate::app::session_for;
 use crate::reply::Reply;
 use crate::replying::REGISTRY_EXPIRED;
 use crate::role::SpRole;
+use fault_verdicts::Judged;
 use http_wire::{Answer, HttpRequest};
 use owned_values::{NoMemory, Text, Texts};
 use provider_node::Replied;
@@ -59,14 +60,18 @@ fn leaving(alloc: Global, row: &OpenedRow) -> Result<Reply, NoMemory>
 
 impl SpRole {
     /// What is replied to a user who leaves.
+    ///
+    /// # Errors
+    ///
+    /// `NoSuchSession` where the user has no live session. `NoMemory` may come in place of any other answer.
     pub(crate) fn reply_leave(
         &self,
         ledger: &Ledger,
         request: &HttpRequest<'_>,
         now: u64,
-    ) -> Result<Replied<Reply>, NoMemory>
+    ) -> Result<Replied<Reply>, Judged>
         requires { route (request_view request.now) ≡ To Logout }
-        ensures { IfOk result (RepliesTo self.now ledger.now.held (request_view request.now) now) }
+        ensures { RepliesTo self.now ledger.now.held (request_view request.now) now result }
     {
         if self.is_expired(now) {
             return Ok(Replied::Plain(Answer::Fixed(REGISTRY_EXPIRED)));
@@ -74,7 +79,7 @@ impl SpRole {
         ledger.holds_records();
         match session_for(ledger, request, now) {
             Some(row) => Ok(Replied::ForRecord(leaving(self.alloc, row)?)),
-            None => Ok(Replied::Plain(Answer::Fixed(Verdict::NoSuchSession.number()))),
+            None => Err(Judged::Code(Verdict::NoSuchSession)),
         }
     }
 }

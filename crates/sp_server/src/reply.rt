@@ -1,14 +1,13 @@
 //! How a request is replied to with a record.
-ghost use Rattle.std.specs.Prelude.{◌≡◌, ◌≤◌, IfOk, IfSome, IsTrue, Some};
+ghost use Rattle.std.specs.Prelude.{◌≡◌, ◌≤◌, IfOk, IfSome, Some};
 ghost use Rattle.std.specs.Option.{option_map};
-ghost use Rattle.http_wire.specs.Answers.{is_fixed};
 ghost use Rattle.request_ledger.specs.Draft.{IsDrawn, drawn_id};
 ghost use Rattle.request_ledger.specs.Drafts.{DraftsSome};
 ghost use Rattle.record_ledger.specs.Drafts.{SameLedger};
 ghost use Rattle.saml_ids.specs.Laws.{IsUsableId};
 ghost use Rattle.sp_answers.specs.Answers.{HoldsTexts};
 ghost use Rattle.xml_spec.specs.Characters.{IsText};
-ghost use Rattle.sp_server.specs.Replies.{CanDraft, DrawsId, HoldsAddresses, IsAnswerable, IsAnswerTo, IsAskingAnswer, IsEndingAnswer, IsOpeningAnswer, is_nothing, record_for, refusal_of};
+ghost use Rattle.sp_server.specs.Replies.{CanDraft, DrawsId, HoldsAddresses, IsAnswerable, IsAnswerTo, IsAskingAnswer, IsEndingAnswer, IsOpeningAnswer, is_nothing, record_for};
 
 use crate::peer::idp_at;
 use logout_answers::{end_answer, ending_answer, is_in_part, leaving_answer};
@@ -22,7 +21,6 @@ use saml_time::LAST;
 use sp_answers::{ask_answer, opened_answer};
 use sp_rules::{Accepted, SpConfig};
 use std::alloc::Global;
-use verdict_codes::Verdict;
 
 /// A reply that stands for a record.
 #[derive(Drop)]
@@ -114,18 +112,6 @@ impl Reply {
                 asked.id.as_str(),
             ),
             Reply::Confirm { response } => draft_confirm(ledger, now, response.request.as_str()),
-        }
-    }
-
-    /// The code that says that there is nothing to record. A login is always asked for, and a session that a form opens always
-    /// opened: for these it is never asked.
-    pub(crate) fn refusal(&self) -> u16
-        ensures is { result ≡ refusal_of self.now }
-        ensures page { IsTrue (is_fixed result) }
-    {
-        match self {
-            Reply::Confirm { .. } => Verdict::UnknownLogout.number(),
-            _ => Verdict::NoSuchSession.number(),
         }
     }
 

@@ -4,6 +4,7 @@ ghost use Rattle.std.specs.Prelude.{◌≡◌, ◌≤◌, ℕ, List};
 use crate::reply::Reply;
 use crate::role::SpRole;
 use crate::route::{Service, route_of};
+use fault_verdicts::Judged;
 use http_wire::{Answer, HttpRequest};
 use logout_answers::laws::each_logout_has_an_answer;
 use owned_values::{Blob, NoMemory};
@@ -13,6 +14,7 @@ use request_ledger::{Draft, Ledger, Marked};
 use saml_time::{LAST, each_moment_is_told};
 use service_routes::Route;
 use sp_answers::metadata_answer;
+use verdict_codes::Verdict;
 
 /// The code that is answered where the registry of metadata has ended.
 pub(crate) const REGISTRY_EXPIRED: u16 = 70;
@@ -40,7 +42,7 @@ impl Role for SpRole {
         ledger: &Ledger,
         request: &HttpRequest<'_>,
         now: u64,
-    ) -> Result<Replied<Reply>, NoMemory> {
+    ) -> Result<Replied<Reply>, Judged> {
         match route_of(request) {
             Route::Refused(status) => Ok(Replied::Plain(Answer::Fixed(status))),
             Route::To(Service::Metadata) => {
@@ -63,8 +65,14 @@ impl Role for SpRole {
         reply.answer(self.alloc, &self.config, draft, now)
     }
 
-    fn refusal(&self, reply: &Reply) -> u16 {
-        reply.refusal()
+    // A login is always asked for, and a session that a form opens always opened: for these it is never asked.
+    fn refusal(&self, reply: &Reply) -> Verdict {
+        match reply {
+            Reply::Confirm { .. } => Verdict::UnknownLogout,
+            Reply::Ask { .. } | Reply::Open { .. } | Reply::Leave { .. } | Reply::End { .. } => {
+                Verdict::NoSuchSession
+            }
+        }
     }
 
     fn laws_hold(&self, now: u64) {

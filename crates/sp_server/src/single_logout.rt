@@ -16,7 +16,6 @@ use http_wire::{Answer, HttpRequest};
 use logout_answers::logout_address;
 use logout_profile::laws::what_an_obeyed_form_says;
 use logout_profile::{Judged, Logout, judge_logout_with};
-use owned_values::NoMemory;
 use provider_node::Replied;
 use request_ledger::Ledger;
 use saml_time::LAST;
@@ -56,23 +55,23 @@ impl SpRole {
     }
 
     /// What is replied to a posted message of a logout.
+    ///
+    /// # Errors
+    ///
+    /// The verdict on the message. `NoMemory` may come in place of any other answer.
     pub(crate) fn reply_logout(
         &self,
         ledger: &Ledger,
         request: &HttpRequest<'_>,
         now: u64,
-    ) -> Result<Replied<Reply>, NoMemory>
+    ) -> Result<Replied<Reply>, Judged>
         requires moment { now ≤ LAST }
         requires route { route (request_view request.now) ≡ To SingleLogout }
-        ensures { IfOk result (RepliesTo self.now ledger.now.held (request_view request.now) now) }
+        ensures { RepliesTo self.now ledger.now.held (request_view request.now) now result }
     {
         if self.is_expired(now) {
             return Ok(Replied::Plain(Answer::Fixed(REGISTRY_EXPIRED)));
         }
-        match self.asked_by(now, request.body) {
-            Ok(reply) => Ok(Replied::ForRecord(reply)),
-            Err(Judged::Code(verdict)) => Ok(Replied::Plain(Answer::Fixed(verdict.number()))),
-            Err(Judged::NoMemory) => Err(NoMemory),
-        }
+        Ok(Replied::ForRecord(self.asked_by(now, request.body)?))
     }
 }

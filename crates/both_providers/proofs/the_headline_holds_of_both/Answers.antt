@@ -6,8 +6,7 @@ pub returns : goal.returns
 returns c = λ start sp_starts idp_start idp_starts records sp idp. record {
   opens = λ asked there. record {
     only = λ held answer r answers. c.a_session_opens_exactly.ensures.only asked.node.setup held asked.request asked.now answer r answers;
-    wherever = λ found faults later new b row opens room calm serves.
-        c.a_session_opens_exactly.ensures.wherever found asked.request asked.now faults later asked.answer asked.node new b row opens room calm serves;
+    wherever = λ found faults later. c.a_session_opens_exactly.ensures.wherever found asked.request asked.now faults later asked.answer asked.node;
   };
   recorded = λ setup added issued asked held answer r signed there unforged apart gives.
       let config = asked.node.setup.config in

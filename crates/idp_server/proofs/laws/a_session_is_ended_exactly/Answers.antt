@@ -8,6 +8,7 @@ returns c =
     record {
       answers = answers_end_exactly;
       services = services_end_exactly;
-      wherever_left = wherever_left;
-      wherever_ended = wherever_ended (record { obeyed = form.obeyed; once = form.once });
+      wherever_left = wherever_left c.compactions_change_no_answer.ensures;
+      wherever_ended =
+          wherever_ended (record { obeyed = form.obeyed; once = form.once }) c.compactions_change_no_answer.ensures;
     }

@@ -1,9 +1,10 @@
 use Rattle.std.specs.Prelude.{None}
-use Rattle.std.proofs.Common.{ℕ, inl, refl, sym, subst}
+use Rattle.std.proofs.Common.{ℕ, inl, refl, sym, subst, ap, ◌∙◌}
 use Rattle.crash_disk.specs.Counts.{Rose}
 use Rattle.crash_disk.specs.Steps.{started, weaker}
 use Rattle.http_wire.specs.Views.{request_view}
 use Rattle.http_wire.specs.declared.answer.Answer.TheVariants.{Fixed}
+use Rattle.verdict_codes.specs.Codes.{number_of}
 use Rattle.provider_node.specs.Replies.{HasNoPlace}
 use Rattle.provider_node.specs.Step.{Ledger, Plain, ServesOnDisk, Starved, provider, seen}
 use Rattle.provider_node.proofs.Replying.{reply_leaves, serves_reply, same_ledger}
@@ -42,7 +43,7 @@ returns-in-Nothing-clause-serves g c =
       serves =
           Plain
           (subst (λ (code : ℕ). g.R.Role.answers c.args.role.now old.held (request_view c.args.request.now) c.args.now
-          (Fixed code) None) (sym c.refusal.ensures.is)
+          (Fixed code) None) (sym (c.number.ensures ∙ ap number_of c.refusal.ensures))
           (c.laws_hold.ensures.refused old.held (request_view c.args.request.now) c.args.reply.now c.requires.wants of))
           (same_ledger c.args.role.now old _ c.requires.can.whole c.draft.ensures.same);
       calls = refl;

@@ -1,14 +1,11 @@
-use Rattle.std.specs.Prelude.{None, Some, IsTrue}
-use Rattle.std.proofs.Common.{◌≡◌, ℕ, List, min, refl, sym, subst, ap, ◌∙◌, arith}
-use Rattle.http_wire.specs.Answers.{is_fixed}
+use Rattle.std.specs.Prelude.{None, Some}
+use Rattle.std.proofs.Common.{◌≡◌, ℕ, List, min, refl, sym, ap, ◌∙◌, arith}
 use Rattle.http_wire.specs.Views.{request_view}
-use Rattle.http_wire.specs.declared.answer.Answer.TheVariants.{Fixed}
 use Rattle.saml_time.specs.declared.TheConstants.{LAST}
 use Rattle.peer_keys.specs.Peers.{place_of}
 use Rattle.hub_ledger.specs.Finding.{routed_row, routed_view}
 use Rattle.hub_ledger.specs.RowsOf.{rows_of}
 use Rattle.identity_hub.specs.declared.config.HubConfig.{HubConfig}
-use Rattle.identity_hub.specs.Step.{Answers}
 use Rattle.identity_hub.proofs.Forms.{below_stands, no_peer, no_row, row_there}
 use Rattle.identity_hub.proofs.role.HubRole.reply_login.Goals as goal
 
@@ -19,9 +16,7 @@ returns-in_default c =
     let none : routed_row (rows_of held.records) c.args.accepted.session.request c.args.now held.header.horizon ≡ None =
     ap (λ (id : List ℕ). routed_row (rows_of held.records) id c.args.now held.header.horizon) (sym c.as_str.ensures)
     ∙ sym c.in_default.ensures in
-    subst (λ (n : ℕ). Answers c.args.self.now held request c.args.now (Fixed n) None × IsTrue (is_fixed n))
-    (sym c.number-unknown.ensures)
-    (no_row c.args.self.now held request c.args.now c.args.accepted c.requires.route c.requires.opens none, refl)
+    no_row c.args.self.now held request c.args.now c.args.accepted c.requires.route c.requires.opens none
 
 pub returns-in_default-place_of : goal.returns-in_default-place_of
 returns-in_default-place_of c =
@@ -35,9 +30,7 @@ returns-in_default-place_of c =
     ap (λ (e : List ℕ). place_of e c.args.self.now.peers) (sym c.as_str-2.ensures)
     ∙ ap (λ (s : HubConfig). place_of c.as_str-2.result.now s.peers) (sym c.self.view_is)
     ∙ sym c.in_default-place_of.ensures.place in
-    subst (λ (n : ℕ). Answers c.args.self.now held request c.args.now (Fixed n) None × IsTrue (is_fixed n))
-    (sym c.number-unknown.ensures)
-    (no_peer c.args.self.now held request c.args.now c.args.accepted row c.requires.route c.requires.opens found none, refl)
+    no_peer c.args.self.now held request c.args.now c.args.accepted row c.requires.route c.requires.opens found none
 
 pub returns : goal.returns
 returns c =

@@ -3,7 +3,7 @@ use Rattle.std.proofs.Common.{◌≡◌, ◌∙◌, Bor, List, ℕ, true, sym, s
 use Rattle.http_wire.specs.Answers.{is_one_line}
 use Rattle.http_wire.specs.declared.answer.Answer.TheVariants.{Full}
 use Rattle.idp_server.specs.declared.reply.Reply.{Reply}
-use Rattle.idp_server.specs.Replies.{HasCookie, IsPage}
+use Rattle.idp_server.specs.Replies.{IsPage}
 use Rattle.idp_server.proofs.Shown.{end_shown, some_same}
 use Rattle.idp_server.proofs.role.IdpRole.page_of.Goals as goal
 

@@ -5,7 +5,6 @@ use Rattle.idp_rules.specs.Config.{IsUsable}
 use Rattle.idp_rules.specs.declared.config.IdpConfig.{IdpConfig}
 use Rattle.idp_server.proofs.Telling.{tells_by}
 use Rattle.idp_server.proofs.role.IdpRole.reply_to_response.Goals as goal
-use Rattle.logout_answers.specs.Answers.{is_in_part}
 
 pub returns-in-Some : goal.returns-in-Some
 returns-in-Some c =

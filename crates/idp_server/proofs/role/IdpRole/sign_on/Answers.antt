@@ -7,7 +7,7 @@ use Rattle.verdict_codes.specs.declared.codes.Verdict.{Verdict}
 use Rattle.idp_rules.specs.Config.{sign_on}
 use Rattle.idp_rules.specs.Verdict.{IsRefused}
 use Rattle.idp_server.specs.Step.{Answers, ByVerdict}
-use Rattle.idp_server.proofs.Judged.{judged_for}
+use Rattle.provider_node.proofs.Judged.{judged_for}
 use Rattle.idp_server.proofs.role.IdpRole.sign_on.Goals as goal
 
 pub returns-in-Err-clause-refused : goal.returns-in-Err-clause-refused
