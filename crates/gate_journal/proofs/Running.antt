@@ -1,7 +1,7 @@
 -- Runs of calls on a disk: what a crash at any moment of them leaves, and what the disk tells behind them.
 use Rattle.std.specs.Prelude.{IfSome, Option, Result, Ok}
 use Rattle.std.specs.Option.{option_map}
-use Rattle.std.proofs.Common.{◌≡◌, ℕ, subst, sym}
+use Rattle.std.proofs.Common.{◌≡◌, subst, sym}
 use Rattle.crash_disk.specs.declared.change.Change.{Change}
 use Rattle.crash_disk.specs.Disk.{Image, DiskState, MayLeave, image_of, Changes, after, begun}
 use Rattle.crash_disk.specs.Moments.{DiskShown, Leaves, Elapses, LeavesOnly}

@@ -4,7 +4,7 @@ ghost use Rattle.crash_disk.specs.Counts.{CountsFaults};
 ghost use Rattle.crash_disk.specs.Moments.{LeavesOnly};
 ghost use Rattle.crash_disk.specs.Plans.{Follows};
 ghost use Rattle.gate_journal.specs.Calls.{appending};
-ghost use Rattle.gate_journal.specs.Format.{end_of, gate_place, sizes};
+ghost use Rattle.gate_journal.specs.Format.{end_of, gate_place, sizes, LONGEST_PAYLOAD};
 ghost use Rattle.gate_journal.specs.Journal.{Fits, FitsVersion, IsOwn, IsBeforeOrAfter, kept_with, room_of};
 
 use crate::reading::{Bodies, Stored};
@@ -81,7 +81,7 @@ pub struct Journal {
 impl Model for Journal {
     ghost use Rattle.std.specs.Prelude.{◌≡◌, ◌+◌, ◌-◌, ◌^◌, ◌<◌, ◌≤◌, [], All, length, vec_capacity};
     ghost use Rattle.std.specs.Option.{ForSome};
-    ghost use Rattle.gate_journal.specs.Format.{end_of};
+    ghost use Rattle.gate_journal.specs.Format.{end_of, LONGEST_FILE, LONGEST_PAYLOAD};
     ghost use Rattle.gate_journal.specs.Journal.{FitsVersion, OpenedJournal};
 
     ghost Value = { OpenedJournal };
@@ -92,7 +92,7 @@ impl Model for Journal {
       broken = j.broken;
     } };
 
-    ghost invariant = { λ j. (j.end ≡ end_of j.records.items) × (j.end ≤ 134217728) × (j.slot.items ≡ []) × (j.version ≡ 1 → j.header.generation < 2 ^ 64 - 1) × All (λ payload. length payload ≤ 1048576) j.records.items
+    ghost invariant = { λ j. (j.end ≡ end_of j.records.items) × (j.end ≤ LONGEST_FILE) × (j.slot.items ≡ []) × (j.version ≡ 1 → j.header.generation < 2 ^ 64 - 1) × All (λ payload. length payload ≤ LONGEST_PAYLOAD) j.records.items
         × (j.version ≡ 1 → FitsVersion 1 j.records.items)
         × ForSome j.spare (λ n. n + 5 ≤ vec_capacity j.body)
         × ForSome j.spare (λ n. n ≤ vec_capacity j.slot)
@@ -192,7 +192,7 @@ impl Journal {
         requires whole { self.old.broken ≡ false }
         requires version { self.old.kept.holds.version ≡ 2 }
         requires spare { IsSomeAnd self.old.spare (λ n. length payload.now ≤ n) }
-        requires longest { length payload.now ≤ 1048576 }
+        requires longest { length payload.now ≤ LONGEST_PAYLOAD }
         requires room { length payload.now + 5 ≤ room_of self.old.kept }
         ensures ok { OnOk result (self.new ≡ record { kept = kept_with payload.now self.old.kept; spare = None; broken = false }) }
         ensures err { OnErr result (self.new ≡ record self.old { broken = true }) }

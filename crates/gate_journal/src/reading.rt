@@ -1,7 +1,7 @@
 //! How one file is read.
 ghost use Rattle.std.specs.Prelude.{◌≡◌, ◌+◌, ◌<◌, ◌≤◌, Some, true, false, All, length, IfOk, MatchOption};
 ghost use Rattle.owned_values.specs.Gives.{Gives};
-ghost use Rattle.gate_journal.specs.Format.{number_at, size_of, is_whole, payloads_of, end_of, header_of, committed_of, file_of};
+ghost use Rattle.gate_journal.specs.Format.{number_at, size_of, is_whole, payloads_of, end_of, header_of, committed_of, file_of, LONGEST_FILE, LONGEST_PAYLOAD};
 ghost use Rattle.gate_journal.specs.Reading.{fault_of};
 
 use crate::fault::FileFault;
@@ -46,14 +46,14 @@ pub struct Stored {
 
 impl Model for Stored {
     ghost use Rattle.std.specs.Prelude.{◌≡◌, ◌-◌, ◌^◌, ◌<◌, ◌≤◌, All, length};
-    ghost use Rattle.gate_journal.specs.Format.{Committed, end_of};
+    ghost use Rattle.gate_journal.specs.Format.{Committed, end_of, LONGEST_FILE, LONGEST_PAYLOAD};
     ghost use Rattle.gate_journal.specs.Journal.{FitsVersion};
 
     ghost Value = { Committed };
 
     ghost view = { λ s. record { version = s.version; header = s.header; payloads = s.bodies.records.items } };
 
-    ghost invariant = { λ s. (s.bodies.end ≡ end_of s.bodies.records.items) × (s.bodies.end ≤ 134217728) × (s.version ≡ 1 → s.header.generation < 2 ^ 64 - 1) × All (λ payload. length payload ≤ 1048576) s.bodies.records.items × (s.version ≡ 1 → FitsVersion 1 s.bodies.records.items) };
+    ghost invariant = { λ s. (s.bodies.end ≡ end_of s.bodies.records.items) × (s.bodies.end ≤ LONGEST_FILE) × (s.version ≡ 1 → s.header.generation < 2 ^ 64 - 1) × All (λ payload. length payload ≤ LONGEST_PAYLOAD) s.bodies.records.items × (s.version ≡ 1 → FitsVersion 1 s.bodies.records.items) };
 }
 
 /// The number of eight bytes from a place on.
@@ -90,7 +90,7 @@ pub(crate) fn whole_body(bodies: &[u8], longest: usize) -> Option<usize>
 /// The payloads of a file.
 fn read_bodies(alloc: Global, file: &[u8], longest: usize) -> Result<Bodies, FileFault>
     requires long { 72 ≤ length file.now }
-    requires longest { longest ≤ 1048576 }
+    requires longest { longest ≤ LONGEST_PAYLOAD }
     ensures gives { Gives (λ b. b.records.items) fault_of result (payloads_of longest file.now) }
     ensures end { IfOk result (λ b. b.end ≡ end_of b.records.items) }
     ensures within { IfOk result (λ b. b.end ≤ length file.now) }
@@ -119,7 +119,7 @@ fn read_bodies(alloc: Global, file: &[u8], longest: usize) -> Result<Bodies, Fil
 #[tactic(auto, unfolding(crate::specs::Format::committed_of))]
 fn read_committed(alloc: Global, file: &[u8]) -> Result<Stored, FileFault>
     requires long { 72 ≤ length file.now }
-    requires short { length file.now ≤ 134217728 }
+    requires short { length file.now ≤ LONGEST_FILE }
     ensures { Gives Some fault_of result (committed_of file.now) }
 {
     let version = file[VERSION];

@@ -2,7 +2,7 @@
 //! payload is a slice of its file.
 ghost use Rattle.std.specs.Prelude.{◌≡◌, ◌+◌, ◌≤◌, ◌∷◌, [], true, length, is_ok, Ok, Err, IfSome, MatchOption, MatchResult};
 ghost use Rattle.std.specs.Option.{option_map};
-ghost use Rattle.gate_journal.specs.Format.{committed_of, file_of, joined, payloads_of, with_payloads};
+ghost use Rattle.gate_journal.specs.Format.{committed_of, file_of, joined, payloads_of, with_payloads, LONGEST_FILE, LONGEST_PAYLOAD};
 
 use crate::reading::{
     COMMITTED, GATE, HEAD, LETTERS, LONGEST_FILE, LONGEST_FILE_ONE, LONGEST_PAYLOAD,
@@ -25,21 +25,21 @@ pub struct FilePayloads<'a> {
 
 impl<'a> Model for FilePayloads<'a> {
     ghost use Rattle.std.specs.Prelude.{◌≡◌, ◌+◌, ◌≤◌, true, length, is_ok};
-    ghost use Rattle.gate_journal.specs.Format.{payloads_from};
+    ghost use Rattle.gate_journal.specs.Format.{payloads_from, LONGEST_FILE, LONGEST_PAYLOAD};
     ghost use Rattle.gate_journal.specs.Texts.{Coming, coming};
 
     ghost Value = { Coming };
 
     ghost view = { λ p. coming p.longest p.place p.gate p.bodies.now };
 
-    ghost invariant = { λ p. (is_ok (payloads_from p.longest p.place p.gate p.bodies.now) ≡ true) × (p.place + length p.bodies.now ≤ 134217728) × (p.longest ≤ 1048576) };
+    ghost invariant = { λ p. (is_ok (payloads_from p.longest p.place p.gate p.bodies.now) ≡ true) × (p.place + length p.bodies.now ≤ LONGEST_FILE) × (p.longest ≤ LONGEST_PAYLOAD) };
 }
 
 impl<'a> FilePayloads<'a> {
     /// The place in the file of the length of the next payload, in bytes; behind the last one the place of the end.
     pub fn place(&self) -> u64
         ensures place { result ≡ self.now.place }
-        ensures within { result ≤ 134217728 }
+        ensures within { result ≤ LONGEST_FILE }
     {
         self.place
     }
@@ -48,8 +48,8 @@ impl<'a> FilePayloads<'a> {
     pub fn next_payload(&mut self) -> Option<&'a [u8]>
         ensures payload { MatchOption result ((self.old.payloads ≡ []) × (self.new ≡ self.old)) (λ p. self.old.payloads ≡ p.now ∷ self.new.payloads) }
         ensures place { MatchOption result (self.new.place ≡ self.old.place) (λ p. self.new.place ≡ self.old.place + (length p.now + 5)) }
-        ensures within { self.new.place ≤ 134217728 }
-        ensures short { IfSome result (λ p. length p.now ≤ 1048576) }
+        ensures within { self.new.place ≤ LONGEST_FILE }
+        ensures short { IfSome result (λ p. length p.now ≤ LONGEST_PAYLOAD) }
     {
         if self.gate != OPEN {
             return None;
@@ -107,7 +107,7 @@ impl<'a> FileText<'a> {
 /// Walks over the records of a file, up to the first that is there and is not whole: then its place.
 fn walk(file: &[u8], longest: usize) -> Result<(), u64>
     requires long { 72 ≤ length file.now }
-    requires longest { longest ≤ 1048576 }
+    requires longest { longest ≤ LONGEST_PAYLOAD }
     ensures { MatchResult result (λ _. is_ok (payloads_of longest file.now) ≡ true) (λ place. payloads_of longest file.now ≡ Err place) }
 {
     let mut at = HEAD;
@@ -126,8 +126,8 @@ fn walk(file: &[u8], longest: usize) -> Result<(), u64>
 /// What a committed file holds whose payloads have at most this length, by its records.
 fn read_records(file: &[u8], longest: usize) -> Result<Option<FileText<'_>>, u64>
     requires long { 72 ≤ length file.now }
-    requires short { length file.now ≤ 134217728 }
-    requires longest { longest ≤ 1048576 }
+    requires short { length file.now ≤ LONGEST_FILE }
+    requires longest { longest ≤ LONGEST_PAYLOAD }
     ensures { result ≡ with_payloads file.now (payloads_of longest file.now) }
 {
     walk(file, longest)?;
@@ -153,7 +153,7 @@ fn read_records(file: &[u8], longest: usize) -> Result<Option<FileText<'_>>, u64
 #[tactic(auto, unfolding(crate::specs::Format::committed_of))]
 fn read_committed(file: &[u8]) -> Result<Option<FileText<'_>>, u64>
     requires long { 72 ≤ length file.now }
-    requires short { length file.now ≤ 134217728 }
+    requires short { length file.now ≤ LONGEST_FILE }
     ensures { result ≡ committed_of file.now }
 {
     match file[VERSION] {

@@ -4,6 +4,7 @@ ghost use Rattle.owned_values.specs.Gives.{Gives};
 ghost use Rattle.crash_disk.specs.Disk.{Image, image_of};
 ghost use Rattle.crash_disk.specs.Moments.{Leaves, LeavesOnly};
 ghost use Rattle.crash_disk.specs.Plans.{Follows};
+ghost use Rattle.gate_journal.specs.Format.{LONGEST_PAYLOAD};
 ghost use Rattle.gate_journal.specs.Opening.{open_fault_of, CausesFaults};
 ghost use Rattle.gate_journal.specs.Journal.{Fits, IsOldOrNew};
 ghost use Rattle.gate_journal.specs.Journal.{IsOwn as IsJournalsOwn};
@@ -56,7 +57,7 @@ impl<S: Standing> Loaded<S> {
     /// Reads one payload more: whether it is a record behind the others.
     fn load_one(&mut self, alloc: Global, payload: &[u8], version: u8) -> Result<bool, NoMemory>
         requires few { CanLoad S.rules S.row_rules.stands version self.old.standing self.old.payloads.items }
-        requires short { length payload.now ≤ 1048576 }
+        requires short { length payload.now ≤ LONGEST_PAYLOAD }
         ensures { IfOk result (λ is. (payloads : List (List ℕ)) → IsLoaded S.rules S.row_rules.stands version payloads self.old.standing self.old.payloads.items → LoadsOne S.rules S.row_rules.stands version payloads payload.now is self.new.standing self.new.payloads.items) }
     {
         S::laws_hold();

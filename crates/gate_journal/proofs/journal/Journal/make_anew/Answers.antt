@@ -15,7 +15,7 @@ use Rattle.gate_journal.specs.Calls.{making_beside, remaking}
 use Rattle.gate_journal.specs.declared.header.Header.{Header}
 use Rattle.gate_journal.proofs.Lifting.{always}
 use Rattle.gate_journal.proofs.journal.Journal.make_anew.Goals as goal
-use Rattle.gate_journal.proofs.journal.Journal.make_anew.Goals.{After-make_beside, In_ok-make_beside}
+use Rattle.gate_journal.proofs.journal.Journal.make_anew.Goals.{After-make_beside}
 use Rattle.gate_journal.proofs.journal.Journal.make_anew.Given.{Over}
 
 pub make_beside-requires-clause-holding : goal.make_beside-requires-clause-holding
