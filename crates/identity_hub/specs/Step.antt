@@ -138,10 +138,6 @@ pub data Answers (setup : HubConfig) (held : Held) (request : Request) (now : �
 
 -- ---- one request
 
--- there is room for a record: fewer rows of its kind are kept than may be, and it fits
-abbrev pub HasPlace : Held → HubRecord → Type 0
-HasPlace = any.HasPlace hub_rules
-
 -- What is done at a request over the ledger that it finds: the request and the moment; whether the disk's count of faults rose; the
 -- answer; the hub before and after.
 abbrev pub Serves : (found : Held) → Request → (now : ℕ) → (Risen : Type 0) → Answer → (old new : Provider) → Type 0

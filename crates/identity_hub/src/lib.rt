@@ -22,20 +22,21 @@
 //!
 //! # What is proved
 //!
-//! The hub as a role of the one provider (`HubRole`; `HubNode` is `ProviderNode<HubRole>`): each answer is one step of one
-//! definition by named cases (`ProviderNode::answer`, `Steps`, `Answers`): the status where there is no such service, the
-//! metadata of the hub in either role, the verdict on a form of a provider below, a Response without an Assertion where the
-//! user may not be asked, else a request upwards; the verdict on a form of the provider above, 41 where the provider below is
-//! not known any more, else a login that is passed on to it. Records, codes 50 to 53, crashes, `start`, `restart` and
-//! `compact` as at the service provider. Laws: a login is passed on only where a posted form brings it, over the hub's rows,
-//! for the request of a provider below that is known, with the name and the attributes of the login from above and to that
-//! provider alone, and wherever a form brings one, where there is room, the disk does not fail and memory is found
-//! (`a_login_is_passed_on_exactly`); no login is asked for above of a user who may not be asked
-//! (`nothing_is_asked_of_a_user_who_may_not_be_asked`); whatever form is answered to what is posted stands for a record that
-//! is in every image that a crash may leave behind the step (`what_is_answered_is_recorded`); for those below it signs nothing
-//! but the Assertions of its records (`each_signed_element_is_of_a_record`); what an answer acknowledged is
-//! in the history of every ledger that a crash may leave, and no request upwards backs two logins, over each list of events
-//! and of starts (`what_is_acknowledged_is_kept_once`, `what_is_acknowledged_is_kept_once_over_starts`).
+//! The hub as a role of the one provider (`HubRole`; `HubNode` is `ProviderNode<HubRole>`): each answer is one step of
+//! one definition by named cases (`ProviderNode::answer`, `Steps`, `Answers`): the status where there is no such
+//! service, the metadata of the hub in either role, the verdict on a form of a provider below, a Response without an
+//! Assertion where the user may not be asked, else a request upwards; the verdict on a form of the provider above, 41
+//! where the provider below is not known any more, else a login that is passed on to it. Records, codes 50 to 53,
+//! crashes, `start`, `restart` and `compact` as at the service provider. Laws: a login is passed on only where a posted
+//! form brings it, over the hub's rows, for the request of a provider below that is known, with the name and the
+//! attributes of the login from above and to that provider alone, and wherever a form brings one, where there is room,
+//! at once or behind one compaction, the disk does not fail and memory is found (`a_login_is_passed_on_exactly`); no
+//! login is asked for above of a user who may not be asked (`nothing_is_asked_of_a_user_who_may_not_be_asked`);
+//! whatever form is answered to what is posted stands for a record that is in every image that a crash may leave behind
+//! the step (`what_is_answered_is_recorded`); for those below it signs nothing but the Assertions of its records
+//! (`each_signed_element_is_of_a_record`); what an answer acknowledged is in the history of every ledger that a crash
+//! may leave, and no request upwards backs two logins, over each list of events and of starts
+//! (`what_is_acknowledged_is_kept_once`, `what_is_acknowledged_is_kept_once_over_starts`).
 #![tactic(auto)]
 
 mod config;

@@ -26,7 +26,6 @@ use Rattle.idp_server.specs.Messages.{AsksFirst, AsksNext, EndsRound, IsRoundEnd
 use Rattle.idp_server.specs.Outcomes.{Ends, GoesOn, InRound, IsOutcome, RoundsBeginWithTheFirst, RoundsEndAsConfirmed}
 use Rattle.idp_server.specs.Rounds.{told_by}
 use Rattle.idp_server.specs.Step as steps
-use Rattle.idp_server.specs.Step.{Answers}
 use Rattle.idp_server.proofs.Logouts.{HasAnswer, has_answer, the_told}
 use Rattle.idp_server.proofs.Signed.{waiting_turn}
 use Rattle.idp_server.proofs.Telling.{next_where}

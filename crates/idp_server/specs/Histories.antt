@@ -14,7 +14,7 @@ use Rattle.idp_ledger.specs.Record.{AreRecords, idp_rules}
 use Rattle.idp_rows.specs.Record.{is_unended}
 use Rattle.idp_rows.specs.RowsOf.{ends, rows_of}
 use Rattle.provider_node.specs.Histories as any
-use Rattle.provider_node.specs.Histories.{AreAcknowledged, HoldsWhatCame, IsAtStart, moments_of}
+use Rattle.provider_node.specs.Histories.{IsAtStart}
 use Rattle.provider_node.specs.Points.{AClosedSessionStaysClosed, Point, StayClosed, points}
 use Rattle.provider_node.specs.Starts.{AreKeptOver, AreStarts, Start, StayClosedOverStarts}
 use Rattle.idp_server.specs.Step.{Provider, Answers}

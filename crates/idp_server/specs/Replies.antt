@@ -58,7 +58,7 @@ use Rattle.idp_server.specs.Routes.{route}
 use Rattle.idp_server.specs.Messages.{AsksFirst, IsRequestTo, IsRoundEnd}
 use Rattle.idp_server.specs.Rounds.{asks_others, follows_of, round_waiting, skips_for, turns_for}
 use Rattle.idp_server.specs.Step as step
-use Rattle.idp_server.specs.Step.{Answers, AsksToEnd, IsAnswerFor, IsEndingAnswer, IsLeavingAnswer, IsObeyed, Typed, asker_of, ask_of, ended_by, ending_by, is_awaited, left_by, session_for, session_used, typed}
+use Rattle.idp_server.specs.Step.{AsksToEnd, IsAnswerFor, IsEndingAnswer, IsLeavingAnswer, IsObeyed, Typed, asker_of, ask_of, ended_by, ending_by, is_awaited, left_by, session_for, session_used, typed}
 
 -- THE RECORD
 

@@ -240,10 +240,6 @@ pub data Answers (setup : IdpConfig) (held : Held) (request : Request) (now : �
 
 -- ---- one request
 
--- there is room for a record: fewer rows of its kind are kept than may be, and it fits
-abbrev pub HasPlace : Held → IdpRecord → Type 0
-HasPlace = any.HasPlace idp_rules
-
 -- What is done at a request over the ledger that it finds: the request and the moment; whether the disk's count of faults rose;
 -- the answer; the provider before and after.
 abbrev pub Serves : (found : Held) (request : Request) (now : ℕ) (Risen : Type 0) (answer : Answer) (old new : Provider) → Type 0

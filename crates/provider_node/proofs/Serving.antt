@@ -10,7 +10,7 @@ use Rattle.gate_journal.specs.declared.fault.OpenFault.{OpenFault}
 use Rattle.gate_journal.specs.declared.fault.OpenFault.TheVariants.{DiskFault, Foreign, NoMemory}
 use Rattle.gate_journal.specs.Format.{journal}
 use Rattle.gate_journal.specs.Opening.{open_fault_of}
-use Rattle.record_ledger.specs.Rules.{RecordRules}
+use Rattle.record_ledger.specs.Rules.{RecordRules, AreRecords}
 use Rattle.record_ledger.specs.Ledger.{Held, kept_of, ledger_in, held_with}
 use Rattle.record_ledger.specs.Compacting.{Compacts, IsOldOrCompacted}
 use Rattle.provider_node.specs.Calls.{CompactingLeaves, CompactionCalls, MakesCompaction}
@@ -164,16 +164,17 @@ module _ {Setup R : Type 0} (rules : RecordRules R) (Answers : AnswersBy Setup R
   -- what a compaction leaves, of a ledger that had no place for a record
   pub room_leaves : (setup : Setup) (found : Held R) (request : Request) (now : ℕ) (told : Option DiskState)
       (wanted : R) (other : Answer) → Answers setup found request now other (Some wanted)
-      → ¬ (HasPlace rules found wanted) → (image : Image) → CompactingLeaves rules now found told image
+      → ¬ (HasPlace rules found wanted) → AreRecords rules found.records
+      → (image : Image) → CompactingLeaves rules now found told image
       → ServingLeaves rules Answers setup found request now told image
-  room_leaves setup found request now told wanted other wants none image left = of_case left.stands
+  room_leaves setup found request now told wanted other wants none are image left = of_case left.stands
     where
       of_case : IsOldOrCompacted rules now found image → ServingLeaves rules Answers setup found request now told image
       of_case (inl same) = InCompaction (inl same) left.amid
       of_case (inr (held, made, is)) =
           InCompaction (inr (
             held,
-            record { wanted = wanted; other = other; wants = wants; none = none; made = made },
+            record { wanted = wanted; other = other; wants = wants; none = none; are = are; made = made },
             is,
           )) left.amid
 

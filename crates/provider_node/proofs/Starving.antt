@@ -10,11 +10,11 @@ use Rattle.record_ledger.specs.Rules.{RecordRules}
 use Rattle.record_ledger.specs.Ledger.{Held}
 use Rattle.record_ledger.specs.Compacting.{Compacts}
 use Rattle.record_ledger.specs.Runs as events
-use Rattle.record_ledger.specs.Runs.{IsVisibleThroughout, Stays, naming}
+use Rattle.record_ledger.specs.Runs.{IsVisibleThroughout, Stays}
 use Rattle.record_ledger.proofs.Staying.{visible_records_stay}
 use Rattle.provider_node.specs.Starving.{CodesAddNothing, IsSameOrCompacted, Keeps, RowsAnswerAsBefore, WhatIsVisibleStays}
 use Rattle.provider_node.specs.Step as steps
-use Rattle.provider_node.specs.Step.{AnswersBy, IsWhole, MakesRoom, Provider, Serves, Steps}
+use Rattle.provider_node.specs.Step.{AnswersBy, Provider, Serves, Steps}
 use Rattle.provider_node.specs.declared.codes.TheConstants.{NO_MEMORY, DISK_FAULT}
 use Rattle.provider_node.proofs.Alike.{CompactionsAnswerAlike, alike}
 

@@ -109,8 +109,8 @@ pub record AreKeptSo {Setup R : Type 0} (Answers : AnswersBy Setup R) (Holds : L
   pub are : AreAcknowledged Answers turns records
   pub kept : (image : Image) → Leaves last.disk image → Holds records image
 
--- Each of them is in the history of every ledger that a crash may leave behind it; in this each compaction was at the
--- moment of one of its requests.
+-- The records for which the answers of a service stand are in the history of every ledger that a crash may leave behind
+-- it; in this each compaction was at the moment of one of its requests.
 abbrev pub AreKept : {Setup R : Type 0} → RecordRules R → AnswersBy Setup R → (first last : World (Provider Setup R))
     → List (Turn (Provider Setup R)) → Type 0
 AreKept rules Answers first last turns =

@@ -71,7 +71,8 @@ pub record OpensWhatCame {R : Type 0} (rules : RecordRules R) (IsMoment : ℕ �
   pub opens : taken (ledger_in rules image) ≡ Ok held
   pub came : CameFrom rules IsMoment start records held
 
--- and this is said of its history
+-- from the image a ledger is opened that came from another one by events, in which these records were added, and this is
+-- said of its history
 pub record OpensWhatCameSo {R : Type 0} (rules : RecordRules R) (IsSo : Held R → List (Event R) → Type 0)
     (IsMoment : ℕ → Type 0) (start : Held R) (records : List R) (image : Image) : Type 0 where
   pub held : Held R
@@ -91,7 +92,7 @@ module _ {Setup R : Type 0} (Answers : AnswersBy Setup R) where
       (latest : List R) × (former : List R) × AreAcknowledged Answers turns latest × AreAcknowledgedIn earlier former ×
       (records ≡ latest ++ former)
 
-  -- of these records this holds, and of every image that may be left behind the starts
+  -- Of the records for which the answers of starts stand this holds, and of every image that may be left behind these.
   pub record AreKeptOverSo (IsLeft : Image → Type 0) (Holds : List R → Image → Type 0)
       (starts : List (Start (Provider Setup R))) : Type 0 where
     pub records : List R

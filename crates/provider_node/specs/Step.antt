@@ -7,7 +7,7 @@ use Rattle.gate_journal.specs.Format.{Fault}
 use Rattle.http_wire.specs.declared.answer.Answer.{Answer}
 use Rattle.http_wire.specs.declared.answer.Answer.TheVariants.{Fixed}
 use Rattle.http_wire.specs.Requests.{Request}
-use Rattle.record_ledger.specs.Rules.{RecordRules}
+use Rattle.record_ledger.specs.Rules.{RecordRules, AreRecords}
 use Rattle.record_ledger.specs.Ledger.{Held, OpenedLedger, IsFitting, IsOwn, ledger_in, taken, held_with}
 use Rattle.record_ledger.specs.Calls.{opening, committing}
 use Rattle.record_ledger.specs.Drafts.{is_full}
@@ -56,8 +56,8 @@ pub record IsBroken {Setup R : Type 0} (old new : Provider Setup R) : Type 0 whe
   pub key : new.ledger.key ≡ old.ledger.key
   pub is_broken : new.ledger.broken ≡ true
 
--- A record was to be added to the ledger that was found, there was no place for it, and one compaction made this of the
--- ledger.
+-- A record was to be added to the ledger that was found, which holds records, there was no place for it, and one
+-- compaction made this of the ledger.
 pub record MakesRoom {Setup R : Type 0} (rules : RecordRules R) (Answers : AnswersBy Setup R) (setup : Setup)
     (found : Held R) (request : Request) (now : ℕ)
     (held : Held R) : Type 0 where
@@ -65,6 +65,7 @@ pub record MakesRoom {Setup R : Type 0} (rules : RecordRules R) (Answers : Answe
   pub other : Answer
   pub wants : Answers setup found request now other (Some wanted)
   pub none : ¬ (HasPlace rules found wanted)
+  pub are : AreRecords rules found.records
   pub made : Compacts rules now found held
 
 -- What is done at a request over the ledger that it finds: the request and the moment; whether the disk's count of

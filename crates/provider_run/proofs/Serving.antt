@@ -1,6 +1,6 @@
 -- How a run goes on once a node was started.
 use Rattle.std.proofs.Common.{◌≡◌, ℕ, List, Option, Result, ap, ◌∙◌, subst}
-use Rattle.crash_disk.specs.Disk.{Image, DiskState}
+use Rattle.crash_disk.specs.Disk.{Image}
 use Rattle.crash_disk.specs.Moments.{DiskShown}
 use Rattle.event_link.specs.Links.{LinkShown, LinkState}
 use Rattle.serve_loop.specs.declared.served.Served.{Served}

@@ -13,7 +13,7 @@ use Rattle.provider_node.specs.Node as node
 use Rattle.provider_node.specs.Node.{CompactionLeaves}
 use Rattle.provider_node.specs.Starts.{StandsAsOpened}
 use Rattle.provider_node.specs.Step as steps
-use Rattle.provider_node.specs.Step.{Adding, AnswersBy, Ledger, MakesRoom, Owns, Provider, ServingLeaves, StepLeaves}
+use Rattle.provider_node.specs.Step.{AnswersBy, Ledger, MakesRoom, Owns, Provider, ServingLeaves, StepLeaves}
 use Rattle.provider_node.proofs.Serving.{settled}
 
 -- ---- the version that is written

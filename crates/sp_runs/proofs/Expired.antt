@@ -41,7 +41,7 @@ use Rattle.sp_server.specs.Peer.{idp_at, logout_address, second_key}
 use Rattle.provider_node.specs.Step as any
 use Rattle.provider_node.specs.declared.codes.TheConstants as codes
 use Rattle.sp_server.specs.Step as steps
-use Rattle.sp_server.specs.Step.{Setup, Provider, Answers, Steps, REGISTRY_EXPIRED, is_expired, session_for}
+use Rattle.sp_server.specs.Step.{Setup, Provider, Answers, Steps, is_expired, session_for}
 use Rattle.sp_runs.proofs.Guarded.{guard_other}
 
 -- ---- the verdict on a form has another number
@@ -188,36 +188,36 @@ number_in m n e = cc
 not_full : (bytes : List ℕ) (n : ℕ) → Full bytes ≡ Fixed n → ⊥
 not_full bytes n e = cc
 
-other_code : (answer : Answer) (n : ℕ) → n ≢ 70 → answer ≡ Fixed n → answer ≡ Fixed REGISTRY_EXPIRED → ⊥
-other_code answer n differs is e = differs (number_in n REGISTRY_EXPIRED (sym is ∙ e))
+other_code : (answer : Answer) (n : ℕ) → n ≢ 70 → answer ≡ Fixed n → answer ≡ Fixed (number_of verdicts.RegistryExpired) → ⊥
+other_code answer n differs is e = differs (number_in n (number_of verdicts.RegistryExpired) (sym is ∙ e))
 
 unexpired : (setup : Setup) (held : Held) (request : Request) (now : ℕ) (answer : Answer) (adds : Option SpRecord) → setup.expiry ≡ None → Answers setup held request now answer adds →
-    answer ≡ Fixed REGISTRY_EXPIRED → ⊥
+    answer ≡ Fixed (number_of verdicts.RegistryExpired) → ⊥
 unexpired setup held request now answer adds none (steps.ByStatus status to is nothing) e =
-    subst IsOther to (route_other request) (number_in status REGISTRY_EXPIRED (sym is ∙ e))
-unexpired setup held request now answer adds none (steps.ByMetadata to is nothing) e = not_full _ REGISTRY_EXPIRED (sym is ∙ e)
-unexpired setup held request now answer adds none (steps.BySession row to found is nothing) e = not_full _ REGISTRY_EXPIRED (sym is ∙ e)
-unexpired setup held request now answer adds none (steps.ByAsking bytes to out before id relay page is ids shown) e = not_full bytes REGISTRY_EXPIRED (sym shown ∙ e)
+    subst IsOther to (route_other request) (number_in status (number_of verdicts.RegistryExpired) (sym is ∙ e))
+unexpired setup held request now answer adds none (steps.ByMetadata to is nothing) e = not_full _ (number_of verdicts.RegistryExpired) (sym is ∙ e)
+unexpired setup held request now answer adds none (steps.BySession row to found is nothing) e = not_full _ (number_of verdicts.RegistryExpired) (sym is ∙ e)
+unexpired setup held request now answer adds none (steps.ByAsking bytes to out before id relay page is ids shown) e = not_full bytes (number_of verdicts.RegistryExpired) (sym shown ∙ e)
 unexpired setup held request now answer adds none (steps.ByGuard to is nothing) e =
     guard_other setup.guard setup.policy request (session_for held now request) (sym is ∙ e)
-unexpired setup held request now answer adds none (steps.ByOpening b row to before opens token is has shown) e = not_full _ REGISTRY_EXPIRED (sym shown ∙ e)
+unexpired setup held request now answer adds none (steps.ByOpening b row to before opens token is has shown) e = not_full _ (number_of verdicts.RegistryExpired) (sym shown ∙ e)
 unexpired setup held request now answer adds none (steps.ByVerdict verdict to before refused is nothing) e =
     let few = refused_small setup.config _ held.header.horizon now request.body verdict refused in
-    let same : number_of verdict ≡ 70 = number_in (number_of verdict) REGISTRY_EXPIRED (sym is ∙ e) in omega (arith, few, same)
+    let same : number_of verdict ≡ 70 = number_in (number_of verdict) (number_of verdicts.RegistryExpired) (sym is ∙ e) in omega (arith, few, same)
 unexpired setup held request now answer adds none (steps.ByExpiry at expired is nothing) e =
     let never : false ≡ true = sym (ap (λ (o : Option ℕ). is_expired o now) none) ∙ expired in cc
-unexpired setup held request now answer adds none (steps.ByLeaving row id bytes to before found is has leaves shown) e = not_full bytes REGISTRY_EXPIRED (sym shown ∙ e)
+unexpired setup held request now answer adds none (steps.ByLeaving row id bytes to before found is has leaves shown) e = not_full bytes (number_of verdicts.RegistryExpired) (sym shown ∙ e)
 unexpired setup held request now answer adds none (steps.ByNoSession to before found is nothing) e = other_code answer 33 (λ n. omega (arith, n)) is e
 unexpired setup held request now answer adds none (steps.ByLogoutVerdict verdict to before refused is nothing) e =
     let few = disobeyed_small (idp_at setup.config now ∷ []) (second_key setup.config now) (logout_address setup.config) setup.config.skew now request.body verdict refused in
     other_code answer (number_of verdict) (λ n. omega (arith, few, n)) is e
-unexpired setup held request now answer adds none (steps.ByEnding asked relay id bytes to before obeyed some is has ends shown) e = not_full bytes REGISTRY_EXPIRED (sym shown ∙ e)
+unexpired setup held request now answer adds none (steps.ByEnding asked relay id bytes to before obeyed some is has ends shown) e = not_full bytes (number_of verdicts.RegistryExpired) (sym shown ∙ e)
 unexpired setup held request now answer adds none (steps.ByNothingToEnd asked relay to before obeyed empty is nothing) e = other_code answer 33 (λ n. omega (arith, n)) is e
-unexpired setup held request now answer adds none (steps.ByConfirming response to before obeyed awaited is shown) e = not_full _ REGISTRY_EXPIRED (sym shown ∙ e)
+unexpired setup held request now answer adds none (steps.ByConfirming response to before obeyed awaited is shown) e = not_full _ (number_of verdicts.RegistryExpired) (sym shown ∙ e)
 unexpired setup held request now answer adds none (steps.ByUnknownLogout response to before obeyed unknown is nothing) e = other_code answer 34 (λ n. omega (arith, n)) is e
 
 serves_unexpired : (found : Held) (request : Request) (now : ℕ) (Risen : Type 0) (answer : Answer) (old new : Provider) → old.setup.expiry ≡ None →
-    steps.Serves found request now Risen answer old new → answer ≡ Fixed REGISTRY_EXPIRED → ⊥
+    steps.Serves found request now Risen answer old new → answer ≡ Fixed (number_of verdicts.RegistryExpired) → ⊥
 serves_unexpired found request now Risen answer old new none (any.Plain answers whole) e = unexpired old.setup found request now answer None none answers e
 serves_unexpired found request now Risen answer old new none (any.Recorded r answers place whole) e = unexpired old.setup found request now answer (Some r) none answers e
 serves_unexpired found request now Risen answer old new none (any.RecordedAfterCompaction held r room answers place whole) e =
@@ -228,7 +228,7 @@ serves_unexpired found request now Risen answer old new none (any.Failed wanted 
 serves_unexpired found request now Risen answer old new none (any.Starved held which is whole) e = other_code answer codes.NO_MEMORY (λ n. omega (arith, n)) is e
 
 pub step_unexpired : (old : Provider) (disk : Option DiskState) (request : Request) (now : ℕ) (Risen : Type 0) (answer : Answer) (new : Provider) → old.setup.expiry ≡ None →
-    Steps old disk request now Risen answer new → answer ≡ Fixed REGISTRY_EXPIRED → ⊥
+    Steps old disk request now Risen answer new → answer ≡ Fixed (number_of verdicts.RegistryExpired) → ⊥
 step_unexpired old disk request now Risen answer new none (any.WithLedger whole serves) e = serves_unexpired old.ledger.held request now Risen answer old new none serves e
 step_unexpired old disk request now Risen answer new none (any.WithOpened found broken is serves) e = serves_unexpired found request now Risen answer old new none serves e
 step_unexpired old disk request now Risen answer new none (any.NotOpened was risen is broken) e = other_code answer codes.DISK_FAULT (λ n. omega (arith, n)) is e

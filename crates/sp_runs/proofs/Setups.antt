@@ -15,6 +15,8 @@ use Rattle.request_ledger.specs.Record.{request_rules}
 use Rattle.provider_node.specs.Step as any
 use Rattle.provider_node.specs.declared.codes.TheConstants as codes
 use Rattle.sp_server.specs.Step as steps
+use Rattle.verdict_codes.specs.Codes.{number_of}
+use Rattle.verdict_codes.specs.declared.codes.Verdict.TheVariants.{RegistryExpired}
 use Rattle.sp_server.specs.Step.{Setup, Provider, Answers, Steps, is_expired, session_for}
 use Rattle.provider_node.specs.Histories.{ForRecord, ForNone, ForCode}
 use Rattle.sp_server.specs.Histories.{IsProviders, Stands}
@@ -85,7 +87,7 @@ without setup held request now answer adds over (steps.ByAsking bytes to unexpir
 without setup held request now answer adds over (steps.ByGuard to is none) = guarded setup request answer (session_for held now request) is
 without setup held request now answer adds over (steps.ByOpening b row to unexpired opens token is has shown) = absurd (let e = sym over ∙ unexpired in cc)
 without setup held request now answer adds over (steps.ByVerdict verdict to unexpired refused is none) = inl (_, is)
-without setup held request now answer adds over (steps.ByExpiry at expired is none) = inl (steps.REGISTRY_EXPIRED, is)
+without setup held request now answer adds over (steps.ByExpiry at expired is none) = inl (number_of RegistryExpired, is)
 without setup held request now answer adds over (steps.ByLeaving row id bytes to unexpired found is has leaves shown) = absurd (let e = sym over ∙ unexpired in cc)
 without setup held request now answer adds over (steps.ByNoSession to unexpired found is none) = inl (_, is)
 without setup held request now answer adds over (steps.ByLogoutVerdict verdict to unexpired refused is none) = inl (_, is)

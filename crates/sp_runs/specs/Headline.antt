@@ -46,7 +46,9 @@ use Rattle.provider_node.specs.Lasting.{AreKeptSince}
 use Rattle.provider_node.specs.Points.{points}
 use Rattle.provider_node.specs.Room as room
 use Rattle.provider_node.specs.Step.{IsWhole}
-use Rattle.sp_server.specs.Step.{Provider, Answers, Setup, ended_by, ended_record, left_record, session_for, shown_to, REGISTRY_EXPIRED}
+use Rattle.sp_server.specs.Step.{Provider, Answers, Setup, ended_by, ended_record, left_record, session_for, shown_to}
+use Rattle.verdict_codes.specs.Codes.{number_of}
+use Rattle.verdict_codes.specs.declared.codes.Verdict.TheVariants.{RegistryExpired}
 use Rattle.provider_run.specs.Headlines.{AddsOnlyItsOwn, EachGoes, GoesOnDisk, HeadlineBy, HeadlineOf, KeepsWhatIsVisible, ServedOver, ServedRun, WhereAsked}
 use Rattle.provider_run.specs.Providers.{Begins}
 use Rattle.provider_run.specs.Runs.{Outside, world_of}
@@ -171,7 +173,7 @@ pub record KeepsToItsConfig (told : Option (List File)) (file : List ℕ) (befor
       → AsksAndOpensNothing (served_by begins.set_up.setup) asked.request asked.answer
   pub without : (asked : Asked Provider)
       → ((line : RegistryLine) → ¬ (Contains begins.set_up.lines.files (Registry line)))
-      → Contains (asked_in turns) asked → asked.answer ≢ Fixed REGISTRY_EXPIRED
+      → Contains (asked_in turns) asked → asked.answer ≢ Fixed (number_of RegistryExpired)
 
 -- ---- all of it
 

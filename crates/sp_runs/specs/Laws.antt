@@ -29,7 +29,9 @@ use Rattle.sp_server.specs.declared.route.Service.TheVariants.{App}
 use Rattle.sp_server.specs.Routes.{route}
 use Rattle.provider_node.specs.declared.codes.TheConstants.{NO_MEMORY}
 use Rattle.provider_node.specs.Points.{points}
-use Rattle.sp_server.specs.Step.{Provider, Setup, Steps, session_for, shown_to, REGISTRY_EXPIRED}
+use Rattle.sp_server.specs.Step.{Provider, Setup, Steps, session_for, shown_to}
+use Rattle.verdict_codes.specs.Codes.{number_of}
+use Rattle.verdict_codes.specs.declared.codes.Verdict.TheVariants.{RegistryExpired}
 use Rattle.sp_server.specs.Sessions.{GivesSession}
 use Rattle.sp_server.specs.Histories.{IsProviders, Stands, AreKeptOnce}
 use Rattle.sp_server.specs.Logouts.{StayClosed}
@@ -115,7 +117,7 @@ WithoutARegistryNothingIsExpired =
     (told : Option (List File)) (file : List ℕ) (before opened : Outside) (provider : Provider) (turns : List (Turn Provider)) (kept : Table) (behind : World Provider)
     (asked : Asked Provider) → (begins : Begins told file before provider opened)
     → Run IsProviders (world_of provider opened) turns kept behind
-    → ((line : RegistryLine) → ¬ (Contains begins.set_up.lines.files (Registry line))) → Contains (asked_in turns) asked → asked.answer ≢ Fixed REGISTRY_EXPIRED
+    → ((line : RegistryLine) → ¬ (Contains begins.set_up.lines.files (Registry line))) → Contains (asked_in turns) asked → asked.answer ≢ Fixed (number_of RegistryExpired)
 
 -- POLICIES
 

@@ -7,7 +7,7 @@ use Rattle.request_ledger.specs.Ledger.{next_number}
 use Rattle.request_ledger.specs.Record.{request_rules}
 use Rattle.sp_rules.specs.Shown.{session_of}
 use Rattle.sp_server.specs.Step as steps
-use Rattle.sp_server.specs.Step.{Setup, Answers, left_record, ended_record}
+use Rattle.sp_server.specs.Step.{Answers, left_record, ended_record}
 use Rattle.sp_server.proofs.Told.{said}
 
 pub draws_above : DrawsAbove request_rules Answers

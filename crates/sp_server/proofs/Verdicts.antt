@@ -11,7 +11,7 @@ use Rattle.request_ledger.specs.RowsOf.{rows_of}
 use Rattle.sp_rules.specs.Meant.{consumer, is_from, is_for, is_sent_to, is_in_time}
 use Rattle.sp_rules.specs.Outstanding.{is_outstanding, is_relayed}
 use Rattle.sp_rules.specs.Verdict as refusals
-use Rattle.sp_rules.specs.Verdict.{IsRefused, IsVerdict, first_failing, login_refusal}
+use Rattle.sp_rules.specs.Verdict.{IsRefused, first_failing, login_refusal}
 use Rattle.sp_rules.specs.declared.config.SpConfig.{SpConfig}
 use Rattle.verdict_codes.specs.declared.codes.Verdict.{Verdict}
 use Rattle.verdict_codes.specs.declared.codes.Verdict.TheVariants as verdicts

@@ -21,9 +21,6 @@ IsProviders = any.IsProviders request_rules Answers
 abbrev pub Stands : Asked Provider → Option SpRecord → Type 0
 Stands = any.Stands Answers
 
-abbrev pub AreAcknowledged : List (Turn Provider) → List SpRecord → Type 0
-AreAcknowledged = any.AreAcknowledged Answers
-
 -- a provider whose ledger is whole, on its own disk
 abbrev pub IsAtStart : World Provider → Type 0
 IsAtStart = any.IsAtStart request_rules

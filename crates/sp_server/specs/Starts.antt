@@ -3,7 +3,6 @@
 use Rattle.std.specs.Prelude.{List, ◌++◌}
 use Rattle.std.specs.List.{flat_map}
 use Rattle.crash_disk.specs.Disk.{Image}
-use Rattle.ledger_records.specs.declared.sp_record.SpRecord.{SpRecord}
 use Rattle.request_ledger.specs.Ledger.{Held}
 use Rattle.request_ledger.specs.Record.{request_rules, AreRecords}
 use Rattle.request_ledger.specs.Runs.{AreDifferent, request_opened, requests_opened}
@@ -20,10 +19,6 @@ LeftBehind = any.LeftBehind request_rules Answers
 
 abbrev pub AreStarts : (start : Held) → List (Start Provider) → Type 0
 AreStarts = any.AreStarts request_rules Answers
-
--- the records for which the answers of starts stand, the latest first
-abbrev pub AreAcknowledgedIn : List (Start Provider) → List SpRecord → Type 0
-AreAcknowledgedIn = any.AreAcknowledgedIn Answers
 
 -- Of the records for which the answers of starts stand: each is in the history of every ledger that may be opened behind them, whatever
 -- a crash left, and no two sessions of such a history are of one request; so no two of their sessions, with those at the start, are.

@@ -8,7 +8,7 @@ use Rattle.http_wire.specs.Requests.{Request}
 use Rattle.http_wire.specs.Cookies.{cookie_value}
 use Rattle.verdict_codes.specs.Codes.{number_of}
 use Rattle.verdict_codes.specs.declared.codes.Verdict.{Verdict}
-use Rattle.verdict_codes.specs.declared.codes.Verdict.TheVariants.{NoSuchSession, UnknownLogout}
+use Rattle.verdict_codes.specs.declared.codes.Verdict.TheVariants.{NoSuchSession, RegistryExpired, UnknownLogout}
 use Rattle.protocol_messages.specs.declared.logout.LogoutRequest.{LogoutRequest}
 use Rattle.protocol_messages.specs.declared.logout.LogoutResponse.{LogoutResponse}
 use Rattle.logout_profile.specs.declared.logout.Logout.TheVariants as logouts
@@ -67,10 +67,6 @@ shown_to (Some rules) path row = by_decision row (policies.decide rules path row
 abbrev pub rows_seen : SpRows → RowsView
 rows_seen rows = record { asked = rows.asked; opened = rows.opened; left = rows.left; spare = record { asked = 0; opened = 0; left = 0 } }
 
--- the number of the code for an ended registry
-abbrev pub REGISTRY_EXPIRED : ℕ
-REGISTRY_EXPIRED = 70
-
 -- the IDs of a record
 abbrev pub HasIds : SpRecord → List ℕ → List ℕ → Type 0
 HasIds r first second = (drawn_id r 0 ≡ Some first) × (drawn_id r 1 ≡ Some second)
@@ -127,7 +123,7 @@ pub data Answers (setup : Setup) (held : Held) (request : Request) (now : ℕ) (
       → answer ≡ Fixed (number_of verdict) → adds ≡ None → Answers setup held request now answer adds
   -- the registry has ended: nothing is asked, no session is opened, and no logout is served
   ByExpiry : (route request ≡ To Consumer) ⊎ (((route request ≡ To App) × (session_for held now request ≡ None)) ⊎ ((route request ≡ To Logout) ⊎ (route request ≡ To SingleLogout)))
-      → is_expired setup.expiry now ≡ true → answer ≡ Fixed REGISTRY_EXPIRED → adds ≡ None → Answers setup held request now answer adds
+      → is_expired setup.expiry now ≡ true → answer ≡ Fixed (number_of RegistryExpired) → adds ≡ None → Answers setup held request now answer adds
   -- a user leaves a live session, and the identity provider is asked to end its own: SAML Profiles, 4.4.3.1
   ByLeaving : (row : OpenedRow) (id bytes : List ℕ) → route request ≡ To Logout → is_expired setup.expiry now ≡ false → session_for held now request ≡ Some row
       → adds ≡ Some (left_record setup.config held now row.token) → HasId (left_record setup.config held now row.token) id
@@ -162,14 +158,6 @@ pub data Answers (setup : Setup) (held : Held) (request : Request) (now : ℕ) (
 -- A provider: what it is set up with, and its ledger. What it does with what it answers is said of each provider.
 abbrev pub Provider : Type 0
 Provider = any.Provider Setup SpRecord
-
--- there is room for a record: fewer rows of its kind are kept than may be, and it fits
-abbrev pub HasPlace : Held → SpRecord → Type 0
-HasPlace = any.HasPlace request_rules
-
--- A record was to be added, there was no place for it, and one compaction made this of the ledger.
-abbrev pub MakesRoom : Setup → (found : Held) → Request → (now : ℕ) → (held : Held) → Type 0
-MakesRoom = any.MakesRoom request_rules Answers
 
 -- What is done at a request over the ledger that it finds: the request and the moment; whether the disk's count of faults rose;
 -- the answer; the provider before and after.

@@ -8,7 +8,6 @@ ghost use Rattle.sp_server.specs.Routes.{route};
 ghost use Rattle.sp_server.specs.Step.{session_for, shown_to};
 
 use crate::reply::Reply;
-use crate::replying::REGISTRY_EXPIRED;
 use crate::role::SpRole;
 use fault_verdicts::Judged;
 use http_wire::{Answer, HttpRequest, cookie_of};
@@ -17,6 +16,7 @@ use provider_node::Replied;
 use request_ledger::{Ledger, session};
 use request_rows::OpenedRow;
 use sp_answers::{denied_answer, user_answer};
+use verdict_codes::Verdict;
 
 /// The name of the cookie that holds the token of a session.
 const SESSION_COOKIE: &str = "sp_sid";
@@ -48,6 +48,11 @@ impl SpRole {
     }
 
     /// What is replied to a request for a page.
+    ///
+    /// # Errors
+    ///
+    /// `RegistryExpired` where the user has no live session and the registry has ended. `NoMemory` may come in place of
+    /// any other answer.
     pub(crate) fn reply_app(
         &self,
         ledger: &Ledger,
@@ -62,7 +67,7 @@ impl SpRole {
             return Ok(Replied::Plain(Answer::Full(bytes)));
         }
         if self.is_expired(now) {
-            return Ok(Replied::Plain(Answer::Fixed(REGISTRY_EXPIRED)));
+            return Err(Judged::Code(Verdict::RegistryExpired));
         }
         let target = Text::of(self.alloc, request.path)?;
         Ok(Replied::ForRecord(Reply::Ask { target }))

@@ -7,21 +7,22 @@ ghost use Rattle.sp_server.specs.declared.route.Service.TheVariants.{Consumer};
 ghost use Rattle.sp_server.specs.Routes.{route};
 
 use crate::reply::Reply;
-use crate::replying::REGISTRY_EXPIRED;
 use crate::role::SpRole;
-use http_wire::{Answer, HttpRequest};
+use http_wire::HttpRequest;
 use provider_node::Replied;
 use request_ledger::{Ledger, rows};
 use saml_time::LAST;
 use sp_answers::laws::{like_rows_are_judged_alike, what_is_accepted_can_be_recorded};
 use sp_rules::{Judged, judge};
+use verdict_codes::Verdict;
 
 impl SpRole {
     /// What is replied to a posted form.
     ///
     /// # Errors
     ///
-    /// The verdict on the form. `NoMemory` may come in place of any other answer.
+    /// `RegistryExpired` where the registry has ended; else the verdict on the form. `NoMemory` may come in place of any
+    /// other answer.
     pub(crate) fn reply_form(
         &self,
         ledger: &Ledger,
@@ -33,7 +34,7 @@ impl SpRole {
         ensures { RepliesTo self.now ledger.now.held (request_view request.now) now result }
     {
         if self.is_expired(now) {
-            return Ok(Replied::Plain(Answer::Fixed(REGISTRY_EXPIRED)));
+            return Err(Judged::Code(Verdict::RegistryExpired));
         }
         // The ledger holds texts of characters that a document may hold: those of a session stand in one.
         what_is_accepted_can_be_recorded();

@@ -98,6 +98,10 @@ impl SpRole {
     }
 
     /// What is replied to a proxy that asks who a request comes from. Nothing is recorded.
+    ///
+    /// # Errors
+    ///
+    /// `NoMemory` alone.
     pub(crate) fn reply_guard(
         &self,
         ledger: &Ledger,

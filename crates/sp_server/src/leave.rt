@@ -12,10 +12,9 @@ ghost use Rattle.sp_server.specs.Routes.{route};
 
 use crate::app::session_for;
 use crate::reply::Reply;
-use crate::replying::REGISTRY_EXPIRED;
 use crate::role::SpRole;
 use fault_verdicts::Judged;
-use http_wire::{Answer, HttpRequest};
+use http_wire::HttpRequest;
 use owned_values::{NoMemory, Text, Texts};
 use provider_node::Replied;
 use request_ledger::Ledger;
@@ -63,7 +62,8 @@ impl SpRole {
     ///
     /// # Errors
     ///
-    /// `NoSuchSession` where the user has no live session. `NoMemory` may come in place of any other answer.
+    /// `RegistryExpired` where the registry has ended; `NoSuchSession` where the user has no live session. `NoMemory` may
+    /// come in place of any other answer.
     pub(crate) fn reply_leave(
         &self,
         ledger: &Ledger,
@@ -74,7 +74,7 @@ impl SpRole {
         ensures { RepliesTo self.now ledger.now.held (request_view request.now) now result }
     {
         if self.is_expired(now) {
-            return Ok(Replied::Plain(Answer::Fixed(REGISTRY_EXPIRED)));
+            return Err(Judged::Code(Verdict::RegistryExpired));
         }
         ledger.holds_records();
         match session_for(ledger, request, now) {

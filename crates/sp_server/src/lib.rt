@@ -39,24 +39,25 @@
 //! where there is no room even then, 50 only where the disk's count rose in this request, 53 only where a ledger that
 //! had failed is opened again and the disk holds none; 52 adds no record. At every moment a crash leaves the ledger
 //! that the request found, as compacted, or either with the record (`moments`). Laws: a session is recorded only where
-//! a posted form opens it, and wherever one does, where there is room, the disk does not fail and memory is found
-//! (`a_session_opens_exactly`); over each list of events, moments, disk faults and openings on a disk that tells, what
-//! an answer acknowledged is in the history of every ledger that a crash may leave, and no two sessions are of one
-//! request, those that were let go included (`what_is_acknowledged_is_kept_once`), and so over each list of starts,
-//! wherever a crash stopped one (`what_is_acknowledged_is_kept_once_over_starts`); from the moment of a compaction on
-//! each form has the verdict that it had without (`compactions_change_no_verdict`); a session is closed only where its
-//! user leaves it or an accepted LogoutRequest asks to end it, and wherever one does, where there is room, the disk
+//! a posted form opens it, and wherever one does, where no registry has ended, there is room, at once or behind one
+//! compaction, the disk does not fail and memory is found (`a_session_opens_exactly`); over each list of events,
+//! moments, disk faults and openings on a disk that tells, what an answer acknowledged is in the history of every
+//! ledger that a crash may leave, and no two sessions are of one request, those that were let go included
+//! (`what_is_acknowledged_is_kept_once`), and so over each list of starts, wherever a crash stopped one
+//! (`what_is_acknowledged_is_kept_once_over_starts`); from the moment of a compaction on each form has the verdict that
+//! it had without (`compactions_change_no_verdict`); a session is closed only where its user leaves it or an accepted
+//! LogoutRequest asks to end it, and wherever one does, where there is room, at once or behind one compaction, the disk
 //! does not fail and memory is found (`a_session_is_closed_exactly`), nothing else closes one, and it is live at no
 //! later request and in no ledger that a crash may leave since (`a_closed_session_stays_closed`,
 //! `sessions_stay_closed_in_a_service`, `sessions_stay_closed_over_starts`); each form and page that is answered to a
 //! POST, and each form that asks for a login, stands for a record that is in every image that a crash may leave behind
 //! the step, as far as the disk tells (`what_is_answered_is_recorded`); a guard answers 200 exactly where the cookie's
-//! session lives and there is no policy, or one that allows the path, which is plain then, names that session's user and values, depends
-//! on nothing but that row, and leaves the ledger as it was (`a_guard_tells_exactly`). A session whose answer went out
-//! is found as it was left in each image that a crash may leave, in a service and over starts, and a request stays
-//! spent while it could be answered (`what_was_opened_is_as_left`, `sessions_stay_in_a_service`,
-//! `sessions_stay_over_starts`); at 52 all that may be asked of the rows is answered as before, where
-//! the ledger was not broken (`what_is_visible_stays`).
+//! session lives and there is no policy, or one that allows the path, which is plain then, names that session's user
+//! and values, depends on nothing but that row, and leaves the ledger as it was (`a_guard_tells_exactly`). A session
+//! whose answer went out is found as it was left in each image that a crash may leave, in a service and over starts,
+//! and a request stays spent while it could be answered (`what_was_opened_is_as_left`, `sessions_stay_in_a_service`,
+//! `sessions_stay_over_starts`); at 52 all that may be asked of the rows is answered as before, where the ledger was
+//! not broken (`what_is_visible_stays`).
 #![tactic(auto)]
 
 mod app;

@@ -16,9 +16,6 @@ use service_routes::Route;
 use sp_answers::metadata_answer;
 use verdict_codes::Verdict;
 
-/// The code that is answered where the registry of metadata has ended.
-pub(crate) const REGISTRY_EXPIRED: u16 = 70;
-
 impl Role for SpRole {
     ghost use Rattle.sp_server.specs.Replies.{sp_replies};
     ghost use Rattle.sp_server.specs.Step.{Answers};

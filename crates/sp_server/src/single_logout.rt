@@ -10,15 +10,15 @@ ghost use Rattle.sp_server.specs.Routes.{route};
 
 use crate::peer::{idp_at, second_key};
 use crate::reply::Reply;
-use crate::replying::REGISTRY_EXPIRED;
 use crate::role::SpRole;
-use http_wire::{Answer, HttpRequest};
+use http_wire::HttpRequest;
 use logout_answers::logout_address;
 use logout_profile::laws::what_an_obeyed_form_says;
 use logout_profile::{Judged, Logout, judge_logout_with};
 use provider_node::Replied;
 use request_ledger::Ledger;
 use saml_time::LAST;
+use verdict_codes::Verdict;
 
 impl SpRole {
     /// What a posted message of a logout asks for.
@@ -58,7 +58,8 @@ impl SpRole {
     ///
     /// # Errors
     ///
-    /// The verdict on the message. `NoMemory` may come in place of any other answer.
+    /// `RegistryExpired` where the registry has ended; else the verdict on the message. `NoMemory` may come in place of any
+    /// other answer.
     pub(crate) fn reply_logout(
         &self,
         ledger: &Ledger,
@@ -70,7 +71,7 @@ impl SpRole {
         ensures { RepliesTo self.now ledger.now.held (request_view request.now) now result }
     {
         if self.is_expired(now) {
-            return Ok(Replied::Plain(Answer::Fixed(REGISTRY_EXPIRED)));
+            return Err(Judged::Code(Verdict::RegistryExpired));
         }
         Ok(Replied::ForRecord(self.asked_by(now, request.body)?))
     }

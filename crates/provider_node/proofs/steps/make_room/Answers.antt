@@ -62,4 +62,4 @@ returns-clause-moments g c =
     c.compact.new.disk c.args.now old.held c.compact.result
     c.compact.ensures.moments c.compact.ensures.calls)
     (room_leaves g.R.Rows.Standing.rules g.R.Role.answers c.args.role.now old.held request c.args.now told full.r other.0
-    other.1 full.none)
+    other.1 full.none c.holds_records.ensures)
