@@ -9,8 +9,8 @@ use Rattle.std.proofs.lemmas.List.{take_at, drop_at, take-append-drop, length-ap
 use Rattle.std.proofs.lemmas.Nat.{be_bytes_4, be_bytes_8, from_be_bytes-to_be_bytes_4, from_be_bytes-to_be_bytes_8}
 use Rattle.ledger_records.specs.declared.key_number.KeyNumber.{KeyNumber}
 use Rattle.ledger_records.specs.declared.key_number.KeyNumber.TheVariants.{First, Second}
-use Rattle.ledger_records.specs.Fields.{number, count, text, optional, flag, key_byte}
-use Rattle.ledger_records.specs.Reading.{◌>>=◌, number_at, in_utf8, text_of, text_at, flag_at, key_at, optional_at, text_if}
+use Rattle.ledger_records.specs.Fields.{number, count, text, option_of, flag, key_byte}
+use Rattle.ledger_records.specs.Reading.{◌>>=◌, number_at, in_utf8, text_of, text_at, flag_at, key_at, option_at, value_if}
 
 -- ---- bytes
 
@@ -211,31 +211,32 @@ key_again Second rest may short = refl
 pub key_spelled : Spelled key_at key_bytes (λ _. Unit {0})
 key_spelled = record { takes = key_takes; again = key_again; long = λ key. omega arith }
 
--- ---- a text that may be absent
+-- ---- a value that may be absent
 
-optional_of : (bytes : List ℕ) (is : Bool) (behind : List ℕ) (o : Option (List ℕ)) (rest : List ℕ) → Takes bytes (flag is) behind → text_if (is, behind) ≡ Some (o, rest) → Takes bytes (optional o) rest × IfSome o IsUtf8
-optional_of bytes false behind o rest t e = subst (λ (p : Option (List ℕ) × List ℕ). Takes bytes (optional p.0) p.1 × IfSome p.0 IsUtf8) (some_is (None, behind) (o, rest) e) (t, tt)
-optional_of bytes true behind o rest t e =
-    let b = bind_some (text_at behind) (λ x. Some (Some x.0, x.1)) (o, rest) e in
-    let u = text_takes behind b.0.0 b.0.1 t.rest_fits b.1 in
-    subst (λ (p : Option (List ℕ) × List ℕ). Takes bytes (optional p.0) p.1 × IfSome p.0 IsUtf8) (some_is (Some b.0.0, b.0.1) (o, rest) b.2) (Takes-then bytes (1 ∷ []) behind (text b.0.0) b.0.1 t u.0, u.1)
+module _ {X : Type 0} (at : List ℕ → Option (X × List ℕ)) (spelling : X → List ℕ) (May : X → Type 0) (law : Spelled at spelling May) where
+  value_takes : (bytes : List ℕ) (is : Bool) (behind : List ℕ) (o : Option X) (rest : List ℕ) → Takes bytes (flag is) behind → value_if at (is, behind) ≡ Some (o, rest) → Takes bytes (option_of spelling o) rest × IfSome o May
+  value_takes bytes false behind o rest t e = subst (λ (p : Option X × List ℕ). Takes bytes (option_of spelling p.0) p.1 × IfSome p.0 May) (some_is (None, behind) (o, rest) e) (t, tt)
+  value_takes bytes true behind o rest t e =
+      let b = bind_some (at behind) (λ x. Some (Some x.0, x.1)) (o, rest) e in
+      let u = law.takes behind b.0.0 b.0.1 t.rest_fits b.1 in
+      subst (λ (p : Option X × List ℕ). Takes bytes (option_of spelling p.0) p.1 × IfSome p.0 May) (some_is (Some b.0.0, b.0.1) (o, rest) b.2) (Takes-then bytes (1 ∷ []) behind (spelling b.0.0) b.0.1 t u.0, u.1)
 
-optional_takes : (bytes : List ℕ) (o : Option (List ℕ)) (rest : List ℕ) → IsBytes bytes → optional_at bytes ≡ Some (o, rest) → Takes bytes (optional o) rest × IfSome o IsUtf8
-unfolding optional_at
-optional_takes bytes o rest fits e =
-    let b = bind_some (flag_at bytes) text_if (o, rest) e in
-    optional_of bytes b.0.0 b.0.1 o rest (flag_takes bytes b.0.0 b.0.1 fits b.1).0 b.2
+  option_takes : (bytes : List ℕ) (o : Option X) (rest : List ℕ) → IsBytes bytes → option_at at bytes ≡ Some (o, rest) → Takes bytes (option_of spelling o) rest × IfSome o May
+  unfolding option_at
+  option_takes bytes o rest fits e =
+      let b = bind_some (flag_at bytes) (value_if at) (o, rest) e in
+      value_takes bytes b.0.0 b.0.1 o rest (flag_takes bytes b.0.0 b.0.1 fits b.1).0 b.2
 
-optional_again : (o : Option (List ℕ)) (rest : List ℕ) → IfSome o IsUtf8 → length (optional o ++ rest) < 2 ^ 32 → optional_at (optional o ++ rest) ≡ Some (o, rest)
-unfolding optional_at flag_at
-optional_again None rest may short = refl
-optional_again (Some chars) rest may short =
-    let fits : length (text chars ++ rest) < 2 ^ 32 = omega arith in
-    ap (λ (front : Option (List ℕ × List ℕ)). front >>= λ x. Some (Some x.0, x.1)) (text_again chars rest may fits)
+  option_again : (o : Option X) (rest : List ℕ) → IfSome o May → length (option_of spelling o ++ rest) < 2 ^ 32 → option_at at (option_of spelling o ++ rest) ≡ Some (o, rest)
+  unfolding option_at flag_at
+  option_again None rest may short = refl
+  option_again (Some x) rest may short =
+      let fits : length (spelling x ++ rest) < 2 ^ 32 = omega arith in
+      ap (λ (front : Option (X × List ℕ)). front >>= λ x. Some (Some x.0, x.1)) (law.again x rest may fits)
 
-optional_long : (o : Option (List ℕ)) → 0 < length (optional o)
-optional_long None = omega arith
-optional_long (Some chars) = omega arith
+  option_long : (o : Option X) → 0 < length (option_of spelling o)
+  option_long None = omega arith
+  option_long (Some x) = omega arith
 
-pub optional_spelled : Spelled optional_at optional (λ o. IfSome o IsUtf8)
-optional_spelled = record { takes = optional_takes; again = optional_again; long = optional_long }
+  pub option_spelled : Spelled (option_at at) (option_of spelling) (λ o. IfSome o May)
+  option_spelled = record { takes = option_takes; again = option_again; long = option_long }

@@ -1,6 +1,6 @@
 -- Lists of items, and the fields of a record.
 use Rattle.std.proofs.Common.{◌≡◌, ℕ, zero, suc, ◌+◌, ◌^◌, ◌<◌, ◌≤◌, cond, eqb, List, [], ◌∷◌, ◌++◌, length, Option, Some, None, refl, sym, ap, subst, ◌∙◌, append_assoc, arith}
-use Rattle.std.specs.Prelude.{map, IfSome, IsUtf8, Bool, true, false}
+use Rattle.std.specs.Prelude.{map, IfSome, IsUtf8}
 use Rattle.std.specs.List.{flat_map, AllByRecursion}
 use Rattle.std.specs.Int.{w32, w64}
 use Rattle.std.proofs.lemmas.Bool.{eqb-true}
@@ -8,9 +8,9 @@ use Rattle.std.proofs.lemmas.List.{nil_from_length, length-append}
 use Rattle.owned_values.specs.declared.attributes.Attribute.{Attribute}
 use Rattle.logout_turns.specs.declared.part.Asker.{Asker as AskerOf}
 use Rattle.logout_turns.specs.declared.turns.Turn.{Turn}
-use Rattle.ledger_records.specs.Fields.{number, count, text, optional, texts, attribute, attributes, asking, asker, turn, turns, flag, IsAttribute, IsAsking, IsTurn, Field, NoNumber, Number, Text, Optional, Texts, Attributes, Asker, Turns, Flag, Key, field, bytes_of, IsField, AreFields}
-use Rattle.ledger_records.specs.Reading.{◌>>=◌, number_at, text_at, optional_at, flag_at, key_at, many_at, list_at, attribute_at, asking_at, asker_if, asker_at, turn_at, no_number_at, Form, NoNumberForm, NumberForm, TextForm, OptionalForm, TextsForm, AttributesForm, AskerForm, TurnsForm, FlagForm, KeyForm, as_field, field_at, fields_in, record_in}
-use Rattle.ledger_records.proofs.Fronts.{IsBytes, IsBytes-rest, bind_some, test_some, some_is, Takes, Takes-then, Spelled, numbers, counts, wide32, number_again, wide64, text_spelled, flag_spelled, key_spelled, key_bytes, optional_spelled}
+use Rattle.ledger_records.specs.Fields.{number, count, text, option_of, list_of, attribute, asking, turn, IsAttribute, IsAsking, IsTurn, Field, NoNumber, Number, Text, Optional, Texts, Attributes, Asker, Turns, Flag, Key, field, bytes_of, IsField, AreFields}
+use Rattle.ledger_records.specs.Reading.{◌>>=◌, number_at, text_at, option_at, flag_at, key_at, many_at, list_at, attribute_at, asking_at, turn_at, no_number_at, Form, NoNumberForm, NumberForm, TextForm, OptionalForm, TextsForm, AttributesForm, AskerForm, TurnsForm, FlagForm, KeyForm, as_field, field_at, fields_in, record_in}
+use Rattle.ledger_records.proofs.Fronts.{IsBytes, IsBytes-rest, bind_some, test_some, some_is, Takes, Takes-then, Spelled, numbers, counts, wide32, number_again, wide64, text_spelled, flag_spelled, key_spelled, key_bytes, option_spelled}
 
 -- ---- several items
 
@@ -40,10 +40,7 @@ length-le-flat_map : {X : Type 0} (spelling : X → List ℕ) → ((x : X) → 0
 length-le-flat_map spelling long [] = omega arith
 length-le-flat_map spelling long (x ∷ xs) = omega (arith, long x, length-le-flat_map spelling long xs, length-append (spelling x) (flat_map spelling xs))
 
-abbrev listed : {X : Type 0} → (X → List ℕ) → List X → List ℕ
-listed spelling xs = count (length xs) ++ flat_map spelling xs
-
-list_takes : {X : Type 0} (at : List ℕ → Option (X × List ℕ)) (spelling : X → List ℕ) (May : X → Type 0) → Spelled at spelling May → (bytes : List ℕ) (xs : List X) (rest : List ℕ) → IsBytes bytes → list_at at bytes ≡ Some (xs, rest) → Takes bytes (listed spelling xs) rest × AllByRecursion May xs
+list_takes : {X : Type 0} (at : List ℕ → Option (X × List ℕ)) (spelling : X → List ℕ) (May : X → Type 0) → Spelled at spelling May → (bytes : List ℕ) (xs : List X) (rest : List ℕ) → IsBytes bytes → list_at at bytes ≡ Some (xs, rest) → Takes bytes (list_of spelling xs) rest × AllByRecursion May xs
 unfolding list_at
 list_takes at spelling May law bytes xs rest fits e =
     let b = bind_some (number_at w32 bytes) (λ n. many_at at n.0 n.1) (xs, rest) e in
@@ -52,21 +49,21 @@ list_takes at spelling May law bytes xs rest fits e =
     let both = Takes-then bytes (count b.0.0) b.0.1 (flat_map spelling xs) rest t.0 u.0 in
     (subst (λ (k : ℕ). Takes bytes (count k ++ flat_map spelling xs) rest) (sym u.2) both, u.1)
 
-list_again : {X : Type 0} (at : List ℕ → Option (X × List ℕ)) (spelling : X → List ℕ) (May : X → Type 0) → Spelled at spelling May → (xs : List X) (rest : List ℕ) → AllByRecursion May xs → length (listed spelling xs ++ rest) < 2 ^ 32 → list_at at (listed spelling xs ++ rest) ≡ Some (xs, rest)
+list_again : {X : Type 0} (at : List ℕ → Option (X × List ℕ)) (spelling : X → List ℕ) (May : X → Type 0) → Spelled at spelling May → (xs : List X) (rest : List ℕ) → AllByRecursion May xs → length (list_of spelling xs ++ rest) < 2 ^ 32 → list_at at (list_of spelling xs ++ rest) ≡ Some (xs, rest)
 unfolding list_at
 list_again at spelling May law xs rest may short =
     let behind : length (flat_map spelling xs ++ rest) < 2 ^ 32 = omega arith in
     let few : length xs < 2 ^ 32 = omega (arith, length-le-flat_map spelling law.long xs, length-append (flat_map spelling xs) rest) in
     rw (number_again w32 (2 ^ 32) wide32 (length xs) (flat_map spelling xs ++ rest) few) (many_again at spelling May law xs rest may behind)
 
-list_spelled : {X : Type 0} (at : List ℕ → Option (X × List ℕ)) (spelling : X → List ℕ) (May : X → Type 0) → Spelled at spelling May → Spelled (list_at at) (listed spelling) (AllByRecursion May)
+list_spelled : {X : Type 0} (at : List ℕ → Option (X × List ℕ)) (spelling : X → List ℕ) (May : X → Type 0) → Spelled at spelling May → Spelled (list_at at) (list_of spelling) (AllByRecursion May)
 list_spelled at spelling May law = record {
   takes = list_takes at spelling May law;
   again = list_again at spelling May law;
   long = λ xs. omega arith;
 }
 
-pub texts_spelled : Spelled (list_at text_at) texts (AllByRecursion IsUtf8)
+pub texts_spelled : Spelled (list_at text_at) (list_of text) (AllByRecursion IsUtf8)
 texts_spelled = list_spelled text_at text IsUtf8 text_spelled
 
 -- ---- attributes
@@ -79,80 +76,66 @@ attribute_takes bytes a rest fits e =
     let t = text_spelled.takes bytes b.0.0 b.0.1 fits b.1 in
     let u = texts_spelled.takes b.0.1 d.0.0 d.0.1 t.0.rest_fits d.1 in
     let made : Attribute × List ℕ = (record { name = b.0.0; values = d.0.0 }, d.0.1) in
-    subst (λ (p : Attribute × List ℕ). Takes bytes (attribute p.0) p.1 × IsAttribute p.0) (some_is made (a, rest) d.2) (Takes-then bytes (text b.0.0) b.0.1 (texts d.0.0) d.0.1 t.0 u.0, record { name = t.1; values = u.1 })
+    subst (λ (p : Attribute × List ℕ). Takes bytes (attribute p.0) p.1 × IsAttribute p.0) (some_is made (a, rest) d.2) (Takes-then bytes (text b.0.0) b.0.1 (list_of text d.0.0) d.0.1 t.0 u.0, record { name = t.1; values = u.1 })
 
 attribute_again : (a : Attribute) (rest : List ℕ) → IsAttribute a → length (attribute a ++ rest) < 2 ^ 32 → attribute_at (attribute a ++ rest) ≡ Some (a, rest)
 unfolding attribute_at
 attribute_again a rest may short =
-    let regrouped : attribute a ++ rest ≡ text a.name ++ (texts a.values ++ rest) = append_assoc (text a.name) (texts a.values) rest in
-    let whole : length (text a.name ++ (texts a.values ++ rest)) < 2 ^ 32 = subst (λ (bytes : List ℕ). length bytes < 2 ^ 32) regrouped short in
-    let behind : length (texts a.values ++ rest) < 2 ^ 32 = omega (arith, length-append (text a.name) (texts a.values ++ rest)) in
-    ap attribute_at regrouped ∙ rw (text_spelled.again a.name (texts a.values ++ rest) may.name whole, texts_spelled.again a.values rest may.values behind) refl
+    let regrouped : attribute a ++ rest ≡ text a.name ++ (list_of text a.values ++ rest) = append_assoc (text a.name) (list_of text a.values) rest in
+    let whole : length (text a.name ++ (list_of text a.values ++ rest)) < 2 ^ 32 = subst (λ (bytes : List ℕ). length bytes < 2 ^ 32) regrouped short in
+    let behind : length (list_of text a.values ++ rest) < 2 ^ 32 = omega (arith, length-append (text a.name) (list_of text a.values ++ rest)) in
+    ap attribute_at regrouped ∙ rw (text_spelled.again a.name (list_of text a.values ++ rest) may.name whole, texts_spelled.again a.values rest may.values behind) refl
 
 attribute_spelled : Spelled attribute_at attribute IsAttribute
 attribute_spelled = record {
   takes = attribute_takes;
   again = attribute_again;
-  long = λ a. omega (arith, text_spelled.long a.name, length-append (text a.name) (texts a.values));
+  long = λ a. omega (arith, text_spelled.long a.name, length-append (text a.name) (list_of text a.values));
 }
 
-pub attributes_spelled : Spelled (list_at attribute_at) attributes (AllByRecursion IsAttribute)
+pub attributes_spelled : Spelled (list_at attribute_at) (list_of attribute) (AllByRecursion IsAttribute)
 attributes_spelled = list_spelled attribute_at attribute IsAttribute attribute_spelled
 
 -- ---- askers
 
+optional_spelled : Spelled (option_at text_at) (option_of text) (λ o. IfSome o IsUtf8)
+optional_spelled = option_spelled text_at text IsUtf8 text_spelled
+
 asking_takes : (bytes : List ℕ) (a : AskerOf) (rest : List ℕ) → IsBytes bytes → asking_at bytes ≡ Some (a, rest) → Takes bytes (asking a) rest × IsAsking a
 unfolding asking_at
 asking_takes bytes a rest fits e =
-    let b = bind_some (text_at bytes) (λ peer. text_at peer.1 >>= λ request. optional_at request.1 >>= λ relay. Some (record { peer = peer.0; request = request.0; relay = relay.0 }, relay.1)) (a, rest) e in
-    let c = bind_some (text_at b.0.1) (λ request. optional_at request.1 >>= λ relay. Some (record { peer = b.0.0; request = request.0; relay = relay.0 }, relay.1)) (a, rest) b.2 in
-    let d = bind_some (optional_at c.0.1) (λ relay. Some (record { peer = b.0.0; request = c.0.0; relay = relay.0 }, relay.1)) (a, rest) c.2 in
+    let b = bind_some (text_at bytes) (λ peer. text_at peer.1 >>= λ request. option_at text_at request.1 >>= λ relay. Some (record { peer = peer.0; request = request.0; relay = relay.0 }, relay.1)) (a, rest) e in
+    let c = bind_some (text_at b.0.1) (λ request. option_at text_at request.1 >>= λ relay. Some (record { peer = b.0.0; request = request.0; relay = relay.0 }, relay.1)) (a, rest) b.2 in
+    let d = bind_some (option_at text_at c.0.1) (λ relay. Some (record { peer = b.0.0; request = c.0.0; relay = relay.0 }, relay.1)) (a, rest) c.2 in
     let t = text_spelled.takes bytes b.0.0 b.0.1 fits b.1 in
     let u = text_spelled.takes b.0.1 c.0.0 c.0.1 t.0.rest_fits c.1 in
     let v = optional_spelled.takes c.0.1 d.0.0 d.0.1 u.0.rest_fits d.1 in
     let made : AskerOf × List ℕ = (record { peer = b.0.0; request = c.0.0; relay = d.0.0 }, d.0.1) in
-    let last = Takes-then b.0.1 (text c.0.0) c.0.1 (optional d.0.0) d.0.1 u.0 v.0 in
+    let last = Takes-then b.0.1 (text c.0.0) c.0.1 (option_of text d.0.0) d.0.1 u.0 v.0 in
     subst (λ (p : AskerOf × List ℕ). Takes bytes (asking p.0) p.1 × IsAsking p.0) (some_is made (a, rest) d.2)
-    (Takes-then bytes (text b.0.0) b.0.1 (text c.0.0 ++ optional d.0.0) d.0.1 t.0 last, record { peer = t.1; request = u.1; relay = v.1 })
+    (Takes-then bytes (text b.0.0) b.0.1 (text c.0.0 ++ option_of text d.0.0) d.0.1 t.0 last, record { peer = t.1; request = u.1; relay = v.1 })
 
 asking_again : (a : AskerOf) (rest : List ℕ) → IsAsking a → length (asking a ++ rest) < 2 ^ 32 → asking_at (asking a ++ rest) ≡ Some (a, rest)
 unfolding asking_at
 asking_again a rest may short =
-    let inner : (text a.request ++ optional a.relay) ++ rest ≡ text a.request ++ (optional a.relay ++ rest) = append_assoc (text a.request) (optional a.relay) rest in
-    let regrouped : asking a ++ rest ≡ text a.peer ++ (text a.request ++ (optional a.relay ++ rest)) =
-    append_assoc (text a.peer) (text a.request ++ optional a.relay) rest ∙ ap (λ (s : List ℕ). text a.peer ++ s) inner in
-    let whole : length (text a.peer ++ (text a.request ++ (optional a.relay ++ rest))) < 2 ^ 32 = subst (λ (bytes : List ℕ). length bytes < 2 ^ 32) regrouped short in
-    let behind : length (text a.request ++ (optional a.relay ++ rest)) < 2 ^ 32 = omega (arith, length-append (text a.peer) (text a.request ++ (optional a.relay ++ rest))) in
-    let last : length (optional a.relay ++ rest) < 2 ^ 32 = omega (arith, length-append (text a.request) (optional a.relay ++ rest)) in
+    let inner : (text a.request ++ option_of text a.relay) ++ rest ≡ text a.request ++ (option_of text a.relay ++ rest) = append_assoc (text a.request) (option_of text a.relay) rest in
+    let regrouped : asking a ++ rest ≡ text a.peer ++ (text a.request ++ (option_of text a.relay ++ rest)) =
+    append_assoc (text a.peer) (text a.request ++ option_of text a.relay) rest ∙ ap (λ (s : List ℕ). text a.peer ++ s) inner in
+    let whole : length (text a.peer ++ (text a.request ++ (option_of text a.relay ++ rest))) < 2 ^ 32 = subst (λ (bytes : List ℕ). length bytes < 2 ^ 32) regrouped short in
+    let behind : length (text a.request ++ (option_of text a.relay ++ rest)) < 2 ^ 32 = omega (arith, length-append (text a.peer) (text a.request ++ (option_of text a.relay ++ rest))) in
+    let last : length (option_of text a.relay ++ rest) < 2 ^ 32 = omega (arith, length-append (text a.request) (option_of text a.relay ++ rest)) in
     ap asking_at regrouped
-    ∙ rw (text_spelled.again a.peer (text a.request ++ (optional a.relay ++ rest)) may.peer whole, text_spelled.again a.request (optional a.relay ++ rest) may.request behind, optional_spelled.again a.relay rest may.relay last) refl
+    ∙ rw (text_spelled.again a.peer (text a.request ++ (option_of text a.relay ++ rest)) may.peer whole, text_spelled.again a.request (option_of text a.relay ++ rest) may.request behind, optional_spelled.again a.relay rest may.relay last) refl
 
-asker_of : (bytes : List ℕ) (is : Bool) (behind : List ℕ) (o : Option AskerOf) (rest : List ℕ) → Takes bytes (flag is) behind → asker_if (is, behind) ≡ Some (o, rest) → Takes bytes (asker o) rest × IfSome o IsAsking
-asker_of bytes false behind o rest t e = subst (λ (p : Option AskerOf × List ℕ). Takes bytes (asker p.0) p.1 × IfSome p.0 IsAsking) (some_is (None, behind) (o, rest) e) (t, tt)
-asker_of bytes true behind o rest t e =
-    let b = bind_some (asking_at behind) (λ x. Some (Some x.0, x.1)) (o, rest) e in
-    let u = asking_takes behind b.0.0 b.0.1 t.rest_fits b.1 in
-    subst (λ (p : Option AskerOf × List ℕ). Takes bytes (asker p.0) p.1 × IfSome p.0 IsAsking) (some_is (Some b.0.0, b.0.1) (o, rest) b.2) (Takes-then bytes (1 ∷ []) behind (asking b.0.0) b.0.1 t u.0, u.1)
+asking_spelled : Spelled asking_at asking IsAsking
+asking_spelled = record {
+  takes = asking_takes;
+  again = asking_again;
+  long = λ a. omega (arith, text_spelled.long a.peer, length-append (text a.peer) (text a.request ++ option_of text a.relay));
+}
 
-asker_takes : (bytes : List ℕ) (o : Option AskerOf) (rest : List ℕ) → IsBytes bytes → asker_at bytes ≡ Some (o, rest) → Takes bytes (asker o) rest × IfSome o IsAsking
-unfolding asker_at
-asker_takes bytes o rest fits e =
-    let b = bind_some (flag_at bytes) asker_if (o, rest) e in
-    asker_of bytes b.0.0 b.0.1 o rest (flag_spelled.takes bytes b.0.0 b.0.1 fits b.1).0 b.2
-
-asker_again : (o : Option AskerOf) (rest : List ℕ) → IfSome o IsAsking → length (asker o ++ rest) < 2 ^ 32 → asker_at (asker o ++ rest) ≡ Some (o, rest)
-unfolding asker_at flag_at
-asker_again None rest may short = refl
-asker_again (Some a) rest may short =
-    let fits : length (asking a ++ rest) < 2 ^ 32 = omega arith in
-    ap (λ (front : Option (AskerOf × List ℕ)). front >>= λ x. Some (Some x.0, x.1)) (asking_again a rest may fits)
-
-asker_long : (o : Option AskerOf) → 0 < length (asker o)
-asker_long None = omega arith
-asker_long (Some a) = omega arith
-
-asker_spelled : Spelled asker_at asker (λ o. IfSome o IsAsking)
-asker_spelled = record { takes = asker_takes; again = asker_again; long = asker_long }
+asker_spelled : Spelled (option_at asking_at) (option_of asking) (λ o. IfSome o IsAsking)
+asker_spelled = option_spelled asking_at asking IsAsking asking_spelled
 
 -- ---- turns
 
@@ -166,30 +149,30 @@ turn_takes bytes a rest fits e =
     let u = text_spelled.takes b.0.1 c.0.0 c.0.1 t.0.rest_fits c.1 in
     let v = texts_spelled.takes c.0.1 d.0.0 d.0.1 u.0.rest_fits d.1 in
     let made : Turn × List ℕ = (record { peer = b.0.0; name = c.0.0; indexes = d.0.0 }, d.0.1) in
-    let last = Takes-then b.0.1 (text c.0.0) c.0.1 (texts d.0.0) d.0.1 u.0 v.0 in
+    let last = Takes-then b.0.1 (text c.0.0) c.0.1 (list_of text d.0.0) d.0.1 u.0 v.0 in
     subst (λ (p : Turn × List ℕ). Takes bytes (turn p.0) p.1 × IsTurn p.0) (some_is made (a, rest) d.2)
-    (Takes-then bytes (text b.0.0) b.0.1 (text c.0.0 ++ texts d.0.0) d.0.1 t.0 last, record { peer = t.1; name = u.1; indexes = v.1 })
+    (Takes-then bytes (text b.0.0) b.0.1 (text c.0.0 ++ list_of text d.0.0) d.0.1 t.0 last, record { peer = t.1; name = u.1; indexes = v.1 })
 
 turn_again : (t : Turn) (rest : List ℕ) → IsTurn t → length (turn t ++ rest) < 2 ^ 32 → turn_at (turn t ++ rest) ≡ Some (t, rest)
 unfolding turn_at
 turn_again a rest may short =
-    let inner : (text a.name ++ texts a.indexes) ++ rest ≡ text a.name ++ (texts a.indexes ++ rest) = append_assoc (text a.name) (texts a.indexes) rest in
-    let regrouped : turn a ++ rest ≡ text a.peer ++ (text a.name ++ (texts a.indexes ++ rest)) =
-    append_assoc (text a.peer) (text a.name ++ texts a.indexes) rest ∙ ap (λ (s : List ℕ). text a.peer ++ s) inner in
-    let whole : length (text a.peer ++ (text a.name ++ (texts a.indexes ++ rest))) < 2 ^ 32 = subst (λ (bytes : List ℕ). length bytes < 2 ^ 32) regrouped short in
-    let behind : length (text a.name ++ (texts a.indexes ++ rest)) < 2 ^ 32 = omega (arith, length-append (text a.peer) (text a.name ++ (texts a.indexes ++ rest))) in
-    let last : length (texts a.indexes ++ rest) < 2 ^ 32 = omega (arith, length-append (text a.name) (texts a.indexes ++ rest)) in
+    let inner : (text a.name ++ list_of text a.indexes) ++ rest ≡ text a.name ++ (list_of text a.indexes ++ rest) = append_assoc (text a.name) (list_of text a.indexes) rest in
+    let regrouped : turn a ++ rest ≡ text a.peer ++ (text a.name ++ (list_of text a.indexes ++ rest)) =
+    append_assoc (text a.peer) (text a.name ++ list_of text a.indexes) rest ∙ ap (λ (s : List ℕ). text a.peer ++ s) inner in
+    let whole : length (text a.peer ++ (text a.name ++ (list_of text a.indexes ++ rest))) < 2 ^ 32 = subst (λ (bytes : List ℕ). length bytes < 2 ^ 32) regrouped short in
+    let behind : length (text a.name ++ (list_of text a.indexes ++ rest)) < 2 ^ 32 = omega (arith, length-append (text a.peer) (text a.name ++ (list_of text a.indexes ++ rest))) in
+    let last : length (list_of text a.indexes ++ rest) < 2 ^ 32 = omega (arith, length-append (text a.name) (list_of text a.indexes ++ rest)) in
     ap turn_at regrouped
-    ∙ rw (text_spelled.again a.peer (text a.name ++ (texts a.indexes ++ rest)) may.peer whole, text_spelled.again a.name (texts a.indexes ++ rest) may.name behind, texts_spelled.again a.indexes rest may.indexes last) refl
+    ∙ rw (text_spelled.again a.peer (text a.name ++ (list_of text a.indexes ++ rest)) may.peer whole, text_spelled.again a.name (list_of text a.indexes ++ rest) may.name behind, texts_spelled.again a.indexes rest may.indexes last) refl
 
 turn_spelled : Spelled turn_at turn IsTurn
 turn_spelled = record {
   takes = turn_takes;
   again = turn_again;
-  long = λ t. omega (arith, text_spelled.long t.peer, length-append (text t.peer) (text t.name ++ texts t.indexes));
+  long = λ t. omega (arith, text_spelled.long t.peer, length-append (text t.peer) (text t.name ++ list_of text t.indexes));
 }
 
-turns_spelled : Spelled (list_at turn_at) turns (AllByRecursion IsTurn)
+turns_spelled : Spelled (list_at turn_at) (list_of turn) (AllByRecursion IsTurn)
 turns_spelled = list_spelled turn_at turn IsTurn turn_spelled
 
 -- ---- fields
@@ -228,11 +211,11 @@ field_takes : (form : Form) (bytes : List ℕ) (f : Field) (rest : List ℕ) →
 field_takes NoNumberForm = no_number_takes
 field_takes NumberForm = taken (number_at w64) number (λ n. n < 2 ^ 64) numbers Number (λ n. refl) (λ n may. may)
 field_takes TextForm = taken text_at text IsUtf8 text_spelled Text (λ t. refl) (λ t may. may)
-field_takes OptionalForm = taken optional_at _ _ optional_spelled Optional (λ t. refl) (λ t may. may)
-field_takes TextsForm = taken (list_at text_at) texts _ texts_spelled Texts (λ t. refl) (λ t may. may)
-field_takes AttributesForm = taken (list_at attribute_at) attributes _ attributes_spelled Attributes (λ t. refl) (λ t may. may)
-field_takes AskerForm = taken asker_at asker _ asker_spelled Asker (λ t. refl) (λ t may. may)
-field_takes TurnsForm = taken (list_at turn_at) turns _ turns_spelled Turns (λ t. refl) (λ t may. may)
+field_takes OptionalForm = taken (option_at text_at) _ _ optional_spelled Optional (λ t. refl) (λ t may. may)
+field_takes TextsForm = taken (list_at text_at) (list_of text) _ texts_spelled Texts (λ t. refl) (λ t may. may)
+field_takes AttributesForm = taken (list_at attribute_at) (list_of attribute) _ attributes_spelled Attributes (λ t. refl) (λ t may. may)
+field_takes AskerForm = taken (option_at asking_at) (option_of asking) _ asker_spelled Asker (λ t. refl) (λ t may. may)
+field_takes TurnsForm = taken (list_at turn_at) (list_of turn) _ turns_spelled Turns (λ t. refl) (λ t may. may)
 field_takes FlagForm = taken flag_at _ (λ _. Unit {0}) flag_spelled Flag (λ t. refl) (λ t may. may)
 field_takes KeyForm = taken key_at key_bytes (λ _. Unit {0}) key_spelled Key (λ t. refl) (λ t may. may)
 

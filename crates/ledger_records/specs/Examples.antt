@@ -5,7 +5,7 @@ use Rattle.ledger_records.specs.declared.key_number.KeyNumber.{KeyNumber}
 use Rattle.ledger_records.specs.declared.sp_record.Opened.{Opened}
 use Rattle.ledger_records.specs.declared.sp_record.SpRecord.TheVariants as sp
 use Rattle.ledger_records.specs.declared.idp_record.IdpRecord.TheVariants as idp
-use Rattle.ledger_records.specs.Fields.{number, text, optional, attributes, asker, turns}
+use Rattle.ledger_records.specs.Fields.{number, text, option_of, list_of, attribute, asking, turn}
 use Rattle.ledger_records.specs.SpRecord.{sp_bytes}
 use Rattle.ledger_records.specs.IdpRecord.{idp_bytes}
 
@@ -16,14 +16,15 @@ a_moment = refl
 a_text : text (codes "_r1") ≡ 0 ∷ 0 ∷ 0 ∷ 3 ∷ 95 ∷ 114 ∷ 49 ∷ []
 a_text = refl
 
-no_text : optional None ≡ 0 ∷ []
+no_text : option_of text None ≡ 0 ∷ []
 no_text = refl
 
-an_empty_text : optional (Some []) ≡ 1 ∷ 0 ∷ 0 ∷ 0 ∷ 0 ∷ []
+an_empty_text : option_of text (Some []) ≡ 1 ∷ 0 ∷ 0 ∷ 0 ∷ 0 ∷ []
 an_empty_text = refl
 
 -- the attribute `n` without values, and `m` with the value `a`
-two_attributes : attributes (record { name = codes "n"; values = [] } ∷ record { name = codes "m"; values = codes "a" ∷ [] } ∷ [])
+two_attributes : list_of attribute (
+    record { name = codes "n"; values = [] } ∷ record { name = codes "m"; values = codes "a" ∷ [] } ∷ [])
     ≡ 0 ∷ 0 ∷ 0 ∷ 2 ∷ (0 ∷ 0 ∷ 0 ∷ 1 ∷ 110 ∷ 0 ∷ 0 ∷ 0 ∷ 0 ∷ []) ++ (0 ∷ 0 ∷ 0 ∷ 1 ∷ 109 ∷ 0 ∷ 0 ∷ 0 ∷ 1 ∷ 0 ∷ 0 ∷ 0 ∷ 1 ∷ 97 ∷ [])
 two_attributes = refl
 
@@ -69,8 +70,10 @@ last_answer_bytes : idp_bytes (idp.Told (record { first = 0; moment = 7; request
 last_answer_bytes = refl
 
 -- a provider that asks, and a turn without an index
-asker_bytes : asker (Some (record { peer = codes "s"; request = codes "r"; relay = None })) ≡ 1 ∷ 0 ∷ 0 ∷ 0 ∷ 1 ∷ 115 ∷ 0 ∷ 0 ∷ 0 ∷ 1 ∷ 114 ∷ 0 ∷ []
+asker_bytes : option_of asking (Some (record { peer = codes "s"; request = codes "r"; relay = None }))
+    ≡ 1 ∷ 0 ∷ 0 ∷ 0 ∷ 1 ∷ 115 ∷ 0 ∷ 0 ∷ 0 ∷ 1 ∷ 114 ∷ 0 ∷ []
 asker_bytes = refl
 
-turn_bytes : turns (record { peer = codes "s"; name = []; indexes = [] } ∷ []) ≡ 0 ∷ 0 ∷ 0 ∷ 1 ∷ 0 ∷ 0 ∷ 0 ∷ 1 ∷ 115 ∷ 0 ∷ 0 ∷ 0 ∷ 0 ∷ 0 ∷ 0 ∷ 0 ∷ 0 ∷ []
+turn_bytes : list_of turn (record { peer = codes "s"; name = []; indexes = [] } ∷ [])
+    ≡ 0 ∷ 0 ∷ 0 ∷ 1 ∷ 0 ∷ 0 ∷ 0 ∷ 1 ∷ 115 ∷ 0 ∷ 0 ∷ 0 ∷ 0 ∷ 0 ∷ 0 ∷ 0 ∷ 0 ∷ []
 turn_bytes = refl

@@ -20,37 +20,26 @@ count n = to_be_bytes w32 n
 abbrev pub text : List ℕ → List ℕ
 text bytes = count (length bytes) ++ bytes
 
--- an option: 0x00, or 0x01 and the text
-abbrev pub optional : Option (List ℕ) → List ℕ
-optional None = 0 ∷ []
-optional (Some bytes) = 1 ∷ text bytes
+-- an option: 0x00, or 0x01 and the value
+abbrev pub option_of : {X : Type 0} → (X → List ℕ) → Option X → List ℕ
+option_of spelling None = 0 ∷ []
+option_of spelling (Some x) = 1 ∷ spelling x
 
 -- a list: how many items there are, and these
-abbrev pub texts : List (List ℕ) → List ℕ
-texts items = count (length items) ++ flat_map text items
+abbrev pub list_of : {X : Type 0} → (X → List ℕ) → List X → List ℕ
+list_of spelling items = count (length items) ++ flat_map spelling items
 
 -- an attribute: its name, and the list of its values
 abbrev pub attribute : Attribute → List ℕ
-attribute a = text a.name ++ texts a.values
-
-abbrev pub attributes : List Attribute → List ℕ
-attributes items = count (length items) ++ flat_map attribute items
+attribute a = text a.name ++ list_of text a.values
 
 -- a provider that asks: its entity, the ID of its request, and the relay state of that request
 abbrev pub asking : AskerOf → List ℕ
-asking a = text a.peer ++ (text a.request ++ optional a.relay)
-
--- the same where there may be none: 0x00, or 0x01 and that
-abbrev pub asker : Option AskerOf → List ℕ
-asker None = 0 ∷ []
-asker (Some a) = 1 ∷ asking a
+asking a = text a.peer ++ (text a.request ++ option_of text a.relay)
 
 -- a turn: the provider that is asked, the name of the user, and the list of the indexes
 abbrev pub turn : Turn → List ℕ
-turn t = text t.peer ++ (text t.name ++ texts t.indexes)
-
-abbrev pub turns : List Turn → List ℕ
-turns items = count (length items) ++ flat_map turn items
+turn t = text t.peer ++ (text t.name ++ list_of text t.indexes)
 
 -- no or yes: 0x00 or 0x01
 abbrev pub flag : Bool → List ℕ
@@ -80,17 +69,25 @@ abbrev pub field : Field → List ℕ
 field NoNumber = number 0
 field (Number n) = number n
 field (Text bytes) = text bytes
-field (Optional bytes) = optional bytes
-field (Texts items) = texts items
-field (Attributes items) = attributes items
-field (Asker a) = asker a
-field (Turns items) = turns items
+field (Optional bytes) = option_of text bytes
+field (Texts items) = list_of text items
+field (Attributes items) = list_of attribute items
+field (Asker a) = option_of asking a
+field (Turns items) = list_of turn items
 field (Flag is) = flag is
 field (Key key) = key_byte key ∷ []
 
 -- fields, one behind the other
 abbrev pub bytes_of : List Field → List ℕ
 bytes_of fields = flat_map field fields
+
+-- a kind with its fields
+abbrev pub of_kind : ℕ → List Field → ℕ × List Field
+of_kind kind fields = (kind, fields)
+
+-- the byte of the kind, and then the fields
+abbrev pub kind_bytes : ℕ × List Field → List ℕ
+kind_bytes (kind, fields) = kind ∷ bytes_of fields
 
 -- What a field may hold: a number of eight bytes, and texts in UTF-8.
 pub record IsAttribute (a : Attribute) : Type 0 where

@@ -48,25 +48,22 @@ unfoldable pub text_at : List ℕ → Front (List ℕ)
 text_at bytes = number_at w32 bytes >>= text_of
 
 unfoldable pub flag_at : List ℕ → Front Bool
-flag_at [] = None
 flag_at (zero ∷ rest) = Some (false, rest)
 flag_at (suc zero ∷ rest) = Some (true, rest)
-flag_at (suc (suc b) ∷ rest) = None
+flag_at _ = None
 
 unfoldable pub key_at : List ℕ → Front KeyNumber
-key_at [] = None
-key_at (zero ∷ rest) = None
 key_at (suc zero ∷ rest) = Some (First, rest)
 key_at (suc (suc zero) ∷ rest) = Some (Second, rest)
-key_at (suc (suc (suc b)) ∷ rest) = None
+key_at _ = None
 
--- the text where the flag says that there is one
-abbrev pub text_if : Bool × List ℕ → Front (Option (List ℕ))
-text_if (true, bytes) = text_at bytes >>= λ t. Some (Some t.0, t.1)
-text_if (false, bytes) = Some (None, bytes)
+-- the value where the flag says that there is one
+abbrev pub value_if : {X : Type 0} → (List ℕ → Front X) → Bool × List ℕ → Front (Option X)
+value_if value_at (true, bytes) = value_at bytes >>= λ x. Some (Some x.0, x.1)
+value_if value_at (false, bytes) = Some (None, bytes)
 
-unfoldable pub optional_at : List ℕ → Front (Option (List ℕ))
-optional_at bytes = flag_at bytes >>= text_if
+unfoldable pub option_at : {X : Type 0} → (List ℕ → Front X) → List ℕ → Front (Option X)
+option_at value_at bytes = flag_at bytes >>= value_if value_at
 
 -- so many items one after the other
 unfoldable pub many_at : {X : Type 0} → (List ℕ → Front X) → ℕ → List ℕ → Front (List X)
@@ -89,16 +86,8 @@ unfoldable pub asking_at : List ℕ → Front AskerOf
 asking_at bytes = do
   peer ← text_at bytes
   request ← text_at peer.1
-  relay ← optional_at request.1
+  relay ← option_at text_at request.1
   Some (record { peer = peer.0; request = request.0; relay = relay.0 }, relay.1)
-
--- the provider that asks where the flag says that there is one
-abbrev pub asker_if : Bool × List ℕ → Front (Option AskerOf)
-asker_if (true, bytes) = asking_at bytes >>= λ a. Some (Some a.0, a.1)
-asker_if (false, bytes) = Some (None, bytes)
-
-unfoldable pub asker_at : List ℕ → Front (Option AskerOf)
-asker_at bytes = flag_at bytes >>= asker_if
 
 unfoldable pub turn_at : List ℕ → Front Turn
 turn_at bytes = do
@@ -131,10 +120,10 @@ abbrev pub field_at : Form → List ℕ → Front Field
 field_at NoNumberForm bytes = no_number_at bytes
 field_at NumberForm bytes = number_at w64 bytes >>= as_field Number
 field_at TextForm bytes = text_at bytes >>= as_field Text
-field_at OptionalForm bytes = optional_at bytes >>= as_field Optional
+field_at OptionalForm bytes = option_at text_at bytes >>= as_field Optional
 field_at TextsForm bytes = list_at text_at bytes >>= as_field Texts
 field_at AttributesForm bytes = list_at attribute_at bytes >>= as_field Attributes
-field_at AskerForm bytes = asker_at bytes >>= as_field Asker
+field_at AskerForm bytes = option_at asking_at bytes >>= as_field Asker
 field_at TurnsForm bytes = list_at turn_at bytes >>= as_field Turns
 field_at FlagForm bytes = flag_at bytes >>= as_field Flag
 field_at KeyForm bytes = key_at bytes >>= as_field Key
@@ -147,71 +136,43 @@ fields_in (form ∷ forms) bytes = do
   others ← fields_in forms first.1
   Some (first.0 ∷ others)
 
--- the forms of a kind of record
-abbrev pub asked_forms : List Form
-asked_forms = NumberForm ∷ NumberForm ∷ NumberForm ∷ TextForm ∷ TextForm ∷ TextForm ∷ []
-
-abbrev pub key_forms : ℕ → List Form
-key_forms version = if version == 1 then [] else KeyForm ∷ []
-
-abbrev pub opened_forms : ℕ → List Form
-opened_forms version =
-    NumberForm ∷ NumberForm ∷ NumberForm ∷ TextForm ∷ TextForm ∷ TextForm ∷ NumberForm ∷ TextForm ∷ TextForm
-    ∷ OptionalForm ∷ AttributesForm ∷ key_forms version
-
-abbrev pub left_forms : List Form
-left_forms = NumberForm ∷ NumberForm ∷ NumberForm ∷ TextForm ∷ TextForm ∷ []
-
-abbrev pub ended_forms : List Form
-ended_forms = NumberForm ∷ NumberForm ∷ TextsForm ∷ TextForm ∷ TextForm ∷ []
-
+-- The forms of each kind of record. Those that two roles have stand once.
 abbrev pub confirmed_forms : List Form
 confirmed_forms = NoNumberForm ∷ NumberForm ∷ TextForm ∷ []
-
-abbrev pub sp_forms : ℕ → ℕ → Option (List Form)
-sp_forms version kind =
-    if kind == 1 then Some asked_forms
-    else if kind == 2 then Some (opened_forms version)
-    else if kind == 3 then Some left_forms
-    else if kind == 4 then Some ended_forms
-    else if kind == 5 then Some confirmed_forms
-    else None
-
-abbrev pub pending_forms : List Form
-pending_forms =
-    NumberForm ∷ NumberForm ∷ NumberForm ∷ TextForm ∷ TextForm ∷ TextForm ∷ TextForm ∷ OptionalForm ∷ []
-
-abbrev pub issued_forms : List Form
-issued_forms =
-    NumberForm ∷ NumberForm ∷ OptionalForm ∷ TextForm ∷ TextForm ∷ NumberForm ∷ TextForm ∷ TextForm ∷ TextForm
-    ∷ TextForm ∷ TextForm ∷ TextForm ∷ OptionalForm ∷ NumberForm ∷ AttributesForm ∷ []
-
-abbrev pub idp_ended_forms : List Form
-idp_ended_forms = NumberForm ∷ NumberForm ∷ TextsForm ∷ TextForm ∷ TextForm ∷ TextForm ∷ FlagForm ∷ []
-
-abbrev pub idp_left_forms : List Form
-idp_left_forms = NumberForm ∷ NumberForm ∷ NumberForm ∷ TextForm ∷ TextForm ∷ TextForm ∷ []
 
 abbrev pub spoke_forms : List Form
 spoke_forms = NumberForm ∷ NumberForm ∷ TextForm ∷ TextForm ∷ TextForm ∷ []
 
-abbrev pub round_forms : List Form
-round_forms =
-    NumberForm ∷ NumberForm ∷ NumberForm ∷ TextForm ∷ TextForm ∷ TextsForm ∷ AskerForm ∷ TurnsForm ∷ FlagForm ∷ []
+-- a journal of version 1 does not keep the key
+abbrev pub key_forms : ℕ → List Form
+key_forms version = if version == 1 then [] else KeyForm ∷ []
 
-abbrev pub told_forms : List Form
-told_forms = NumberForm ∷ NumberForm ∷ TextForm ∷ FlagForm ∷ OptionalForm ∷ []
+abbrev pub sp_forms : ℕ → ℕ → Option (List Form)
+sp_forms version kind =
+    if kind == 1 then Some (NumberForm ∷ NumberForm ∷ NumberForm ∷ TextForm ∷ TextForm ∷ TextForm ∷ [])
+    else if kind == 2 then Some (
+    NumberForm ∷ NumberForm ∷ NumberForm ∷ TextForm ∷ TextForm ∷ TextForm ∷ NumberForm ∷ TextForm ∷ TextForm
+    ∷ OptionalForm ∷ AttributesForm ∷ key_forms version)
+    else if kind == 3 then Some (NumberForm ∷ NumberForm ∷ NumberForm ∷ TextForm ∷ TextForm ∷ [])
+    else if kind == 4 then Some (NumberForm ∷ NumberForm ∷ TextsForm ∷ TextForm ∷ TextForm ∷ [])
+    else if kind == 5 then Some confirmed_forms
+    else None
 
 abbrev pub idp_forms : ℕ → Option (List Form)
 idp_forms kind =
-    if kind == 11 then Some pending_forms
-    else if kind == 12 then Some issued_forms
-    else if kind == 13 then Some idp_ended_forms
-    else if kind == 14 then Some idp_left_forms
+    if kind == 11 then Some (
+    NumberForm ∷ NumberForm ∷ NumberForm ∷ TextForm ∷ TextForm ∷ TextForm ∷ TextForm ∷ OptionalForm ∷ [])
+    else if kind == 12 then Some (
+    NumberForm ∷ NumberForm ∷ OptionalForm ∷ TextForm ∷ TextForm ∷ NumberForm ∷ TextForm ∷ TextForm ∷ TextForm
+    ∷ TextForm ∷ TextForm ∷ TextForm ∷ OptionalForm ∷ NumberForm ∷ AttributesForm ∷ [])
+    else if kind == 13 then Some (
+    NumberForm ∷ NumberForm ∷ TextsForm ∷ TextForm ∷ TextForm ∷ TextForm ∷ FlagForm ∷ [])
+    else if kind == 14 then Some (NumberForm ∷ NumberForm ∷ NumberForm ∷ TextForm ∷ TextForm ∷ TextForm ∷ [])
     else if kind == 15 then Some confirmed_forms
     else if kind == 16 then Some spoke_forms
-    else if kind == 17 then Some round_forms
-    else if kind == 18 then Some told_forms
+    else if kind == 17 then Some (
+    NumberForm ∷ NumberForm ∷ NumberForm ∷ TextForm ∷ TextForm ∷ TextsForm ∷ AskerForm ∷ TurnsForm ∷ FlagForm ∷ [])
+    else if kind == 18 then Some (NumberForm ∷ NumberForm ∷ TextForm ∷ FlagForm ∷ OptionalForm ∷ [])
     else None
 
 -- the kind of a record and its fields

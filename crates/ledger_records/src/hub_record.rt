@@ -1,10 +1,11 @@
 //! What the ledger of a hub records: a provider that is an identity provider to those below it, and a service provider to
 //! one above it (SAML Core, 3.4.1.5).
-ghost use Rattle.std.specs.Prelude.{◌≡◌, ◌<◌, ◌^◌, map, length, IfOk, IfSome, IfNone};
+ghost use Rattle.std.specs.Prelude.{◌≡◌, ◌∷◌, ◌<◌, ◌^◌, map, length, IfOk, IfSome, IfNone};
 ghost use Rattle.ledger_records.specs.declared.hub_record.HubRecord.{HubRecord};
-ghost use Rattle.ledger_records.specs.Reading.{Reads, fields_in, record_in};
-ghost use Rattle.ledger_records.specs.HubFound.{routed_forms, backed_forms, hub_spoke_forms, hub_forms, hub_record};
-ghost use Rattle.ledger_records.specs.HubRecord.{routed, backed, spoke, hub_kind, hub_fields, hub_bytes, IsHubPayload};
+ghost use Rattle.ledger_records.specs.declared.hub_record.HubRecord.TheVariants as kinds;
+ghost use Rattle.ledger_records.specs.Reading.{Reads, record_in};
+ghost use Rattle.ledger_records.specs.HubFound.{hub_forms, hub_record};
+ghost use Rattle.ledger_records.specs.HubRecord.{hub_parts, hub_bytes, IsHubPayload};
 ghost use Rattle.ledger_records.specs.Writing.{field_view, capped};
 
 use crate::KeyNumber;
@@ -106,7 +107,7 @@ pub enum HubRecord {
 
 impl Routed {
     fn fields(&self) -> [Field<'_>; 9]
-        ensures { map field_view result ≡ routed self.now }
+        ensures { map field_view result ≡ (hub_parts (kinds.Routed self.now)).1 }
     {
         [
             Field::Number(self.first),
@@ -122,7 +123,7 @@ impl Routed {
     }
 
     fn read(mut fields: Fields<'_>) -> Result<Routed, Unread>
-        ensures { Reads routed result (fields_in routed_forms fields.entry.rest.now) }
+        ensures { Reads (λ r. hub_parts (kinds.Routed r)) result (record_in hub_forms (21 ∷ fields.entry.rest.now)) }
     {
         let first = fields.number()?;
         let moment = fields.number()?;
@@ -150,7 +151,7 @@ impl Routed {
 
 impl Backed {
     fn fields(&self) -> [Field<'_>; 17]
-        ensures { map field_view result ≡ backed self.now }
+        ensures { map field_view result ≡ (hub_parts (kinds.Backed self.now)).1 }
     {
         [
             Field::Number(self.first),
@@ -174,7 +175,7 @@ impl Backed {
     }
 
     fn read(mut fields: Fields<'_>) -> Result<Backed, Unread>
-        ensures { Reads backed result (fields_in backed_forms fields.entry.rest.now) }
+        ensures { Reads (λ r. hub_parts (kinds.Backed r)) result (record_in hub_forms (22 ∷ fields.entry.rest.now)) }
     {
         let first = fields.number()?;
         let moment = fields.number()?;
@@ -218,7 +219,7 @@ impl Backed {
 
 impl Spoke {
     fn fields(&self) -> [Field<'_>; 5]
-        ensures { map field_view result ≡ spoke self.now }
+        ensures { map field_view result ≡ (hub_parts (kinds.Spoke self.now)).1 }
     {
         [
             Field::Number(self.first),
@@ -230,7 +231,7 @@ impl Spoke {
     }
 
     fn read(mut fields: Fields<'_>) -> Result<Spoke, Unread>
-        ensures { Reads spoke result (fields_in hub_spoke_forms fields.entry.rest.now) }
+        ensures { Reads (λ r. hub_parts (kinds.Spoke r)) result (record_in hub_forms (23 ∷ fields.entry.rest.now)) }
     {
         let first = fields.number()?;
         let moment = fields.number()?;
@@ -275,7 +276,7 @@ impl HubRecord {
 
 /// The record whose kind and fields stand in a payload.
 fn record_of(alloc: Global, payload: &[u8]) -> Result<HubRecord, Unread>
-    ensures { Reads (λ r. (hub_kind r, hub_fields r)) result (record_in hub_forms payload.now) }
+    ensures { Reads hub_parts result (record_in hub_forms payload.now) }
 {
     let Some((kind, rest)) = payload.split_first() else {
         return Err(Unread::Malformed);

@@ -1,8 +1,9 @@
 //! What an identity provider's ledger records.
-ghost use Rattle.std.specs.Prelude.{◌≡◌, ◌<◌, ◌^◌, map, length, IfOk, IfSome, IfNone};
+ghost use Rattle.std.specs.Prelude.{◌≡◌, ◌∷◌, ◌<◌, ◌^◌, map, length, IfOk, IfSome, IfNone};
 ghost use Rattle.ledger_records.specs.declared.idp_record.IdpRecord.{IdpRecord};
-ghost use Rattle.ledger_records.specs.Reading.{Reads, fields_in, pending_forms, issued_forms, idp_ended_forms, idp_left_forms, confirmed_forms, spoke_forms, record_in, idp_forms};
-ghost use Rattle.ledger_records.specs.IdpRecord.{pending, issued, ended, left, confirmed, spoke, idp_kind, idp_fields, idp_bytes, IsIdpPayload};
+ghost use Rattle.ledger_records.specs.declared.idp_record.IdpRecord.TheVariants as kinds;
+ghost use Rattle.ledger_records.specs.Reading.{Reads, record_in, idp_forms};
+ghost use Rattle.ledger_records.specs.IdpRecord.{idp_parts, idp_bytes, IsIdpPayload};
 ghost use Rattle.ledger_records.specs.Found.{idp_record};
 ghost use Rattle.ledger_records.specs.Writing.{field_view, capped};
 
@@ -160,7 +161,7 @@ pub enum IdpRecord {
 
 impl Pending {
     fn fields(&self) -> [Field<'_>; 8]
-        ensures { map field_view result ≡ pending self.now }
+        ensures { map field_view result ≡ (idp_parts (kinds.Pending self.now)).1 }
     {
         [
             Field::Number(self.first),
@@ -175,7 +176,7 @@ impl Pending {
     }
 
     fn read(mut fields: Fields<'_>) -> Result<Pending, Unread>
-        ensures { Reads pending result (fields_in pending_forms fields.entry.rest.now) }
+        ensures { Reads (λ r. idp_parts (kinds.Pending r)) result (record_in idp_forms (11 ∷ fields.entry.rest.now)) }
     {
         let first = fields.number()?;
         let moment = fields.number()?;
@@ -201,7 +202,7 @@ impl Pending {
 
 impl Issued {
     fn fields(&self) -> [Field<'_>; 15]
-        ensures { map field_view result ≡ issued self.now }
+        ensures { map field_view result ≡ (idp_parts (kinds.Issued self.now)).1 }
     {
         [
             Field::Number(self.first),
@@ -223,7 +224,7 @@ impl Issued {
     }
 
     fn read(mut fields: Fields<'_>) -> Result<Issued, Unread>
-        ensures { Reads issued result (fields_in issued_forms fields.entry.rest.now) }
+        ensures { Reads (λ r. idp_parts (kinds.Issued r)) result (record_in idp_forms (12 ∷ fields.entry.rest.now)) }
     {
         let first = fields.number()?;
         let moment = fields.number()?;
@@ -263,7 +264,7 @@ impl Issued {
 
 impl Ended {
     fn fields(&self) -> [Field<'_>; 7]
-        ensures { map field_view result ≡ ended self.now }
+        ensures { map field_view result ≡ (idp_parts (kinds.Ended self.now)).1 }
     {
         [
             Field::Number(self.first),
@@ -277,7 +278,7 @@ impl Ended {
     }
 
     fn read(mut fields: Fields<'_>) -> Result<Ended, Unread>
-        ensures { Reads ended result (fields_in idp_ended_forms fields.entry.rest.now) }
+        ensures { Reads (λ r. idp_parts (kinds.Ended r)) result (record_in idp_forms (13 ∷ fields.entry.rest.now)) }
     {
         let first = fields.number()?;
         let moment = fields.number()?;
@@ -301,7 +302,7 @@ impl Ended {
 
 impl Left {
     fn fields(&self) -> [Field<'_>; 6]
-        ensures { map field_view result ≡ left self.now }
+        ensures { map field_view result ≡ (idp_parts (kinds.Left self.now)).1 }
     {
         [
             Field::Number(self.first),
@@ -314,7 +315,7 @@ impl Left {
     }
 
     fn read(mut fields: Fields<'_>) -> Result<Left, Unread>
-        ensures { Reads left result (fields_in idp_left_forms fields.entry.rest.now) }
+        ensures { Reads (λ r. idp_parts (kinds.Left r)) result (record_in idp_forms (14 ∷ fields.entry.rest.now)) }
     {
         let first = fields.number()?;
         let moment = fields.number()?;
@@ -336,7 +337,7 @@ impl Left {
 
 impl Confirmed {
     fn fields(&self) -> [Field<'_>; 3]
-        ensures { map field_view result ≡ confirmed self.now }
+        ensures { map field_view result ≡ (idp_parts (kinds.Confirmed self.now)).1 }
     {
         [
             Field::NoNumber,
@@ -346,7 +347,7 @@ impl Confirmed {
     }
 
     fn read(mut fields: Fields<'_>) -> Result<Confirmed, Unread>
-        ensures { Reads confirmed result (fields_in confirmed_forms fields.entry.rest.now) }
+        ensures { Reads (λ r. idp_parts (kinds.Confirmed r)) result (record_in idp_forms (15 ∷ fields.entry.rest.now)) }
     {
         fields.no_number()?;
         let moment = fields.number()?;
@@ -358,7 +359,7 @@ impl Confirmed {
 
 impl Spoke {
     fn fields(&self) -> [Field<'_>; 5]
-        ensures { map field_view result ≡ spoke self.now }
+        ensures { map field_view result ≡ (idp_parts (kinds.Spoke self.now)).1 }
     {
         [
             Field::Number(self.first),
@@ -370,7 +371,7 @@ impl Spoke {
     }
 
     fn read(mut fields: Fields<'_>) -> Result<Spoke, Unread>
-        ensures { Reads spoke result (fields_in spoke_forms fields.entry.rest.now) }
+        ensures { Reads (λ r. idp_parts (kinds.Spoke r)) result (record_in idp_forms (16 ∷ fields.entry.rest.now)) }
     {
         let first = fields.number()?;
         let moment = fields.number()?;
@@ -425,7 +426,7 @@ impl IdpRecord {
 
 /// The record whose kind and fields stand in a payload.
 fn record_of(alloc: Global, payload: &[u8]) -> Result<IdpRecord, Unread>
-    ensures { Reads (λ r. (idp_kind r, idp_fields r)) result (record_in idp_forms payload.now) }
+    ensures { Reads idp_parts result (record_in idp_forms payload.now) }
 {
     let Some((kind, rest)) = payload.split_first() else {
         return Err(Unread::Malformed);

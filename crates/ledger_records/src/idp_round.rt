@@ -1,7 +1,8 @@
 //! What an identity provider's ledger records of a logout that asks each provider in turn (SAML Profiles, 4.4.3.3).
-ghost use Rattle.std.specs.Prelude.{◌≡◌, map};
-ghost use Rattle.ledger_records.specs.Reading.{Reads, fields_in, round_forms, told_forms};
-ghost use Rattle.ledger_records.specs.IdpRecord.{round, told};
+ghost use Rattle.std.specs.Prelude.{◌≡◌, ◌∷◌, map};
+ghost use Rattle.ledger_records.specs.declared.idp_record.IdpRecord.TheVariants as kinds;
+ghost use Rattle.ledger_records.specs.Reading.{Reads, record_in, idp_forms};
+ghost use Rattle.ledger_records.specs.IdpRecord.{idp_parts};
 ghost use Rattle.ledger_records.specs.Writing.{field_view};
 
 use crate::reading::{Fields, Unread};
@@ -49,7 +50,7 @@ pub struct Told {
 
 impl Round {
     pub(crate) fn fields(&self) -> [Field<'_>; 9]
-        ensures { map field_view result ≡ round self.now }
+        ensures { map field_view result ≡ (idp_parts (kinds.Round self.now)).1 }
     {
         [
             Field::Number(self.first),
@@ -65,7 +66,7 @@ impl Round {
     }
 
     pub(crate) fn read(mut fields: Fields<'_>) -> Result<Round, Unread>
-        ensures { Reads round result (fields_in round_forms fields.entry.rest.now) }
+        ensures { Reads (λ r. idp_parts (kinds.Round r)) result (record_in idp_forms (17 ∷ fields.entry.rest.now)) }
     {
         let first = fields.number()?;
         let moment = fields.number()?;
@@ -93,7 +94,7 @@ impl Round {
 
 impl Told {
     pub(crate) fn fields(&self) -> [Field<'_>; 5]
-        ensures { map field_view result ≡ told self.now }
+        ensures { map field_view result ≡ (idp_parts (kinds.Told self.now)).1 }
     {
         [
             Field::Number(self.first),
@@ -105,7 +106,7 @@ impl Told {
     }
 
     pub(crate) fn read(mut fields: Fields<'_>) -> Result<Told, Unread>
-        ensures { Reads told result (fields_in told_forms fields.entry.rest.now) }
+        ensures { Reads (λ r. idp_parts (kinds.Told r)) result (record_in idp_forms (18 ∷ fields.entry.rest.now)) }
     {
         let first = fields.number()?;
         let moment = fields.number()?;

@@ -2,7 +2,7 @@
 
 ghost use Rattle.std.specs.Prelude.{◌≡◌, [], IfOk};
 ghost use Rattle.std.specs.Int.{w32, w64};
-ghost use Rattle.ledger_records.specs.Reading.{Reads, number_at, in_utf8, text_at, flag_at, key_at, optional_at, many_at, list_at, attribute_at, no_number_at, fields_in, key_forms};
+ghost use Rattle.ledger_records.specs.Reading.{Reads, number_at, in_utf8, text_at, flag_at, key_at, option_at, many_at, list_at, attribute_at, no_number_at, fields_in, key_forms};
 ghost use Rattle.ledger_records.specs.Fields.{NoNumber};
 ghost use Rattle.ledger_records.specs.SpRecord.{key_in};
 
@@ -134,9 +134,9 @@ impl<'a> Fields<'a> {
     }
 
     /// A text that may be absent.
-    #[tactic(auto, unfolding(crate::specs::Reading::optional_at))]
+    #[tactic(auto, unfolding(crate::specs::Reading::option_at))]
     pub(crate) fn optional(&mut self) -> Result<Option<Text>, Unread>
-        ensures { Reads (λ t. (t, self.new.rest.now)) result (optional_at self.old.rest.now) }
+        ensures { Reads (λ t. (t, self.new.rest.now)) result (option_at text_at self.old.rest.now) }
     {
         if self.flag()? {
             Ok(Some(self.text()?))

@@ -1,8 +1,9 @@
 //! What a service provider's ledger records.
-ghost use Rattle.std.specs.Prelude.{◌≡◌, ◌<◌, ◌^◌, map, length, IfOk, IfSome, IfNone};
+ghost use Rattle.std.specs.Prelude.{◌≡◌, ◌∷◌, ◌<◌, ◌^◌, map, length, IfOk, IfSome, IfNone};
 ghost use Rattle.ledger_records.specs.declared.sp_record.SpRecord.{SpRecord};
-ghost use Rattle.ledger_records.specs.Reading.{Reads, fields_in, asked_forms, opened_forms, left_forms, ended_forms, confirmed_forms, record_in, sp_forms};
-ghost use Rattle.ledger_records.specs.SpRecord.{asked, opened, left, ended, confirmed, sp_kind, sp_fields, sp_bytes, IsOfVersion, IsSpPayload};
+ghost use Rattle.ledger_records.specs.declared.sp_record.SpRecord.TheVariants as kinds;
+ghost use Rattle.ledger_records.specs.Reading.{Reads, record_in, sp_forms};
+ghost use Rattle.ledger_records.specs.SpRecord.{sp_parts, sp_bytes, IsOfVersion, IsSpPayload};
 ghost use Rattle.ledger_records.specs.Found.{sp_record};
 ghost use Rattle.ledger_records.specs.Writing.{field_view, capped};
 
@@ -119,7 +120,7 @@ pub enum SpRecord {
 
 impl Asked {
     fn fields(&self) -> [Field<'_>; 6]
-        ensures { map field_view result ≡ asked self.now }
+        ensures { map field_view result ≡ (sp_parts 2 (kinds.Asked self.now)).1 }
     {
         [
             Field::Number(self.first),
@@ -132,7 +133,7 @@ impl Asked {
     }
 
     fn read(mut fields: Fields<'_>) -> Result<Asked, Unread>
-        ensures { Reads asked result (fields_in asked_forms fields.entry.rest.now) }
+        ensures { Reads (λ r. sp_parts 2 (kinds.Asked r)) result (record_in (sp_forms 2) (1 ∷ fields.entry.rest.now)) }
     {
         let first = fields.number()?;
         let moment = fields.number()?;
@@ -154,7 +155,7 @@ impl Asked {
 
 impl Opened {
     fn fields(&self) -> [Field<'_>; 12]
-        ensures { map field_view result ≡ opened 2 self.now }
+        ensures { map field_view result ≡ (sp_parts 2 (kinds.Opened self.now)).1 }
     {
         [
             Field::Number(self.first),
@@ -173,7 +174,7 @@ impl Opened {
     }
 
     fn read(mut fields: Fields<'_>, version: u8) -> Result<Opened, Unread>
-        ensures read { Reads (opened version) result (fields_in (opened_forms version) fields.entry.rest.now) }
+        ensures read { Reads (λ r. sp_parts version (kinds.Opened r)) result (record_in (sp_forms version) (2 ∷ fields.entry.rest.now)) }
         ensures first { version ≡ 1 → IfOk result (λ r. r.key ≡ KeyNumber.First) }
     {
         let first = fields.number()?;
@@ -207,7 +208,7 @@ impl Opened {
 
 impl Left {
     fn fields(&self) -> [Field<'_>; 5]
-        ensures { map field_view result ≡ left self.now }
+        ensures { map field_view result ≡ (sp_parts 2 (kinds.Left self.now)).1 }
     {
         [
             Field::Number(self.first),
@@ -219,7 +220,7 @@ impl Left {
     }
 
     fn read(mut fields: Fields<'_>) -> Result<Left, Unread>
-        ensures { Reads left result (fields_in left_forms fields.entry.rest.now) }
+        ensures { Reads (λ r. sp_parts 2 (kinds.Left r)) result (record_in (sp_forms 2) (3 ∷ fields.entry.rest.now)) }
     {
         let first = fields.number()?;
         let moment = fields.number()?;
@@ -239,7 +240,7 @@ impl Left {
 
 impl Ended {
     fn fields(&self) -> [Field<'_>; 5]
-        ensures { map field_view result ≡ ended self.now }
+        ensures { map field_view result ≡ (sp_parts 2 (kinds.Ended self.now)).1 }
     {
         [
             Field::Number(self.first),
@@ -251,7 +252,7 @@ impl Ended {
     }
 
     fn read(mut fields: Fields<'_>) -> Result<Ended, Unread>
-        ensures { Reads ended result (fields_in ended_forms fields.entry.rest.now) }
+        ensures { Reads (λ r. sp_parts 2 (kinds.Ended r)) result (record_in (sp_forms 2) (4 ∷ fields.entry.rest.now)) }
     {
         let first = fields.number()?;
         let moment = fields.number()?;
@@ -271,7 +272,7 @@ impl Ended {
 
 impl Confirmed {
     fn fields(&self) -> [Field<'_>; 3]
-        ensures { map field_view result ≡ confirmed self.now }
+        ensures { map field_view result ≡ (sp_parts 2 (kinds.Confirmed self.now)).1 }
     {
         [
             Field::NoNumber,
@@ -281,7 +282,7 @@ impl Confirmed {
     }
 
     fn read(mut fields: Fields<'_>) -> Result<Confirmed, Unread>
-        ensures { Reads confirmed result (fields_in confirmed_forms fields.entry.rest.now) }
+        ensures { Reads (λ r. sp_parts 2 (kinds.Confirmed r)) result (record_in (sp_forms 2) (5 ∷ fields.entry.rest.now)) }
     {
         fields.no_number()?;
         let moment = fields.number()?;
@@ -322,7 +323,7 @@ impl SpRecord {
 
 /// The record whose kind and fields stand in a payload.
 fn record_of(alloc: Global, payload: &[u8], version: u8) -> Result<SpRecord, Unread>
-    ensures read { Reads (λ r. (sp_kind r, sp_fields version r)) result (record_in (sp_forms version) payload.now) }
+    ensures read { Reads (sp_parts version) result (record_in (sp_forms version) payload.now) }
     ensures version { IfOk result (IsOfVersion version) }
 {
     let Some((kind, rest)) = payload.split_first() else {

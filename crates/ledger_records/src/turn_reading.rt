@@ -1,6 +1,6 @@
 // Askers and turns read from a payload.
 
-ghost use Rattle.ledger_records.specs.Reading.{Reads, asking_at, asker_at, turn_at, many_at, list_at};
+ghost use Rattle.ledger_records.specs.Reading.{Reads, asking_at, option_at, turn_at, many_at, list_at};
 
 use crate::reading::{Fields, Unread};
 use logout_turns::{Asker, Turn, Turns};
@@ -22,9 +22,9 @@ impl<'a> Fields<'a> {
     }
 
     /// A provider that asks, where one does.
-    #[tactic(auto, unfolding(crate::specs::Reading::asker_at))]
+    #[tactic(auto, unfolding(crate::specs::Reading::option_at))]
     pub(crate) fn asker(&mut self) -> Result<Option<Asker>, Unread>
-        ensures { Reads (λ a. (a, self.new.rest.now)) result (asker_at self.old.rest.now) }
+        ensures { Reads (λ a. (a, self.new.rest.now)) result (option_at asking_at self.old.rest.now) }
     {
         if self.flag()? {
             Ok(Some(self.asking()?))

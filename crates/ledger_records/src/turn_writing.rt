@@ -2,7 +2,7 @@
 
 ghost use Rattle.std.specs.Prelude.{◌≡◌, ◌++◌, length, OnOk, IfSome};
 ghost use Rattle.std.specs.List.{AllByRecursion};
-ghost use Rattle.ledger_records.specs.Fields.{asking, asker, turn, turns, IsAsking, IsTurn};
+ghost use Rattle.ledger_records.specs.Fields.{option_of, list_of, asking, turn, IsAsking, IsTurn};
 ghost use Rattle.ledger_records.specs.Writing.{capped};
 
 use crate::writing::{
@@ -24,7 +24,7 @@ fn put_asking(out: &mut Blob, value: &Asker) -> Result<(), NoMemory>
 
 /// Puts a provider that asks, where one does.
 pub(crate) fn put_asker(out: &mut Blob, value: &Option<Asker>) -> Result<(), NoMemory>
-    ensures put { OnOk result (out.new ≡ out.old ++ asker value.now) }
+    ensures put { OnOk result (out.new ≡ out.old ++ option_of asking value.now) }
     ensures held { OnOk result (IfSome value.now IsAsking) }
 {
     match value {
@@ -53,7 +53,7 @@ fn put_turn(out: &mut Blob, value: &Turn) -> Result<(), NoMemory>
 
 /// Puts a list of turns.
 pub(crate) fn put_turns(out: &mut Blob, listed: &Turns) -> Result<(), NoMemory>
-    ensures put { OnOk result (out.new ≡ out.old ++ turns listed.now) }
+    ensures put { OnOk result (out.new ≡ out.old ++ list_of turn listed.now) }
     ensures held { OnOk result (AllByRecursion IsTurn listed.now) }
 {
     put_count(out, listed.len())?;
@@ -65,7 +65,7 @@ pub(crate) fn put_turns(out: &mut Blob, listed: &Turns) -> Result<(), NoMemory>
 
 /// How long a provider that asks is, where one does.
 pub(crate) fn asker_len(value: &Option<Asker>) -> u64
-    ensures { result ≡ capped (length (asker value.now)) }
+    ensures { result ≡ capped (length (option_of asking value.now)) }
 {
     match value {
         None => 1,
@@ -88,7 +88,7 @@ fn turn_len(value: &Turn) -> u64
 
 /// How long a list of turns is.
 pub(crate) fn turns_len(values: &Turns) -> u64
-    ensures { result ≡ capped (length (turns values.now)) }
+    ensures { result ≡ capped (length (list_of turn values.now)) }
 {
     let mut len = COUNT;
     for value in values.as_slice() {

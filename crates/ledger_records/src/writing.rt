@@ -2,7 +2,7 @@
 
 ghost use Rattle.std.specs.Prelude.{◌≡◌, ◌+◌, ◌∷◌, ◌++◌, map, length, OnOk, IfOk, IfSome, IsUtf8};
 ghost use Rattle.std.specs.List.{AllByRecursion};
-ghost use Rattle.ledger_records.specs.Fields.{count, number, text, texts, attribute, attributes, optional, IsAttribute, field, bytes_of, IsField, AreFields};
+ghost use Rattle.ledger_records.specs.Fields.{count, number, text, option_of, list_of, attribute, IsAttribute, field, bytes_of, IsField, AreFields};
 ghost use Rattle.ledger_records.specs.Writing.{field_view, capped};
 
 use crate::KeyNumber;
@@ -64,7 +64,7 @@ pub(crate) fn put_text(out: &mut Blob, value: &Text) -> Result<(), NoMemory>
 
 /// Puts a list of texts.
 pub(crate) fn put_texts(out: &mut Blob, values: &Texts) -> Result<(), NoMemory>
-    ensures put { OnOk result (out.new ≡ out.old ++ texts values.now) }
+    ensures put { OnOk result (out.new ≡ out.old ++ list_of text values.now) }
     ensures held { OnOk result (AllByRecursion IsUtf8 values.now) }
 {
     put_count(out, values.len())?;
@@ -86,7 +86,7 @@ fn put_attribute(out: &mut Blob, value: &Attribute) -> Result<(), NoMemory>
 
 /// Puts a list of attributes.
 fn put_attributes(out: &mut Blob, listed: &Attributes) -> Result<(), NoMemory>
-    ensures put { OnOk result (out.new ≡ out.old ++ attributes listed.now) }
+    ensures put { OnOk result (out.new ≡ out.old ++ list_of attribute listed.now) }
     ensures held { OnOk result (AllByRecursion IsAttribute listed.now) }
 {
     put_count(out, listed.len())?;
@@ -98,7 +98,7 @@ fn put_attributes(out: &mut Blob, listed: &Attributes) -> Result<(), NoMemory>
 
 /// Puts a text that may be absent.
 pub(crate) fn put_optional(out: &mut Blob, value: &Option<Text>) -> Result<(), NoMemory>
-    ensures put { OnOk result (out.new ≡ out.old ++ optional value.now) }
+    ensures put { OnOk result (out.new ≡ out.old ++ option_of text value.now) }
     ensures held { OnOk result (IfSome value.now IsUtf8) }
 {
     match value {
@@ -155,7 +155,7 @@ pub(crate) fn text_len(value: &Text) -> u64
 
 /// How long a list of texts is.
 pub(crate) fn texts_len(values: &Texts) -> u64
-    ensures { result ≡ capped (length (texts values.now)) }
+    ensures { result ≡ capped (length (list_of text values.now)) }
 {
     let mut len = COUNT;
     for value in values.as_slice() {
@@ -166,7 +166,7 @@ pub(crate) fn texts_len(values: &Texts) -> u64
 
 /// How long a text is that may be absent.
 pub(crate) fn optional_len(value: &Option<Text>) -> u64
-    ensures { result ≡ capped (length (optional value.now)) }
+    ensures { result ≡ capped (length (option_of text value.now)) }
 {
     match value {
         None => 1,
@@ -176,7 +176,7 @@ pub(crate) fn optional_len(value: &Option<Text>) -> u64
 
 /// How long a list of attributes is.
 fn attributes_len(values: &Attributes) -> u64
-    ensures { result ≡ capped (length (attributes values.now)) }
+    ensures { result ≡ capped (length (list_of attribute values.now)) }
 {
     let mut len = COUNT;
     for value in values.as_slice() {
