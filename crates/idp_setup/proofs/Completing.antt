@@ -21,7 +21,7 @@ use Rattle.idp_rules.specs.declared.config.IdpConfig.{IdpConfig}
 use Rattle.tree_read.proofs.WritableTexts.{AreWritable}
 use Rattle.idp_setup.specs.declared.loaded.Loaded.{Loaded}
 use Rattle.idp_setup.specs.Setup.{nothing, doubled_with, Adds, AreLoaded, config_of, IsSetUpBy}
-use Rattle.idp_setup.proofs.Counting.{few_named}
+use Rattle.provider_config.proofs.IdpRunning.{few_named}
 use Rattle.idp_setup.proofs.Naming.{differ_with}
 use Rattle.idp_setup.proofs.Spelling.{users_are_texts}
 use Rattle.idp_setup.proofs.Texts.{peer_texts}

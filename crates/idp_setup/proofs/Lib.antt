@@ -1,5 +1,4 @@
 pub mod Completing
-pub mod Counting
 mod Examples
 pub mod Loading
 pub mod Naming

@@ -28,7 +28,3 @@ pub map_some : {X Y : Type 0} (P : X → Type 0) (Q : Y → Type 0) (f : X → Y
     IfSome (option_map f o) Q
 map_some P Q f None h g = tt
 map_some P Q f (Some x) h g = g x h
-
-pub map_any : {X Y : Type 0} (Q : Y → Type 0) (f : X → Y) (o : Option X) → ((x : X) → Q (f x)) → IfSome (option_map f o) Q
-map_any Q f None g = tt
-map_any Q f (Some x) g = g x

@@ -1,18 +1,17 @@
 -- No two files of a config have one role.
-use Rattle.std.proofs.Common.{◌≡◌, ℕ, Bool, true, false, ◌||◌, cond, List, [], ◌∷◌, ◌++◌, Option, None, Some, IfSome, Result, Ok, Err, IfOk, ok_or, refl, sym, ap, ◌∙◌, subst}
-use Rattle.std.specs.Prelude.{option_and_then}
+use Rattle.std.proofs.Common.{◌≡◌, ℕ, Bool, true, false, ◌||◌, List, [], ◌∷◌, ◌++◌, Option, None, Some, IfSome, Ok, refl, sym, ◌∙◌, subst}
 use Rattle.std.specs.List.{filter_map}
-use Rattle.text_lines.specs.Lines.{Said, Says, NoText, said}
+use Rattle.text_lines.specs.Lines.{said}
 use Rattle.provider_config.specs.declared.config.FileRole.{FileRole}
 use Rattle.provider_config.specs.declared.config.FileRole.TheVariants as roles
 use Rattle.provider_config.specs.declared.config.SpFile.{SpFile}
 use Rattle.provider_config.specs.declared.line.Purpose.{Purpose}
 use Rattle.provider_config.specs.declared.line.SpLine.{SpLine}
-use Rattle.provider_config.specs.Line.{line_of}
-use Rattle.provider_config.specs.Config.{Config, Found, file, found, same_role, role_of, has_file, has_files, AreOfDifferentRoles, doubles, fresh, line_behind, lines_from, complete, sp_config}
-use Rattle.provider_config.specs.Shared.{and_then, pushed}
-use Rattle.provider_config.proofs.Running.{named_before}
-use Rattle.provider_config.proofs.Sharing.{filter_map-push}
+use Rattle.provider_config.specs.Line.{spelled}
+use Rattle.provider_config.specs.Config.{Config, file, same_role, role_of, has_file, AreOfDifferentRoles, doubles, config_of, sp_config}
+use Rattle.provider_config.specs.Shared.{lines_from, pushed}
+use Rattle.provider_config.proofs.Running.{named_before, made_of}
+use Rattle.provider_config.proofs.Sharing.{filter_map-push, kept, of_lines}
 
 -- ---- one more file
 
@@ -69,60 +68,11 @@ line_more before line h new =
     subst AreOfDifferentRoles (sym (filter_map-push file before line))
     (more (filter_map file before) (file line) h (not_before (file line) (filter_map file before) (doubles line before) new (named_before line before)))
 
-by_test : (b : Bool) (line kept : SpLine) → cond b None (Some line) ≡ Some kept → (b ≡ false) × (line ≡ kept)
-by_test true line kept e = absurd (cc)
-by_test false line kept e = (refl, cc)
-
-fresh_new : (before : List SpLine) (o : Option SpLine) (line : SpLine) → fresh before o ≡ Some line → doubles line before ≡ false
-fresh_new before None line e = absurd (cc)
-fresh_new before (Some other) line e =
-    let is = by_test (doubles other before) other line e in subst (λ (l : SpLine). doubles l before ≡ false) is.1 is.0
-
-ok_some : (o : Option SpLine) (number : ℕ) (line : SpLine) → ok_or o number ≡ Ok line → o ≡ Some line
-ok_some None number line e = absurd (cc)
-ok_some (Some other) number line e = cc
-
-behind_new : (purpose : Purpose) (before : List SpLine) (next : Said) (line : SpLine) → line_behind purpose before next ≡ Ok line → doubles line before ≡ false
-behind_new purpose before (Says number text) line e =
-    fresh_new before (line_of purpose text) line (ok_some (fresh before (line_of purpose text)) number line e)
-behind_new purpose before (NoText number) line e = absurd (cc)
-
-lines_different : (purpose : Purpose) (before : List SpLine) (rest : List Said) → AreDifferentIn before → IfOk (lines_from purpose before rest) AreDifferentIn
-lines_different purpose before [] h = h
-lines_different purpose before (next ∷ others) h =
-    which (line_behind purpose before next) refl (λ line. lines_different purpose (before ++ line ∷ []) others)
-  where
-    which : (r : Result SpLine ℕ) → line_behind purpose before next ≡ r
-        → ((line : SpLine) → AreDifferentIn (before ++ line ∷ []) → IfOk (lines_from purpose (before ++ line ∷ []) others) AreDifferentIn)
-        → IfOk (and_then (λ line. lines_from purpose (before ++ line ∷ []) others) r) AreDifferentIn
-    which (Ok line) is rest = rest line (line_more before line h (behind_new purpose before next line is))
-    which (Err number) is rest = tt
-
 -- ---- a config
 
-complete_files : (f : Found) (config : Config) → complete f ≡ Some config → f.files ≡ config.files
-complete_files f config e = which f.entity f.base f.listen f.skew (has_files f.files) e
-  where
-    which : (entity base listen : Option (List ℕ)) (skew : Option ℕ) (t : Bool) →
-        option_and_then (λ entity. option_and_then (λ base. option_and_then (λ listen. option_and_then (λ skew.
-        cond t (Some (record { entity = entity; base = base; listen = listen; skew = skew; files = f.files; next_in = f.next_in; guard = f.guard; asked = f.asked; opened = f.opened })) None)
-        skew) listen) base) entity ≡ Some config →
-        f.files ≡ config.files
-    which (Some a) (Some b) (Some c) (Some d) true e = cc
-    which (Some a) (Some b) (Some c) (Some d) false e = absurd (cc)
-    which None b c d t e = absurd (cc)
-    which (Some a) None c d t e = absurd (cc)
-    which (Some a) (Some b) None d t e = absurd (cc)
-    which (Some a) (Some b) (Some c) None t e = absurd (cc)
-
 pub different_roles : (purpose : Purpose) (text : List ℕ) (config : Config) → sp_config purpose text ≡ Ok config → AreOfDifferentRoles config.files
-different_roles purpose text config e = which (lines_from purpose [] (said text)) (lines_different purpose [] (said text) tt) e
-  where
-    completed : (lines : List SpLine) → AreDifferentIn lines → (o : Option Config) → complete (found lines) ≡ o → ok_or {E = ℕ} o 0 ≡ Ok config → AreOfDifferentRoles config.files
-    completed lines h None is e = absurd (cc)
-    completed lines h (Some other) is e =
-        let same : other ≡ config = cc in subst AreOfDifferentRoles (complete_files (found lines) config (is ∙ ap Some same)) h
-
-    which : (r : Result (List SpLine) ℕ) → IfOk r AreDifferentIn → and_then (λ lines. ok_or {E = ℕ} (complete (found lines)) 0) r ≡ Ok config → AreOfDifferentRoles config.files
-    which (Ok lines) h e = completed lines h (complete (found lines)) refl e
-    which (Err number) h e = absurd (cc)
+different_roles purpose text config e =
+    let (lines, h, whole) =
+    of_lines config_of AreDifferentIn (lines_from (λ _. spelled purpose) doubles [] (said text)) config
+    (kept (λ _. spelled purpose) doubles (λ lines _. AreDifferentIn lines) (λ before line next others new h. line_more before line h new) [] (said text) tt) e in
+    subst AreOfDifferentRoles (sym (made_of lines config whole).files) h

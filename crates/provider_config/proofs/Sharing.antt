@@ -1,9 +1,12 @@
--- What lines say together, with one line more or by a test: the words that the configs of both roles share.
-use Rattle.std.proofs.Common.{◌≡◌, ◌+◌, Bool, true, false, ◌||◌, cond, List, [], ◌∷◌, ◌++◌, Option, None, Some, is_some, count_by, refl, sym, ap, ◌∙◌, arith}
+-- What lines say together, with one line more or by a test, and what holds of all lines: the words that the configs of all roles share.
+use Rattle.std.proofs.Common.{◌≡◌, ℕ, ◌+◌, Bool, true, false, ◌||◌, cond, List, [], ◌∷◌, ◌++◌, Option, None, Some, Result, Ok, Err, IfOk, is_some, ok_or, count_by, refl, sym, ap, ◌∙◌, arith}
+use Rattle.std.specs.Prelude.{option_and_then}
+use Rattle.text_lines.specs.Words.{words_of}
 use Rattle.std.specs.List.{filter_map, cons_option, list_any}
 use Rattle.std.specs.Option.{option_map_or}
 use Rattle.std.proofs.lemmas.List.Sums.{sum_by-cons}
-use Rattle.provider_config.specs.Shared.{or_else, the, pushed}
+use Rattle.text_lines.specs.Lines.{Said, Says, NoText}
+use Rattle.provider_config.specs.Shared.{and_then, or_else, the, lines_from, pushed}
 
 or_else_assoc : {X : Type 0} (a b c : Option X) → or_else (or_else a b) c ≡ or_else a (or_else b c)
 or_else_assoc None b c = refl
@@ -76,3 +79,66 @@ count_filtered says names test same [] = refl
 count_filtered says names test same (line ∷ lines) =
     count_option names (says line) (filter_map says lines)
     ∙ (λ i. cond (same line i) 1 0 + count_filtered says names test same lines i) ∙ sym (sum_by-cons (λ l. cond (test l) 1 0) line lines)
+
+-- ---- the lines of a config
+
+-- the line, unless it is beyond what may stand
+abbrev pub fresh : {L : Type 0} → (L → List L → Bool) → List L → Option L → Option L
+fresh is_beyond before None = None
+fresh is_beyond before (Some line) = cond (is_beyond line before) None (Some line)
+
+-- the line that is said behind these lines, or the number of a bad one
+abbrev pub line_behind : {L : Type 0} → (ℕ → List (List ℕ) → Option L) → (L → List L → Bool) → List L → Said → Result L ℕ
+line_behind spelled is_beyond before (Says number text) = ok_or (fresh is_beyond before (option_and_then (spelled number) (words_of text))) number
+line_behind spelled is_beyond before (NoText number) = Err number
+
+pub from_next : {L : Type 0} (spelled : ℕ → List (List ℕ) → Option L) (is_beyond : L → List L → Bool) (before : List L) (next : Said) (others : List Said) →
+    lines_from spelled is_beyond before (next ∷ others)
+    ≡ and_then (λ line. lines_from spelled is_beyond (before ++ line ∷ []) others) (line_behind spelled is_beyond before next)
+from_next spelled is_beyond before (NoText number) others = refl
+from_next {L} spelled is_beyond before (Says number text) others = which (option_and_then (spelled number) (words_of text))
+  where
+    by_test : (line : L) (b : Bool) →
+        cond b (Err number) (lines_from spelled is_beyond (before ++ line ∷ []) others)
+        ≡ and_then (λ line. lines_from spelled is_beyond (before ++ line ∷ []) others) (ok_or (cond b None (Some line)) number)
+    by_test line true = refl
+    by_test line false = refl
+
+    which : (o : Option L) →
+        and_then (λ line. cond (is_beyond line before) (Err number) (lines_from spelled is_beyond (before ++ line ∷ []) others)) (ok_or o number)
+        ≡ and_then (λ line. lines_from spelled is_beyond (before ++ line ∷ []) others) (ok_or (fresh is_beyond before o) number)
+    which None = refl
+    which (Some line) = by_test line (is_beyond line before)
+
+-- what holds of lines and of what is still to be said, and still does with a line that may stand, holds of all lines
+pub kept : {L : Type 0} (spelled : ℕ → List (List ℕ) → Option L) (is_beyond : L → List L → Bool) (P : List L → List Said → Type 0) →
+    ((before : List L) (line : L) (next : Said) (others : List Said) → is_beyond line before ≡ false → P before (next ∷ others) →
+    P (before ++ line ∷ []) others) →
+    (before : List L) (says : List Said) → P before says → IfOk (lines_from spelled is_beyond before says) (λ lines. P lines [])
+kept spelled is_beyond P step before [] h = h
+kept spelled is_beyond P step before (NoText number ∷ others) h = tt
+kept {L} spelled is_beyond P step before (Says number text ∷ others) h =
+    which (option_and_then (spelled number) (words_of text))
+    (λ line new. kept spelled is_beyond P step (before ++ line ∷ []) others (step before line (Says number text) others new h))
+  where
+    by_test : (line : L) (b : Bool) → (b ≡ false → IfOk (lines_from spelled is_beyond (before ++ line ∷ []) others) (λ lines. P lines [])) →
+        IfOk (cond b (Err number) (lines_from spelled is_beyond (before ++ line ∷ []) others)) (λ lines. P lines [])
+    by_test line true rest = tt
+    by_test line false rest = rest refl
+
+    which : (o : Option L) →
+        ((line : L) → is_beyond line before ≡ false → IfOk (lines_from spelled is_beyond (before ++ line ∷ []) others) (λ lines. P lines [])) →
+        IfOk (and_then (λ line. cond (is_beyond line before) (Err number) (lines_from spelled is_beyond (before ++ line ∷ []) others)) (ok_or o number))
+        (λ lines. P lines [])
+    which None rest = tt
+    which (Some line) rest = by_test line (is_beyond line before) (rest line)
+
+-- the lines of which a config is made
+pub of_lines : {L C : Type 0} (config_of : List L → Option C) (P : List L → Type 0) (r : Result (List L) ℕ) (config : C) → IfOk r P →
+    and_then (λ (lines : List L). ok_or {E = ℕ} (config_of lines) 0) r ≡ Ok config → (lines : List L) × P lines × (config_of lines ≡ Some config)
+of_lines config_of P (Err line) config h e = absurd (cc)
+of_lines {L} {C} config_of P (Ok lines) config h e = (lines, h, whole (config_of lines) e)
+  where
+    whole : (o : Option C) → ok_or {E = ℕ} o 0 ≡ Ok config → o ≡ Some config
+    whole None e = absurd (cc)
+    whole (Some c) e = let same : c ≡ config = cc in ap Some same

@@ -1,9 +1,8 @@
 -- The lines of a config: which of them make one, and what it says.
-use Rattle.std.specs.Prelude.{◌≡◌, ℕ, ◌≤◌, ◌*◌, Bool, true, false, ◌&&◌, not, List, [], ◌∷◌, ◌++◌, codes, Option, None, Some, Result, Ok, Err, ok_or, if◌then◌else◌}
-use Rattle.std.specs.List.{filter_map, list_any}
-use Rattle.std.specs.Str.{bytes_eq}
+use Rattle.std.specs.Prelude.{◌≡◌, ℕ, ◌≤◌, ◌*◌, Bool, true, false, ◌&&◌, List, [], ◌∷◌, codes, Option, None, Some, Result, ok_or, if◌then◌else◌}
+use Rattle.std.specs.List.{filter_map, list_any, list_all}
 use Rattle.xml_spec.specs.Characters.{IsText}
-use Rattle.text_lines.specs.Lines.{Said, Says, NoText, said}
+use Rattle.text_lines.specs.Lines.{said}
 use Rattle.provider_config.specs.declared.config.FileRole.{FileRole}
 use Rattle.provider_config.specs.declared.config.FileRole.TheVariants as roles
 use Rattle.provider_config.specs.declared.config.Times.{Times}
@@ -15,54 +14,17 @@ use Rattle.provider_config.specs.declared.config.SpLines.{SpLines}
 use Rattle.provider_config.specs.declared.line.TheConstants.{MILLIS, MOST_SKEW}
 use Rattle.provider_config.specs.declared.line.Purpose.{Purpose}
 use Rattle.provider_config.specs.declared.line.SpLine.{SpLine}
-use Rattle.provider_config.specs.declared.line.SpLine.TheVariants.{Entity, Base, Listen, Idp, KeyIn, KeyOut, IdKey, Skew, NextIn, Policy, Registry, Guard, Asked, Opened}
-use Rattle.provider_config.specs.Line.{line_of}
-use Rattle.provider_config.specs.Shared.{and_then, the, ◌>>=◌}
+use Rattle.provider_config.specs.declared.line.SpLine.TheVariants.{Entity, Base, Listen, Idp, KeyIn, KeyOut, IdKey, Skew, NextIn, Policy, Registry, Asked, Opened}
+use Rattle.provider_config.specs.Line.{key_of, spelled}
+use Rattle.provider_config.specs.Shared.{and_then, the, has_key, lines_from, ◌>>=◌}
 
 -- ---- the lines of a text
 
--- the key that a line begins with; `registry` stands in place of `idp`, so that a config has one of both
-abbrev pub key_of : SpLine → List ℕ
-key_of (Entity name) = codes "entity"
-key_of (Base address) = codes "base"
-key_of (Listen place) = codes "listen"
-key_of (Idp name) = codes "idp"
-key_of (KeyIn name) = codes "key_in"
-key_of (KeyOut name) = codes "key_out"
-key_of (IdKey name) = codes "id_key"
-key_of (Skew milliseconds) = codes "skew"
-key_of (NextIn name times) = codes "next_in"
-key_of (Policy name) = codes "policy"
-key_of (Registry line) = codes "idp"
-key_of Guard = codes "guard"
-key_of (Asked line) = codes "asked"
-key_of (Opened line) = codes "opened"
-
--- a key that may stand in any number of lines; every other stands once
-abbrev pub may_repeat : SpLine → Bool
-may_repeat (Asked line) = true
-may_repeat (Opened line) = true
-may_repeat line = false
-
--- the line has a key that stands in one of the lines before it
+-- the line has a key that stands in one of the lines before it, and may stand in one only
 abbrev pub doubles : SpLine → List SpLine → Bool
-doubles line before = not (may_repeat line) && list_any (λ other. bytes_eq (key_of other) (key_of line)) before
-
--- the line, unless it doubles a key
-abbrev pub fresh : List SpLine → Option SpLine → Option SpLine
-fresh before None = None
-fresh before (Some line) = if doubles line before then None else Some line
-
--- the line that is said behind these lines, or the number of a bad one
-abbrev pub line_behind : Purpose → List SpLine → Said → Result SpLine ℕ
-line_behind purpose before (Says number text) = ok_or (fresh before (line_of purpose text)) number
-line_behind purpose before (NoText number) = Err number
-
--- these lines and those that are said behind them, or the number of the first that is bad
-abbrev pub lines_from : Purpose → List SpLine → List Said → Result (List SpLine) ℕ
-lines_from purpose before [] = Ok before
-lines_from purpose before (next ∷ others) =
-    and_then (λ line. lines_from purpose (before ++ line ∷ []) others) (line_behind purpose before next)
+doubles (Asked row) before = false
+doubles (Opened row) before = false
+doubles line before = has_key key_of before (key_of line)
 
 -- ---- what lines say
 
@@ -113,10 +75,6 @@ file (Policy name) = one roles.Policy name
 file (Registry line) = Some (names.Registry line)
 file line = None
 
-abbrev pub is_guard : SpLine → Bool
-is_guard Guard = true
-is_guard line = false
-
 abbrev pub asked : SpLine → Option AskedLine
 asked (Asked row) = Some row
 asked line = None
@@ -124,32 +82,6 @@ asked line = None
 abbrev pub opened : SpLine → Option OpenedLine
 opened (Opened row) = Some row
 opened line = None
-
--- what lines say together
-pub record Found : Type 0 where
-  pub entity : Option (List ℕ)
-  pub base : Option (List ℕ)
-  pub listen : Option (List ℕ)
-  pub skew : Option ℕ
-  pub files : List SpFile
-  pub next_in : Option Times
-  pub guard : Bool
-  pub asked : List AskedLine
-  pub opened : List OpenedLine
-
-abbrev pub found : List SpLine → Found
-found lines =
-    record {
-      entity = the entity lines;
-      base = the base lines;
-      listen = the listen lines;
-      skew = the skew lines;
-      files = filter_map file lines;
-      next_in = the times lines;
-      guard = list_any is_guard lines;
-      asked = filter_map asked lines;
-      opened = filter_map opened lines;
-    }
 
 -- ---- a config
 
@@ -164,6 +96,33 @@ pub record Config : Type 0 where
   pub guard : Bool
   pub asked : List AskedLine
   pub opened : List OpenedLine
+
+-- the config of these lines; none where a key is missing
+abbrev pub config_of : List SpLine → Option Config
+config_of lines = do
+  entity ← the entity lines
+  base ← the base lines
+  listen ← the listen lines
+  skew ← the skew lines
+  if list_all (has_key key_of lines) (codes "idp" ∷ codes "key_in" ∷ codes "key_out" ∷ codes "id_key" ∷ [])
+      then Some (record {
+        entity = entity;
+        base = base;
+        listen = listen;
+        skew = skew;
+        files = filter_map file lines;
+        next_in = the times lines;
+        guard = has_key key_of lines (codes "guard");
+        asked = filter_map asked lines;
+        opened = filter_map opened lines;
+      }) else None
+
+-- the config of a text, or the number of the first line that is bad; 0 where no line is bad and a key is missing
+abbrev pub sp_config : Purpose → List ℕ → Result Config ℕ
+sp_config purpose text =
+    and_then (λ lines. ok_or (config_of lines) 0) (lines_from (λ _. spelled purpose) doubles [] (said text))
+
+-- ---- the files of a config
 
 abbrev pub same_role : FileRole → FileRole → Bool
 same_role roles.Idp roles.Idp = true
@@ -191,19 +150,6 @@ has_files files = has_file roles.Idp files && has_file roles.KeyIn files && has_
 abbrev pub AreOfDifferentRoles : List SpFile → Type 0
 AreOfDifferentRoles [] = Unit {0}
 AreOfDifferentRoles (named ∷ others) = (has_file (role_of named) others ≡ false) × AreOfDifferentRoles others
-
--- the config of what is found; none where a key is missing
-abbrev pub complete : Found → Option Config
-complete found = do
-  entity ← found.entity
-  base ← found.base
-  listen ← found.listen
-  skew ← found.skew
-  if has_files found.files then Some (record { entity = entity; base = base; listen = listen; skew = skew; files = found.files; next_in = found.next_in; guard = found.guard; asked = found.asked; opened = found.opened }) else None
-
--- the config of a text, or the number of the first line that is bad; 0 where no line is bad and a key is missing
-abbrev pub sp_config : Purpose → List ℕ → Result Config ℕ
-sp_config purpose text = and_then (λ lines. ok_or (complete (found lines)) 0) (lines_from purpose [] (said text))
 
 -- ---- how contracts see what is read
 

@@ -1,13 +1,59 @@
 -- Words by which the code keeps the definitions: what is found so far, and what one more line adds.
-use Rattle.std.specs.Prelude.{ℕ, Bool, false, ◌||◌, List, [], ◌∷◌, Option, None, Some, Result, Err, ok_or, is_some, if◌then◌else◌}
+use Rattle.std.specs.Prelude.{ℕ, Bool, true, false, ◌||◌, List, [], ◌∷◌, Option, None, Some, Result, Err, ok_or, is_some, if◌then◌else◌}
+use Rattle.std.specs.List.{filter_map, list_any}
 use Rattle.text_lines.specs.Lines.{Said, Says, NoText}
 use Rattle.provider_config.specs.declared.config.FileRole.TheVariants as roles
 use Rattle.provider_config.specs.declared.line.Purpose.{Purpose}
 use Rattle.provider_config.specs.declared.line.SpLine.{SpLine}
 use Rattle.provider_config.specs.declared.line.SpLine.TheVariants.{Entity, Base, Listen, Idp, KeyIn, KeyOut, IdKey, Skew, NextIn, Policy, Registry, Guard, Asked, Opened}
 use Rattle.provider_config.specs.Line.{line_of}
-use Rattle.provider_config.specs.Config.{Found, Config, entity, base, listen, skew, times, file, is_guard, asked, opened, has_file, complete}
-use Rattle.provider_config.specs.Shared.{and_then, or_else, pushed}
+use Rattle.provider_config.specs.declared.config.AskedLine.{AskedLine}
+use Rattle.provider_config.specs.declared.config.OpenedLine.{OpenedLine}
+use Rattle.provider_config.specs.declared.config.SpFile.{SpFile}
+use Rattle.provider_config.specs.declared.config.Times.{Times}
+use Rattle.provider_config.specs.Config.{Config, entity, base, listen, skew, times, file, asked, opened, has_file, has_files}
+use Rattle.provider_config.specs.Shared.{and_then, or_else, pushed, the, ◌>>=◌}
+
+-- ---- what is found so far
+
+abbrev pub is_guard : SpLine → Bool
+is_guard Guard = true
+is_guard line = false
+
+-- what lines say together
+pub record Found : Type 0 where
+  pub entity : Option (List ℕ)
+  pub base : Option (List ℕ)
+  pub listen : Option (List ℕ)
+  pub skew : Option ℕ
+  pub files : List SpFile
+  pub next_in : Option Times
+  pub guard : Bool
+  pub asked : List AskedLine
+  pub opened : List OpenedLine
+
+abbrev pub found : List SpLine → Found
+found lines =
+    record {
+      entity = the entity lines;
+      base = the base lines;
+      listen = the listen lines;
+      skew = the skew lines;
+      files = filter_map file lines;
+      next_in = the times lines;
+      guard = list_any is_guard lines;
+      asked = filter_map asked lines;
+      opened = filter_map opened lines;
+    }
+
+-- the config of what is found; none where a key is missing
+abbrev pub complete : Found → Option Config
+complete found = do
+  entity ← found.entity
+  base ← found.base
+  listen ← found.listen
+  skew ← found.skew
+  if has_files found.files then Some (record { entity = entity; base = base; listen = listen; skew = skew; files = found.files; next_in = found.next_in; guard = found.guard; asked = found.asked; opened = found.opened }) else None
 
 -- what is found with one more line
 abbrev pub taken : SpLine → Found → Found

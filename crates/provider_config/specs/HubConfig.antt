@@ -1,8 +1,8 @@
 -- The lines of a hub's config: which of them make one, and what it says.
-use Rattle.std.specs.Prelude.{ℕ, Bool, true, false, ◌&&◌, nat_le, List, [], ◌∷◌, ◌++◌, count_by, Option, None, Some, Result, Ok, Err, ok_or, if◌then◌else◌}
+use Rattle.std.specs.Prelude.{ℕ, Bool, true, false, ◌&&◌, nat_le, List, [], count_by, Option, None, Some, Result, ok_or, if◌then◌else◌}
 use Rattle.std.specs.List.{filter_map, list_any}
 use Rattle.std.specs.Option.{option_map}
-use Rattle.text_lines.specs.Lines.{Said, Says, NoText, said}
+use Rattle.text_lines.specs.Lines.{said}
 use Rattle.provider_config.specs.declared.config.SpFile.{SpFile}
 use Rattle.provider_config.specs.declared.config.Times.{Times}
 use Rattle.provider_config.specs.declared.hub_config.HubFile.{HubFile}
@@ -13,8 +13,8 @@ use Rattle.provider_config.specs.declared.hub_line.HubLine.TheVariants.{Above, P
 use Rattle.provider_config.specs.declared.idp_config.TheConstants.{MAX_PEERS}
 use Rattle.provider_config.specs.declared.line.SpLine.{SpLine}
 use Rattle.provider_config.specs.Config as sp
-use Rattle.provider_config.specs.HubLine.{line_of}
-use Rattle.provider_config.specs.Shared.{and_then, ◌>>=◌}
+use Rattle.provider_config.specs.HubLine.{spelled}
+use Rattle.provider_config.specs.Shared.{and_then, lines_from, ◌>>=◌}
 
 -- ---- the lines of a text
 
@@ -35,22 +35,6 @@ abbrev pub is_beyond : HubLine → List HubLine → Bool
 is_beyond (Above line) before = sp.doubles line (above before)
 is_beyond (Peer names) before = nat_le MAX_PEERS (count_by is_peer before)
 
--- the line, unless it is beyond what may stand
-abbrev pub fresh : List HubLine → Option HubLine → Option HubLine
-fresh before None = None
-fresh before (Some line) = if is_beyond line before then None else Some line
-
--- the line that is said behind these lines, or the number of a bad one
-abbrev pub line_behind : List HubLine → Said → Result HubLine ℕ
-line_behind before (Says number text) = ok_or (fresh before (line_of number text)) number
-line_behind before (NoText number) = Err number
-
--- these lines and those that are said behind them, or the number of the first that is bad
-abbrev pub lines_from : List HubLine → List Said → Result (List HubLine) ℕ
-lines_from before [] = Ok before
-lines_from before (next ∷ others) =
-    and_then (λ line. lines_from (before ++ line ∷ []) others) (line_behind before next)
-
 -- ---- what lines say
 
 -- what a line says is within its bounds
@@ -61,14 +45,6 @@ IsSound (Peer names) = Unit {0}
 abbrev pub file : HubLine → Option HubFile
 file (Above line) = option_map files.Above (sp.file line)
 file (Peer names) = Some (files.Peer names)
-
--- what lines say together: those that a service provider's config has too, and the files of all
-pub record Found : Type 0 where
-  pub above : sp.Found
-  pub files : List HubFile
-
-abbrev pub found : List HubLine → Found
-found lines = record { above = sp.found (above lines); files = filter_map file lines }
 
 -- ---- a config
 
@@ -81,9 +57,22 @@ pub record HubConfig : Type 0 where
   pub files : List HubFile
   pub next_in : Option Times
 
-abbrev pub is_peer_file : HubFile → Bool
-is_peer_file (files.Above named) = false
-is_peer_file (files.Peer names) = true
+-- the config of these lines; none where a key of a service provider's config is missing, or a peer
+abbrev pub config_of : List HubLine → Option HubConfig
+config_of lines = do
+  one ← sp.config_of (above lines)
+  if list_any is_peer lines then Some (record {
+    entity = one.entity;
+    base = one.base;
+    listen = one.listen;
+    skew = one.skew;
+    files = filter_map file lines;
+    next_in = one.next_in;
+  }) else None
+
+-- the config of a text, or the number of the first line that is bad; 0 where no line is bad and a key is missing
+abbrev pub hub_config : List ℕ → Result HubConfig ℕ
+hub_config text = and_then (λ lines. ok_or (config_of lines) 0) (lines_from spelled is_beyond [] (said text))
 
 abbrev pub sp_file : HubFile → Option SpFile
 sp_file (files.Above named) = Some named
@@ -93,44 +82,32 @@ sp_file (files.Peer names) = None
 abbrev pub above_files : List HubFile → List SpFile
 above_files named = filter_map sp_file named
 
+-- what it says as a service provider's config
+abbrev pub upstream : HubConfig → sp.Config
+upstream config = record {
+  entity = config.entity;
+  base = config.base;
+  listen = config.listen;
+  skew = config.skew;
+  files = above_files config.files;
+  next_in = config.next_in;
+  guard = false;
+  asked = [];
+  opened = [];
+}
+
+-- ---- the files of a config
+
+abbrev pub is_peer_file : HubFile → Bool
+is_peer_file (files.Above named) = false
+is_peer_file (files.Peer names) = true
+
 abbrev pub has_peer : List HubFile → Bool
 has_peer named = list_any is_peer_file named
 
 -- the files that each config names
 abbrev pub has_files : List HubFile → Bool
 has_files named = sp.has_files (above_files named) && has_peer named
-
--- the config of what is found; none where a key of a service provider's config is missing, or a peer
-abbrev pub complete : Found → Option HubConfig
-complete found = do
-  above ← sp.complete found.above
-  if has_peer found.files then Some (record {
-    entity = above.entity;
-    base = above.base;
-    listen = above.listen;
-    skew = above.skew;
-    files = found.files;
-    next_in = above.next_in;
-  }) else None
-
--- the config of a text, or the number of the first line that is bad; 0 where no line is bad and a key is missing
-abbrev pub hub_config : List ℕ → Result HubConfig ℕ
-hub_config text = and_then (λ lines. ok_or (complete (found lines)) 0) (lines_from [] (said text))
-
--- what it says as a service provider's config
-abbrev pub upstream : HubConfig → sp.Config
-upstream config =
-    record {
-      entity = config.entity;
-      base = config.base;
-      listen = config.listen;
-      skew = config.skew;
-      files = above_files config.files;
-      next_in = config.next_in;
-      guard = false;
-      asked = [];
-      opened = [];
-    }
 
 -- ---- how contracts see what is read
 

@@ -1,13 +1,38 @@
 -- Words by which the code keeps the definitions: what is found so far, and what one more line adds.
 use Rattle.std.specs.Prelude.{ℕ, Bool, nat_le, List, [], ◌∷◌, count_by, Option, None, Some, Result, Err, ok_or, if◌then◌else◌}
+use Rattle.std.specs.List.{filter_map}
 use Rattle.text_lines.specs.Lines.{Said, Says, NoText}
 use Rattle.provider_config.specs.declared.hub_line.HubLine.{HubLine}
 use Rattle.provider_config.specs.declared.hub_line.HubLine.TheVariants.{Above, Peer}
 use Rattle.provider_config.specs.declared.idp_config.TheConstants.{MAX_PEERS}
 use Rattle.provider_config.specs.Drafts as sp
-use Rattle.provider_config.specs.HubConfig.{Found, HubConfig, file, is_peer_file, complete}
+use Rattle.provider_config.specs.declared.hub_config.HubFile.{HubFile}
+use Rattle.provider_config.specs.HubConfig.{HubConfig, above, file, is_peer_file, has_peer}
 use Rattle.provider_config.specs.HubLine.{line_of}
-use Rattle.provider_config.specs.Shared.{and_then, pushed}
+use Rattle.provider_config.specs.Shared.{and_then, pushed, ◌>>=◌}
+
+-- ---- what is found so far
+
+-- what lines say together: those that a service provider's config has too, and the files of all
+pub record Found : Type 0 where
+  pub above : sp.Found
+  pub files : List HubFile
+
+abbrev pub found : List HubLine → Found
+found lines = record { above = sp.found (above lines); files = filter_map file lines }
+
+-- the config of what is found; none where a key of a service provider's config is missing, or a peer
+abbrev pub complete : Found → Option HubConfig
+complete found = do
+  above ← sp.complete found.above
+  if has_peer found.files then Some (record {
+    entity = above.entity;
+    base = above.base;
+    listen = above.listen;
+    skew = above.skew;
+    files = found.files;
+    next_in = above.next_in;
+  }) else None
 
 -- what is found with one more line
 abbrev pub taken : HubLine → Found → Found

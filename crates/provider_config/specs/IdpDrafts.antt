@@ -1,12 +1,61 @@
 -- Words by which the code keeps the definitions: what is found so far, and what one more line adds.
-use Rattle.std.specs.Prelude.{ℕ, Bool, ◌||◌, nat_le, List, [], ◌∷◌, count_by, Option, None, Some, Result, Err, ok_or, is_some, if◌then◌else◌}
+use Rattle.std.specs.Prelude.{ℕ, Bool, true, false, ◌||◌, unwrap_or, nat_le, List, [], ◌∷◌, count_by, Option, None, Some, Result, Err, ok_or, is_some, if◌then◌else◌}
+use Rattle.std.specs.List.{filter_map, list_any}
 use Rattle.text_lines.specs.Lines.{Said, Says, NoText}
 use Rattle.provider_config.specs.declared.idp_config.TheConstants.{MAX_PEERS}
 use Rattle.provider_config.specs.declared.idp_line.IdpLine.{IdpLine}
 use Rattle.provider_config.specs.declared.idp_line.IdpLine.TheVariants.{Entity, Base, Listen, Users, IdKey, Skew, Sign, Fanout, Peer}
 use Rattle.provider_config.specs.IdpLine.{line_of}
-use Rattle.provider_config.specs.IdpConfig.{Found, IdpConfig, entity, base, listen, skew, sign, is_fanout, file, has_users, has_id_key, is_peer_file, complete}
-use Rattle.provider_config.specs.Shared.{and_then, or_else, pushed}
+use Rattle.provider_config.specs.declared.idp_config.IdpFile.{IdpFile}
+use Rattle.provider_config.specs.declared.idp_config.SignMode.{SignMode}
+use Rattle.provider_config.specs.declared.idp_config.SignMode.TheVariants as modes
+use Rattle.provider_config.specs.IdpConfig.{IdpConfig, entity, base, listen, skew, sign, file, has_users, has_id_key, is_peer_file, has_files}
+use Rattle.provider_config.specs.Shared.{and_then, or_else, pushed, the, ◌>>=◌}
+
+-- ---- what is found so far
+
+abbrev pub is_fanout : IdpLine → Bool
+is_fanout Fanout = true
+is_fanout line = false
+
+-- what lines say together
+pub record Found : Type 0 where
+  pub entity : Option (List ℕ)
+  pub base : Option (List ℕ)
+  pub listen : Option (List ℕ)
+  pub skew : Option ℕ
+  pub sign : Option SignMode
+  pub fanout : Bool
+  pub files : List IdpFile
+
+abbrev pub found : List IdpLine → Found
+found lines =
+    record {
+      entity = the entity lines;
+      base = the base lines;
+      listen = the listen lines;
+      skew = the skew lines;
+      sign = the sign lines;
+      fanout = list_any is_fanout lines;
+      files = filter_map file lines;
+    }
+
+-- the config of what is found; none where a key is missing. Without a line of it the Assertion is signed
+abbrev pub complete : Found → Option IdpConfig
+complete found = do
+  entity ← found.entity
+  base ← found.base
+  listen ← found.listen
+  skew ← found.skew
+  if has_files found.files then Some (record {
+    entity = entity;
+    base = base;
+    listen = listen;
+    skew = skew;
+    files = found.files;
+    sign = unwrap_or found.sign modes.Assertion;
+    fanout = found.fanout;
+  }) else None
 
 -- what is found with one more line
 abbrev pub taken : IdpLine → Found → Found

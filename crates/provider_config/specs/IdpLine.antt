@@ -1,5 +1,6 @@
 -- One line of an identity provider's config: a key and its words.
 use Rattle.std.specs.Prelude.{ℕ, List, [], ◌∷◌, codes, Option, None, Some, option_and_then, if◌then◌else◌}
+use Rattle.std.specs.List.{find}
 use Rattle.std.specs.Option.{option_map}
 use Rattle.std.specs.Str.{bytes_eq}
 use Rattle.text_lines.specs.Words.{words_of}
@@ -8,6 +9,18 @@ use Rattle.provider_config.specs.declared.idp_config.SignMode.TheVariants as mod
 use Rattle.provider_config.specs.declared.idp_line.IdpLine.{IdpLine}
 use Rattle.provider_config.specs.declared.idp_line.IdpLine.TheVariants.{Entity, Base, Listen, Users, IdKey, Skew, Sign, Fanout, Peer}
 use Rattle.provider_config.specs.Line.{skew_of}
+
+-- the key that a line begins with
+abbrev pub key_of : IdpLine → List ℕ
+key_of (Entity name) = codes "entity"
+key_of (Base address) = codes "base"
+key_of (Listen place) = codes "listen"
+key_of (Users name) = codes "users"
+key_of (IdKey name) = codes "id_key"
+key_of (Skew milliseconds) = codes "skew"
+key_of (Sign mode) = codes "sign"
+key_of Fanout = codes "fanout"
+key_of (Peer names) = codes "peer"
 
 -- `assertion`, `response` or `both`
 abbrev pub sign_of : List ℕ → Option SignMode
@@ -20,30 +33,19 @@ sign_of word =
 -- the lines of a key and one word: `entity NAME`, `base ADDRESS`, `listen PLACE`, `users FILE`, `id_key FILE`,
 -- `skew SECONDS`, `sign WHAT`
 abbrev pub valued : List ℕ → List ℕ → Option IdpLine
-valued key value =
-    if bytes_eq key (codes "entity") then Some (Entity value)
-    else if bytes_eq key (codes "base") then Some (Base value)
-    else if bytes_eq key (codes "listen") then Some (Listen value)
-    else if bytes_eq key (codes "users") then Some (Users value)
-    else if bytes_eq key (codes "id_key") then Some (IdKey value)
-    else if bytes_eq key (codes "skew") then option_map Skew (skew_of value)
-    else if bytes_eq key (codes "sign") then option_map Sign (sign_of value)
-    else None
+valued key word =
+    if bytes_eq key (codes "skew") then option_map Skew (skew_of word)
+    else if bytes_eq key (codes "sign") then option_map Sign (sign_of word)
+    else find (λ l. bytes_eq key (key_of l)) (Entity word ∷ Base word ∷ Listen word ∷ Users word ∷ IdKey word ∷ [])
 
--- `peer METADATA KEYIN KEYOUT`
-abbrev pub peer : ℕ → List ℕ → List ℕ → List ℕ → IdpLine
-peer number metadata key_in key_out = Peer (record { line = number; metadata = metadata; key_in = key_in; key_out = key_out })
-
--- `fanout`, with no word behind it
-abbrev pub alone : List ℕ → Option IdpLine
-alone key = if bytes_eq key (codes "fanout") then Some Fanout else None
-
--- the line of these words, which has this number
+-- the line of these words, which has this number: `fanout`, with no word behind it, `peer METADATA KEYIN KEYOUT`, or one
+-- of a key and one word
 abbrev pub spelled : ℕ → List (List ℕ) → Option IdpLine
-spelled number (key ∷ []) = alone key
+spelled number (key ∷ []) = if bytes_eq key (codes "fanout") then Some Fanout else None
 spelled number (key ∷ value ∷ []) = valued key value
 spelled number (key ∷ metadata ∷ key_in ∷ key_out ∷ []) =
-    if bytes_eq key (codes "peer") then Some (peer number metadata key_in key_out) else None
+    if bytes_eq key (codes "peer")
+    then Some (Peer (record { line = number; metadata = metadata; key_in = key_in; key_out = key_out })) else None
 spelled number words = None
 
 -- the line that a text spells, which has this number

@@ -118,9 +118,10 @@ impl Model for Draft {
     ghost use Rattle.std.specs.Option.{ForSome};
     ghost use Rattle.xml_spec.specs.Characters.{IsText};
     ghost use Rattle.provider_config.specs.Config as spec;
+    ghost use Rattle.provider_config.specs.Drafts as drafts;
     ghost use Rattle.provider_config.specs.declared.line.TheConstants.{MILLIS, MOST_SKEW};
 
-    ghost Value = { spec.Found };
+    ghost Value = { drafts.Found };
 
     ghost view = { λ d. record { entity = d.entity; base = d.base; listen = d.listen; skew = d.skew; files = d.files.items; next_in = d.next_in; guard = d.guard; asked = d.asked.items; opened = d.opened.items } };
 
@@ -130,7 +131,7 @@ impl Model for Draft {
 impl Draft {
     /// Nothing is found.
     pub(crate) fn new(alloc: Global) -> Draft
-        ensures { result ≡ spec.found [] }
+        ensures { result ≡ drafts.found [] }
     {
         Draft {
             entity: None,
@@ -204,7 +205,7 @@ impl Draft {
 
     /// The lines of the config; none where a key is missing.
     pub(crate) fn complete(self) -> Option<SpLines>
-        ensures value { option_map spec.config_view result ≡ spec.complete self }
+        ensures value { option_map spec.config_view result ≡ drafts.complete self }
         ensures skew { IfSome result (λ lines. lines.skew ≤ MILLIS * MOST_SKEW) }
         ensures times { IfSome result (λ lines. IfSome lines.next_in spec.AreInOrder) }
         ensures texts { IfSome result (λ lines. IsText lines.entity × IsText lines.base × IsText lines.listen) }

@@ -49,9 +49,9 @@ pub(crate) struct HubDraft {
 }
 
 impl Model for HubDraft {
-    ghost use Rattle.provider_config.specs.HubConfig as spec;
+    ghost use Rattle.provider_config.specs.HubDrafts as drafts;
 
-    ghost Value = { spec.Found };
+    ghost Value = { drafts.Found };
 
     ghost view = { λ d. record { above = d.above; files = d.files.items } };
 }
@@ -59,7 +59,7 @@ impl Model for HubDraft {
 impl HubDraft {
     /// Nothing is found.
     pub(crate) fn new(alloc: Global) -> HubDraft
-        ensures { result ≡ spec.found [] }
+        ensures { result ≡ drafts.found [] }
     {
         HubDraft {
             above: Draft::new(alloc),
@@ -96,7 +96,7 @@ impl HubDraft {
 
     /// The lines of the config; none where a key is missing.
     pub(crate) fn complete(self) -> Option<HubLines>
-        ensures value { option_map spec.config_view result ≡ spec.complete self }
+        ensures value { option_map spec.config_view result ≡ drafts.complete self }
         ensures skew { IfSome result (λ lines. lines.skew ≤ MILLIS * MOST_SKEW) }
         ensures times { IfSome result (λ lines. IfSome lines.next_in sp.AreInOrder) }
         ensures texts { IfSome result (λ lines. IsText lines.entity × IsText lines.base × IsText lines.listen) }

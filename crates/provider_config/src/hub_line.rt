@@ -1,6 +1,6 @@
 // One line of a hub's config.
 
-ghost use Rattle.std.specs.Prelude.{◌≡◌, IfOk, IfSome, option_and_then};
+ghost use Rattle.std.specs.Prelude.{◌≡◌, IfOk, IfSome};
 ghost use Rattle.provider_config.specs.Config as sp;
 ghost use Rattle.provider_config.specs.HubConfig.{IsSound};
 ghost use Rattle.provider_config.specs.Shared.{AreTexts};

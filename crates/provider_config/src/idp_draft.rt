@@ -1,6 +1,6 @@
 // What is found in the lines of an identity provider's config so far.
 
-ghost use Rattle.std.specs.Prelude.{◌≡◌, ◌≤◌, ◌*◌, [], ◌∷◌, ◌++◌, IfSome, IsTrue, OnOk, count_by};
+ghost use Rattle.std.specs.Prelude.{◌≡◌, ◌≤◌, ◌*◌, [], IfSome, IsTrue, OnOk, count_by};
 ghost use Rattle.std.specs.Option.{option_map};
 ghost use Rattle.xml_spec.specs.Characters.{IsText};
 ghost use Rattle.provider_config.specs.IdpConfig as spec;
@@ -80,10 +80,10 @@ impl Model for IdpDraft {
     ghost use Rattle.std.specs.Prelude.{◌≤◌, ◌*◌};
     ghost use Rattle.std.specs.Option.{ForSome};
     ghost use Rattle.xml_spec.specs.Characters.{IsText};
-    ghost use Rattle.provider_config.specs.IdpConfig as spec;
+    ghost use Rattle.provider_config.specs.IdpDrafts as drafts;
     ghost use Rattle.provider_config.specs.declared.line.TheConstants.{MILLIS, MOST_SKEW};
 
-    ghost Value = { spec.Found };
+    ghost Value = { drafts.Found };
 
     ghost view = { λ d. record { entity = d.entity; base = d.base; listen = d.listen; skew = d.skew; sign = d.sign; fanout = d.fanout; files = d.files.items } };
 
@@ -93,7 +93,7 @@ impl Model for IdpDraft {
 impl IdpDraft {
     /// Nothing is found.
     pub(crate) fn new(alloc: Global) -> IdpDraft
-        ensures { result ≡ spec.found [] }
+        ensures { result ≡ drafts.found [] }
     {
         IdpDraft {
             entity: None,
@@ -144,7 +144,7 @@ impl IdpDraft {
 
     /// The lines of the config; none where a key is missing.
     pub(crate) fn complete(self) -> Option<IdpLines>
-        ensures value { option_map spec.config_view result ≡ spec.complete self }
+        ensures value { option_map spec.config_view result ≡ drafts.complete self }
         ensures skew { IfSome result (λ lines. lines.skew ≤ MILLIS * MOST_SKEW) }
         ensures texts { IfSome result (λ lines. IsText lines.entity × IsText lines.base × IsText lines.listen) }
         ensures files { IfSome result (λ lines. IsTrue (spec.has_files lines.files.items)) }

@@ -46,13 +46,13 @@ fn valued(alloc: Global, key: &str, value: &str) -> Result<Option<IdpLine>, NoMe
     ensures sound { IfOk result (λ line. IfSome line IsSound) }
 {
     let line = match key {
+        "skew" => return Ok(skew_of(value).map(IdpLine::Skew)),
+        "sign" => return Ok(sign_of(value).map(IdpLine::Sign)),
         "entity" => IdpLine::Entity(Text::of(alloc, value)?),
         "base" => IdpLine::Base(Text::of(alloc, value)?),
         "listen" => IdpLine::Listen(Text::of(alloc, value)?),
         "users" => IdpLine::Users(Text::of(alloc, value)?),
         "id_key" => IdpLine::IdKey(Text::of(alloc, value)?),
-        "skew" => return Ok(skew_of(value).map(IdpLine::Skew)),
-        "sign" => return Ok(sign_of(value).map(IdpLine::Sign)),
         _ => return Ok(None),
     };
     Ok(Some(line))
@@ -60,7 +60,7 @@ fn valued(alloc: Global, key: &str, value: &str) -> Result<Option<IdpLine>, NoMe
 
 /// The line of a peer's three files.
 fn peer(line: u32, metadata: &Text, key_in: &Text, key_out: &Text) -> Result<IdpLine, NoMemory>
-    ensures { IfOk result (λ made. made ≡ spec.peer line metadata.now key_in.now key_out.now) }
+    ensures { IfOk result (λ made. made ≡ IdpLine.Peer (record { line = line; metadata = metadata.now; key_in = key_in.now; key_out = key_out.now })) }
 {
     Ok(IdpLine::Peer(PeerFiles {
         line,

@@ -1,6 +1,6 @@
 // An identity provider's config is read.
 
-ghost use Rattle.std.specs.Prelude.{◌≡◌, ◌<◌, ◌≤◌, ◌*◌, ◌^◌, length, IfOk, IsTrue};
+ghost use Rattle.std.specs.Prelude.{◌<◌, ◌≤◌, ◌*◌, ◌^◌, length, IfOk, IsTrue};
 ghost use Rattle.owned_values.specs.Gives.{Gives};
 ghost use Rattle.xml_spec.specs.Characters.{IsText};
 ghost use Rattle.text_lines.specs.Views.{said_view};

@@ -1,6 +1,7 @@
 // One line of a config.
 
 ghost use Rattle.std.specs.Prelude.{◌≡◌, ◌≤◌, ◌*◌, IfOk, IfSome};
+ghost use Rattle.std.specs.Option.{option_map};
 ghost use Rattle.provider_config.specs.Config.{AreInOrder, IsSound};
 ghost use Rattle.provider_config.specs.Shared.{AreTexts};
 ghost use Rattle.xml_spec.specs.Characters.{IsText};
@@ -75,6 +76,7 @@ fn valued(alloc: Global, key: &str, value: &str) -> Result<Option<SpLine>, NoMem
     ensures sound { IfOk result (λ line. IfSome line IsSound) }
 {
     let line = match key {
+        "skew" => return Ok(skew_of(value).map(SpLine::Skew)),
         "entity" => SpLine::Entity(Text::of(alloc, value)?),
         "base" => SpLine::Base(Text::of(alloc, value)?),
         "listen" => SpLine::Listen(Text::of(alloc, value)?),
@@ -82,7 +84,6 @@ fn valued(alloc: Global, key: &str, value: &str) -> Result<Option<SpLine>, NoMem
         "key_in" => SpLine::KeyIn(Text::of(alloc, value)?),
         "key_out" => SpLine::KeyOut(Text::of(alloc, value)?),
         "id_key" => SpLine::IdKey(Text::of(alloc, value)?),
-        "skew" => return Ok(skew_of(value).map(SpLine::Skew)),
         "policy" => SpLine::Policy(Text::of(alloc, value)?),
         _ => return Ok(None),
     };
@@ -104,7 +105,7 @@ fn times_of(from: &str, until: &str) -> Option<Times>
 
 /// The line of a file and two moments.
 fn next_in(file: &Text, from: &str, until: &str) -> Result<Option<SpLine>, NoMemory>
-    ensures value { IfOk result (λ line. line ≡ spec.next_in file.now from.now until.now) }
+    ensures value { IfOk result (λ line. line ≡ option_map (λ times. SpLine.NextIn file.now times) (spec.times_of from.now until.now)) }
     ensures sound { IfOk result (λ line. IfSome line IsSound) }
 {
     let Some(times) = times_of(from, until) else {
@@ -116,7 +117,7 @@ fn next_in(file: &Text, from: &str, until: &str) -> Result<Option<SpLine>, NoMem
 
 /// The line of a registry.
 fn registry(file: &Text, key: &Text, entity: &Text) -> Result<SpLine, NoMemory>
-    ensures { IfOk result (λ line. line ≡ spec.registry file.now key.now entity.now) }
+    ensures { IfOk result (λ line. line ≡ SpLine.Registry (record { file = file.now; key = key.now; entity = entity.now })) }
 {
     Ok(SpLine::Registry(RegistryLine {
         file: file.copy()?,
