@@ -20,7 +20,7 @@ use Rattle.post_binding.specs.Laws.{EscapedTextHoldsNoMarkup, EscapedTextIsReadA
 use Rattle.post_binding.specs.Pages.{auto_form, login_page, relay_input, submitting_head, head, tail}
 use Rattle.post_agent.specs.declared.seen.AutoForm.{AutoForm}
 use Rattle.post_agent.specs.Cuts.{cut, quoted}
-use Rattle.post_agent.specs.Pages.{form_page, IsForm, ShowsForm, ShowsLogin}
+use Rattle.post_agent.specs.Pages.{form_page, IsForm}
 use Rattle.post_agent.specs.Reading.{FormParts, url_front, name_front, value_front, relay_front, pending_front, relay_part, form_parts, in_utf8, text_in, are_bytes, as_bytes, decoded, message_in, field_of, relay_in, form_of, form_with, form_in, login_with, login_in}
 use Rattle.post_agent.proofs.Cutting.{behind_front, cut_front, is_without, bytes_eq-same}
 use Rattle.post_agent.proofs.Options.{followed, mapped, passed, some_same}
@@ -243,18 +243,18 @@ form_is_good parts form e =
       relay = relay_is_utf8 parts.relay relay.first relay.was;
     })
 
-pub form_in-shows : (body : List ℕ) (form : AutoForm) → form_in body ≡ Some form → ShowsForm body form
+pub form_in-shows : (body : List ℕ) (form : AutoForm) → form_in body ≡ Some form → IsForm form × (body ≡ form_page form)
 form_in-shows body form e =
     let parts = followed (form_parts body) _ form e in
     let made = followed (form_of parts.first) (form_with body) form parts.then in
     let same = passed (bytes_eq (form_page made.first) body) made.first form made.then in
     let is = form_is_good parts.first made.first made.was in
-    subst (ShowsForm body) same.same (is, sym ((bytes_eq-Decides (form_page made.first) body).0 same.test))
+    subst (λ (f : AutoForm). IsForm f × (body ≡ form_page f)) same.same (is, sym ((bytes_eq-Decides (form_page made.first) body).0 same.test))
 
-pub login_in-shows : (body pending : List ℕ) → login_in body ≡ Some pending → ShowsLogin body pending
+pub login_in-shows : (body pending : List ℕ) → login_in body ≡ Some pending → IsUtf8 pending × (body ≡ login_page pending)
 login_in-shows body pending e =
     let part = followed (quoted pending_front body) _ pending e in
     let text = followed (text_in part.first.0) (login_with body) pending part.then in
     let same = passed (bytes_eq (login_page text.first) body) text.first pending text.then in
-    subst (ShowsLogin body) same.same
+    subst (λ (text : List ℕ). IsUtf8 text × (body ≡ login_page text)) same.same
     (text_is_utf8 part.first.0 text.first text.was, sym ((bytes_eq-Decides (login_page text.first) body).0 same.test))

@@ -17,7 +17,7 @@ use Rattle.post_agent.specs.declared.page.TheConstants.{VERDICTS}
 use Rattle.post_agent.specs.declared.seen.AutoForm.{AutoForm}
 use Rattle.post_agent.specs.declared.seen.Page.{Page}
 use Rattle.post_agent.specs.declared.seen.Page.TheVariants.{Form, Login, End, Code, Status, Other}
-use Rattle.post_agent.specs.Pages.{form_page, Shows, IsOther, refusal_page, status_page}
+use Rattle.post_agent.specs.Pages.{form_page, IsPage, Shows, refusal_page, status_page}
 use Rattle.post_agent.specs.Reading.{form_in, login_in, is_refusal, code_in, is_status, is_end, other_page, page_of}
 use Rattle.post_agent.proofs.Cutting.{bytes_eq-same}
 use Rattle.post_agent.proofs.Forms.{form_in-page, login_in-page, form_in-shows, login_in-shows}
@@ -109,12 +109,12 @@ page_by form login other = option_map_or (λ f. Form f) form (option_map_or (λ 
 
 -- ---- a body that is none of the pages
 
-other_page_is : (status : ℕ) (body : List ℕ) → IsOther status body → other_page status body ≡ Other
+other_page_is : (status : ℕ) (body : List ℕ) → Shows status body Other → other_page status body ≡ Other
 other_page_is status body is =
     by_tests (is_end body) (code_in body) (is_status status body)
-    (λ e. let at = end_shows body e in is.no_end at.0 at.1)
-    (λ code e. let at = code_shows status body code e in is.no_code at.0 at.2)
-    (λ e. is.no_status ((bytes_eq-Decides body (status_page status)).0 e))
+    (λ e. is End (end_shows body e))
+    (λ code e. is (Code code) (code_shows status body code e))
+    (λ e. is Status ((bytes_eq-Decides body (status_page status)).0 e))
   where
     by_tests : (end : Bool) (code : Option ℕ) (alone : Bool) → (end ≡ true → ⊥) → ((n : ℕ) → code ≡ Some n → ⊥) →
         (alone ≡ true → ⊥) → other_by end code alone ≡ Other
@@ -123,10 +123,10 @@ other_page_is status body is =
     by_tests false None true no_end no_code no_status = absurd (no_status refl)
     by_tests false None false no_end no_code no_status = refl
 
-other_is : (status : ℕ) (body : List ℕ) → IsOther status body → page_of status body ≡ Other
+other_is : (status : ℕ) (body : List ℕ) → Shows status body Other → page_of status body ≡ Other
 other_is status body is =
-    by_options (form_in body) (login_in body) (λ form e. is.no_form form (form_in-shows body form e))
-    (λ pending e. is.no_login pending (login_in-shows body pending e))
+    by_options (form_in body) (login_in body) (λ form e. is (Form form) (form_in-shows body form e))
+    (λ pending e. is (Login pending) (login_in-shows body pending e))
   where
     by_options : (form : Option AutoForm) (login : Option (List ℕ)) → ((f : AutoForm) → form ≡ Some f → ⊥) →
         ((text : List ℕ) → login ≡ Some text → ⊥) →
@@ -157,17 +157,18 @@ module _ (clean : EscapedTextHoldsNoMarkup) (again : EscapedTextIsReadAgain) whe
   page_of-shows status body valid = by_form (form_in body) refl
     where
       other : form_in body ≡ None → login_in body ≡ None → is_end body ≡ false → code_in body ≡ None →
-          is_status status body ≡ false → IsOther status body
-      other no_form no_login no_end no_code no_status = record {
-        no_form = λ form shows. never form (sym no_form ∙ ap form_in shows.1 ∙ form_in-page clean again form shows.0);
-        no_login = λ pending shows. never pending
-            (sym no_login ∙ ap login_in shows.1 ∙ login_in-page clean again pending shows.0);
-        no_end = λ partial shows. true_false (sym (ap is_end shows ∙ end_is partial) ∙ no_end);
-        no_code = λ verdict shows. never (number_of verdict)
-            (sym no_code ∙ ap code_in shows ∙ code_in-refusal_page verdict);
-        no_status = λ shows. true_false
-            (sym (ap (is_status status) shows ∙ bytes_eq-same (status_page status)) ∙ no_status);
-      }
+          is_status status body ≡ false → (page : Page) → IsPage status body page → ⊥
+      other no_form no_login no_end no_code no_status (Form form) shows =
+          never form (sym no_form ∙ ap form_in shows.1 ∙ form_in-page clean again form shows.0)
+      other no_form no_login no_end no_code no_status (Login pending) shows =
+          never pending (sym no_login ∙ ap login_in shows.1 ∙ login_in-page clean again pending shows.0)
+      other no_form no_login no_end no_code no_status End shows =
+          true_false (sym (ap is_end shows.1 ∙ end_is shows.0) ∙ no_end)
+      other no_form no_login no_end no_code no_status (Code code) shows =
+          never (number_of shows.0) (sym no_code ∙ ap code_in shows.2 ∙ code_in-refusal_page shows.0)
+      other no_form no_login no_end no_code no_status Status shows =
+          true_false (sym (ap (is_status status) shows ∙ bytes_eq-same (status_page status)) ∙ no_status)
+      other no_form no_login no_end no_code no_status Other shows = shows
 
       by_status : (t : Bool) → is_status status body ≡ t → form_in body ≡ None → login_in body ≡ None →
           is_end body ≡ false → code_in body ≡ None →

@@ -31,15 +31,13 @@ got site path state = record { site = site; bytes = get site (cookie_at site sta
 abbrev pub visited : List ℕ → State → Outgoing
 visited path state = got Sp path state
 
--- SAML Bindings 3.5.4: a form is posted to its URL, with its message and its relay
-abbrev pub posted : Option (List ℕ) → Site → List ℕ → AutoForm → Outgoing
-posted cookie site path form = record {
-  site = site;
-  bytes = post site cookie path (post_body form.field form.message form.relay);
-}
+-- a body is posted to a path of a node
+abbrev pub posted : Site → List ℕ → List ℕ → State → Outgoing
+posted site path body state = record { site = site; bytes = post site (cookie_at site state) path body }
 
+-- SAML Bindings 3.5.4: a form is posted to its URL, with its message and its relay
 abbrev pub posted_to : State → AutoForm → Site × List ℕ → Outgoing
-posted_to state form (site, path) = posted (cookie_at site state) site path form
+posted_to state form (site, path) = posted site path (post_body form.field form.message form.relay) state
 
 -- the form of the last page that had one; none where no form was seen, or its URL is neither node's
 abbrev pub submitted : State → Option Outgoing
@@ -47,10 +45,7 @@ submitted state = option_and_then (λ form. option_map (posted_to state form) (p
 
 -- the last login page, filled in, at the node that sent it
 abbrev pub filled_in : List ℕ → List ℕ → State → LoginPage → Outgoing
-filled_in user password state page = record {
-  site = page.site;
-  bytes = post page.site (cookie_at page.site state) (codes "/login") (login_form page.pending user password);
-}
+filled_in user password state page = posted page.site (codes "/login") (login_form page.pending user password) state
 
 abbrev pub logged_in : List ℕ → List ℕ → State → Option Outgoing
 logged_in user password state = option_map (filled_in user password state) state.login
@@ -61,7 +56,7 @@ followed state = option_map (λ location. got location.site location.path state)
 
 -- an empty form at `/logout`
 abbrev pub left : Site → State → Outgoing
-left site state = record { site = site; bytes = post site (cookie_at site state) (codes "/logout") [] }
+left site state = posted site (codes "/logout") [] state
 
 -- ---- what is kept
 

@@ -27,27 +27,16 @@ refusal_page verdict = page (codes "Refused: " ++ decimal (number_of verdict) ++
 abbrev pub status_page : ℕ → List ℕ
 status_page status = page (decimal status)
 
--- the body is the page that submits this form
-abbrev pub ShowsForm : List ℕ → AutoForm → Type 0
-ShowsForm body form = IsForm form × (body ≡ form_page form)
+-- the body of an answer with this status is this page, one that a user agent tells from the others
+abbrev pub IsPage : ℕ → List ℕ → Page → Type 0
+IsPage status body (Form form) = IsForm form × (body ≡ form_page form)
+IsPage status body (Login pending) = IsUtf8 pending × (body ≡ login_page pending)
+IsPage status body End = (partial : Bool) × (body ≡ end_page partial)
+IsPage status body (Code code) = (verdict : Verdict) × (code ≡ number_of verdict) × (body ≡ refusal_page verdict)
+IsPage status body Status = body ≡ status_page status
+IsPage status body Other = ⊥
 
--- the body is the login page of this pending login
-abbrev pub ShowsLogin : List ℕ → List ℕ → Type 0
-ShowsLogin body pending = IsUtf8 pending × (body ≡ login_page pending)
-
--- the body is none of the pages that a user agent tells apart
-pub record IsOther (status : ℕ) (body : List ℕ) : Type 0 where
-  pub no_form : (form : AutoForm) → ¬ (ShowsForm body form)
-  pub no_login : (pending : List ℕ) → ¬ (ShowsLogin body pending)
-  pub no_end : (partial : Bool) → ¬ (body ≡ end_page partial)
-  pub no_code : (verdict : Verdict) → ¬ (body ≡ refusal_page verdict)
-  pub no_status : ¬ (body ≡ status_page status)
-
--- the page that the body of an answer with this status is
+-- the page that the body of an answer with this status is: another where it is none that is told apart
 abbrev pub Shows : ℕ → List ℕ → Page → Type 0
-Shows status body (Form form) = ShowsForm body form
-Shows status body (Login pending) = ShowsLogin body pending
-Shows status body End = (partial : Bool) × (body ≡ end_page partial)
-Shows status body (Code code) = (verdict : Verdict) × (code ≡ number_of verdict) × (body ≡ refusal_page verdict)
-Shows status body Status = body ≡ status_page status
-Shows status body Other = IsOther status body
+Shows status body Other = (page : Page) → ¬ (IsPage status body page)
+Shows status body page = IsPage status body page

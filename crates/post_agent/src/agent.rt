@@ -1,6 +1,8 @@
 //! The user agent.
 ghost use Rattle.std.specs.Prelude.{◌≡◌, IfOk, OnErr, Some};
+ghost use Rattle.post_binding.specs.Form.{post_body};
 ghost use Rattle.post_agent.specs.Agents as spec;
+ghost use Rattle.post_agent.specs.Requests as requests;
 ghost use Rattle.post_agent.specs.Reading as reading;
 ghost use Rattle.post_agent.specs.Received.{Receives, what_of};
 ghost use Rattle.post_agent.specs.Views.{text_view, answer_view};
@@ -52,7 +54,11 @@ fn posted(
     path: &[u8],
     form: &AutoForm,
 ) -> Result<Outgoing, NoMemory>
-    ensures { IfOk result (λ sent. sent ≡ spec.posted (text_view cookie.entry) site path.now form.now) }
+    ensures { IfOk result (λ sent. sent ≡ record {
+      site = site;
+      bytes = requests.post site (text_view cookie.entry) path.now
+          (post_body form.now.field form.now.message form.now.relay);
+    }) }
 {
     let body = post_body(
         alloc,

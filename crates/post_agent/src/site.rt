@@ -1,6 +1,6 @@
 // The two nodes that a user agent reaches.
 
-ghost use Rattle.std.specs.Prelude.{◌≡◌};
+ghost use Rattle.std.specs.Prelude.{◌≡◌, ◌++◌, codes};
 ghost use Rattle.std.specs.Option.{option_map};
 ghost use Rattle.post_agent.specs.Sites as spec;
 
@@ -25,7 +25,7 @@ pub(crate) fn host_of(site: Site) -> &'static str
 
 /// What each URL of a node begins with.
 fn base_of(site: Site) -> &'static str
-    ensures { result.now ≡ spec.base_of site }
+    ensures { result.now ≡ codes "http://" ++ spec.host_of site }
 {
     match site {
         Site::Sp => "http://127.0.0.1:8081",

@@ -14,8 +14,8 @@ use Rattle.provider_node.specs.Step.{AnswersBy, Provider}
 use Rattle.schedules.specs.declared.step.Step.{Step}
 use Rattle.schedules.specs.declared.step.Step.TheVariants as steps
 use Rattle.schedule_replay.specs.declared.sending.Sending.{Sending}
-use Rattle.schedule_replay.specs.Asked.{BothAsked, asked_arriving, asked_by_piece, asked_doing, asked_exchanging, asked_if_any, asked_in_rounds, asked_on, asked_replaying, none_asked, then_asked}
-use Rattle.schedule_replay.specs.Deployments.{Arrives, ArrivesAt, ArrivesIfAny, CompactsAt, Deployment, Exchanges, Hears, OnSite, RestartsAt, Rounds, Starts, piece_at, shows, unconnected}
+use Rattle.schedule_replay.specs.Asked.{BothAsked, asked_arriving, asked_doing, asked_exchanging, asked_if_any, asked_in_rounds, asked_on, asked_replaying, none_asked, then_asked}
+use Rattle.schedule_replay.specs.Deployments.{Arrives, ArrivesIfAny, CompactsAt, Deployment, Exchanges, Hears, OnSite, RestartsAt, Rounds, Starts, bytes_of, piece_at, shows, unconnected}
 use Rattle.schedule_replay.specs.Hosts.{Brings, CompactionEnds, Host, Outcome, RestartEnds, Rules, Sent, Serves, Silent, Stopped}
 use Rattle.schedule_replay.specs.Steps.{Does, Replays, Requests, RequestsTwo, armed, saying_none}
 use Rattle.replay_starts.specs.Providers.{provider_rules}
@@ -153,19 +153,13 @@ module _ {S A P B : Type 0} (sp_rules : RecordRules A) (SpAnswers : AnswersBy S 
       subst (λ (w : World). Connected w (then_asked asked none_asked)) (sym same)
       (subst (Connected before) (sym (nothing_more asked)) c)
 
-  arrived_if_any : (number : ℕ) (sending : Sending) (piece : List ℕ) (before after : World) (asked : Requested)
+  arrived_if_any : (number : ℕ) (sending : Option Sending) (piece : List ℕ) (before after : World) (asked : Requested)
       → (arrives : ArrivesIfAny sp idp number sending piece before after) → Connected before asked
       → Connected after (then_asked asked (asked_if_any sp idp number sending piece before after arrives))
-  arrived_if_any number sending [] before after asked arrives c = still_same before after asked arrives c
-  arrived_if_any number sending (byte ∷ piece) before after asked arrives c =
+  arrived_if_any number None piece before after asked arrives c = still_same before after asked arrives c
+  arrived_if_any number (Some sending) [] before after asked arrives c = still_same before after asked arrives c
+  arrived_if_any number (Some sending) (byte ∷ piece) before after asked arrives c =
       arrived number sending (byte ∷ piece) before after asked arrives c
-
-  arrived_at : (number at size : ℕ) (sending : Option Sending) (before after : World) (asked : Requested)
-      → (arrives : ArrivesAt sp idp number at size sending before after) → Connected before asked
-      → Connected after (then_asked asked (asked_by_piece sp idp number at size sending before after arrives))
-  arrived_at number at size None before after asked arrives c = still_same before after asked arrives c
-  arrived_at number at size (Some sending) before after asked arrives c =
-      arrived_if_any number sending (piece_at at size sending.request.bytes) before after asked arrives c
 
   -- ---- requests
 
@@ -177,11 +171,13 @@ module _ {S A P B : Type 0} (sp_rules : RecordRules A) (SpAnswers : AnswersBy S 
   rounds_went number size first second zero before after asked same c = still_same before after asked same c
   rounds_went number size first second (suc rounds) before after asked (old, between, earlier, one, other) c =
       let were = asked_in_rounds sp idp number size first second rounds before old earlier in
-      let by_one = asked_by_piece sp idp number (rounds * size) size first old between one in
-      let by_other = asked_by_piece sp idp number (rounds * size) size second between after other in
-      let now = arrived_at number (rounds * size) size second between after
+      let of_first = piece_at (rounds * size) size (bytes_of first) in
+      let of_second = piece_at (rounds * size) size (bytes_of second) in
+      let by_one = asked_if_any sp idp number first of_first old between one in
+      let by_other = asked_if_any sp idp number second of_second between after other in
+      let now = arrived_if_any number second of_second between after
       (then_asked (then_asked asked were) by_one) other
-      (arrived_at number (rounds * size) size first old between (then_asked asked were) one
+      (arrived_if_any number first of_first old between (then_asked asked were) one
       (rounds_went number size first second rounds before old asked earlier c)) in
       subst (Connected after) (joined (then_asked asked were) by_one by_other ∙ joined asked were _) now
 

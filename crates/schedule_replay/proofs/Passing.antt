@@ -10,7 +10,7 @@ use Rattle.serve_loop.specs.Turns.{Turn, Taken}
 use Rattle.post_agent.specs.declared.site.Site.{Site}
 use Rattle.post_agent.specs.declared.site.Site.TheVariants.{Sp, Idp}
 use Rattle.schedule_replay.specs.declared.sending.Sending.{Sending}
-use Rattle.schedule_replay.specs.Deployments.{Deployment, OnSite, Hears, Arrives, ArrivesIfAny, ArrivesAt, Rounds, Starts, Exchanges, RestartsAt, CompactsAt, piece_at, shows, unconnected}
+use Rattle.schedule_replay.specs.Deployments.{Deployment, OnSite, Hears, Arrives, ArrivesIfAny, Rounds, Starts, Exchanges, RestartsAt, CompactsAt, bytes_of, piece_at, shows, unconnected}
 use Rattle.schedule_replay.specs.Faults.{faults_in, stops_taken}
 use Rattle.schedule_replay.specs.Hosts.{Host, Rules, Outcome, Silent, Sent, Stopped, Brings, Comes, CompactionEnds, Ends, Recovers, RestartEnds, Serves, resumed}
 use Rattle.schedule_replay.specs.Lines.{result_words}
@@ -226,23 +226,21 @@ module _ (only : CallsFailWhereSet) {S P : Type 0} (sp : Rules S) (idp : Rules P
   same : (before after : Deployment S P) → after ≡ before → Passes0 (counts_of before) (counts_of after)
   same before after is = subst (λ (w : Deployment S P). Passes0 (counts_of before) (counts_of w)) (sym is) (passes_not (counts_of before))
 
-  arrives_if_any : (number : ℕ) (sending : Sending) (piece : List ℕ) (before after : Deployment S P)
+  arrives_if_any : (number : ℕ) (sending : Option Sending) (piece : List ℕ) (before after : Deployment S P)
       → ArrivesIfAny sp idp number sending piece before after → Passes0 (counts_of before) (counts_of after)
-  arrives_if_any number sending [] before after is = same before after is
-  arrives_if_any number sending (byte ∷ piece) before after a = arrives number sending (byte ∷ piece) before after a
-
-  arrives_at : (number at size : ℕ) (sending : Option Sending) (before after : Deployment S P) → ArrivesAt sp idp number at size sending before after
-      → Passes0 (counts_of before) (counts_of after)
-  arrives_at number at size None before after is = same before after is
-  arrives_at number at size (Some sending) before after a = arrives_if_any number sending (piece_at at size sending.request.bytes) before after a
+  arrives_if_any number None piece before after is = same before after is
+  arrives_if_any number (Some sending) [] before after is = same before after is
+  arrives_if_any number (Some sending) (byte ∷ piece) before after a =
+      arrives number sending (byte ∷ piece) before after a
 
   in_rounds : (number size : ℕ) (first second : Option Sending) (rounds : ℕ) (before after : Deployment S P)
       → Rounds sp idp number size first second rounds before after → Passes0 (counts_of before) (counts_of after)
   in_rounds number size first second zero before after is = same before after is
   in_rounds number size first second (suc rounds) before after (old, between, earlier, one, other) =
       passes_both (counts_of before) (counts_of old) (counts_of after) (in_rounds number size first second rounds before old earlier)
-      (passes_both (counts_of old) (counts_of between) (counts_of after) (arrives_at number (rounds * size) size first old between one)
-      (arrives_at number (rounds * size) size second between after other))
+      (passes_both (counts_of old) (counts_of between) (counts_of after)
+      (arrives_if_any number first (piece_at (rounds * size) size (bytes_of first)) old between one)
+      (arrives_if_any number second (piece_at (rounds * size) size (bytes_of second)) between after other))
 
   starts : (sending : Option Sending) (before after : Deployment S P) → Starts sp idp sending before after
       → Passes0 (counts_of before) (counts_of after)

@@ -1,6 +1,6 @@
 -- The requests that two nodes were asked in a run of a schedule, in order: each that an agent's bytes completed, with its moment, the
 -- node as it came, and what the node answered, and no other. Where a disk stopped in it, what was answered was not sent.
-use Rattle.std.specs.Prelude.{ℕ, ◌*◌, zero, suc, Bool, List, [], ◌∷◌, ◌++◌, Option, None, Some, Result, Ok, Err}
+use Rattle.std.specs.Prelude.{ℕ, ◌*◌, zero, suc, Bool, List, [], ◌∷◌, ◌++◌, Option, Some, Result, Ok, Err}
 use Rattle.post_agent.specs.declared.site.Site.{Site}
 use Rattle.post_agent.specs.declared.site.Site.TheVariants.{Sp, Idp}
 use Rattle.serve_loop.specs.Turns.{Asked, asked_by}
@@ -10,7 +10,7 @@ use Rattle.schedule_replay.specs.declared.fault.ReplayFault.{ReplayFault}
 use Rattle.schedule_replay.specs.declared.fault.ReplayFault.TheVariants as faults
 use Rattle.schedule_replay.specs.declared.sending.Sending.{Sending}
 use Rattle.schedule_replay.specs.declared.tally.Tally.{Tally}
-use Rattle.schedule_replay.specs.Deployments.{Deployment, Arrives, ArrivesAt, ArrivesIfAny, Exchanges, OnSite, Rounds, piece_at}
+use Rattle.schedule_replay.specs.Deployments.{Deployment, Arrives, ArrivesIfAny, Exchanges, OnSite, Rounds, bytes_of, piece_at}
 use Rattle.schedule_replay.specs.Hosts.{Outcome, Rules, Brings}
 use Rattle.schedule_replay.specs.Runs.{Ends}
 use Rattle.schedule_replay.specs.Steps.{Does, Replays}
@@ -39,16 +39,11 @@ module _ {S P : Type 0} (sp : Rules S) (idp : Rules P) where
   asked_arriving number sending piece before after arrives =
       asked_on sending.request.site before.clock sending.conn piece arrives.outcome before arrives.behind arrives.brings
 
-  abbrev pub asked_if_any : (number : ℕ) (sending : Sending) (piece : List ℕ) (before after : Deployment S P)
+  abbrev pub asked_if_any : (number : ℕ) (sending : Option Sending) (piece : List ℕ) (before after : Deployment S P)
       → ArrivesIfAny sp idp number sending piece before after → BothAsked S P
-  asked_if_any number sending [] before after same = none_asked
-  asked_if_any number sending (byte ∷ piece) before after arrives = asked_arriving number sending (byte ∷ piece) before after arrives
-
-  abbrev pub asked_by_piece : (number at size : ℕ) (sending : Option Sending) (before after : Deployment S P)
-      → ArrivesAt sp idp number at size sending before after → BothAsked S P
-  asked_by_piece number at size None before after same = none_asked
-  asked_by_piece number at size (Some sending) before after arrives =
-      asked_if_any number sending (piece_at at size sending.request.bytes) before after arrives
+  asked_if_any number (Some sending) (byte ∷ piece) before after arrives =
+      asked_arriving number sending (byte ∷ piece) before after arrives
+  asked_if_any number sending piece before after same = none_asked
 
   -- by the rounds of one or two requests
   abbrev pub asked_in_rounds : (number size : ℕ) (first second : Option Sending) (rounds : ℕ) (before after : Deployment S P)
@@ -56,8 +51,8 @@ module _ {S P : Type 0} (sp : Rules S) (idp : Rules P) where
   asked_in_rounds number size first second zero before after same = none_asked
   asked_in_rounds number size first second (suc rounds) before after (old, between, earlier, one, other) =
       then_asked (asked_in_rounds number size first second rounds before old earlier)
-      (then_asked (asked_by_piece number (rounds * size) size first old between one)
-      (asked_by_piece number (rounds * size) size second between after other))
+      (then_asked (asked_if_any number first (piece_at (rounds * size) size (bytes_of first)) old between one)
+      (asked_if_any number second (piece_at (rounds * size) size (bytes_of second)) between after other))
 
   abbrev pub asked_exchanging : (number size : ℕ) (first second : Option Sending) (before after : Deployment S P)
       → Exchanges sp idp number size first second before after → BothAsked S P
@@ -66,7 +61,6 @@ module _ {S P : Type 0} (sp : Rules S) (idp : Rules P) where
 
   -- by a step: one in which agents send requests
   abbrev pub asked_doing : (number : ℕ) (step : Step) (before after : Deployment S P) → Does sp idp number step before after → BothAsked S P
-  asked_doing number (steps.Now moment) before after does = none_asked
   asked_doing number (steps.Visit agent path) before after does = asked_exchanging number _ _ _ _ after does
   asked_doing number (steps.Submit agent) before after does = asked_exchanging number _ _ _ _ after does
   asked_doing number (steps.Lose agent) before after does = asked_exchanging number _ _ _ _ after does
@@ -74,11 +68,7 @@ module _ {S P : Type 0} (sp : Rules S) (idp : Rules P) where
   asked_doing number (steps.Follow agent) before after does = asked_exchanging number _ _ _ _ after does
   asked_doing number (steps.Leave agent site) before after does = asked_exchanging number _ _ _ _ after does
   asked_doing number (steps.Pair first second size) before after does = asked_exchanging number _ _ _ _ after does
-  asked_doing number (steps.Fresh agent) before after does = none_asked
-  asked_doing number (steps.Restart site) before after does = none_asked
-  asked_doing number (steps.Crash site call pick) before after does = none_asked
-  asked_doing number (steps.Fail site call) before after does = none_asked
-  asked_doing number (steps.Compact site) before after does = none_asked
+  asked_doing number step before after does = none_asked
 
   -- by the first so many steps
   abbrev pub asked_replaying : (done : ℕ) (all : List Step) (first : Deployment S P) (text : List ℕ) (now : Deployment S P)

@@ -1,6 +1,6 @@
 -- Two nodes and the user agents that reach them.
 use Rattle.std.specs.Prelude.{◌≡◌, ◌≢◌, ℕ, ◌*◌, ◌≤◌, zero, suc, max, min, Bool, true, false, List, [], ◌∷◌, ◌++◌, length, codes, take, drop, Option, None, Some, Result}
-use Rattle.std.specs.Option.{option_map}
+use Rattle.std.specs.Option.{option_map, option_map_or}
 use Rattle.saml_time.specs.declared.TheConstants.{LAST}
 use Rattle.gate_journal.specs.declared.fault.OpenFault.{OpenFault}
 use Rattle.serve_loop.specs.Turns.{Taken}
@@ -49,10 +49,9 @@ ComesBack false agent site bytes before seen after =
 abbrev pub piece_at : (at size : ℕ) → List ℕ → List ℕ
 piece_at at size bytes = take size (drop at bytes)
 
--- how many bytes a request has
-abbrev pub length_of : Option Sending → ℕ
-length_of None = 0
-length_of (Some sending) = length sending.request.bytes
+-- the bytes of a request that there is
+abbrev pub bytes_of : Option Sending → List ℕ
+bytes_of sending = option_map_or (λ one. one.request.bytes) sending []
 
 -- What an agent and the output get of a piece: nothing; the answer is counted, received and printed; the restart is counted, and that
 -- the node stopped is printed.
@@ -83,23 +82,18 @@ module _ {S P : Type 0} (sp : Rules S) (idp : Rules P) where
         (λ old new. Brings idp before.clock sending.conn piece old outcome new) before behind
     pub hears : Hears number sending outcome behind after
 
-  -- It comes where it has bytes.
-  abbrev pub ArrivesIfAny : ℕ → Sending → List ℕ → Deployment S P → Deployment S P → Type 0
-  ArrivesIfAny number sending [] before after = after ≡ before
-  ArrivesIfAny number sending (byte ∷ piece) before after = Arrives number sending (byte ∷ piece) before after
-
-  -- the piece from this place on, of a request that there is
-  abbrev pub ArrivesAt : ℕ → (at size : ℕ) → Option Sending → Deployment S P → Deployment S P → Type 0
-  ArrivesAt number at size None before after = after ≡ before
-  ArrivesAt number at size (Some sending) before after =
-      ArrivesIfAny number sending (piece_at at size sending.request.bytes) before after
+  -- It comes where there is a request, and it has bytes.
+  abbrev pub ArrivesIfAny : ℕ → Option Sending → List ℕ → Deployment S P → Deployment S P → Type 0
+  ArrivesIfAny number (Some sending) (byte ∷ piece) before after = Arrives number sending (byte ∷ piece) before after
+  ArrivesIfAny number sending piece before after = after ≡ before
 
   -- So many rounds: in each comes the next piece of the first request, and then that of the second.
   abbrev pub Rounds : ℕ → (size : ℕ) → Option Sending → Option Sending → ℕ → Deployment S P → Deployment S P → Type 0
   Rounds number size first second zero before after = after ≡ before
   Rounds number size first second (suc rounds) before after =
       (old : Deployment S P) × (between : Deployment S P) × Rounds number size first second rounds before old
-      × ArrivesAt number (rounds * size) size first old between × ArrivesAt number (rounds * size) size second between after
+      × ArrivesIfAny number first (piece_at (rounds * size) size (bytes_of first)) old between
+      × ArrivesIfAny number second (piece_at (rounds * size) size (bytes_of second)) between after
 
   -- A connection of its own starts for a request that there is.
   abbrev pub Starts : Option Sending → Deployment S P → Deployment S P → Type 0
@@ -115,7 +109,7 @@ module _ {S P : Type 0} (sp : Rules S) (idp : Rules P) where
     pub starts : Starts first (unconnected before) one
     pub starts_other : Starts second one both
     pub rounds : ℕ
-    pub all : max (length_of first) (length_of second) ≤ rounds * size
+    pub all : max (length (bytes_of first)) (length (bytes_of second)) ≤ rounds * size
     pub arrive : Rounds number size first second rounds both after
 
   -- A node is started again, as a schedule asks for; the start is counted.

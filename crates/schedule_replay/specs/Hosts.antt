@@ -13,7 +13,7 @@ use Rattle.http_wire.specs.Views.{answer_bytes}
 use Rattle.conn_table.specs.Events.{Piece}
 use Rattle.conn_table.specs.Table.{Table}
 use Rattle.serve_loop.specs.Serving.{MightLeave}
-use Rattle.serve_loop.specs.Turns.{Turn, Taken, Full, StarvedStart, Over, Unknown, Waiting, Answered, Refused, StarvedPiece, Does, event_at}
+use Rattle.serve_loop.specs.Turns.{Turn, Full, StarvedStart, Answered, Refused, StarvedPiece, Does, event_at}
 use Rattle.serve_loop.specs.Worlds.{NodeStep, NodeLeaves, NodeOwns, World, IsAnswered, world}
 
 -- What a node's own contract says of its calls, in the words of serve_loop's trait `Node`.
@@ -88,15 +88,12 @@ pub data Outcome : Type 0 where
 
 -- what a turn of serving sends on its connection
 abbrev pub outcome_of : {N : Type 0} → Turn N → Outcome
-outcome_of (Taken conn) = Silent
 outcome_of (Full conn) = Sent None (fixed 503)
 outcome_of (StarvedStart conn) = Sent None (fixed 52)
-outcome_of (Over conn) = Silent
-outcome_of (Unknown conn piece) = Silent
-outcome_of (Waiting conn piece) = Silent
 outcome_of (Answered piece asked) = Sent (Some asked.request.path) (answer_bytes asked.answer)
 outcome_of (Refused conn piece status) = Sent None (fixed status)
 outcome_of (StarvedPiece conn piece) = Sent None (fixed 52)
+outcome_of turn = Silent
 
 module _ {N : Type 0} (rules : Rules N) where
   -- A link event: at this moment of the clock this turn of serving is done, as serve_loop defines it.

@@ -1,5 +1,6 @@
 -- What a step of a schedule does, and a run of them.
-use Rattle.std.specs.Prelude.{◌≡◌, ℕ, zero, suc, Bool, ◌||◌, true, false, List, [], ◌++◌, codes, slice_get, max, Option, None, Some}
+use Rattle.std.specs.Prelude.{◌≡◌, ℕ, zero, suc, Bool, ◌||◌, true, false, List, [], ◌++◌, codes, length, slice_get, max, Option, None, Some}
+use Rattle.std.specs.Option.{option_map}
 use Rattle.post_agent.specs.declared.seen.Outgoing.{Outgoing}
 use Rattle.post_agent.specs.declared.site.Site.{Site}
 use Rattle.post_agent.specs.declared.site.Site.TheVariants.{Sp, Idp}
@@ -9,7 +10,7 @@ use Rattle.schedules.specs.declared.step.Pick.TheVariants.{Synced, Pending, Mark
 use Rattle.schedules.specs.declared.step.Step.{Step}
 use Rattle.schedules.specs.declared.step.Step.TheVariants as steps
 use Rattle.schedule_replay.specs.declared.sending.Sending.{Sending}
-use Rattle.schedule_replay.specs.Deployments.{Deployment, Keeps, Exchanges, RestartsAt, CompactsAt, saying, length_of}
+use Rattle.schedule_replay.specs.Deployments.{Deployment, Keeps, Exchanges, RestartsAt, CompactsAt, saying, bytes_of}
 use Rattle.schedule_replay.specs.Hosts.{Host, Rules, failing, stopping}
 
 -- what a stop is to leave, as crash_disk numbers it
@@ -18,13 +19,9 @@ pick_number Synced = 0
 pick_number Pending = 1
 pick_number Marked = 2
 
--- the request of an agent, on a connection
-abbrev pub sending : Bool → (agent conn : ℕ) → Outgoing → Sending
-sending lost agent conn request = record { lost = lost; agent = agent; conn = conn; request = request }
-
+-- the request of an agent, on a connection, where it has one
 abbrev pub sending_of : Bool → (agent conn : ℕ) → Option Outgoing → Option Sending
-sending_of lost agent conn None = None
-sending_of lost agent conn (Some request) = Some (sending lost agent conn request)
+sending_of lost agent conn = option_map (λ one. record { lost = lost; agent = agent; conn = conn; request = one })
 
 -- where an agent has nothing to send, that is printed
 abbrev pub saying_none : {S P : Type 0} → ℕ → Option Sending → Deployment S P → Deployment S P
@@ -60,7 +57,7 @@ module _ {S P : Type 0} (sp : Rules S) (idp : Rules P) where
   -- one request comes whole, where there is one
   abbrev pub Requests : ℕ → Option Sending → Deployment S P → Deployment S P → Type 0
   Requests number request before after =
-      Exchanges sp idp number (max (length_of request) 1) request None (saying_none number request before) after
+      Exchanges sp idp number (max (length (bytes_of request)) 1) request None (saying_none number request before) after
 
   -- two come in turn, in pieces of so many bytes; that there is nothing to send is printed first
   abbrev pub RequestsTwo : (number size : ℕ) → Option Sending → Option Sending → Deployment S P → Deployment S P → Type 0

@@ -7,7 +7,7 @@ ghost use Rattle.gate_journal.specs.declared.fault.OpenFault.{OpenFault};
 ghost use Rattle.serve_loop.specs.Turns.{Taken};
 ghost use Rattle.post_agent.specs.Views.{text_view};
 ghost use Rattle.schedule_replay.specs.Counting as counting;
-ghost use Rattle.schedule_replay.specs.Deployments.{OnSite, Arrives, ArrivesIfAny, ArrivesAt, Rounds, Starts, Exchanges, Hears, RestartsAt, CompactsAt, saying, shows, unconnected, length_of, piece_at};
+ghost use Rattle.schedule_replay.specs.Deployments.{OnSite, Arrives, ArrivesIfAny, Rounds, Starts, Exchanges, Hears, RestartsAt, CompactsAt, saying, shows, unconnected, bytes_of, piece_at};
 ghost use Rattle.schedule_replay.specs.Hosts.{Serves, Brings, RestartEnds, CompactionEnds, rules};
 ghost use Rattle.schedule_replay.specs.Lines as spec;
 ghost use Rattle.schedule_replay.specs.Lines.{result_words};
@@ -39,7 +39,7 @@ pub(crate) struct Stage<'s, 'd, 'p, 'e, S, P> {
 
 /// How many bytes a request has.
 pub(crate) fn length_of(sending: Option<&Sending>) -> usize
-    ensures { result ≡ length_of (sending_view sending.entry) }
+    ensures { result ≡ length (bytes_of (sending_view sending.entry)) }
 {
     match sending {
         Some(sending) => sending.request.bytes.len(),
@@ -172,9 +172,10 @@ impl<S: Node, P: Node> Stage<'_, '_, '_, '_, S, P> {
             (rules P.own P.step P.leaves P.reopens P.reopening_leaves P.compacts P.compaction_leaves)
             (stage_in self.old) }
         ensures ok { OnOk result
-            (ArrivesAt (rules S.own S.step S.leaves S.reopens S.reopening_leaves S.compacts S.compaction_leaves)
-            (rules P.own P.step P.leaves P.reopens P.reopening_leaves P.compacts P.compaction_leaves) number at size
-            (sending_view sending.entry) (stage_in self.old) (stage_in self.new)) }
+            (ArrivesIfAny (rules S.own S.step S.leaves S.reopens S.reopening_leaves S.compacts S.compaction_leaves)
+            (rules P.own P.step P.leaves P.reopens P.reopening_leaves P.compacts P.compaction_leaves) number
+            (sending_view sending.entry) (piece_at at size (bytes_of (sending_view sending.entry)))
+            (stage_in self.old) (stage_in self.new)) }
         ensures own { OwnsBoth
             (rules S.own S.step S.leaves S.reopens S.reopening_leaves S.compacts S.compaction_leaves)
             (rules P.own P.step P.leaves P.reopens P.reopening_leaves P.compacts P.compaction_leaves)
@@ -247,8 +248,8 @@ impl<S: Node, P: Node> Stage<'_, '_, '_, '_, S, P> {
             (rules P.own P.step P.leaves P.reopens P.reopening_leaves P.compacts P.compaction_leaves)
             (stage_in self.old) }
         ensures ok { OnOk result
-            ((rounds : ℕ) × (max (length_of (sending_view first.entry))
-            (length_of (sending_view second.entry)) ≤ rounds * size)
+            ((rounds : ℕ) × (max (length (bytes_of (sending_view first.entry)))
+            (length (bytes_of (sending_view second.entry))) ≤ rounds * size)
             × Rounds (rules S.own S.step S.leaves S.reopens S.reopening_leaves S.compacts S.compaction_leaves)
             (rules P.own P.step P.leaves P.reopens P.reopening_leaves P.compacts P.compaction_leaves) number size
             (sending_view first.entry) (sending_view second.entry) rounds (stage_in self.old)

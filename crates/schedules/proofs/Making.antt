@@ -4,7 +4,7 @@ use Rattle.std.proofs.lemmas.List.{length-append}
 use Rattle.schedules.specs.declared.step.Step.{Step}
 use Rattle.post_agent.specs.declared.site.Site.TheVariants.{Sp}
 use Rattle.schedules.specs.declared.step.Step.TheVariants.{Submit, Restart}
-use Rattle.schedules.specs.Made.{the_agent, next, drawn, login_at, again_by, restart_by, more_by, login_steps, made}
+use Rattle.schedules.specs.Made.{the_agent, next, drawn, login_at, more_by, login_steps, made}
 
 -- the numbers so far
 pub record AreMade (n start number : ℕ) (steps : List Step) : Type 0 where
@@ -44,7 +44,8 @@ few_steps : (i number : ℕ) → length (login_steps i number) ≤ 9
 few_steps i number =
     omega (
       arith,
-      length-append (again_by number) (restart_by number),
+      length-append (cond (number % 5 == 0) (Submit the_agent ∷ []) [])
+          (cond (number % 4 == 2) (Restart Sp ∷ Submit the_agent ∷ []) []),
       few_again (number % 5 == 0) (Submit the_agent),
       few_restarts (number % 4 == 2) (Restart Sp) (Submit the_agent),
     )

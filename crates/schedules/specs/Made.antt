@@ -31,16 +31,11 @@ login_at moment number =
     Now moment ∷ Fresh the_agent ∷ Visit the_agent (codes "/app") ∷ Submit the_agent ∷ login_by number
     ∷ Submit the_agent ∷ []
 
--- every fifth number posts the form once more
-abbrev pub again_by : ℕ → List Step
-again_by number = if number % 5 == 0 then Submit the_agent ∷ [] else []
-
--- and every fourth restarts the service provider, and posts it then
-abbrev pub restart_by : ℕ → List Step
-restart_by number = if number % 4 == 2 then Restart Sp ∷ Submit the_agent ∷ [] else []
-
+-- every fifth number posts the form once more; and every fourth restarts the service provider, and posts it then
 abbrev pub more_by : ℕ → List Step
-more_by number = again_by number ++ restart_by number
+more_by number =
+    (if number % 5 == 0 then Submit the_agent ∷ [] else [])
+    ++ (if number % 4 == 2 then Restart Sp ∷ Submit the_agent ∷ [] else [])
 
 -- the steps of the login of this number, one second behind the one before
 abbrev pub login_steps : ℕ → ℕ → List Step

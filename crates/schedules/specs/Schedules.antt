@@ -7,14 +7,13 @@ use Rattle.schedules.specs.declared.fault.ScheduleFault.{ScheduleFault}
 use Rattle.schedules.specs.declared.fault.ScheduleFault.TheVariants as faults
 use Rattle.schedules.specs.declared.schedule.TheConstants.{MAX_STEPS, MAX_AGENTS}
 use Rattle.schedules.specs.declared.step.Step.{Step}
-use Rattle.schedules.specs.declared.step.Step.TheVariants.{Now, Visit, Submit, Lose, Login, Follow, Leave, Pair, Fresh, Restart, Crash, Fail, Compact}
+use Rattle.schedules.specs.declared.step.Step.TheVariants.{Visit, Submit, Lose, Login, Follow, Leave, Pair, Fresh}
 use Rattle.schedules.specs.Line.{step_of}
 
 -- ---- the agents of a schedule
 
 -- the agents that a step names
 abbrev pub agents_of : Step → List ℕ
-agents_of (Now moment) = []
 agents_of (Visit agent path) = agent ∷ []
 agents_of (Submit agent) = agent ∷ []
 agents_of (Lose agent) = agent ∷ []
@@ -23,10 +22,7 @@ agents_of (Follow agent) = agent ∷ []
 agents_of (Leave agent site) = agent ∷ []
 agents_of (Pair first second piece) = first ∷ second ∷ []
 agents_of (Fresh agent) = agent ∷ []
-agents_of (Restart site) = []
-agents_of (Crash site call pick) = []
-agents_of (Fail site call) = []
-agents_of (Compact site) = []
+agents_of step = []
 
 -- one more name, where it is not among them
 abbrev pub with_agent : List ℕ → ℕ → List ℕ

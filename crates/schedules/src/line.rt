@@ -1,6 +1,7 @@
 // One line of a schedule.
 
 ghost use Rattle.std.specs.Prelude.{◌≡◌, IfOk};
+ghost use Rattle.std.specs.Option.{option_map, option_zip};
 ghost use Rattle.schedules.specs.Line as spec;
 
 use crate::step::{LAST_MOMENT, MOST_CALLS, MOST_PIECE, Pick, Step};
@@ -53,47 +54,39 @@ fn pick_of(word: &str) -> Option<Pick>
     }
 }
 
-/// A step of an agent alone.
-fn step_of_agent(key: &str, agent: char) -> Option<Step>
-    ensures { result ≡ spec.step_of_agent key.now agent }
-{
-    match key {
-        "submit" => Some(Step::Submit { agent }),
-        "lose" => Some(Step::Lose { agent }),
-        "follow" => Some(Step::Follow { agent }),
-        "fresh" => Some(Step::Fresh { agent }),
-        _ => None,
-    }
-}
-
-/// A step of a node alone.
-fn step_of_site(key: &str, site: Site) -> Option<Step>
-    ensures { result ≡ spec.step_of_site key.now site }
-{
-    match key {
-        "restart" => Some(Step::Restart { site }),
-        "compact" => Some(Step::Compact { site }),
-        _ => None,
-    }
-}
-
 /// A step of two words.
 fn two_words(key: &str, word: &str) -> Option<Step>
     ensures { result ≡ spec.two_words key.now word.now }
 {
-    if key == "now" {
-        let moment = number_of(word, LAST_MOMENT)?;
-        return Some(Step::Now { moment });
-    }
-    match site_of(word) {
-        Some(site) => step_of_site(key, site),
-        None => step_of_agent(key, agent_of(word)?),
+    match key {
+        "now" => Some(Step::Now {
+            moment: number_of(word, LAST_MOMENT)?,
+        }),
+        "submit" => Some(Step::Submit {
+            agent: agent_of(word)?,
+        }),
+        "lose" => Some(Step::Lose {
+            agent: agent_of(word)?,
+        }),
+        "follow" => Some(Step::Follow {
+            agent: agent_of(word)?,
+        }),
+        "fresh" => Some(Step::Fresh {
+            agent: agent_of(word)?,
+        }),
+        "restart" => Some(Step::Restart {
+            site: site_of(word)?,
+        }),
+        "compact" => Some(Step::Compact {
+            site: site_of(word)?,
+        }),
+        _ => None,
     }
 }
 
 /// The step `visit AGENT PATH`.
 fn visit(alloc: Global, agent: &str, path: &str) -> Result<Option<Step>, NoMemory>
-    ensures { IfOk result (λ step. step ≡ spec.visit agent.now path.now) }
+    ensures { IfOk result (λ step. step ≡ option_map (λ agent. Step.Visit agent path.now) (spec.agent_of agent.now)) }
 {
     match agent_of(agent) {
         Some(agent) => Ok(Some(Step::Visit {
@@ -106,7 +99,8 @@ fn visit(alloc: Global, agent: &str, path: &str) -> Result<Option<Step>, NoMemor
 
 /// The step `leave AGENT NODE`.
 fn leave(agent: &str, site: &str) -> Option<Step>
-    ensures { result ≡ spec.leave agent.now site.now }
+    ensures { result ≡ option_map (λ said. Step.Leave said.0 said.1)
+        (option_zip (spec.agent_of agent.now) (spec.site_of site.now)) }
 {
     let agent = agent_of(agent)?;
     let site = site_of(site)?;
@@ -115,7 +109,8 @@ fn leave(agent: &str, site: &str) -> Option<Step>
 
 /// The step `fail NODE CALL`.
 fn fail(site: &str, call: &str) -> Option<Step>
-    ensures { result ≡ spec.fail site.now call.now }
+    ensures { result ≡ option_map (λ said. Step.Fail said.0 said.1)
+        (option_zip (spec.site_of site.now) (spec.positive MOST_CALLS call.now)) }
 {
     let site = site_of(site)?;
     let call = positive(call, MOST_CALLS)?;
@@ -141,7 +136,8 @@ fn three_words(
 
 /// The step `login AGENT USER PASSWORD`.
 fn login(alloc: Global, agent: &str, user: &str, password: &str) -> Result<Option<Step>, NoMemory>
-    ensures { IfOk result (λ step. step ≡ spec.login agent.now user.now password.now) }
+    ensures { IfOk result
+        (λ step. step ≡ option_map (λ agent. Step.Login agent user.now password.now) (spec.agent_of agent.now)) }
 {
     match agent_of(agent) {
         Some(agent) => Ok(Some(Step::Login {
@@ -155,7 +151,9 @@ fn login(alloc: Global, agent: &str, user: &str, password: &str) -> Result<Optio
 
 /// The step `pair AGENT AGENT PIECE`.
 fn pair(first: &str, second: &str, piece: &str) -> Option<Step>
-    ensures { result ≡ spec.pair first.now second.now piece.now }
+    ensures { result ≡ option_map (λ said. Step.Pair said.0 said.1.0 said.1.1)
+        (option_zip (spec.agent_of first.now)
+        (option_zip (spec.agent_of second.now) (spec.positive MOST_PIECE piece.now))) }
 {
     let first = agent_of(first)?;
     let second = agent_of(second)?;
@@ -169,7 +167,9 @@ fn pair(first: &str, second: &str, piece: &str) -> Option<Step>
 
 /// The step `crash NODE CALL PICK`.
 fn crash(site: &str, call: &str, pick: &str) -> Option<Step>
-    ensures { result ≡ spec.crash site.now call.now pick.now }
+    ensures { result ≡ option_map (λ said. Step.Crash said.0 said.1.0 said.1.1)
+        (option_zip (spec.site_of site.now)
+        (option_zip (spec.positive MOST_CALLS call.now) (spec.pick_of pick.now))) }
 {
     let site = site_of(site)?;
     let call = positive(call, MOST_CALLS)?;
