@@ -17,11 +17,12 @@ use Rattle.sp_rules.specs.Shown.{session_of}
 use Rattle.serve_loop.specs.Turns.{Asked}
 use Rattle.provider_node.specs.declared.codes.TheConstants.{NO_MEMORY}
 use Rattle.provider_node.specs.Starts as any
-use Rattle.provider_node.specs.Starts.{Start, asked_over}
+use Rattle.provider_node.specs.Starts.{Start, asked_over, AreStarts}
 use Rattle.request_ledger.specs.Ledger.{Held}
-use Rattle.request_ledger.specs.Record.{AreRecords}
+use Rattle.request_ledger.specs.Record.{AreRecords, request_rules}
 use Rattle.sp_server.specs.Sessions.{GivesSession, HasRoom, IsOpened, OpensOver}
-use Rattle.sp_server.specs.Starts.{AreStarts, AreKeptOnceOver}
+use Rattle.sp_server.specs.Starts.{AreKeptOnceOver}
+use Rattle.sp_server.specs.Step.{Answers}
 use Rattle.sp_server.specs.Step as sp
 use Rattle.idp_ledger.specs.Ledger as idp_ledger
 use Rattle.idp_ledger.specs.Record.{idp_rules}
@@ -29,6 +30,7 @@ use Rattle.idp_rules.specs.declared.config.IdpConfig.{IdpConfig}
 use Rattle.idp_server.specs.Step as idp
 use Rattle.recorded_logins.specs.Recorded.{Added, AreOf}
 use Rattle.recorded_logins.specs.Logins.{IsRecordedSession}
+use Rattle.provider_node.specs.Step.{Serves}
 
 -- An identity provider of this setup recorded this at a request of these starts, and its answer stands for it.
 pub record WasRecorded (setup : IdpConfig) (starts : List (Start idp.Provider)) (one : Added) : Type 0 where
@@ -57,7 +59,7 @@ pub record OpensExactly (asked : Asked sp.Provider) : Type 0 where
       → sp.Answers asked.node.setup held asked.request asked.now answer (Some (sp_kinds.Opened r))
       → GivesSession asked.node.setup held asked.request asked.now (sp_kinds.Opened r) answer
   pub wherever : (found : Held) (faults later : ℕ) (new : sp.Provider) (b : Brought) (row : AskedRow)
-      → sp.Serves found asked.request asked.now (Rose faults later) asked.answer asked.node new
+      → Serves request_rules Answers found asked.request asked.now (Rose faults later) asked.answer asked.node new
       → OpensOver asked.node.setup found asked.request asked.now b row → HasRoom asked.node.setup found asked.now b
       → ¬ (Rose faults later)
       → (asked.answer ≡ Fixed NO_MEMORY) ⊎ IsOpened asked.node.setup found asked.request asked.now b asked.answer new.ledger.held
@@ -81,5 +83,5 @@ pub record Headline (start : Held) (sp_starts : List (Start sp.Provider)) (idp_s
 abbrev pub TheHeadlineHoldsOfBoth : Type 0
 TheHeadlineHoldsOfBoth =
     (start : Held) (sp_starts : List (Start sp.Provider)) (idp_start : idp_ledger.Held) (idp_starts : List (Start idp.Provider))
-    → AreRecords start.records → AreStarts start sp_starts → any.AreStarts idp_rules idp.Answers idp_start idp_starts
+    → AreRecords start.records → AreStarts request_rules Answers start sp_starts → any.AreStarts idp_rules idp.Answers idp_start idp_starts
     → Headline start sp_starts idp_starts

@@ -39,8 +39,10 @@ further test r records row of = record {
 found_row : (test : Route → Bool) (records : List HubRecord) (row : Route)
     → find test (routes (asked_rows records) (below_rows records)) ≡ Some row → IsRouteOf test records row
 found_row test [] row found = absurd (cc)
-found_row test (kinds.Backed r ∷ later) row found = further test (kinds.Backed r) later row (found_row test later row found)
-found_row test (kinds.Spoke r ∷ later) row found = further test (kinds.Spoke r) later row (found_row test later row found)
+found_row test (kinds.Backed r ∷ later) row found =
+    further test (kinds.Backed r) later row (found_row test later row found)
+found_row test (kinds.Spoke r ∷ later) row found =
+    further test (kinds.Spoke r) later row (found_row test later row found)
 found_row test (kinds.Routed r ∷ later) row found =
     which (test (route_of r)) (find test (routes (asked_rows later) (below_rows later))) refl found
     (λ rest. found_row test later row rest)

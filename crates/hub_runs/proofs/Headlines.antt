@@ -5,15 +5,17 @@ use Rattle.http_wire.specs.declared.answer.Answer.TheVariants as answers
 use Rattle.serve_loop.specs.Turns.{Asked, Asks, asked_in}
 use Rattle.serve_loop.specs.Worlds.{World}
 use Rattle.provider_run.specs.Headlines.{EachRunCarries}
-use Rattle.provider_run.proofs.Headlines.{adds_its_own, carries, each_goes, keeps_visible, kept_since, stepped, stepped_to, of_asked}
+use Rattle.provider_run.proofs.Headlines.{adds_its_own, carries, each_goes, keeps_visible, kept_since, once_recorded, stepped, of_asked}
 use Rattle.provider_run.proofs.Setups.{asked_same}
 use Rattle.provider_run.specs.Runs.{world_of}
 use Rattle.provider_node.specs.Starts.{asked_over}
 use Rattle.hub_ledger.specs.Laws.{AnswerAlike, ImagesHoldRecords}
 use Rattle.hub_ledger.specs.Record.{hub_rules}
-use Rattle.identity_hub.specs.Histories.{IsHubs, WhatIsAcknowledgedIsKeptOnce, WhatIsAcknowledgedIsKeptOnceOverStarts}
+use Rattle.identity_hub.specs.Histories.{WhatIsAcknowledgedIsKeptOnce, WhatIsAcknowledgedIsKeptOnceOverStarts}
+use Rattle.provider_node.specs.Histories.{IsProviders}
 use Rattle.identity_hub.specs.Passing.{NothingIsAskedOfAUserWhoMayNotBeAsked, OnlyWhereALoginIsBrought, WhereverALoginIsBrought}
-use Rattle.identity_hub.specs.Recorded.{WhatIsAnsweredIsRecorded}
+use Rattle.identity_hub.specs.Recorded.{IsPosted}
+use Rattle.provider_node.specs.Recorded.{WhatIsAnsweredIsRecorded}
 use Rattle.identity_hub.specs.Signed.{EachSignedElementIsOfARecord}
 use Rattle.identity_hub.specs.Step.{Answers, Provider}
 use Rattle.hub_runs.specs.Headline.{Headline, GoesExactly, PassesOnExactly, Says, SignsOnlyItsRecords, TheHeadlineHoldsOverStarts, key}
@@ -28,7 +30,7 @@ pub record Laws : Type 0 where
   pub wherever : WhereverALoginIsBrought
   pub back : EachLoginGoesBack
   pub signed : EachSignedElementIsOfARecord
-  pub recorded : WhatIsAnsweredIsRecorded
+  pub recorded : WhatIsAnsweredIsRecorded hub_rules Answers IsPosted
   pub passive : NothingIsAskedOfAUserWhoMayNotBeAsked
   pub above_signed : EachLoginWasSigned
   pub above_recorded : EachLoginWasRecorded
@@ -50,13 +52,11 @@ module _ (laws : Laws) (asked : Asked Provider) where
     wherever = of_asked asked before after laws.wherever;
   }
 
-  signs_only : (before after : World Provider) → Asks IsHubs asked before after → SignsOnlyItsRecords asked after
+  signs_only : (before after : World Provider) → Asks (IsProviders hub_rules Answers) asked before after
+      → SignsOnlyItsRecords asked after
   signs_only before after asks = record {
     signed = λ held bytes r answers. laws.signed asked.node.setup held asked.request asked.now bytes r answers;
-    recorded = λ bytes is to.
-        laws.recorded asked.node after.node asked.disk after.disk asked.request asked.now before.disk_faults
-        after.disk_faults bytes
-        (stepped_to hub_rules Answers asked (answers.Full bytes) before after asks is) asks.answers.owns to;
+    recorded = once_recorded hub_rules Answers asked IsPosted laws.recorded before after asks;
   }
 
   pub goes_exactly : GoesExactly asked
@@ -76,7 +76,8 @@ module _ (laws : Laws) (asked : Asked Provider) where
     starved = keeps_visible hub_rules Answers asked AnswerAlike laws.starved;
   }
 
-pub headline : RunLaws → (left : ℕ → Image → Type 0) → EachRunCarries IsSetUp IsBadSetUp key hub_rules Answers Headline left
+pub headline : RunLaws → (left : ℕ → Image → Type 0) → EachRunCarries IsSetUp IsBadSetUp key hub_rules Answers Headline
+    left
 headline laws left =
     carries IsSetUp key hub_rules Answers IsBadSetUp Says left (λ told file before turns after run. record {
       same = λ asked there.

@@ -42,7 +42,13 @@ codes_add_nothing setup held request now code r answers =
 
 alike_itself : (now : ℕ) (held : Held) → AnswerAlike now held held
 alike_itself now held =
-    record { asked = λ request. refl; spent = λ request is. refl; seen = λ issuer assertion. refl; routed = λ request. refl }
+    record {
+      asked = λ request. refl;
+      spent = λ request is. refl;
+      seen = λ issuer assertion. refl;
+      routed =
+          λ request. refl;
+    }
 
 pub stays_visible : CompactionsChangeNoAnswer → WhatIsVisibleStays
 stays_visible law old new disk request now before after are whole starved =

@@ -1,8 +1,8 @@
--- What a run of a hub comes to: a login from above is passed on exactly where a posted form brings it for a request of a
--- provider below that is known, with its name and its attributes and to that provider alone; each signed element is one of a
--- record that is durable before it is sent; no request upwards backs two logins, and no request below gets a login but by
--- the record of the one that was sent upwards for it; and where only the provider above makes HMACs that match, each login
--- is one that it recorded, and so is each session below.
+-- What a run of a hub comes to: a login from above is passed on exactly where a posted form brings it for a request of
+-- a provider below that is known, with its name and its attributes and to that provider alone; each signed element is
+-- one of a record that is durable before it is sent; no request upwards backs two logins, and no request below gets a
+-- login but by the record of the one that was sent upwards for it; and where only the provider above makes HMACs that
+-- match, each login is one that it recorded, and so is each session below.
 use Rattle.std.specs.Prelude.{◌≡◌, ◌⊎◌, ℕ, true, List, Contains, Option, IsSome, Some}
 use Rattle.std.specs.List.{AllByRecursion}
 use Rattle.saml_outside.specs.Files.{File}
@@ -32,14 +32,11 @@ use Rattle.provider_node.specs.declared.codes.TheConstants.{NO_MEMORY}
 use Rattle.provider_node.specs.Added.{IsAddedBy}
 use Rattle.provider_node.specs.Lasting.{AreKeptSince}
 use Rattle.provider_node.specs.Starts.{AreStarts, Start, asked_over}
-use Rattle.provider_run.specs.Headlines.{AddsOnlyItsOwn, EachGoes, GoesOnDisk, HeadlineBy, HeadlineOf, KeepsWhatIsVisible, ServedOver, ServedRun, WhereAsked}
+use Rattle.provider_run.specs.Headlines.{AddsOnlyItsOwn, AnswersOnceRecorded, EachGoes, GoesOnDisk, HeadlineBy, HeadlineOf, KeepsWhatIsVisible, ServedOver, ServedRun, WhereAsked}
 use Rattle.provider_run.specs.Runs.{Outside, world_of}
-use Rattle.service_routes.specs.declared.route.Route.TheVariants.{To}
-use Rattle.identity_hub.specs.declared.route.Service.TheVariants.{Consumer, SignOn}
 use Rattle.identity_hub.specs.Histories.{AreKeptOnce, AreKeptOnceOver}
 use Rattle.identity_hub.specs.Passing.{CanPassOn, HasRoom, IsPassedOn, IsSpoken, PassesLogin}
-use Rattle.identity_hub.specs.Recorded.{IsRecorded}
-use Rattle.identity_hub.specs.Routes.{route}
+use Rattle.identity_hub.specs.Recorded.{IsPosted}
 use Rattle.identity_hub.specs.Signed.{Carries}
 use Rattle.identity_hub.specs.Step.{Answers, AsksFor, Provider}
 use Rattle.hub_runs.specs.Laws.{EachLoginInAnImageHasItsRequest, GoesBackFrom, SessionsBelowAreOfLoginsAbove}
@@ -49,10 +46,10 @@ use Rattle.hub_setup.specs.Setup.{IsSetUp}
 -- ---- one request, which the hub was asked in one world, and which left another behind
 
 -- A login is recorded as passed on, with whatever answer, only where the posted form brings it, for the request of a
--- provider below that is known: with the name and the attributes of the login from above, in an Assertion for that provider
--- alone. It goes back to the request below for which one was sent upwards. And wherever a form brings one, over the ledger
--- that the step found, where there is room, at once or behind one compaction, and the disk does not fail, it is recorded
--- and passed on; or there was no memory.
+-- provider below that is known: with the name and the attributes of the login from above, in an Assertion for that
+-- provider alone. It goes back to the request below for which one was sent upwards. And wherever a form brings one,
+-- over the ledger that the step found, where there is room, at once or behind one compaction, and the disk does not
+-- fail, it is recorded and passed on; or there was no memory.
 pub record PassesOnExactly (asked : Asked Provider) (before after : World Provider) : Type 0 where
   pub only : (held : Held) (answer : Answer) (r : Backed)
       → Answers asked.node.setup held asked.request asked.now answer (Some (kinds.Backed r))
@@ -61,24 +58,23 @@ pub record PassesOnExactly (asked : Asked Provider) (before after : World Provid
       → Answers asked.node.setup held asked.request asked.now answer (Some (kinds.Backed r)) → GoesBackFrom held r
   pub wherever : (found : Held) (b : Brought) (row : Route) (peer : LogoutPeer)
       → ServedOver hub_rules Answers found asked before after
-      → CanPassOn asked.node.setup found asked.request asked.now b row peer → HasRoom asked.node.setup found asked.now b row
+      → CanPassOn asked.node.setup found asked.request asked.now b row peer
+      → HasRoom asked.node.setup found asked.now b row
       → ¬ (Rose before.disk_faults after.disk_faults)
       → (asked.answer ≡ Fixed NO_MEMORY) ⊎ IsPassedOn asked.node.setup found asked.request asked.now b row asked.answer
       after.node.ledger.held
 
--- Each signed element in an answer is one that its record stands for: the Assertion of a login that was passed on, or the
--- request that was sent upwards. And the record of each form that is answered to what is posted is in every image that a
--- crash may leave once the hub has answered, before a byte is sent.
+-- Each signed element in an answer is one that its record stands for: the Assertion of a login that was passed on, or
+-- the request that was sent upwards. And the record of each form that is answered to what is posted is in every image
+-- that a crash may leave once the hub has answered, before a byte is sent.
 pub record SignsOnlyItsRecords (asked : Asked Provider) (after : World Provider) : Type 0 where
   pub signed : (held : Held) (bytes : List ℕ) (r : HubRecord)
       → Answers asked.node.setup held asked.request asked.now (Full bytes) (Some r)
       → Carries asked.node.setup asked.now bytes r
-  pub recorded : (bytes : List ℕ) → asked.answer ≡ Full bytes
-      → (route asked.request ≡ To SignOn) ⊎ (route asked.request ≡ To Consumer)
-      → IsRecorded asked.node.setup asked.request asked.now (Full bytes) after.disk
+  pub recorded : AnswersOnceRecorded hub_rules Answers IsPosted asked after
 
--- Nobody above is asked where the user of a request below may not be asked: what is recorded with the answer is a Response
--- without an Assertion.
+-- Nobody above is asked where the user of a request below may not be asked: what is recorded with the answer is a
+-- Response without an Assertion.
 abbrev pub AsksNobodyAbove : Asked Provider → Type 0
 AsksNobodyAbove asked =
     (held : Held) (answer : Answer) (r : HubRecord) (login : AskedLogin) (peer : LogoutPeer)
@@ -86,9 +82,9 @@ AsksNobodyAbove asked =
     → Answers asked.node.setup held asked.request asked.now answer (Some r)
     → IsSpoken asked.node.setup login asked.now r answer
 
--- Where no HMAC in the posted form is made by anybody but the provider above, and no hash collides: each login that is passed
--- on, with whatever answer, is one that this signed; and where it is an identity provider of some setup, which signed these
--- elements for these records, one that it recorded for the hub.
+-- Where no HMAC in the posted form is made by anybody but the provider above, and no hash collides: each login that is
+-- passed on, with whatever answer, is one that this signed; and where it is an identity provider of some setup, which
+-- signed these elements for these records, one that it recorded for the hub.
 pub record IsOfALoginFromAbove (asked : Asked Provider) : Type 0 where
   pub signed : (issued : List Signed) (held : Held) (answer : Answer) (r : HubRecord) → AllByRecursion IsSigned issued
       → Unforged issued asked.node.setup.upstream asked.now asked.request.body
@@ -115,7 +111,8 @@ pub record GoesExactly (asked : Asked Provider) : Type 0 where
   pub passive : AsksNobodyAbove asked
   pub from_above : IsOfALoginFromAbove asked
   pub added : WhereAsked hub_rules Answers asked (λ before after. AddsOnlyItsOwn hub_rules Answers asked)
-  pub starved : WhereAsked hub_rules Answers asked (λ before after. KeepsWhatIsVisible hub_rules AnswerAlike asked after)
+  pub starved : WhereAsked hub_rules Answers asked (λ before after. KeepsWhatIsVisible hub_rules AnswerAlike asked
+      after)
 
 -- What is said of a run that served: each request, all of them served by what the hub was set up with, passed logins on
 -- exactly, and was answered once its record was durable; where the disk tells, what the answers acknowledged is in the

@@ -33,19 +33,20 @@ use Rattle.idp_rules.specs.declared.config.IdpConfig.{IdpConfig}
 use Rattle.hub_ledger.specs.Backing.{GoesBack, HasRequest}
 use Rattle.hub_ledger.specs.Laws.{AnswerAlike}
 use Rattle.hub_ledger.specs.Ledger.{Held, ledger_in}
-use Rattle.hub_ledger.specs.Record.{AreRecords}
+use Rattle.hub_ledger.specs.Record.{AreRecords, hub_rules}
 use Rattle.recorded_logins.specs.Recorded.{Added, AreOf}
 use Rattle.passed_logins.specs.Passed.{AreSignedFor, IsOfARecordedLogin, IsPassedSession}
 use Rattle.provider_node.specs.Added.{IsAddedBy}
 use Rattle.provider_node.specs.declared.codes.TheConstants.{NO_MEMORY}
 use Rattle.identity_hub.specs.declared.config.HubConfig.{HubConfig}
 use Rattle.identity_hub.specs.Passing.{PassesLogin}
-use Rattle.identity_hub.specs.Step.{Answers, Provider, Steps}
+use Rattle.identity_hub.specs.Step.{Answers, Provider}
+use Rattle.provider_node.specs.Step.{Steps}
 
 -- ---- to which request below
 
--- There is a request upwards in the ledger, and the login goes back to the request below for which that was sent: to its
--- provider and address, with its ID and relay state.
+-- There is a request upwards in the ledger, and the login goes back to the request below for which that was sent: to
+-- its provider and address, with its ID and relay state.
 pub record GoesBackFrom (held : Held) (r : Backed) : Type 0 where
   pub routed : Routed
   pub there : Contains held.records (kinds.Routed routed)
@@ -57,8 +58,8 @@ EachLoginGoesBack =
     (setup : HubConfig) (held : Held) (request : Request) (now : ℕ) (answer : Answer) (r : Backed)
     → Answers setup held request now answer (Some (kinds.Backed r)) → GoesBackFrom held r
 
--- And in each image that stands for a ledger, whenever a crash leaves it, each login has its request upwards, and goes back
--- to the request below for which that was sent.
+-- And in each image that stands for a ledger, whenever a crash leaves it, each login has its request upwards, and goes
+-- back to the request below for which that was sent.
 abbrev pub EachLoginInAnImageHasItsRequest : Type 0
 EachLoginInAnImageHasItsRequest =
     (image : Image) (held : Held) (r : Backed) → ledger_in image ≡ Ok (Some held)
@@ -66,8 +67,8 @@ EachLoginInAnImageHasItsRequest =
 
 -- ---- of which login from above
 
--- If only the provider above makes HMACs that match, and no other text has the hash of one that it signed, then each login
--- that is passed on is one that it signed.
+-- If only the provider above makes HMACs that match, and no other text has the hash of one that it signed, then each
+-- login that is passed on is one that it signed.
 abbrev pub EachLoginWasSigned : Type 0
 EachLoginWasSigned =
     (issued : List Signed) (setup : HubConfig) (held : Held) (request : Request) (now : ℕ) (r : HubRecord)
@@ -75,8 +76,8 @@ EachLoginWasSigned =
     → NoCollision issued request.body → (passes : PassesLogin setup held request now r answer)
     → IsLoginOf issued passes.brought.login
 
--- And where it is an identity provider of this setup, which signed these elements for these records: the login is one that
--- it recorded for the hub.
+-- And where it is an identity provider of this setup, which signed these elements for these records: the login is one
+-- that it recorded for the hub.
 abbrev pub EachLoginWasRecorded : Type 0
 EachLoginWasRecorded =
     (above : IdpConfig) (added : List Added) (issued : List Signed) (setup : HubConfig) (request : Request) (now : ℕ)
@@ -86,36 +87,37 @@ EachLoginWasRecorded =
 
 -- ---- over both hops, and all requests that a hub was asked
 
--- A hub of this setup passed this login on at one of these requests, with whatever answer, be it one that was never sent.
+-- A hub of this setup passed this login on at one of these requests, with whatever answer, be it one that was never
+-- sent.
 pub record WasPassedAt (hub : HubConfig) (asked : List (Asked Provider)) (r : Backed) : Type 0 where
   pub one : Asked Provider
   pub there : Contains asked one
   pub by : one.node.setup ≡ hub
   pub adds : IsAddedBy Answers hub one.request one.now (kinds.Backed r)
 
--- These are elements that a hub signed, each for one of these logins, and each of these is in a record that it had at the
--- start or was passed on at one of the requests.
+-- These are elements that a hub signed, each for one of these logins, and each of these is in a record that it had at
+-- the start or was passed on at one of the requests.
 pub record WereSigned (hub : HubConfig) (start : List HubRecord) (asked : List (Asked Provider)) (passed : List Backed)
     (issued : List Signed) : Type 0 where
   pub known : (r : Backed) → Contains passed r → Contains start (kinds.Backed r) ⊎ WasPassedAt hub asked r
   pub of : AreSignedFor hub passed issued
 
--- In no form that was posted with these requests an HMAC is made by anybody but the provider above, of which these elements
--- are, and no other text there has the hash of one of them.
+-- In no form that was posted with these requests an HMAC is made by anybody but the provider above, of which these
+-- elements are, and no other text there has the hash of one of them.
 abbrev pub AreUnforged : List Signed → HubConfig → List (Asked Provider) → Type 0
 AreUnforged issued hub asked =
     (one : Asked Provider) → Contains asked one
     → Unforged issued hub.upstream one.now one.request.body × NoCollision issued one.request.body
 
--- The session is of a login that the hub passed on to this provider; and that is in a record which the hub had at the start,
--- or has the name and the attributes of a login that the provider above recorded for the hub.
+-- The session is of a login that the hub passed on to this provider; and that is in a record which the hub had at the
+-- start, or has the name and the attributes of a login that the provider above recorded for the hub.
 pub record IsOfALoginAbove (above : IdpConfig) (added : List Added) (hub : HubConfig) (start : List HubRecord)
     (passed : List Backed) (config : SpConfig) (now : ℕ) (session : NewSession) : Type 0 where
   pub below : IsPassedSession hub passed config now session
   pub of : Contains start (kinds.Backed below.one) ⊎ IsOfARecordedLogin above added hub below.one
 
--- So it is of each session that a provider below opens, by whatever form and over whatever rows, where nobody but the hub
--- makes HMACs that match in that form and no hash collides.
+-- So it is of each session that a provider below opens, by whatever form and over whatever rows, where nobody but the
+-- hub makes HMACs that match in that form and no hash collides.
 abbrev pub SessionsBelowAreOfLoginsAbove : (start : List HubRecord) → (asked : List (Asked Provider)) → Type 0
 SessionsBelowAreOfLoginsAbove start asked =
     (above : IdpConfig) (added : List Added) (issued_above : List Signed) (hub : HubConfig) (passed : List Backed)
@@ -151,11 +153,11 @@ EachRequestLeavesItToTheOneAbove =
 
 -- ---- where there was no memory
 
--- Where there was no memory for an answer and the ledger was not broken, all that may be asked of its rows at the moment of
--- the request is answered behind it as before.
+-- Where there was no memory for an answer and the ledger was not broken, all that may be asked of its rows at the
+-- moment of the request is answered behind it as before.
 abbrev pub WhatIsVisibleStays : Type 0
 WhatIsVisibleStays =
     (old new : Provider) (disk : Option DiskState) (request : Request) (now before after : ℕ)
     → AreRecords old.ledger.held.records → old.ledger.broken ≡ false
-    → Steps old disk request now (Rose before after) (Fixed NO_MEMORY) new
+    → Steps hub_rules Answers old disk request now (Rose before after) (Fixed NO_MEMORY) new
     → AnswerAlike now new.ledger.held old.ledger.held

@@ -9,8 +9,8 @@ ghost use Rattle.hub_runs.specs.Laws.{EachLoginGoesBack, EachLoginInAnImageHasIt
 
 use hub_ledger::Disk;
 
-/// A login that is passed on goes back to the request below for which one was sent upwards: this stands in the ledger over
-/// which it is passed on, and in each image that a crash may leave with the login.
+/// A login that is passed on goes back to the request below for which one was sent upwards: this stands in the ledger
+/// over which it is passed on, and in each image that a crash may leave with the login.
 pub fn each_login_goes_back_to_its_request()
     ensures goes { EachLoginGoesBack }
     ensures images { EachLoginInAnImageHasItsRequest }
@@ -20,8 +20,8 @@ pub fn each_login_goes_back_to_its_request()
     hub_ledger::laws::each_login_has_its_request();
 }
 
-/// If only the provider above makes HMACs that match, and no other text has the hash of one that it signed: each login that
-/// is passed on is one that it signed, and where it is an identity provider one that it recorded for the hub.
+/// If only the provider above makes HMACs that match, and no other text has the hash of one that it signed: each login
+/// that is passed on is one that it signed, and where it is an identity provider one that it recorded for the hub.
 pub fn each_login_is_of_one_above()
     ensures signed { EachLoginWasSigned }
     ensures recorded { EachLoginWasRecorded }
@@ -30,9 +30,9 @@ pub fn each_login_is_of_one_above()
     passed_logins::a_login_that_is_passed_on_was_recorded();
 }
 
-/// Over both hops, and all requests of one run or of several starts: each session that a provider below opens, where nobody
-/// but the hub makes HMACs that match for what it signs, is of a login that the hub passed on to this provider; and that is
-/// one that the provider above recorded for the hub, or stands in a record that the hub had at the start.
+/// Over both hops, and all requests of one run or of several starts: each session that a provider below opens, where
+/// nobody but the hub makes HMACs that match for what it signs, is of a login that the hub passed on to this provider;
+/// and that is one that the provider above recorded for the hub, or stands in a record that the hub had at the start.
 pub fn each_session_below_is_of_a_login_above()
     ensures { EachSessionBelowIsOfALoginAbove }
 {
@@ -40,8 +40,8 @@ pub fn each_session_below_is_of_a_login_above()
     each_login_is_of_one_above();
 }
 
-/// What is sent upwards, read again, says nothing of IsPassive and of ForceAuthn: it is left to the provider above whether it
-/// asks the user.
+/// What is sent upwards, read again, says nothing of IsPassive and of ForceAuthn: it is left to the provider above
+/// whether it asks the user.
 pub fn each_request_leaves_it_to_the_one_above()
     ensures { EachRequestLeavesItToTheOneAbove }
 {
@@ -49,21 +49,21 @@ pub fn each_request_leaves_it_to_the_one_above()
     xml_spec::no_bytes_spell_two_trees();
 }
 
-/// Where there was no memory for an answer and the ledger was not broken, all that may be asked of its rows at that moment is
-/// answered behind the request as before.
+/// Where there was no memory for an answer and the ledger was not broken, all that may be asked of its rows at that
+/// moment is answered behind the request as before.
 pub fn what_is_visible_stays()
     ensures { WhatIsVisibleStays }
 {
     hub_ledger::laws::compactions_change_no_answer();
 }
 
-/// A run passes a login from above on exactly where a posted form brings it for a request of a provider below that is known,
-/// with its name and its attributes and to that provider alone; each element that it signs is one of a record, and no form is
-/// sent before its record is in every image that a crash may leave. Nobody above is asked where the user may not be. No request
-/// upwards backs two logins, and each login goes back to the request below for which that was sent. From each point of the run
-/// on, also inside later requests, what was acknowledged by then is in the history of each ledger that a crash might leave. And
-/// where only the provider above makes HMACs that match, each login is one that it signed, and each session below of one that
-/// it recorded.
+/// A run passes a login from above on exactly where a posted form brings it for a request of a provider below that is
+/// known, with its name and its attributes and to that provider alone; each element that it signs is one of a record,
+/// and no form is sent before its record is in every image that a crash may leave. Nobody above is asked where the user
+/// may not be. No request upwards backs two logins, and each login goes back to the request below for which that was
+/// sent. From each point of the run on, also inside later requests, what was acknowledged by then is in the history of
+/// each ledger that a crash might leave. And where only the provider above makes HMACs that match, each login is one
+/// that it signed, and each session below of one that it recorded.
 pub fn a_run_carries_the_headline<D: Disk>()
     ensures { (disk : D) → EachRunCarries IsSetUp IsBadSetUp key hub_rules Answers Headline (D.shows disk).left_since }
 {
@@ -102,9 +102,9 @@ pub fn a_run_is_a_start()
     hub_ledger::laws::images_hold_records();
 }
 
-/// Where a run is next behind starts of its hub, on a disk that tells, each image that a crash at one of its moments may leave
-/// is one from which a later start goes on, as behind a start of this run that was cut at that moment: so runs that a crash
-/// cut join into one service, of which the laws of starts speak.
+/// Where a run is next behind starts of its hub, on a disk that tells, each image that a crash at one of its moments
+/// may leave is one from which a later start goes on, as behind a start of this run that was cut at that moment: so
+/// runs that a crash cut join into one service, of which the laws of starts speak.
 pub fn each_image_of_a_run_goes_on<D: Disk>()
     ensures { (disk : D) → EachImageOfARunGoesOn IsSetUp IsBadSetUp key hub_rules Answers (D.shows disk).left_since }
 {

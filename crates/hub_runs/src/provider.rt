@@ -10,11 +10,12 @@ use std::alloc::Global;
 
 /// What runs as a hub.
 ///
-/// A run of it passes a login from above on exactly where a posted form brings it for a request of a provider below that is
-/// known, with its name and its attributes and to that provider alone; each signed element is one of a record, no form is
-/// sent before its record is durable, and no request upwards backs two logins; where only the provider above makes HMACs
-/// that match, each login is one that it recorded, and so is each session below; and what its answers acknowledged is from
-/// then on in every image that a crash might leave (its headline: `Says` of `specs/Headline.antt`).
+/// A run of it passes a login from above on exactly where a posted form brings it for a request of a provider below
+/// that is known, with its name and its attributes and to that provider alone; each signed element is one of a record,
+/// no form is sent before its record is durable, and no request upwards backs two logins; where only the provider above
+/// makes HMACs that match, each login is one that it recorded, and so is each session below; and what its answers
+/// acknowledged is from then on in every image that a crash might leave (its headline: `Says` of
+/// `specs/Headline.antt`).
 pub struct Hub;
 
 impl RunsProvider for Hub {

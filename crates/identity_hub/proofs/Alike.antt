@@ -14,7 +14,13 @@ use Rattle.identity_hub.specs.Step.{rows_seen}
 
 pub alike_self : (now : ℕ) (held : Held) → AnswerAlike now held held
 alike_self now held =
-    record { asked = λ request. refl; spent = λ request is. refl; seen = λ issuer assertion. refl; routed = λ request. refl }
+    record {
+      asked = λ request. refl;
+      spent = λ request is. refl;
+      seen = λ issuer assertion. refl;
+      routed =
+          λ request. refl;
+    }
 
 pub alike : CompactionsChangeNoAnswer → (now : ℕ) (old new : Held) → AreRecords old.records → Compacts now old new
     → AnswerAlike now new old

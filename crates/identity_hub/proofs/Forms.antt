@@ -36,7 +36,8 @@ use Rattle.identity_hub.specs.Routes.{route}
 use Rattle.identity_hub.specs.Step.{Answers, ByUnknownPeer, IsAnswerFor, below_of, rows_seen}
 
 -- one of those of which all hold something
-all_at : {X : Type 0} (P : X → Type 0) (xs : List X) (i : ℕ) (x : X) → AllByRecursion P xs → slice_get xs i ≡ Some x → P x
+all_at : {X : Type 0} (P : X → Type 0) (xs : List X) (i : ℕ) (x : X) → AllByRecursion P xs → slice_get xs i ≡ Some x
+    → P x
 all_at P [] i x all is = absurd (cc)
 all_at P (y ∷ xs) zero x all is = subst P (let same : y ≡ x = cc in same) all.0
 all_at P (y ∷ xs) (suc i) x all is = all_at P xs i x all.1 is
@@ -103,8 +104,10 @@ no_peer setup held request now accepted row to opening found none =
     subst (λ (id : List ℕ). routed_row (rows_of held.records) id now held.header.horizon ≡ Some row) same found in
     ByUnknownPeer b opening.asked (record { to = to; opens = opening.opens })
     (λ other peer is.
-    let one = none_else (routed_row (rows_of held.records) b.login.request now held.header.horizon) other row is.found own in
-    let clash : Some is.place ≡ None = sym is.known ∙ ap (λ (r : Route). place_of r.below.peer setup.peers) one ∙ none in
+    let one =
+    none_else (routed_row (rows_of held.records) b.login.request now held.header.horizon) other row is.found own in
+    let clash : Some is.place ≡ None =
+    sym is.known ∙ ap (λ (r : Route). place_of r.below.peer setup.peers) one ∙ none in
     cc) refl refl
 
 -- ---- its page
@@ -124,11 +127,16 @@ answer_for : (setup : HubConfig) (peer : LogoutPeer) (backed : Backed) (key : Li
     → IsIssuedAnswer Assertion key login message consumer relay None now bytes → IsAnswerFor setup peer backed now bytes
 answer_for setup peer backed key login message consumer relay now bytes of answer =
     let made = login_of setup.upstream.entity backed in
-    subst (λ (k : List ℕ). IsIssuedAnswer Assertion k made backed.message backed.consumer backed.below_relay None now bytes) of.key_is
-    (subst (λ (l : Login). IsIssuedAnswer Assertion key l backed.message backed.consumer backed.below_relay None now bytes) of.login_is
-    (subst (λ (m : List ℕ). IsIssuedAnswer Assertion key login m backed.consumer backed.below_relay None now bytes) of.message_is
-    (subst (λ (c : List ℕ). IsIssuedAnswer Assertion key login message c backed.below_relay None now bytes) of.consumer_is
-    (subst (λ (r : Option (List ℕ)). IsIssuedAnswer Assertion key login message consumer r None now bytes) of.relay_is answer))))
+    subst (λ (k : List ℕ). IsIssuedAnswer Assertion k made backed.message backed.consumer backed.below_relay None now
+    bytes) of.key_is
+    (subst (λ (l : Login). IsIssuedAnswer Assertion key l backed.message backed.consumer backed.below_relay None now
+    bytes) of.login_is
+    (subst (λ (m : List ℕ). IsIssuedAnswer Assertion key login m backed.consumer backed.below_relay None now bytes)
+    of.message_is
+    (subst (λ (c : List ℕ). IsIssuedAnswer Assertion key login message c backed.below_relay None now bytes)
+    of.consumer_is
+    (subst (λ (r : Option (List ℕ)). IsIssuedAnswer Assertion key login message consumer r None now bytes) of.relay_is
+    answer))))
 
 the_same : (setup : HubConfig) (place : ℕ) (r : HubRecord) (backed : Backed) → HasLogin setup place r
     → Some backed ≡ backed_in r → r ≡ kinds.Backed backed

@@ -21,14 +21,18 @@ above : (setup : HubConfig) (held : Held) (request : Request) (now : ℕ) (answe
 above setup held request now answer adds r (steps.ByStatus status to is none) some = absurd (cc)
 above setup held request now answer adds r (steps.ByMetadata role to is none) some = absurd (cc)
 above setup held request now answer adds r (steps.ByRefusal verdict to refused is none) some = absurd (cc)
-above setup held request now answer adds r (steps.BySpeaking asked peer message bytes asks passive is named page shown) some =
+above setup held request now answer adds r (steps.BySpeaking asked peer message bytes asks passive is named page shown)
+    some =
     above_of_each hub_rules held (spoken_for setup held now (below_of asked peer)) r (cc) (omega arith, tt)
 above setup held request now answer adds r (steps.ByAsking asked peer q bytes asks passive own is page shown) some =
-    above_of_each hub_rules held (routed_for setup held now (below_of asked peer)) r (cc) (omega arith, (omega arith, tt))
+    above_of_each hub_rules held (routed_for setup held now (below_of asked peer)) r (cc)
+    (omega arith, (omega arith, tt))
 above setup held request now answer adds r (steps.ByVerdict verdict to refused is none) some = absurd (cc)
 above setup held request now answer adds r (steps.ByUnknownPeer b asked brings unknown is none) some = absurd (cc)
-above setup held request now answer adds r (steps.ByPassing b asked row peer q bytes brings is_for own is page shown) some =
-    above_of_each hub_rules held (backed_for setup held now b row.below) r (cc) (omega arith, (omega arith, (omega arith, tt)))
+above setup held request now answer adds r (steps.ByPassing b asked row peer q bytes brings is_for own is page shown)
+    some =
+    above_of_each hub_rules held (backed_for setup held now b row.below) r (cc)
+    (omega arith, (omega arith, (omega arith, tt)))
 
 pub draws_above : DrawsAbove hub_rules Answers
 draws_above setup held request now answer r answers = above setup held request now answer (Some r) r answers refl

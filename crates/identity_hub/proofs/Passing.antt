@@ -75,15 +75,19 @@ passed : (setup : HubConfig) (held : Held) (request : Request) (now : ℕ) (answ
 passed setup held request now answer adds r some (steps.ByStatus status to is none) = absurd (cc)
 passed setup held request now answer adds r some (steps.ByMetadata role to is none) = absurd (cc)
 passed setup held request now answer adds r some (steps.ByRefusal verdict to refused is none) = absurd (cc)
-passed setup held request now answer adds r some (steps.BySpeaking asked peer message bytes asks passive is named page shown) =
+passed setup held request now answer adds r some (steps.BySpeaking asked peer message bytes asks passive is named page
+    shown) =
     absurd (cc)
-passed setup held request now answer adds r some (steps.ByAsking asked peer q bytes asks passive is adds_is page shown) =
+passed setup held request now answer adds r some (steps.ByAsking asked peer q bytes asks passive is adds_is page
+    shown) =
     absurd (cc)
 passed setup held request now answer adds r some (steps.ByVerdict verdict to refused is none) = absurd (cc)
 passed setup held request now answer adds r some (steps.ByUnknownPeer b asked brings unknown is none) = absurd (cc)
-passed setup held request now answer adds r some (steps.ByPassing b asked row peer own bytes brings is_for is adds_is page shown) =
+passed setup held request now answer adds r some (steps.ByPassing b asked row peer own bytes brings is_for is adds_is
+    page shown) =
     let same : own ≡ r = cc in
-    let own_is : backed_for setup held now b row.below ≡ kinds.Backed r = is ∙ ap (λ (x : Backed). kinds.Backed x) same in
+    let own_is : backed_for setup held now b row.below ≡ kinds.Backed r =
+    is ∙ ap (λ (x : Backed). kinds.Backed x) same in
     record {
       brought = b;
       row = row;
@@ -111,8 +115,8 @@ one_row setup held now id row other peer for_other one two =
     let same : Some row ≡ Some other = sym one.found ∙ two.found in cc
 
 -- what is answered where the form brings a login that can be passed on
-record IsGiven (setup : HubConfig) (held : Held) (request : Request) (now : ℕ) (answer : Answer) (adds : Option HubRecord)
-    (b : Brought) (row : Route) : Type 0 where
+record IsGiven (setup : HubConfig) (held : Held) (request : Request) (now : ℕ) (answer : Answer)
+    (adds : Option HubRecord) (b : Brought) (row : Route) : Type 0 where
   r : HubRecord
   is : adds ≡ Some r
   own : r ≡ backed_for setup held now b row.below
@@ -135,16 +139,20 @@ module _ (not_refused : IsNotRefused) (one_login : IsOneLogin) where
       (steps.ByAsking asked other q bytes asks passive is adds_is page shown) =
       absurd (let e = sym can.brings.to ∙ asks.to in cc)
   answered setup held request now answer adds b row peer can (steps.ByVerdict verdict to refused is none) =
-      absurd (not_refused setup.upstream _ held.header.horizon now request.body b can.asked verdict can.brings.opens refused)
+      absurd (not_refused setup.upstream _ held.header.horizon now request.body b can.asked verdict can.brings.opens
+      refused)
   answered setup held request now answer adds b row peer can (steps.ByUnknownPeer other asked brings unknown is none) =
       let same : other ≡ b =
-      one_login setup.upstream (rows_seen (rows_of held.records)) held.header.horizon now request.body other b asked can.asked
+      one_login setup.upstream (rows_seen (rows_of held.records)) held.header.horizon now request.body other b asked
+      can.asked
       brings.opens can.brings.opens in
-      absurd (unknown row peer (subst (λ (x : Brought). IsFor setup held now x.login.request row peer) (sym same) can.is_for))
+      absurd (unknown row peer (subst (λ (x : Brought). IsFor setup held now x.login.request row peer) (sym same)
+      can.is_for))
   answered setup held request now answer adds b row peer can
       (steps.ByPassing other asked its_row its_peer r bytes brings is_for is adds_is page shown) =
       let same : other ≡ b =
-      one_login setup.upstream (rows_seen (rows_of held.records)) held.header.horizon now request.body other b asked can.asked
+      one_login setup.upstream (rows_seen (rows_of held.records)) held.header.horizon now request.body other b asked
+      can.asked
       brings.opens can.brings.opens in
       let its : its_row ≡ row =
       one_row setup held now b.login.request its_row row its_peer peer
@@ -164,7 +172,8 @@ module _ (not_refused : IsNotRefused) (one_login : IsOneLogin) where
 
 -- behind a compaction at the moment the form brings the login as before
 passes_behind : CompactionsChangeNoAnswer → LikeRowsOpenAlike
-    → (setup : HubConfig) (found held : Held) (request : Request) (now : ℕ) (b : Brought) (row : Route) (peer : LogoutPeer)
+    → (setup : HubConfig) (found held : Held) (request : Request) (now : ℕ) (b : Brought) (row : Route)
+    (peer : LogoutPeer)
     → IsBehind hub_rules found now held → CanPassOn setup found request now b row peer
     → CanPassOn setup held request now b row peer
 passes_behind law opens setup found held request now b row peer behind can =
@@ -175,7 +184,8 @@ passes_behind law opens setup found held request now b row peer behind can =
           record {
             to = can.brings.to;
             opens =
-                opens setup.upstream now (rows_seen (rows_of held.records)) held.header.horizon (rows_seen (rows_of found.records))
+                opens setup.upstream now (rows_seen (rows_of held.records)) held.header.horizon
+                (rows_seen (rows_of found.records))
                 found.header.horizon request.body b can.asked (rows_alike now held found like) can.brings.opens;
           };
       is_for =
@@ -192,7 +202,8 @@ wherever not_refused one_login law opens found request now faults later answer o
     of_case
     (comes_of_wanted hub_rules Answers found request now (Rose faults later) answer old new recorded
     (λ held behind other adds answers.
-    let is = answered not_refused one_login old.setup held request now other adds b row peer (passes held behind) answers in
+    let is = answered not_refused one_login old.setup held request now other adds b row peer (passes held behind)
+    answers in
     is.is ∙ ap Some is.own) room calm serves)
   where
     recorded : Held → HubRecord
@@ -223,12 +234,16 @@ AsksOnce =
     → IsAsked peers address body other → one ≡ other
 
 spoken : AsksOnce → (setup : HubConfig) (held : Held) (request : Request) (now : ℕ) (answer : Answer)
-    (adds : Option HubRecord) (r : HubRecord) (asked : Asked) (peer : LogoutPeer) → steps.AsksFor setup request asked peer
+    (adds : Option HubRecord) (r : HubRecord) (asked : Asked) (peer : LogoutPeer)
+    → steps.AsksFor setup request asked peer
     → asked.passive ≡ true → adds ≡ Some r → Answers setup held request now answer adds
     → IsSpoken setup asked now r answer
-spoken once setup held request now answer adds r asked peer asks passive some (steps.ByStatus status to is none) = absurd (cc)
-spoken once setup held request now answer adds r asked peer asks passive some (steps.ByMetadata role to is none) = absurd (cc)
-spoken once setup held request now answer adds r asked peer asks passive some (steps.ByRefusal verdict to refused is none) =
+spoken once setup held request now answer adds r asked peer asks passive some (steps.ByStatus status to is none) =
+    absurd (cc)
+spoken once setup held request now answer adds r asked peer asks passive some (steps.ByMetadata role to is none) =
+    absurd (cc)
+spoken once setup held request now answer adds r asked peer asks passive some
+    (steps.ByRefusal verdict to refused is none) =
     absurd (cc)
 spoken once setup held request now answer adds r asked peer asks passive some
     (steps.BySpeaking other its message bytes its_asks its_passive is named page shown) =
@@ -237,14 +252,16 @@ spoken once setup held request now answer adds r asked peer asks passive some
       message = message;
       bytes = bytes;
       answers =
-          subst (λ (x : Asked). IsNoPassiveAnswer setup.upstream.entity message x.request x.consumer x.relay now bytes) same page;
+          subst (λ (x : Asked). IsNoPassiveAnswer setup.upstream.entity message x.request x.consumer x.relay now bytes)
+          same page;
       answered = shown;
     }
 spoken once setup held request now answer adds r asked peer asks passive some
     (steps.ByAsking other its q bytes its_asks its_passive is adds_is page shown) =
     let same : other ≡ asked = once setup.peers (sign_on setup) request.body other asked its_asks.is asks.is in
     absurd (let clash : false ≡ true = sym its_passive ∙ ap (λ (x : Asked). x.passive) same ∙ passive in cc)
-spoken once setup held request now answer adds r asked peer asks passive some (steps.ByVerdict verdict to refused is none) =
+spoken once setup held request now answer adds r asked peer asks passive some
+    (steps.ByVerdict verdict to refused is none) =
     absurd (cc)
 spoken once setup held request now answer adds r asked peer asks passive some
     (steps.ByUnknownPeer b row brings unknown is none) = absurd (cc)

@@ -122,7 +122,8 @@ passed_stated setup held request now key accepted peer moment w =
     }
 
 shown_own : (setup : HubConfig) (held : Held) (request : Request) (now : ℕ) (key : List ℕ) (reply : Reply) → now ≤ LAST
-    → (w : Wants setup held request now reply) → CanBeShown setup reply (record_there setup held request now key reply w).0
+    → (w : Wants setup held request now reply) → CanBeShown setup reply
+    (record_there setup held request now key reply w).0
 unfolding record_there
 shown_own setup held request now key (replies.Speak below) moment w = record {
   message = _;
@@ -166,7 +167,8 @@ page_answers setup held request now (replies.Speak below) r bytes w is page =
     let own : spoken_for setup held now (below_of w.asked w.peer) ≡ r =
     ap (spoken_for setup held now) (sym w.says) ∙ the_one (spoken_for setup held now below) r is in
     BySpeaking w.asked w.peer page.message bytes w.asks w.passive_is (ap Some (sym own)) (ap first_id own ∙ page.named)
-    (subst (λ (b : BelowRow). IsNoPassiveAnswer setup.upstream.entity page.message b.request b.consumer b.relay now bytes)
+    (subst (λ (b : BelowRow). IsNoPassiveAnswer setup.upstream.entity page.message b.request b.consumer b.relay now
+    bytes)
     w.says page.answers) refl
 page_answers setup held request now (replies.Ask below) r bytes w is page =
     let own : routed_for setup held now (below_of w.asked w.peer) ≡ r =
@@ -187,7 +189,8 @@ page_answers setup held request now (replies.Pass accepted place) r bytes w is p
       known = subst (λ (p : ℕ). place_of w.row.below.peer setup.peers ≡ Some p) w.placed w.is_for.known;
       there = page.there;
     })
-    (ap (backed key (next_number held) now w.row.below) (sym session) ∙ own ∙ page.is) (ap Some page.is) page.answers refl
+    (ap (backed key (next_number held) now w.row.below) (sym session) ∙ own ∙ page.is) (ap Some page.is) page.answers
+    refl
 
 -- ---- there is one
 
@@ -227,7 +230,8 @@ some_page logins refusals setup held request now key (replies.Pass accepted plac
 
 -- ---- behind a compaction it is asked for as before
 
-pub wants_still : LikeRowsOpenAlike → (setup : HubConfig) (anew old : Held) (request : Request) (now : ℕ) (reply : Reply)
+pub wants_still : LikeRowsOpenAlike → (setup : HubConfig) (anew old : Held) (request : Request) (now : ℕ)
+    (reply : Reply)
     → AnswerAlike now anew old → Wants setup old request now reply → Wants setup anew request now reply
 wants_still law setup anew old request now (replies.Speak below) like w = w
 wants_still law setup anew old request now (replies.Ask below) like w = w

@@ -32,7 +32,8 @@ hub_laws logins refusals opens compactions setup now moment usable = record {
       page_answers setup held request now reply r bytes wants is shows;
   has_page = λ held request reply r wants is.
       let own = record_there setup held request now setup.upstream.id_key reply wants in
-      let page = some_page logins refusals setup held request now setup.upstream.id_key reply usable.texts.entity moment wants in
+      let page =
+      some_page logins refusals setup held request now setup.upstream.id_key reply usable.texts.entity moment wants in
       (page.0, subst (λ (x : HubRecord). IsPage setup reply x now page.0) (the_one own.0 r (sym own.1 ∙ is)) page.1);
   refused = λ held request reply wants none.
       let own = record_there setup held request now setup.upstream.id_key reply wants in
@@ -56,7 +57,8 @@ pub hub_drafted : (key : List ℕ) (old new : OpenedLedger) (now : ℕ) (reply :
     (result : Result (Option HubRecord) DraftFault) → old.key ≡ key → SameLedger old new
     → record_for old.key old.held now reply ≡ Some r
     → IfSome (record_for old.key old.held now reply) (λ r. DraftsSome hub_rules hub_row_rules old new false r result)
-    → IsDrafted hub_rules old.held (CanCommit hub_rules hub_row_rules new) (record_for key old.held now reply) (drafted_of result)
+    → IsDrafted hub_rules old.held (CanCommit hub_rules hub_row_rules new) (record_for key old.held now reply)
+    (drafted_of result)
 hub_drafted key old new now reply r result same_key same found drafts =
     let own : record_for key old.held now reply ≡ Some r =
     subst (λ (k : List ℕ). record_for k old.held now reply ≡ Some r) same_key found in

@@ -41,7 +41,8 @@ one_signed law setup held now b row peer r bytes is_for is page = record {
       record {
         place = is_for.place;
         known =
-            subst (λ (e : List ℕ). place_of e setup.peers ≡ Some is_for.place) (its_peer setup held now b row r is) is_for.known;
+            subst (λ (e : List ℕ). place_of e setup.peers ≡ Some is_for.place) (its_peer setup held now b row r is)
+            is_for.known;
         there = is_for.there;
       };
   assertion = page.issued.assertion;
@@ -50,12 +51,14 @@ one_signed law setup held now b row peer r bytes is_for is page = record {
       law Assertion peer.key_out setup.upstream.entity r.message (stated_by r) r.consumer now page.sent page.issued;
 }
 
-of_answer : AResponseIsSignedByItsMode → (setup : HubConfig) (held : Held) (request : Request) (now : ℕ) (answer : Answer)
+of_answer : AResponseIsSignedByItsMode → (setup : HubConfig) (held : Held) (request : Request) (now : ℕ)
+    (answer : Answer)
     (adds : Option HubRecord) (r : HubRecord) (bytes : List ℕ) → adds ≡ Some r → answer ≡ Full bytes
     → Answers setup held request now answer adds → Carries setup now bytes r
 of_answer law setup held request now answer adds r bytes some shown (steps.ByStatus status to is none) = absurd (cc)
 of_answer law setup held request now answer adds r bytes some shown (steps.ByMetadata role to is none) = absurd (cc)
-of_answer law setup held request now answer adds r bytes some shown (steps.ByRefusal verdict to refused is none) = absurd (cc)
+of_answer law setup held request now answer adds r bytes some shown (steps.ByRefusal verdict to refused is none) =
+    absurd (cc)
 of_answer law setup held request now answer adds r bytes some shown
     (steps.BySpeaking asked peer message page asks passive is named answers what) =
     let same : page ≡ bytes = (let e = sym what ∙ shown in cc) in
@@ -66,8 +69,10 @@ of_answer law setup held request now answer adds r bytes some shown
     let same : page ≡ bytes = (let e = sym what ∙ shown in cc) in
     let record_is : kinds.Routed q ≡ r = (let e = sym is ∙ some in cc) in
     subst (Carries setup now bytes) record_is
-    (ARequest q (subst (λ (b : List ℕ). Rattle.sp_answers.specs.Answers.IsAskAnswer setup.upstream q.request q.relay now b) same answers))
-of_answer law setup held request now answer adds r bytes some shown (steps.ByVerdict verdict to refused is none) = absurd (cc)
+    (ARequest q (subst (λ (b : List ℕ). Rattle.sp_answers.specs.Answers.IsAskAnswer setup.upstream q.request q.relay now
+    b) same answers))
+of_answer law setup held request now answer adds r bytes some shown (steps.ByVerdict verdict to refused is none) =
+    absurd (cc)
 of_answer law setup held request now answer adds r bytes some shown
     (steps.ByUnknownPeer b asked brings unknown is none) = absurd (cc)
 of_answer law setup held request now answer adds r bytes some shown

@@ -12,9 +12,9 @@ use Rattle.identity_hub.specs.declared.config.HubConfig.{HubConfig}
 abbrev pub sign_on : HubConfig → List ℕ
 sign_on config = config.upstream.base ++ codes "/sso"
 
--- A config with which a hub can be started: towards the provider above as a service provider's, and with peers as an identity
--- provider's. Its texts hold characters that a document may hold, the difference of the clocks and the times of its keys are in order,
--- and it has at most so many peers, whose names differ.
+-- A config with which a hub can be started: towards the provider above as a service provider's, and with peers as an
+-- identity provider's. Its texts hold characters that a document may hold, the difference of the clocks and the times
+-- of its keys are in order, and it has at most so many peers, whose names differ.
 pub record IsUsable (config : HubConfig) : Type 0 where
   pub texts : HoldsTexts config.upstream
   pub skew : config.upstream.skew ≤ GREATEST_SKEW

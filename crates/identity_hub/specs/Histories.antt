@@ -1,42 +1,41 @@
--- What became of a ledger over a service, and over several starts with crashes between: what was acknowledged is kept, and no request
--- upwards backs two logins.
+-- What became of a ledger over a service, and over several starts with crashes between: what was acknowledged is kept,
+-- and no request upwards backs two logins.
 use Rattle.std.specs.Prelude.{List, Contains, IsSome}
 use Rattle.conn_table.specs.Table.{Table}
-use Rattle.serve_loop.specs.Worlds.{World, NodeStep}
+use Rattle.serve_loop.specs.Worlds.{World}
 use Rattle.serve_loop.specs.Turns.{Turn, Run}
 use Rattle.hub_ledger.specs.Ledger.{Held}
 use Rattle.hub_ledger.specs.Record.{AreRecords, hub_rules}
 use Rattle.hub_ledger.specs.Runs.{AreDifferent, Event, requests_of_run}
 use Rattle.provider_node.specs.Histories as any
-use Rattle.provider_node.specs.Histories.{AnyMoment, IsAtStart, moments_of}
+use Rattle.provider_node.specs.Histories.{AnyMoment, IsAtStart, moments_of, IsProviders}
 use Rattle.provider_node.specs.Starts.{AreKeptOverSo, AreStarts, LeftBehind, OpensWhatCameSo, Start}
 use Rattle.identity_hub.specs.Step.{Answers, Provider}
 
--- what an answer of a hub does, and what a crash may leave
-abbrev pub IsHubs : NodeStep Provider
-IsHubs = any.IsProviders hub_rules Answers
-
--- No two of the logins that were passed in a history or stood at its start answer one request upwards, those that were let go, and
--- those whose answer was lost, included.
+-- No two of the logins that were passed in a history or stood at its start answer one request upwards, those that were
+-- let go, and those whose answer was lost, included.
 abbrev pub PassOnce : Held → List Event → Type 0
 PassOnce start events = AreDifferent (requests_of_run start events)
 
--- Of the records for which the answers of a service stand: each is in the history of every ledger that a crash may leave behind it, in
--- which each compaction was at the moment of one of its requests, and no two logins of such a history answer one request upwards.
+-- Of the records for which the answers of a service stand: each is in the history of every ledger that a crash may
+-- leave behind it, in which each compaction was at the moment of one of its requests, and no two logins of such a
+-- history answer one request upwards.
 abbrev pub AreKeptOnce : (first last : World Provider) → List (Turn Provider) → Type 0
 AreKeptOnce first last turns =
-    any.AreKeptSo Answers (any.HoldsWhatCameSo hub_rules PassOnce (Contains (moments_of turns)) first.node.ledger.held) last
+    any.AreKeptSo Answers (any.HoldsWhatCameSo hub_rules PassOnce (Contains (moments_of turns)) first.node.ledger.held)
+    last
     turns
 
 abbrev pub WhatIsAcknowledgedIsKeptOnce : Type 0
 WhatIsAcknowledgedIsKeptOnce =
     (first last : World Provider) (turns : List (Turn Provider)) (kept : Table) → IsAtStart hub_rules first
-    → IsSome first.disk → Run IsHubs first turns kept last → AreKeptOnce first last turns
+    → IsSome first.disk → Run (IsProviders hub_rules Answers) first turns kept last → AreKeptOnce first last turns
 
 -- And it is so over each list of starts, of which each opens what a crash of the one before it may have left.
 abbrev pub AreKeptOnceOver : (start : Held) → List (Start Provider) → Type 0
 AreKeptOnceOver start starts =
-    AreKeptOverSo Answers (LeftBehind hub_rules Answers start starts) (OpensWhatCameSo hub_rules PassOnce AnyMoment start)
+    AreKeptOverSo Answers (LeftBehind hub_rules Answers start starts)
+    (OpensWhatCameSo hub_rules PassOnce AnyMoment start)
     starts
 
 abbrev pub WhatIsAcknowledgedIsKeptOnceOverStarts : Type 0

@@ -4,8 +4,8 @@ use Rattle.assertion_model.specs.declared.login.Login.{Login}
 use Rattle.ledger_records.specs.declared.hub_record.Backed.{Backed}
 use Rattle.idp_answers.specs.Stating.{Stated, presented_until, stated_login}
 
--- What the hub states by a record of a login that it passes on: the user of the login from above, with what was stated of the user
--- there, has logged in for the provider below that asked. The session ends when that from above does.
+-- What the hub states by a record of a login that it passes on: the user of the login from above, with what was stated
+-- of the user there, has logged in for the provider below that asked. The session ends when that from above does.
 abbrev pub stated_by : Backed → Stated
 stated_by r = record {
   assertion = r.assertion;

@@ -1,4 +1,5 @@
--- When a login from above is passed on: exactly where a posted form brings one for a request of a provider below that is known.
+-- When a login from above is passed on: exactly where a posted form brings one for a request of a provider below that
+-- is known.
 use Rattle.std.specs.Prelude.{◌≡◌, ◌⊎◌, ℕ, true, min, List, Some}
 use Rattle.crash_disk.specs.Counts.{Rose}
 use Rattle.http_wire.specs.declared.answer.Answer.{Answer}
@@ -21,17 +22,19 @@ use Rattle.provider_node.specs.Room as any
 use Rattle.provider_node.specs.Room.{IsRecordedOver}
 use Rattle.provider_node.specs.declared.codes.TheConstants.{NO_MEMORY}
 use Rattle.identity_hub.specs.declared.config.HubConfig.{HubConfig}
-use Rattle.identity_hub.specs.Step.{Answers, AsksFor, BringsLogin, IsAnswerFor, IsFor, Provider, Serves, backed_for}
+use Rattle.identity_hub.specs.Step.{Answers, AsksFor, BringsLogin, IsAnswerFor, IsFor, Provider, backed_for}
+use Rattle.provider_node.specs.Step.{Serves}
 
--- Over a ledger, at a moment, the form that a request posts brings a login that can be passed on: for this request below, of this peer.
+-- Over a ledger, at a moment, the form that a request posts brings a login that can be passed on: for this request
+-- below, of this peer.
 pub record CanPassOn (setup : HubConfig) (held : Held) (request : Request) (now : ℕ) (b : Brought) (row : Route)
     (peer : LogoutPeer) : Type 0 where
   pub asked : AskedRow
   pub brings : BringsLogin setup held request now b asked
   pub is_for : IsFor setup held now b.login.request row peer
 
--- What a record says of the login from above: who it is and what was stated of the user, by which Assertion and for which request
--- upwards, until when; and to which request below it goes.
+-- What a record says of the login from above: who it is and what was stated of the user, by which Assertion and for
+-- which request upwards, until when; and to which request below it goes.
 pub record IsOfLogin (setup : HubConfig) (now : ℕ) (b : Brought) (row : Route) (r : Backed) : Type 0 where
   pub name : r.name ≡ b.login.name
   pub attributes : r.attributes ≡ b.login.attributes
@@ -44,9 +47,10 @@ pub record IsOfLogin (setup : HubConfig) (now : ℕ) (b : Brought) (row : Route)
   pub below : r.below ≡ row.below.request
   pub relay : r.below_relay ≡ row.below.relay
 
--- This record and this answer pass on the login that the form brings: the answer goes to the peer, with an Assertion of what the record
--- says.
-pub record PassesLogin (setup : HubConfig) (held : Held) (request : Request) (now : ℕ) (r : HubRecord) (answer : Answer) :
+-- This record and this answer pass on the login that the form brings: the answer goes to the peer, with an Assertion of
+-- what the record says.
+pub record PassesLogin (setup : HubConfig) (held : Held) (request : Request) (now : ℕ) (r : HubRecord)
+    (answer : Answer) :
     Type 0 where
   pub brought : Brought
   pub row : Route
@@ -71,8 +75,8 @@ OnlyWhereALoginIsBrought =
 abbrev pub HasRoom : HubConfig → (found : Held) → (now : ℕ) → Brought → Route → Type 0
 HasRoom setup found now b row = any.HasRoom hub_rules found now (λ held. backed_for setup held now b row.below)
 
--- The login is recorded behind the records of the ledger that was found, or, where there was no place behind these, of what one
--- compaction made of it; and it is passed on.
+-- The login is recorded behind the records of the ledger that was found, or, where there was no place behind these, of
+-- what one compaction made of it; and it is passed on.
 pub record IsPassedOn (setup : HubConfig) (found : Held) (request : Request) (now : ℕ) (b : Brought) (row : Route)
     (answer : Answer) (new : Held) : Type 0 where
   pub held : Held
@@ -80,13 +84,14 @@ pub record IsPassedOn (setup : HubConfig) (found : Held) (request : Request) (no
   pub passes : PassesLogin setup held request now (backed_for setup held now b row.below) answer
   pub added : new ≡ held_with (backed_for setup held now b row.below) held
 
--- And wherever a form brings one that can be passed on, there is room for it and the disk does not fail, it is; or there was no
--- memory.
+-- And wherever a form brings one that can be passed on, there is room for it and the disk does not fail, it is; or
+-- there was no memory.
 abbrev pub WhereverALoginIsBrought : Type 0
 WhereverALoginIsBrought =
     (found : Held) (request : Request) (now faults later : ℕ) (answer : Answer) (old new : Provider) (b : Brought)
     (row : Route) (peer : LogoutPeer)
-    → Serves found request now (Rose faults later) answer old new → CanPassOn old.setup found request now b row peer
+    → Serves hub_rules Answers found request now (Rose faults later) answer old new
+    → CanPassOn old.setup found request now b row peer
     → HasRoom old.setup found now b row → ¬ (Rose faults later)
     → (answer ≡ Fixed NO_MEMORY) ⊎ IsPassedOn old.setup found request now b row answer new.ledger.held
 
@@ -99,8 +104,9 @@ pub record IsSpoken (setup : HubConfig) (asked : Asked) (now : ℕ) (r : HubReco
   pub answers : IsNoPassiveAnswer setup.upstream.entity message asked.request asked.consumer asked.relay now bytes
   pub answered : answer ≡ Full bytes
 
--- Where a request of a provider below says that its user may not be asked, no login is asked for above: whatever is recorded with the
--- answer is a Response without an Assertion, which says that the user could not be authenticated passively.
+-- Where a request of a provider below says that its user may not be asked, no login is asked for above: whatever is
+-- recorded with the answer is a Response without an Assertion, which says that the user could not be authenticated
+-- passively.
 abbrev pub NothingIsAskedOfAUserWhoMayNotBeAsked : Type 0
 NothingIsAskedOfAUserWhoMayNotBeAsked =
     (setup : HubConfig) (held : Held) (request : Request) (now : ℕ) (answer : Answer) (r : HubRecord) (asked : Asked)

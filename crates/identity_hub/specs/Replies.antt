@@ -121,14 +121,15 @@ pub record IsTextBelow (below : BelowRow) : Type 0 where
   pub consumer : IsText below.consumer
 
 -- a peer asks for a login, and its user may be asked or not
-pub record AsksBelow (passive : Bool) (setup : HubConfig) (request : Request) (now : ℕ) (below : BelowRow) : Type 0 where
-  pub asked : Asked
-  pub peer : LogoutPeer
-  pub asks : AsksFor setup request asked peer
-  pub passive_is : asked.passive ≡ passive
-  pub says : below ≡ below_of asked peer
-  pub texts : IsTextBelow below
-  pub told : IsTold now
+pub record AsksBelow (passive : Bool) (setup : HubConfig) (request : Request) (now : ℕ) (below : BelowRow) : Type 0
+  where
+    pub asked : Asked
+    pub peer : LogoutPeer
+    pub asks : AsksFor setup request asked peer
+    pub passive_is : asked.passive ≡ passive
+    pub says : below ≡ below_of asked peer
+    pub texts : IsTextBelow below
+    pub told : IsTold now
 
 -- a posted form brings a login for a request of the peer at this place
 pub record PassesOn (setup : HubConfig) (held : Held) (request : Request) (now : ℕ) (accepted : Accepted) (place : ℕ) :

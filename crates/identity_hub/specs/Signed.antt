@@ -32,8 +32,8 @@ pub record Sends (bytes : List ℕ) (sent : Made) : Type 0 where
   pub relay : Option (List ℕ)
   pub is : bytes ≡ answer 200 None None (response_form sent consumer relay)
 
--- the signed elements of a Response that passes on the login of a record: its Assertion alone, with the key of what is sent to the
--- record's peer
+-- the signed elements of a Response that passes on the login of a record: its Assertion alone, with the key of what is
+-- sent to the record's peer
 pub record HasOneSigned (setup : HubConfig) (r : Backed) (sent : Made) : Type 0 where
   pub peer : LogoutPeer
   pub known : IsKnown setup r.peer peer
@@ -41,9 +41,9 @@ pub record HasOneSigned (setup : HubConfig) (r : Backed) (sent : Made) : Type 0 
   pub of_login : IsAssertionOf (login_of setup.upstream.entity r) assertion
   pub one : signed_elements (alone sent) ≡ signed peer.key_out assertion ∷ []
 
--- What an answer that stands for a record carries: a Response in which nothing is signed, where the user may not be asked; a request
--- upwards of the record, which is signed for the provider above; or a Response whose one signed element is the Assertion of the record's
--- login.
+-- What an answer that stands for a record carries: a Response in which nothing is signed, where the user may not be
+-- asked; a request upwards of the record, which is signed for the provider above; or a Response whose one signed
+-- element is the Assertion of the record's login.
 pub data Carries (setup : HubConfig) (now : ℕ) (bytes : List ℕ) : HubRecord → Type 0 where
   ARefusal : (r : HubRecord) (sent : Made) → Sends bytes sent → signed_elements (alone sent) ≡ []
       → Carries setup now bytes r

@@ -1,6 +1,5 @@
 -- What a hub does at one request.
 use Rattle.std.specs.Prelude.{◌≡◌, ℕ, true, false, List, [], Option, None, Some, slice_get}
-use Rattle.crash_disk.specs.Disk.{Image, DiskState}
 use Rattle.http_wire.specs.declared.answer.Answer.{Answer}
 use Rattle.http_wire.specs.declared.answer.Answer.TheVariants.{Fixed, Full}
 use Rattle.http_wire.specs.Requests.{Request}
@@ -22,7 +21,6 @@ use Rattle.hub_ledger.specs.Drafts.{backed, routed, spoke}
 use Rattle.hub_ledger.specs.Draft.{first_id}
 use Rattle.hub_ledger.specs.Finding.{routed_row}
 use Rattle.hub_ledger.specs.Ledger.{Held, next_number}
-use Rattle.hub_ledger.specs.Record.{hub_rules}
 use Rattle.hub_ledger.specs.RowsOf.{HubRows, Route, rows_of}
 use Rattle.idp_rules.specs.Asking.{IsAsked}
 use Rattle.idp_rules.specs.Verdict as requests
@@ -63,12 +61,14 @@ rows_seen rows =
     record { asked = rows.asked; opened = rows.opened; left = []; spare = record { asked = 0; opened = 0; left = 0 } }
 
 -- a posted form brings this login from above, over the hub's rows, as the answer to this request upwards
-pub record BringsLogin (setup : HubConfig) (held : Held) (request : Request) (now : ℕ) (b : Brought) (asked : AskedRow) :
+pub record BringsLogin (setup : HubConfig) (held : Held) (request : Request) (now : ℕ) (b : Brought)
+    (asked : AskedRow) :
     Type 0 where
   pub to : route request ≡ To Consumer
   pub opens : Opens setup.upstream (rows_seen (rows_of held.records)) held.header.horizon now request.body b asked
 
--- The request upwards of this ID waits for a login, it was sent for this one below, and the peer that asked is still known.
+-- The request upwards of this ID waits for a login, it was sent for this one below, and the peer that asked is still
+-- known.
 pub record IsFor (setup : HubConfig) (held : Held) (now : ℕ) (id : List ℕ) (row : Route) (peer : LogoutPeer) : Type 0
   where
     pub found : routed_row (rows_of held.records) id now held.header.horizon ≡ Some row
@@ -90,14 +90,15 @@ abbrev pub backed_for : HubConfig → Held → ℕ → Brought → BelowRow → 
 backed_for setup held now b below =
     backed setup.upstream.id_key (next_number held) now below (session_of setup.upstream now b.key.number b.login)
 
--- the answer with the login that is passed on, to this peer: the Assertion is signed, with the key of what is sent to the peer
--- (SAML Profiles, 4.1.4.2 and 4.1.4.5)
+-- the answer with the login that is passed on, to this peer: the Assertion is signed, with the key of what is sent to
+-- the peer (SAML Profiles, 4.1.4.2 and 4.1.4.5)
 abbrev pub IsAnswerFor : HubConfig → LogoutPeer → Backed → ℕ → List ℕ → Type 0
 IsAnswerFor setup peer r now bytes =
     IsIssuedAnswer Assertion peer.key_out (login_of setup.upstream.entity r) r.message r.consumer r.below_relay None now
     bytes
 
--- What is answered to a request by this ledger at this moment where nothing fails, and the record that is added with it.
+-- What is answered to a request by this ledger at this moment where nothing fails, and the record that is added with
+-- it.
 pub data Answers (setup : HubConfig) (held : Held) (request : Request) (now : ℕ) (answer : Answer)
     (adds : Option HubRecord) : Type 0 where
   -- there is no such service
@@ -137,26 +138,3 @@ pub data Answers (setup : HubConfig) (held : Held) (request : Request) (now : �
       → IsAnswerFor setup peer r now bytes → answer ≡ Full bytes → Answers setup held request now answer adds
 
 -- ---- one request
-
--- What is done at a request over the ledger that it finds: the request and the moment; whether the disk's count of faults rose; the
--- answer; the hub before and after.
-abbrev pub Serves : (found : Held) → Request → (now : ℕ) → (Risen : Type 0) → Answer → (old new : Provider) → Type 0
-Serves = any.Serves hub_rules Answers
-
--- The step of a hub at one request. A ledger that is broken is opened again first.
-abbrev pub Steps : (old : Provider) → Option DiskState → Request → (now : ℕ) → (Risen : Type 0) → Answer
-    → (new : Provider) → Type 0
-Steps = any.Steps hub_rules Answers
-
--- And in the same case which changing calls it makes on its disk, with what this tells behind it.
-abbrev pub StepsOnDisk : (old : Provider) → Option DiskState → Request → (now : ℕ) → (Risen : Type 0) → Answer
-    → (new : Provider) → (later : Option DiskState) → Type 0
-StepsOnDisk = any.StepsOnDisk hub_rules Answers
-
--- What a crash at a moment of a request may leave.
-abbrev pub StepLeaves : (old : Provider) → Option DiskState → Request → (now : ℕ) → Image → Type 0
-StepLeaves = any.StepLeaves hub_rules Answers
-
--- the disk is the hub's own
-abbrev pub OwnsDisk : Provider → Option DiskState → Type 0
-OwnsDisk = any.OwnsDisk hub_rules

@@ -1,15 +1,13 @@
 //! POST of a form at the address to which the provider above sends its responses.
-ghost use Rattle.std.specs.Prelude.{◌≡◌, ◌≤◌, min};
+ghost use Rattle.std.specs.Prelude.{◌≡◌, ◌≤◌};
 ghost use Rattle.http_wire.specs.Views.{request_view};
 ghost use Rattle.saml_time.specs.declared.TheConstants.{LAST};
 ghost use Rattle.service_routes.specs.declared.route.Route.TheVariants.{To};
 ghost use Rattle.sp_answers.specs.Judging.{CanBeRecorded};
 ghost use Rattle.sp_rules.specs.Shown.{IsOpening};
-ghost use Rattle.hub_ledger.specs.Drafts.{IsXmlBelow};
 ghost use Rattle.hub_ledger.specs.RowsOf.{rows_of};
-ghost use Rattle.idp_answers.specs.Stating.{AreTold};
 ghost use Rattle.identity_hub.specs.declared.route.Service.TheVariants.{Consumer};
-ghost use Rattle.identity_hub.specs.Replies.{IsTextBelow, RepliesTo};
+ghost use Rattle.identity_hub.specs.Replies.{RepliesTo};
 ghost use Rattle.identity_hub.specs.Routes.{route};
 ghost use Rattle.identity_hub.specs.Step.{rows_seen};
 
@@ -26,8 +24,8 @@ use sp_rules::{Accepted, Judged, judge};
 use verdict_codes::Verdict;
 
 impl HubRole {
-    /// What is replied to a form that brings a login: it is passed on to the provider below for which it was asked, where
-    /// this is still known.
+    /// What is replied to a form that brings a login: it is passed on to the provider below for which it was asked,
+    /// where this is still known.
     ///
     /// # Errors
     ///

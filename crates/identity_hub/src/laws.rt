@@ -1,12 +1,15 @@
 //! Laws of a hub, each the contract of a function that does nothing.
 ghost use Rattle.identity_hub.specs.Histories.{WhatIsAcknowledgedIsKeptOnce, WhatIsAcknowledgedIsKeptOnceOverStarts};
 ghost use Rattle.identity_hub.specs.Passing.{NothingIsAskedOfAUserWhoMayNotBeAsked, OnlyWhereALoginIsBrought, WhereverALoginIsBrought};
-ghost use Rattle.identity_hub.specs.Recorded.{WhatIsAnsweredIsRecorded};
+ghost use Rattle.identity_hub.specs.Recorded.{IsPosted};
+ghost use Rattle.identity_hub.specs.Step.{Answers};
+ghost use Rattle.hub_ledger.specs.Record.{hub_rules};
+ghost use Rattle.provider_node.specs.Recorded.{WhatIsAnsweredIsRecorded};
 ghost use Rattle.identity_hub.specs.Signed.{EachSignedElementIsOfARecord};
 
-/// A login is passed on only where a posted form brings it, over the hub's rows, for the request of a provider below that is
-/// known: with the name and the attributes of the login from above, to that provider alone. And wherever a form brings one,
-/// where there is room, at once or behind one compaction, the disk does not fail and memory is found.
+/// A login is passed on only where a posted form brings it, over the hub's rows, for the request of a provider below
+/// that is known: with the name and the attributes of the login from above, to that provider alone. And wherever a form
+/// brings one, where there is room, at once or behind one compaction, the disk does not fail and memory is found.
 pub fn a_login_is_passed_on_exactly()
     ensures only { OnlyWhereALoginIsBrought }
     ensures wherever { WhereverALoginIsBrought }
@@ -16,30 +19,30 @@ pub fn a_login_is_passed_on_exactly()
     sp_answers::laws::like_rows_are_judged_alike();
 }
 
-/// No login is asked for above where the user of a request below may not be asked: it is answered that the user could not be
-/// authenticated passively.
+/// No login is asked for above where the user of a request below may not be asked: it is answered that the user could
+/// not be authenticated passively.
 pub fn nothing_is_asked_of_a_user_who_may_not_be_asked()
     ensures { NothingIsAskedOfAUserWhoMayNotBeAsked }
 {
     idp_rules::laws::a_request_has_one_verdict();
 }
 
-/// For those below a hub signs nothing but the Assertions of its records of logins that it passed on, each for the provider of the
-/// record; and for the one above the requests of its records.
+/// For those below a hub signs nothing but the Assertions of its records of logins that it passed on, each for the
+/// provider of the record; and for the one above the requests of its records.
 pub fn each_signed_element_is_of_a_record()
     ensures { EachSignedElementIsOfARecord }
 {
     idp_answers::laws::a_response_is_signed_by_its_mode();
 }
 
-/// Each form that is answered to what is posted stands for one record, which is in every image that a crash may leave behind the
-/// step: no message is sent before its record is durable.
+/// Each form that is answered to what is posted stands for one record, which is in every image that a crash may leave
+/// behind the step: no message is sent before its record is durable.
 pub fn what_is_answered_is_recorded()
-    ensures { WhatIsAnsweredIsRecorded }
+    ensures { WhatIsAnsweredIsRecorded hub_rules Answers IsPosted }
 {}
 
-/// Over each list of events, moments, disk faults and openings: what an answer acknowledged is in the history of every ledger
-/// that a crash may leave, and no request upwards backs two logins.
+/// Over each list of events, moments, disk faults and openings: what an answer acknowledged is in the history of every
+/// ledger that a crash may leave, and no request upwards backs two logins.
 pub fn what_is_acknowledged_is_kept_once()
     ensures { WhatIsAcknowledgedIsKeptOnce }
 {

@@ -1,5 +1,5 @@
-//! The hub: an identity provider to those below it, and a service provider to one identity provider above it (SAML Core,
-//! 3.4.1.5). It keeps no sessions of its own and has no logout.
+//! The hub: an identity provider to those below it, and a service provider to one identity provider above it (SAML
+//! Core, 3.4.1.5). It keeps no sessions of its own and has no logout.
 //!
 //! ```
 //! let role = HubRole::new(alloc, config);                      // what it is set up with
@@ -14,11 +14,11 @@
 //! | GET `/metadata` | the metadata of the hub as an identity provider |
 //! | GET `/metadata/sp` | the metadata of the hub as a service provider |
 //!
-//! What one request does is one definition, `Steps` of `provider_node`, by named cases: nothing is recorded; a record is
-//! added; it is added after one compaction that made room; there is no room (code 51); the disk failed (50); it holds no
-//! ledger (53); there was no memory (52). What is answered, and with which record, is `Answers` of `specs/Step.antt`. An
-//! answer that stands for a record is sent only where the record is in every image that a crash may leave. The laws of a hub
-//! are in [`laws`].
+//! What one request does is one definition, `Steps` of `provider_node`, by named cases: nothing is recorded; a record
+//! is added; it is added after one compaction that made room; there is no room (code 51); the disk failed (50); it
+//! holds no ledger (53); there was no memory (52). What is answered, and with which record, is `Answers` of
+//! `specs/Step.antt`. An answer that stands for a record is sent only where the record is in every image that a crash
+//! may leave. The laws of a hub are in [`laws`].
 //!
 //! # What is proved
 //!

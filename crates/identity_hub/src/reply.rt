@@ -1,5 +1,5 @@
 //! How a request is replied to with a record.
-ghost use Rattle.std.specs.Prelude.{◌≡◌, ◌≤◌, IfSome, false};
+ghost use Rattle.std.specs.Prelude.{◌≤◌, IfSome, false};
 ghost use Rattle.record_ledger.specs.Drafts.{DraftsSome, SameLedger};
 ghost use Rattle.saml_time.specs.declared.TheConstants.{LAST};
 ghost use Rattle.hub_ledger.specs.Record.{hub_rules};
@@ -12,8 +12,8 @@ use sp_rules::Accepted;
 /// A reply that stands for a record.
 #[derive(Drop)]
 pub enum Reply {
-    /// A Response without an Assertion to this request of a provider below, as the user may not be asked (SAML Core, 3.4.1,
-    /// IsPassive).
+    /// A Response without an Assertion to this request of a provider below, as the user may not be asked (SAML Core,
+    /// 3.4.1, IsPassive).
     Speak {
         /// The request.
         below: BelowRow,

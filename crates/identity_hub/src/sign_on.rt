@@ -1,5 +1,5 @@
 //! POST of a form at the address to which providers below post requests for a login.
-ghost use Rattle.std.specs.Prelude.{◌≡◌, ◌≤◌, ◌<◌, ◌++◌, length, slice_get, IfOk, Some};
+ghost use Rattle.std.specs.Prelude.{◌≡◌, ◌≤◌, ◌<◌, length, slice_get, IfOk, Some};
 ghost use Rattle.http_wire.specs.Views.{request_view};
 ghost use Rattle.saml_time.specs.declared.TheConstants.{LAST};
 ghost use Rattle.service_routes.specs.declared.route.Route.TheVariants.{To};
@@ -47,8 +47,8 @@ impl HubRole {
         })
     }
 
-    /// The reply to a request for a login. The hub keeps no sessions: the user is known by the provider above, which may
-    /// ask.
+    /// The reply to a request for a login. The hub keeps no sessions: the user is known by the provider above, which
+    /// may ask.
     fn reply_to(
         &self,
         ledger: &HubLedger,

@@ -5,19 +5,22 @@ use Rattle.http_wire.specs.declared.answer.Answer.TheVariants as answers
 use Rattle.serve_loop.specs.Turns.{Asked, Asks}
 use Rattle.serve_loop.specs.Worlds.{World}
 use Rattle.provider_run.specs.Headlines.{EachRunCarries}
-use Rattle.provider_run.proofs.Headlines.{adds_its_own, carries, each_goes, keeps_visible, kept_since, sessions_stay, stepped, stepped_to, of_asked}
+use Rattle.provider_run.proofs.Headlines.{adds_its_own, carries, each_goes, keeps_visible, kept_since, once_recorded, sessions_stay, stepped, of_asked}
 use Rattle.idp_ledger.specs.Laws.{AnswerAlike, ImagesHoldRecords}
 use Rattle.idp_ledger.specs.Record.{idp_rules}
 use Rattle.idp_ledger.specs.Turns.{RoundsAskInTurn}
-use Rattle.idp_server.specs.Histories.{IsProviders, SessionsStayEndedInAService, WhatIsAcknowledgedIsKept}
-use Rattle.idp_server.specs.Issues.{AnswersHaveUsers, WhatIsAnsweredIsRecorded}
-use Rattle.idp_server.specs.Logouts.{AnswersEndExactly, ServicesEndExactly, WhatIsAnsweredToALogoutIsRecorded, WhereverAPeerEnds, WhereverAUserLeaves}
+use Rattle.idp_server.specs.Histories.{SessionsStayEndedInAService, WhatIsAcknowledgedIsKept}
+use Rattle.provider_node.specs.Histories.{IsProviders}
+use Rattle.idp_server.specs.Issues.{AnswersHaveUsers, IsPosted}
+use Rattle.idp_server.specs.Logouts.{AnswersEndExactly, ServicesEndExactly, WhereverAPeerEnds, WhereverAUserLeaves}
 use Rattle.idp_server.specs.Outcomes.{RoundsBeginWithTheFirst, RoundsEndAsConfirmed}
 use Rattle.idp_server.specs.Signed.{EachSignedElementIsOfARecord}
 use Rattle.idp_server.specs.Step.{Provider, Answers}
 use Rattle.idp_runs.specs.Headline.{Headline, EndsExactly, GoesExactly, IssuesOnlyToUsers, Says, key}
-use Rattle.idp_server.specs.Staying.{Began, IsAsLeft, SessionsStayInAService, WhatWasBegunIsAsLeft}
-use Rattle.idp_server.specs.Starving.{WhatIsVisibleStays}
+use Rattle.idp_server.specs.Staying.{Began, IsAsLeft}
+use Rattle.provider_node.specs.Staying.{SessionsStayInAService, WhatWasOpenedIsAsLeft}
+use Rattle.provider_node.specs.Recorded.{WhatIsAnsweredIsRecorded}
+use Rattle.provider_node.specs.Starving.{RowsAnswerAsBefore}
 use Rattle.idp_server.proofs.Histories.{draws_above}
 use Rattle.idp_setup.specs.Setup.{IsBadSetUp, IsSetUp}
 use Rattle.idp_runs.proofs.Kept.{ended_behind, kept_behind}
@@ -26,8 +29,7 @@ use Rattle.idp_runs.proofs.Kept.{ended_behind, kept_behind}
 pub record Laws : Type 0 where
   pub users : AnswersHaveUsers
   pub signed : EachSignedElementIsOfARecord
-  pub recorded : WhatIsAnsweredIsRecorded
-  pub logouts : WhatIsAnsweredToALogoutIsRecorded
+  pub recorded : WhatIsAnsweredIsRecorded idp_rules Answers IsPosted
   pub only : AnswersEndExactly
   pub services : ServicesEndExactly
   pub wherever_left : WhereverAUserLeaves
@@ -38,24 +40,18 @@ pub record Laws : Type 0 where
   pub hold : ImagesHoldRecords
   pub kept : WhatIsAcknowledgedIsKept
   pub ended : SessionsStayEndedInAService
-  pub stay : SessionsStayInAService
-  pub as_left : WhatWasBegunIsAsLeft
-  pub starved : WhatIsVisibleStays
+  pub stay : SessionsStayInAService idp_rules Began IsAsLeft Answers
+  pub as_left : WhatWasOpenedIsAsLeft idp_rules Began IsAsLeft
+  pub starved : RowsAnswerAsBefore idp_rules Answers AnswerAlike
 
 module _ (laws : Laws) (asked : Asked Provider) where
-  issues : (before after : World Provider) → Asks IsProviders asked before after → IssuesOnlyToUsers asked before after
+  issues : (before after : World Provider) → Asks (IsProviders idp_rules Answers) asked before after
+      → IssuesOnlyToUsers asked before after
   issues before after asks =
       record {
         users = λ held answer r answers. laws.users asked.node.setup held asked.request asked.now answer r answers;
         signed = λ held bytes r answers. laws.signed asked.node.setup held asked.request asked.now bytes r answers;
-        recorded = λ bytes is to.
-            laws.recorded asked.node after.node asked.disk after.disk asked.request asked.now before.disk_faults
-            after.disk_faults bytes
-            (stepped_to idp_rules Answers asked (answers.Full bytes) before after asks is) asks.answers.owns to;
-        logout_recorded = λ bytes is to.
-            laws.logouts asked.node after.node asked.disk after.disk asked.request asked.now before.disk_faults
-            after.disk_faults bytes
-            (stepped_to idp_rules Answers asked (answers.Full bytes) before after asks is) asks.answers.owns to;
+        recorded = once_recorded idp_rules Answers asked IsPosted laws.recorded before after asks;
       }
 
   ends_exactly : (before after : World Provider) → EndsExactly asked before after
@@ -75,14 +71,16 @@ module _ (laws : Laws) (asked : Asked Provider) where
     ends = λ before after asks. ends_exactly before after;
     rounds = record {
       begins = λ held bytes r answers. laws.begins asked.node.setup held asked.request asked.now bytes r answers;
-      goes_on = λ held bytes r are answers. laws.rounds asked.node.setup held asked.request asked.now bytes r are answers;
+      goes_on =
+          λ held bytes r are answers. laws.rounds asked.node.setup held asked.request asked.now bytes r are answers;
       once = laws.once;
     };
     starved = keeps_visible idp_rules Answers asked AnswerAlike laws.starved;
     added = adds_its_own idp_rules Answers asked;
   }
 
-pub headline : Laws → (left : ℕ → Image → Type 0) → EachRunCarries IsSetUp IsBadSetUp key idp_rules Answers Headline left
+pub headline : Laws → (left : ℕ → Image → Type 0) → EachRunCarries IsSetUp IsBadSetUp key idp_rules Answers Headline
+    left
 headline laws left =
     carries IsSetUp key idp_rules Answers IsBadSetUp Says left (λ told file before turns after run. record {
       each = each_goes GoesExactly (goes_exactly laws) turns;

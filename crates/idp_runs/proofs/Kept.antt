@@ -23,7 +23,8 @@ module _ (hold : ImagesHoldRecords) (left : ℕ → Image → Type 0) (told : Op
   left_before : (image : Image) → Leaves after.disk image → Leaves run.serves.last.disk image
   left_before = left_then IsSetUp key idp_rules Answers hold left told file before turns after run tells
 
-  pub kept_behind : WhatIsAcknowledgedIsKept → AreKept (world_of run.provider run.opened) (world_of run.last after) turns
+  pub kept_behind : WhatIsAcknowledgedIsKept → AreKept (world_of run.provider run.opened) (world_of run.last after)
+      turns
   kept_behind law =
       let is = of_service IsSetUp key idp_rules Answers hold left told file before turns after run tells AreKept law in
       record {

@@ -1,7 +1,7 @@
 -- What a run of an identity provider comes to: each Assertion is issued to a user with a password or a session, each
 -- signed element is one of a record that is durable before it is sent; sessions are ended exactly where their users
--- leave them or a peer ends them, and one that is ended never lives again; a logout that asks all others asks each in its
--- turn, and says Success exactly where each confirmed.
+-- leave them or a peer ends them, and one that is ended never lives again; a logout that asks all others asks each in
+-- its turn, and says Success exactly where each confirmed.
 use Rattle.std.specs.Prelude.{◌≡◌, ◌⊎◌, ℕ, true, false, List, Option, IsSome, Some}
 use Rattle.saml_outside.specs.Files.{File}
 use Rattle.crash_disk.specs.Counts.{Rose}
@@ -15,7 +15,7 @@ use Rattle.ledger_records.specs.declared.idp_round.Round.{Round}
 use Rattle.ledger_records.specs.declared.idp_round.Told.{Told}
 use Rattle.serve_loop.specs.Turns.{Asked, Turn}
 use Rattle.serve_loop.specs.Worlds.{World}
-use Rattle.provider_run.specs.Headlines.{AddsOnlyItsOwn, EachGoes, GoesOnDisk, HeadlineBy, HeadlineOf, KeepsWhatIsVisible, ServedOver, ServedRun, WhereAsked}
+use Rattle.provider_run.specs.Headlines.{AddsOnlyItsOwn, AnswersOnceRecorded, EachGoes, GoesOnDisk, HeadlineBy, HeadlineOf, KeepsWhatIsVisible, ServedOver, ServedRun, WhereAsked}
 use Rattle.provider_run.specs.Runs.{Outside, world_of}
 use Rattle.peer_keys.specs.declared.peers.LogoutPeer.{LogoutPeer}
 use Rattle.protocol_messages.specs.declared.logout.LogoutRequest.{LogoutRequest}
@@ -30,15 +30,13 @@ use Rattle.idp_ledger.specs.Laws.{AnswerAlike}
 use Rattle.idp_ledger.specs.Record.{AreRecords, idp_rules}
 use Rattle.idp_ledger.specs.Turns.{RoundsAskInTurn}
 use Rattle.idp_server.specs.Histories.{AreKept, IsEnded, StayEnded}
-use Rattle.idp_server.specs.Issues.{IsOfUser, IsRecorded}
+use Rattle.idp_server.specs.Issues.{IsOfUser, IsPosted}
 use Rattle.idp_server.specs.Logouts.{Ends, EndsOver, IsOfLogoutIfEnding, LeavesOver, ending_record, leaving_record}
 use Rattle.idp_server.specs.Messages.{AsksFirst}
 use Rattle.idp_server.specs.Outcomes.{IsOutcome}
-use Rattle.service_routes.specs.declared.route.Route.TheVariants.{To}
-use Rattle.idp_server.specs.declared.route.Service.TheVariants.{Login, Logout, SignOn, SingleLogout}
-use Rattle.idp_server.specs.Routes.{route}
 use Rattle.idp_server.specs.Signed.{Carries}
-use Rattle.idp_server.specs.Staying.{SessionsStay, WhatWasBegunIsAsLeft}
+use Rattle.idp_server.specs.Staying.{Began, IsAsLeft}
+use Rattle.provider_node.specs.Staying.{SessionsStay, WhatWasOpenedIsAsLeft}
 use Rattle.idp_server.specs.Step.{Provider, Answers, ending_by}
 use Rattle.idp_rules.specs.declared.config.IdpConfig.{IdpConfig}
 use Rattle.idp_setup.specs.Setup.{IsSetUp}
@@ -56,12 +54,7 @@ pub record IssuesOnlyToUsers (asked : Asked Provider) (before after : World Prov
   pub signed : (held : Held) (bytes : List ℕ) (r : IdpRecord)
       → Answers asked.node.setup held asked.request asked.now (Full bytes) (Some r)
       → Carries asked.node.setup held r bytes
-  pub recorded : (bytes : List ℕ) → asked.answer ≡ Full bytes
-      → (route asked.request ≡ To SignOn) ⊎ (route asked.request ≡ To Login)
-      → IsRecorded asked.node.setup asked.request asked.now (Full bytes) after.disk
-  pub logout_recorded : (bytes : List ℕ) → asked.answer ≡ Full bytes
-      → (route asked.request ≡ To Logout) ⊎ (route asked.request ≡ To SingleLogout)
-      → IsRecorded asked.node.setup asked.request asked.now (Full bytes) after.disk
+  pub recorded : AnswersOnceRecorded idp_rules Answers IsPosted asked after
 
 -- A record that ends a session is added, with whatever answer, only where the user of that live session leaves it, or a
 -- peer asks for it by a LogoutRequest that is accepted; and nothing but a record and a compaction changes the ledger.
@@ -82,15 +75,16 @@ pub record EndsExactly (asked : Asked Provider) (before after : World Provider) 
       → ServedOver idp_rules Answers found asked before after
       → (over : EndsOver asked.node.setup asked.request asked.now message peer)
       → is_among cookie (ending_by found asked.now peer.peer.entity message) ≡ true
-      → HasRoom idp_rules found asked.now (λ held. ending_record asked.node.setup held asked.now peer message over.relay)
+      → HasRoom idp_rules found asked.now (λ held. ending_record asked.node.setup held asked.now peer message
+      over.relay)
       → ¬ (Rose before.disk_faults after.disk_faults)
       → (asked.answer ≡ Fixed NO_MEMORY) ⊎ IsEnded after.node.ledger.held cookie
 
--- A logout that asks all others: the answer that begins a round asks the provider of the first turn, and each that stands
--- for the answer of a provider the one of the next turn; where no turn is left it ends the round, with Success exactly
--- where none was skipped, as many providers answered as there are turns, and each confirmed. No other answer says how the
--- logout ended. And in the records of any ledger the answers of a round are to its requests, in order, of which there is
--- one for each turn: none is asked twice.
+-- A logout that asks all others: the answer that begins a round asks the provider of the first turn, and each that
+-- stands for the answer of a provider the one of the next turn; where no turn is left it ends the round, with Success
+-- exactly where none was skipped, as many providers answered as there are turns, and each confirmed. No other answer
+-- says how the logout ended. And in the records of any ledger the answers of a round are to its requests, in order, of
+-- which there is one for each turn: none is asked twice.
 pub record AsksInTurn (asked : Asked Provider) : Type 0 where
   pub begins : (held : Held) (bytes : List ℕ) (r : Round)
       → Answers asked.node.setup held asked.request asked.now (Full bytes) (Some (kinds.Round r))
@@ -113,16 +107,17 @@ pub record GoesExactly (asked : Asked Provider) : Type 0 where
   pub ends : WhereAsked idp_rules Answers asked (EndsExactly asked)
   pub rounds : AsksInTurn asked
   pub added : WhereAsked idp_rules Answers asked (λ before after. AddsOnlyItsOwn idp_rules Answers asked)
-  pub starved : WhereAsked idp_rules Answers asked (λ before after. KeepsWhatIsVisible idp_rules AnswerAlike asked after)
+  pub starved : WhereAsked idp_rules Answers asked (λ before after. KeepsWhatIsVisible idp_rules AnswerAlike asked
+      after)
 
 -- What is said of a run that served: each request issued Assertions to users alone, was answered once its record was
--- durable, and ended sessions exactly; and where the disk tells, what the answers acknowledged is in the history of every
--- ledger that a crash may leave behind the run, and in none of these a session lives that one of the answers ended, or
--- that was ended at the start; from each point of the run on, also inside later requests, what was acknowledged by then
--- is in the history of every ledger that a crash might leave; and a session that is ended is live at no later request,
--- and in no ledger that a crash may leave since; and one whose answer went out is as it was left in every image that a
--- crash may leave behind the run, or since a point of it: where it ends behind each moment of the run it lives there,
--- ended only where a record that was added since ends it.
+-- durable, and ended sessions exactly; and where the disk tells, what the answers acknowledged is in the history of
+-- every ledger that a crash may leave behind the run, and in none of these a session lives that one of the answers
+-- ended, or that was ended at the start; from each point of the run on, also inside later requests, what was
+-- acknowledged by then is in the history of every ledger that a crash might leave; and a session that is ended is live
+-- at no later request, and in no ledger that a crash may leave since; and one whose answer went out is as it was left
+-- in every image that a crash may leave behind the run, or since a point of it: where it ends behind each moment of the
+-- run it lives there, ended only where a record that was added since ends it.
 pub record Says (left : ℕ → Image → Type 0) (told : Option (List File)) (file : List ℕ) (before : Outside)
     (turns : List (Turn Provider)) (after : Outside)
     (run : ServedRun IsSetUp key idp_rules Answers left told file before turns after) : Type 0 where
@@ -131,8 +126,9 @@ pub record Says (left : ℕ → Image → Type 0) (told : Option (List File)) (f
   pub since : IsSome before.disk → AreKeptSince idp_rules Answers left (world_of run.provider run.opened) turns
       run.serves.kept run.serves.last run.serves.run
   pub ended : IsSome before.disk → StayEnded (points (world_of run.provider run.opened) turns (world_of run.last after))
-  pub stay : IsSome before.disk → SessionsStay (world_of run.provider run.opened) (world_of run.last after) turns
-  pub as_left : WhatWasBegunIsAsLeft
+  pub stay : IsSome before.disk → SessionsStay idp_rules Began IsAsLeft Answers (world_of run.provider run.opened)
+      (world_of run.last after) turns
+  pub as_left : WhatWasOpenedIsAsLeft idp_rules Began IsAsLeft
 
 -- A run served nothing, or it served so.
 abbrev pub Headline : HeadlineOf IdpConfig IdpRecord

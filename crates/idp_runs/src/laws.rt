@@ -8,12 +8,12 @@ ghost use Rattle.idp_setup.specs.Setup.{IsBadSetUp, IsSetUp};
 
 use idp_ledger::Disk;
 
-/// A run issues each Assertion to a user whose password was posted, or in the user's live session; each element that
-/// it signs is one of a record; and no form is sent before its record is in every image that a crash may leave. It
-/// ends sessions exactly where their users leave them, by a POST with their cookie, or where a peer asks for it by a
-/// LogoutRequest that is accepted; and one that is ended is live at no later request, and in no ledger that a crash
-/// may leave since. From each point of the run on, also inside later requests, what was acknowledged by then is in
-/// the history of each ledger that a crash might leave, and each session whose answer went out is as it was left. A logout
+/// A run issues each Assertion to a user whose password was posted, or in the user's live session; each element that it
+/// signs is one of a record; and no form is sent before its record is in every image that a crash may leave. It ends
+/// sessions exactly where their users leave them, by a POST with their cookie, or where a peer asks for it by a
+/// LogoutRequest that is accepted; and one that is ended is live at no later request, and in no ledger that a crash may
+/// leave since. From each point of the run on, also inside later requests, what was acknowledged by then is in the
+/// history of each ledger that a crash might leave, and each session whose answer went out is as it was left. A logout
 /// that asks all others asks each in its turn, and says Success exactly where each confirmed.
 pub fn a_run_carries_the_headline<D: Disk>()
     ensures { (disk : D) → EachRunCarries IsSetUp IsBadSetUp key idp_rules Answers Headline (D.shows disk).left_since }
@@ -23,7 +23,6 @@ pub fn a_run_carries_the_headline<D: Disk>()
     idp_server::laws::each_issue_has_a_password_or_a_session();
     idp_server::laws::each_signed_element_is_of_a_record();
     idp_server::laws::what_is_answered_is_recorded();
-    idp_server::laws::what_is_answered_to_a_logout_is_recorded();
     idp_server::laws::a_session_is_ended_exactly();
     idp_server::laws::a_round_ends_as_confirmed();
     idp_server::laws::what_is_acknowledged_is_kept();
@@ -33,8 +32,8 @@ pub fn a_run_carries_the_headline<D: Disk>()
     idp_server::laws::what_is_visible_stays();
 }
 
-/// A run that served is a start of its provider. So by the laws of starts of `idp_server` what several runs acknowledged is kept, and
-/// what is ended stays so, over restarts with crashes between them.
+/// A run that served is a start of its provider. So by the laws of starts of `idp_server` what several runs
+/// acknowledged is kept, and what is ended stays so, over restarts with crashes between them.
 pub fn a_run_is_a_start()
     ensures { EachRunIsAStart IsSetUp key idp_rules Answers }
 {

@@ -8,11 +8,11 @@
 //! }
 //! ```
 //!
-//! A contract sees how a run goes as one of the five cases of `provider_run` (`Runs` of its `specs/Providers.antt`), with the provider's own
-//! setup, ledger and steps. It carries the headline ([`laws`]): each Assertion is issued to a user with a password or a session,
-//! each signed element is one of a record, and no form is sent before its record is durable. A session is ended exactly where its
-//! user leaves it or a peer asks for it, and never lives again. A crash at any moment of a run leaves what one inside the opening may
-//! leave, or what one inside an answer may.
+//! A contract sees how a run goes as one of the five cases of `provider_run` (`Runs` of its `specs/Providers.antt`),
+//! with the provider's own setup, ledger and steps. It carries the headline ([`laws`]): each Assertion is issued to a
+//! user with a password or a session, each signed element is one of a record, and no form is sent before its record is
+//! durable. A session is ended exactly where its user leaves it or a peer asks for it, and never lives again. A crash
+//! at any moment of a run leaves what one inside the opening may leave, or what one inside an answer may.
 //!
 //! # What is proved
 //!

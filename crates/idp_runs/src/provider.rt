@@ -10,10 +10,10 @@ use std::alloc::Global;
 
 /// What runs as an identity provider.
 ///
-/// A run of it issues each Assertion to a user with a password or a session; each element that it signs is one of a record,
-/// and no form is sent before its record is durable; it ends sessions exactly where their users leave them or a peer ends
-/// them, for good; a logout that asks all others asks each in its turn; and what its answers acknowledged is from then on
-/// in every image that a crash might leave (its headline: `Says` of `specs/Headline.antt`).
+/// A run of it issues each Assertion to a user with a password or a session; each element that it signs is one of a
+/// record, and no form is sent before its record is durable; it ends sessions exactly where their users leave them or a
+/// peer ends them, for good; a logout that asks all others asks each in its turn; and what its answers acknowledged is
+/// from then on in every image that a crash might leave (its headline: `Says` of `specs/Headline.antt`).
 pub struct IdentityProvider;
 
 impl RunsProvider for IdentityProvider {

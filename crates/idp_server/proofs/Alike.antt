@@ -25,7 +25,8 @@ alike_self now held = record {
   turn = λ request peer. refl;
 }
 
-pub alike : CompactionsChangeNoAnswer → (now : ℕ) (old new : Held) → AreRecords old.records → Compacts idp_rules now old new
+pub alike : CompactionsChangeNoAnswer → (now : ℕ) (old new : Held) → AreRecords old.records
+    → Compacts idp_rules now old new
     → AnswerAlike now new old
 alike = any.alike idp_rules AnswerAlike alike_self
 

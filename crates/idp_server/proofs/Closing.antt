@@ -31,7 +31,7 @@ use Rattle.provider_node.proofs.Sessions.{chosen_there, found_itself, shut_among
 use Rattle.provider_node.proofs.Wanted.{IsBehind, alike_behind, holds_of_wanted}
 use Rattle.idp_server.specs.Histories.{IsEnded}
 use Rattle.logout_turns.specs.declared.part.Asker.{Asker}
-use Rattle.idp_server.specs.Logouts.{AnswersEndExactly, EndsOver, IsOfLogoutIfEnding, LeavesOver, SessionsEndBeforeTheAnswer, WhatIsAnsweredToALogoutIsRecorded, WhereverAPeerEnds, WhereverAUserLeaves, ending_record, leaving_record}
+use Rattle.idp_server.specs.Logouts.{AnswersEndExactly, EndsOver, IsOfLogoutIfEnding, LeavesOver, SessionsEndBeforeTheAnswer, WhereverAPeerEnds, WhereverAUserLeaves, ending_record, leaving_record}
 use Rattle.idp_server.specs.Replies.{OfPeer, OfUser}
 use Rattle.idp_server.specs.Rounds.{asks_others, round_by}
 use Rattle.idp_server.specs.Step as steps
@@ -39,6 +39,8 @@ use Rattle.idp_server.specs.Step.{Answers, AsksToEnd, RepliesTo, asker_of, ended
 use Rattle.idp_server.proofs.Alike.{alike_self, session_alike}
 use Rattle.idp_server.proofs.StayingEnded.{begun_sessions, ended_behind}
 use Rattle.idp_server.proofs.Told.{said}
+use Rattle.idp_server.specs.Issues.{IsPosted}
+use Rattle.provider_node.specs.Recorded.{WhatIsAnsweredIsRecorded}
 
 -- ---- a user who leaves
 
@@ -65,12 +67,16 @@ round_ends setup held now asker cookies cookie there among =
 itself_among : (cookie : List ℕ) → is_among cookie (cookie ∷ []) ≡ true
 itself_among cookie = ap (λ (b : Bool). b || false) (text_itself cookie)
 
-leaving_ends : (setup : IdpConfig) (held : Held) (now : ℕ) (request : Request) (row : SessionRow) → session_for held now request ≡ Some row
+leaving_ends : (setup : IdpConfig) (held : Held) (now : ℕ) (request : Request) (row : SessionRow)
+    → session_for held now request ≡ Some row
     → IsEnded (held_with (leaving_record setup held now row.cookie) held) row.cookie
 leaving_ends setup held now request row live = by_others (asks_others setup held None (row.cookie ∷ []))
   where
-    by_others : (b : Bool) → IsEnded (held_with (if b then round_by setup held now None (row.cookie ∷ []) else left_by setup.id_key held now row.cookie) held) row.cookie
-    by_others true = round_ends setup held now None (row.cookie ∷ []) row.cookie (there_is held now request row live) (itself_among row.cookie)
+    by_others : (b : Bool) → IsEnded (held_with (if b then round_by setup held now None (row.cookie ∷ []) else left_by
+        setup.id_key held now row.cookie) held) row.cookie
+    by_others true =
+        round_ends setup held now None (row.cookie ∷ []) row.cookie (there_is held now request row live)
+        (itself_among row.cookie)
     by_others false = left_ends setup.id_key held now request row live
 
 chosen_where : (b : Bool) (one other : IdpRecord) → b ≡ true → (if b then one else other) ≡ one
@@ -81,19 +87,29 @@ other_where : (b : Bool) (one other : IdpRecord) → b ≡ false → (if b then 
 other_where true one other is = absurd (cc)
 other_where false one other is = refl
 
-left_added : (setup : IdpConfig) (held : Held) (request : Request) (now : ℕ) (answer : Answer) (adds : Option IdpRecord) (row : SessionRow) → LeavesOver held request now row
+left_added : (setup : IdpConfig) (held : Held) (request : Request) (now : ℕ) (answer : Answer) (adds : Option IdpRecord)
+    (row : SessionRow) → LeavesOver held request now row
     → Answers setup held request now answer adds → adds ≡ Some (leaving_record setup held now row.cookie)
-left_added setup held request now answer adds row over (steps.ByNoSession to none is nothing) = absurd (let e = sym none ∙ over.live in cc)
-left_added setup held request now answer adds row over (steps.ByLeaving other r bytes to live alone drafted adding answers full) =
+left_added setup held request now answer adds row over (steps.ByNoSession to none is nothing) =
+    absurd (let e = sym none ∙ over.live in cc)
+left_added setup held request now answer adds row over (steps.ByLeaving other r bytes to live alone drafted adding
+    answers full) =
     let some : Some other ≡ Some row = sym live ∙ over.live in
     let same : other ≡ row = cc in
-    let chosen = other_where (asks_others setup held None (other.cookie ∷ [])) (round_by setup held now None (other.cookie ∷ [])) (left_by setup.id_key held now other.cookie) alone in
-    adding ∙ ap Some (sym drafted) ∙ ap Some (sym chosen) ∙ ap (λ (s : SessionRow). Some (leaving_record setup held now s.cookie)) same
-left_added setup held request now answer adds row over (steps.ByLeavingAll other r bytes to live asks drafted adding first full) =
+    let chosen =
+    other_where (asks_others setup held None (other.cookie ∷ [])) (round_by setup held now None (other.cookie ∷ []))
+    (left_by setup.id_key held now other.cookie) alone in
+    adding ∙ ap Some (sym drafted) ∙ ap Some (sym chosen)
+    ∙ ap (λ (s : SessionRow). Some (leaving_record setup held now s.cookie)) same
+left_added setup held request now answer adds row over (steps.ByLeavingAll other r bytes to live asks drafted adding
+    first full) =
     let some : Some other ≡ Some row = sym live ∙ over.live in
     let same : other ≡ row = cc in
-    let chosen = chosen_where (asks_others setup held None (other.cookie ∷ [])) (round_by setup held now None (other.cookie ∷ [])) (left_by setup.id_key held now other.cookie) asks in
-    adding ∙ ap Some (sym drafted) ∙ ap Some (sym chosen) ∙ ap (λ (s : SessionRow). Some (leaving_record setup held now s.cookie)) same
+    let chosen =
+    chosen_where (asks_others setup held None (other.cookie ∷ [])) (round_by setup held now None (other.cookie ∷ []))
+    (left_by setup.id_key held now other.cookie) asks in
+    adding ∙ ap Some (sym drafted) ∙ ap Some (sym chosen)
+    ∙ ap (λ (s : SessionRow). Some (leaving_record setup held now s.cookie)) same
 left_added setup held request now answer adds row over other =
     absurd (let says = (said setup held request now answer adds other).is in cc)
 
@@ -101,7 +117,8 @@ pub wherever_left : CompactionsChangeNoAnswer → WhereverAUserLeaves
 wherever_left same found request now faults later answer old new row serves over room calm =
     holds_of_wanted idp_rules Answers found request now (Rose faults later) answer old new
     (λ held. leaving_record old.setup held now row.cookie)
-    (λ held behind other adds answers. left_added old.setup held request now other adds row (leaves held behind) answers)
+    (λ held behind other adds answers. left_added old.setup held request now other adds row (leaves held behind)
+    answers)
     (λ held. IsEnded held row.cookie)
     (λ held behind. leaving_ends old.setup held now request row (leaves held behind).live) room calm serves
   where
@@ -109,7 +126,8 @@ wherever_left same found request now faults later answer old new row serves over
     leaves held behind = record {
       posted = over.posted;
       live =
-          session_alike now held found request (alike_behind idp_rules found now AnswerAlike alike_self same held behind)
+          session_alike now held found request (alike_behind idp_rules found now AnswerAlike alike_self same held
+          behind)
           ∙ over.live;
     }
 
@@ -117,12 +135,16 @@ wherever_left same found request now faults later answer old new row serves over
 
 -- a form that is obeyed asks one thing, and is not refused
 pub record IsOneLogout : Type 0 where
-  pub obeyed : (peers : List LogoutPeer) (second : Option (List ℕ)) (address : List ℕ) (skew now : ℕ) (body : List ℕ) (logout : Message) (verdict : Verdict)
+  pub obeyed : (peers : List LogoutPeer) (second : Option (List ℕ)) (address : List ℕ) (skew now : ℕ) (body : List ℕ)
+      (logout : Message) (verdict : Verdict)
       → IsAccepted peers second address skew now body logout → ¬ (IsRefused peers second address skew now body verdict)
-  pub once : (peers : List LogoutPeer) (second : Option (List ℕ)) (address : List ℕ) (skew now : ℕ) (body : List ℕ) (one other : Message)
-      → IsAccepted peers second address skew now body one → IsAccepted peers second address skew now body other → one ≡ other
+  pub once : (peers : List LogoutPeer) (second : Option (List ℕ)) (address : List ℕ) (skew now : ℕ) (body : List ℕ)
+      (one other : Message)
+      → IsAccepted peers second address skew now body one → IsAccepted peers second address skew now body other
+      → one ≡ other
 
-ending_there : (held : Held) (now : ℕ) (peer : List ℕ) (asked : LogoutRequest) (cookie : List ℕ) → is_among cookie (ending_by held now peer asked) ≡ true
+ending_there : (held : Held) (now : ℕ) (peer : List ℕ) (asked : LogoutRequest) (cookie : List ℕ)
+    → is_among cookie (ending_by held now peer asked) ≡ true
     → list_any (λ (s : SessionRow). bytes_eq s.cookie cookie) (session_rows held.records) ≡ true
 ending_there held now peer asked cookie among =
     chosen_there begun_sessions (session_rows held.records) cookie
@@ -136,16 +158,20 @@ ended_ends key held now peer asked cookie among =
     (shut_among begun_sessions (session_rows held.records) _ cookie (ending_by held now peer asked) refl
     (ending_there held now peer asked cookie among) among)
 
-ending_ends : (setup : IdpConfig) (held : Held) (now : ℕ) (peer : LogoutPeer) (asked : LogoutRequest) (relay : Option (List ℕ)) (cookie : List ℕ)
-    → is_among cookie (ending_by held now peer.peer.entity asked) ≡ true → IsEnded (held_with (ending_record setup held now peer asked relay) held) cookie
+ending_ends : (setup : IdpConfig) (held : Held) (now : ℕ) (peer : LogoutPeer) (asked : LogoutRequest)
+    (relay : Option (List ℕ)) (cookie : List ℕ)
+    → is_among cookie (ending_by held now peer.peer.entity asked) ≡ true
+    → IsEnded (held_with (ending_record setup held now peer asked relay) held) cookie
 ending_ends setup held now peer asked relay cookie among =
     by_others (asks_others setup held (Some (asker_of peer asked relay)) (ending_by held now peer.peer.entity asked))
   where
     by_others : (b : Bool)
-        → IsEnded (held_with (if b then round_by setup held now (Some (asker_of peer asked relay)) (ending_by held now peer.peer.entity asked)
+        → IsEnded (held_with (if b then round_by setup held now (Some (asker_of peer asked relay))
+        (ending_by held now peer.peer.entity asked)
         else ended_by setup.id_key held now peer.peer.entity asked) held) cookie
     by_others true =
-        round_ends setup held now (Some (asker_of peer asked relay)) (ending_by held now peer.peer.entity asked) cookie (ending_there held now peer.peer.entity asked cookie among) among
+        round_ends setup held now (Some (asker_of peer asked relay)) (ending_by held now peer.peer.entity asked) cookie
+        (ending_there held now peer.peer.entity asked cookie among) among
     by_others false = ended_ends setup.id_key held now peer.peer.entity asked cookie among
 
 -- ---- what a record ends that is added
@@ -156,7 +182,8 @@ only_one one cookie among = elim (or_cases (bytes_eq one cookie) false among) [
   | inr none ↦ absurd (false≢true none)
 ]
 
-pub ends_behind : (setup : IdpConfig) (held : Held) (request : Request) (now : ℕ) (r : IdpRecord) (cookie : List ℕ) → IsOfLogoutIfEnding setup held request now r → ends cookie r ≡ true
+pub ends_behind : (setup : IdpConfig) (held : Held) (request : Request) (now : ℕ) (r : IdpRecord) (cookie : List ℕ)
+    → IsOfLogoutIfEnding setup held request now r → ends cookie r ≡ true
     → IsEnded (held_with r held) cookie
 ends_behind setup held request now (kinds.Ended r) cookie of ending =
     let among = subst (λ (cs : List (List ℕ)). is_among cookie cs ≡ true) of.cookies_are ending in
@@ -177,20 +204,24 @@ ends_behind setup held request now (kinds.Round r) cookie of ending =
     there : OfUser held request now r.cookies r.asker ⊎ OfPeer setup held request now r.cookies r.asker
         → list_any (λ (s : SessionRow). bytes_eq s.cookie cookie) (session_rows held.records) ≡ true
     there (inl u) =
-        let same = only_one u.row.cookie cookie (subst (λ (cs : List (List ℕ)). is_among cookie cs ≡ true) u.cookies_are ending) in
-        subst (λ (c : List ℕ). list_any (λ (s : SessionRow). bytes_eq s.cookie c) (session_rows held.records) ≡ true) same (there_is held now request u.row u.live)
-    there (inr p) = ending_there held now p.peer.peer.entity p.asked cookie (subst (λ (cs : List (List ℕ)). is_among cookie cs ≡ true) p.cookies_are ending)
+        let same =
+        only_one u.row.cookie cookie (subst (λ (cs : List (List ℕ)). is_among cookie cs ≡ true) u.cookies_are ending) in
+        subst (λ (c : List ℕ). list_any (λ (s : SessionRow). bytes_eq s.cookie c) (session_rows held.records) ≡ true)
+        same (there_is held now request u.row u.live)
+    there (inr p) =
+        ending_there held now p.peer.peer.entity p.asked cookie
+        (subst (λ (cs : List (List ℕ)). is_among cookie cs ≡ true) p.cookies_are ending)
 ends_behind setup held request now other cookie of ending = absurd (false≢true ending)
 
-pub sessions_end_before : AnswersEndExactly → WhatIsAnsweredToALogoutIsRecorded → SessionsEndBeforeTheAnswer
-sessions_end_before only recorded old new disk later request now before after bytes does own routed =
-    let is = recorded old new disk later request now before after bytes does own routed in
+pub sessions_end_before : AnswersEndExactly → WhatIsAnsweredIsRecorded idp_rules Answers IsPosted
+    → SessionsEndBeforeTheAnswer
+sessions_end_before only law old new disk later request now before after bytes does own of =
+    let is = law old new disk later request now before after bytes does own (inr (inr of)) in
     record {
-      held = is.held;
-      r = is.r;
-      stands = is.stands;
-      kept = is.kept;
-      ended = λ cookie ending. ends_behind old.setup is.held request now is.r cookie (only old.setup is.held request now (Full bytes) is.r is.stands) ending;
+      recorded = is;
+      ended = λ cookie ending.
+          ends_behind old.setup is.held request now is.r cookie
+          (only old.setup is.held request now (Full bytes) is.r is.stands) ending;
     }
 
 -- one request of one peer, with one relay
@@ -212,56 +243,78 @@ relay_in (messages.Ask request place relay) = Some relay
 relay_in (messages.Reply response place) = None
 
 module _ (law : IsOneLogout) where
-  one_asks : (setup : IdpConfig) (request : Request) (now : ℕ) (one other : LogoutRequest) (peer another : LogoutPeer) (relay more : Option (List ℕ))
-      → AsksToEnd setup request now one peer relay → AsksToEnd setup request now other another more → AreSame one other peer another relay more
+  one_asks : (setup : IdpConfig) (request : Request) (now : ℕ) (one other : LogoutRequest) (peer another : LogoutPeer)
+      (relay more : Option (List ℕ))
+      → AsksToEnd setup request now one peer relay → AsksToEnd setup request now other another more
+      → AreSame one other peer another relay more
   one_asks setup request now one other peer another relay more first second =
       let same = law.once _ _ _ _ now request.body _ _ first.obeyed second.obeyed in
       let asked : Some one ≡ Some other = ap asked_in same in
       let placed : Some first.place ≡ Some second.place = ap place_in same in
       let place : first.place ≡ second.place = cc in
-      let both : Some peer ≡ Some another = sym first.there ∙ ap (λ (p : ℕ). slice_get setup.peers p) place ∙ second.there in
+      let both : Some peer ≡ Some another =
+      sym first.there ∙ ap (λ (p : ℕ). slice_get setup.peers p) place ∙ second.there in
       let relays : Some relay ≡ Some more = ap relay_in same in
       record { asked = cc; peers = cc; relays = cc }
 
-  no_reply : (setup : IdpConfig) (request : Request) (now : ℕ) (asked : LogoutRequest) (peer : LogoutPeer) (relay : Option (List ℕ)) (response : LogoutResponse)
+  no_reply : (setup : IdpConfig) (request : Request) (now : ℕ) (asked : LogoutRequest) (peer : LogoutPeer)
+      (relay : Option (List ℕ)) (response : LogoutResponse)
       (who : LogoutPeer) → AsksToEnd setup request now asked peer relay → RepliesTo setup request now response who → ⊥
   no_reply setup request now asked peer relay response who asks replies =
       let same = law.once _ _ _ _ now request.body _ _ asks.obeyed replies.obeyed in
       let clash : Some asked ≡ None = ap asked_in same in
       cc
 
-  one_record : (setup : IdpConfig) (held : Held) (now : ℕ) (one other : LogoutRequest) (peer another : LogoutPeer) (relay more : Option (List ℕ)) → AreSame one other peer another relay more
+  one_record : (setup : IdpConfig) (held : Held) (now : ℕ) (one other : LogoutRequest) (peer another : LogoutPeer)
+      (relay more : Option (List ℕ)) → AreSame one other peer another relay more
       → Some (ending_record setup held now peer one relay) ≡ Some (ending_record setup held now another other more)
   one_record setup held now one other peer another relay more same =
       ap (λ (p : LogoutPeer). Some (ending_record setup held now p one relay)) same.peers
       ∙ ap (λ (x : LogoutRequest). Some (ending_record setup held now another x relay)) same.asked
       ∙ ap (λ (r : Option (List ℕ)). Some (ending_record setup held now another other r)) same.relays
 
-  ended_added : (setup : IdpConfig) (held : Held) (request : Request) (now : ℕ) (answer : Answer) (adds : Option IdpRecord) (asked : LogoutRequest) (peer : LogoutPeer) (cookie : List ℕ)
-      → (over : EndsOver setup request now asked peer) → is_among cookie (ending_by held now peer.peer.entity asked) ≡ true → Answers setup held request now answer adds
+  ended_added : (setup : IdpConfig) (held : Held) (request : Request) (now : ℕ) (answer : Answer)
+      (adds : Option IdpRecord) (asked : LogoutRequest) (peer : LogoutPeer) (cookie : List ℕ)
+      → (over : EndsOver setup request now asked peer) → is_among cookie
+      (ending_by held now peer.peer.entity asked) ≡ true → Answers setup held request now answer adds
       → adds ≡ Some (ending_record setup held now peer asked over.relay)
-  ended_added setup held request now answer adds asked peer cookie over among (steps.ByLogoutVerdict verdict to refused is none) =
+  ended_added setup held request now answer adds asked peer cookie over among
+      (steps.ByLogoutVerdict verdict to refused is none) =
       absurd (law.obeyed _ _ _ _ now request.body _ verdict over.asks.obeyed refused)
-  ended_added setup held request now answer adds asked peer cookie over among (steps.ByNothingToEnd other another more to asks nothing is none) =
+  ended_added setup held request now answer adds asked peer cookie over among
+      (steps.ByNothingToEnd other another more to asks nothing is none) =
       let same = one_asks setup request now other asked another peer more over.relay asks over.asks in
       absurd (some_among cookie (ending_by held now peer.peer.entity asked) among
       (subst (λ (p : LogoutPeer). is_empty (ending_by held now p.peer.entity asked) ≡ true) same.peers
       (subst (λ (x : LogoutRequest). is_empty (ending_by held now another.peer.entity x) ≡ true) same.asked nothing)))
-  ended_added setup held request now answer adds asked peer cookie over among (steps.ByEnding other another more r bytes to asks some alone drafted adding answers full) =
+  ended_added setup held request now answer adds asked peer cookie over among
+      (steps.ByEnding other another more r bytes to asks some alone drafted adding answers full) =
       let same = one_asks setup request now other asked another peer more over.relay asks over.asks in
-      let chosen = other_where (asks_others setup held (Some (asker_of another other more)) (ending_by held now another.peer.entity other))
-      (round_by setup held now (Some (asker_of another other more)) (ending_by held now another.peer.entity other)) (ended_by setup.id_key held now another.peer.entity other) alone in
-      adding ∙ ap Some (sym drafted) ∙ ap Some (sym chosen) ∙ one_record setup held now other asked another peer more over.relay same
-  ended_added setup held request now answer adds asked peer cookie over among (steps.ByEndingAll other another more r bytes to asks some others drafted adding first full) =
+      let chosen =
+      other_where (asks_others setup held (Some (asker_of another other more))
+      (ending_by held now another.peer.entity other))
+      (round_by setup held now (Some (asker_of another other more)) (ending_by held now another.peer.entity other))
+      (ended_by setup.id_key held now another.peer.entity other) alone in
+      adding ∙ ap Some (sym drafted) ∙ ap Some (sym chosen)
+      ∙ one_record setup held now other asked another peer more over.relay same
+  ended_added setup held request now answer adds asked peer cookie over among
+      (steps.ByEndingAll other another more r bytes to asks some others drafted adding first full) =
       let same = one_asks setup request now other asked another peer more over.relay asks over.asks in
-      let chosen = chosen_where (asks_others setup held (Some (asker_of another other more)) (ending_by held now another.peer.entity other))
-      (round_by setup held now (Some (asker_of another other more)) (ending_by held now another.peer.entity other)) (ended_by setup.id_key held now another.peer.entity other) others in
-      adding ∙ ap Some (sym drafted) ∙ ap Some (sym chosen) ∙ one_record setup held now other asked another peer more over.relay same
-  ended_added setup held request now answer adds asked peer cookie over among (steps.ByTold response who row r bytes to replies waits drafted adding answers full) =
+      let chosen =
+      chosen_where (asks_others setup held (Some (asker_of another other more))
+      (ending_by held now another.peer.entity other))
+      (round_by setup held now (Some (asker_of another other more)) (ending_by held now another.peer.entity other))
+      (ended_by setup.id_key held now another.peer.entity other) others in
+      adding ∙ ap Some (sym drafted) ∙ ap Some (sym chosen)
+      ∙ one_record setup held now other asked another peer more over.relay same
+  ended_added setup held request now answer adds asked peer cookie over among
+      (steps.ByTold response who row r bytes to replies waits drafted adding answers full) =
       absurd (no_reply setup request now asked peer over.relay response who over.asks replies)
-  ended_added setup held request now answer adds asked peer cookie over among (steps.ByUnknownLogout response who to replies no_round unknown is none) =
+  ended_added setup held request now answer adds asked peer cookie over among
+      (steps.ByUnknownLogout response who to replies no_round unknown is none) =
       absurd (no_reply setup request now asked peer over.relay response who over.asks replies)
-  ended_added setup held request now answer adds asked peer cookie over among (steps.ByConfirming response who to replies no_round waits adding full) =
+  ended_added setup held request now answer adds asked peer cookie over among
+      (steps.ByConfirming response who to replies no_round waits adding full) =
       absurd (no_reply setup request now asked peer over.relay response who over.asks replies)
   ended_added setup held request now answer adds asked peer cookie over among other =
       absurd (let says = (said setup held request now answer adds other).is in cc)

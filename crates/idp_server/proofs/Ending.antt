@@ -17,15 +17,18 @@ use Rattle.idp_server.proofs.Peers.{place_names}
 -- a request is of the peer at its place
 abbrev pub IsAtItsPlace : Type 0
 IsAtItsPlace =
-    (peers : List LogoutPeer) (second : Option (List ℕ)) (address : List ℕ) (skew now : ℕ) (body : List ℕ) (request : LogoutRequest) (place : ℕ) (relay : Option (List ℕ))
+    (peers : List LogoutPeer) (second : Option (List ℕ)) (address : List ℕ) (skew now : ℕ) (body : List ℕ)
+    (request : LogoutRequest) (place : ℕ) (relay : Option (List ℕ))
     → (is : IsAccepted peers second address skew now body (messages.Ask request place relay)) → place ≡ is.place
 
 -- the peer that asks to end sessions
-pub asking_peer : IsAtItsPlace → (setup : IdpConfig) (request : Request) (now : ℕ) (asked : LogoutRequest) (peer : LogoutPeer) (relay : Option (List ℕ)) → AsksToEnd setup request now asked peer relay
+pub asking_peer : IsAtItsPlace → (setup : IdpConfig) (request : Request) (now : ℕ) (asked : LogoutRequest)
+    (peer : LogoutPeer) (relay : Option (List ℕ)) → AsksToEnd setup request now asked peer relay
     → IsPeer setup peer.peer.entity peer
 asking_peer law setup request now asked peer relay asks =
     let o = asks.obeyed in
     let place = law setup.peers None (logout setup) setup.skew now request.body asked asks.place relay o in
-    let at : slice_get setup.peers o.place ≡ Some peer = subst (λ (p : ℕ). slice_get setup.peers p ≡ Some peer) place asks.there in
+    let at : slice_get setup.peers o.place ≡ Some peer =
+    subst (λ (p : ℕ). slice_get setup.peers p ≡ Some peer) place asks.there in
     let named = place_names _ setup.peers o.place peer o.known.stands at in
     (o.place, subst (λ (e : List ℕ). place_of e setup.peers ≡ Some o.place) (sym named) o.known.stands, at)

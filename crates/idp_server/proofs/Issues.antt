@@ -1,13 +1,10 @@
 -- For what an Assertion is issued, and what stands behind an answer.
-use Rattle.std.specs.Prelude.{Ok}
-use Rattle.std.proofs.Common.{◌≡◌, ◌⊎◌, inl, inr, ℕ, Bool, true, false, cond, not, ◌&&◌, List, Option, None, Some, refl, sym, ap, ◌∙◌}
+use Rattle.std.proofs.Common.{◌≡◌, inl, inr, ℕ, Bool, true, false, cond, not, ◌&&◌, List, Option, None, Some, refl, sym, ap, ◌∙◌}
 use Rattle.std.specs.Option.{option_and_then}
 use Rattle.std.specs.Str.{bytes_eq}
 use Rattle.std.proofs.lemmas.Bool.{and_parts}
 use Rattle.std.proofs.lemmas.Slice.Eq.{bytes_eq-Decides}
 use Rattle.crash_disk.specs.Counts.{Rose}
-use Rattle.crash_disk.specs.Disk.{DiskState, Image}
-use Rattle.crash_disk.specs.Moments.{Leaves}
 use Rattle.http_wire.specs.declared.answer.Answer.{Answer}
 use Rattle.http_wire.specs.declared.answer.Answer.TheVariants.{Full}
 use Rattle.http_wire.specs.Requests.{Request}
@@ -19,24 +16,24 @@ use Rattle.idp_rows.specs.declared.row.PendingRow.{PendingRow}
 use Rattle.idp_rows.specs.declared.row.SessionRow.{SessionRow}
 use Rattle.idp_rows.specs.RowsOf.{rows_of}
 use Rattle.idp_rows.specs.Finding.{session_found, visible}
-use Rattle.idp_ledger.specs.Ledger.{Held, ledger_in, next_number}
-use Rattle.record_ledger.specs.Ledger.{held_with}
+use Rattle.idp_ledger.specs.Ledger.{Held, next_number}
 use Rattle.idp_ledger.specs.Record.{idp_rules}
 use Rattle.idp_ledger.specs.Draft.{issued_in}
 use Rattle.idp_ledger.specs.Drafts.{issue, login}
 use Rattle.idp_rules.specs.declared.config.IdpConfig.{IdpConfig}
 use Rattle.provider_node.proofs.Changes.{changes}
-use Rattle.provider_node.proofs.Recorded.{page_stepped}
 use Rattle.provider_node.proofs.Sessions as any
 use Rattle.provider_node.proofs.Sessions.{found_at}
 use Rattle.service_routes.specs.declared.route.Route.TheVariants.{To}
-use Rattle.idp_server.specs.declared.route.Service.TheVariants.{Login, Metadata, SignOn}
+use Rattle.idp_server.specs.declared.route.Service.TheVariants.{Metadata, SignOn}
 use Rattle.idp_server.specs.Routes.{route}
 use Rattle.idp_server.specs.Step as steps
-use Rattle.idp_server.specs.Step.{Provider, Answers, OwnsDisk, Steps, ask_of, session_for}
-use Rattle.idp_server.specs.Issues.{AnswersHaveUsers, IsOfSession, IsOfUserIfIssued, IsRecorded, LeavesLedger, ServicesHaveUsers, WhatIsAnsweredIsRecorded}
+use Rattle.idp_server.specs.Step.{Answers, ask_of, session_for}
+use Rattle.idp_server.specs.Issues.{AnswersHaveUsers, IsOfSession, IsOfUserIfIssued, ServicesHaveUsers, IsPosted}
 use Rattle.idp_server.proofs.StayingEnded.{begun_sessions}
 use Rattle.idp_server.proofs.Told.{said}
+use Rattle.provider_node.specs.Recorded.{WhatIsAnsweredIsRecorded}
+use Rattle.provider_node.proofs.Recorded.{answered_recorded}
 
 -- ---- what is found
 
@@ -45,7 +42,8 @@ off true h = sym h
 off false h = refl
 
 -- an option that is followed
-pub followed : {A B : Type 0} (f : A → Option B) (o : Option A) (b : B) → option_and_then f o ≡ Some b → (a : A) × (o ≡ Some a) × (f a ≡ Some b)
+pub followed : {A B : Type 0} (f : A → Option B) (o : Option A) (b : B) → option_and_then f o ≡ Some b → (a : A)
+    × (o ≡ Some a) × (f a ≡ Some b)
 followed f None b is = absurd (cc)
 followed f (Some a) b is = (a, refl, is)
 
@@ -55,7 +53,8 @@ used_is true o row is = absurd (cc)
 used_is false o row is = is
 
 -- the session of a request is found by its own cookie
-pub found_itself : (held : Held) (request : Request) (now : ℕ) (row : SessionRow) → session_for held now request ≡ Some row
+pub found_itself : (held : Held) (request : Request) (now : ℕ) (row : SessionRow)
+    → session_for held now request ≡ Some row
     → session_found (rows_of held.records).sessions row.cookie now held.header.horizon ≡ Some row
 found_itself held request now row live =
     (any.found_itself begun_sessions (rows_of held.records).sessions now held.header.horizon _ row live).again
@@ -66,8 +65,10 @@ found_itself held request now row live =
 pub the_issued : (r : Issued) (x : IdpRecord) (made : Issued) → x ≡ kinds.Issued r → issued_in x ≡ Some made → made ≡ r
 the_issued r x made is has = let both : Some made ≡ Some r = sym has ∙ ap issued_in is in cc
 
-of_session : (setup : IdpConfig) (held : Held) (request : Request) (now : ℕ) (key : List ℕ) (row : SessionRow) (ask : Ask) (r : Issued) → route request ≡ To SignOn
-    → session_for held now request ≡ Some row → issue key (next_number held) now row ask ≡ kinds.Issued r → IsOfSession held request now r
+of_session : (setup : IdpConfig) (held : Held) (request : Request) (now : ℕ) (key : List ℕ) (row : SessionRow)
+    (ask : Ask) (r : Issued) → route request ≡ To SignOn
+    → session_for held now request ≡ Some row → issue key (next_number held) now row ask ≡ kinds.Issued r
+    → IsOfSession held request now r
 of_session setup held request now key row ask r to live is =
     let same = the_issued r (issue key (next_number held) now row ask) _ is refl in
     let found = any.found_itself begun_sessions (rows_of held.records).sessions now held.header.horizon _ row live in
@@ -89,14 +90,21 @@ of_session setup held request now key row ask r to live is =
     }
 
 pub answers_have_users : AnswersHaveUsers
-answers_have_users setup held request now answer r (steps.ByIssuing asked peer row other bytes to is known used drafted adding answers full) =
+answers_have_users setup held request now answer r (steps.ByIssuing asked peer row other bytes to is known used drafted
+    adding answers full) =
     let same : kinds.Issued other ≡ kinds.Issued r = cc in
-    inr (of_session setup held request now setup.id_key row (ask_of asked peer) r to (used_is asked.force (session_for held now request) row used) (drafted ∙ same))
-answers_have_users setup held request now answer r (steps.ByLogin t row peer user other bytes to posted pending accepted drafted adding answers full) =
+    inr (of_session setup held request now setup.id_key row (ask_of asked peer) r to
+    (used_is asked.force (session_for held now request) row used) (drafted ∙ same))
+answers_have_users setup held request now answer r (steps.ByLogin t row peer user other bytes to posted pending accepted
+    drafted adding answers full) =
     let added : kinds.Issued other ≡ kinds.Issued r = cc in
-    let same = the_issued r (login setup.id_key (next_number held) now row user.name user.attributes) _ (drafted ∙ added) refl in
-    let found = found_at (λ (p : PendingRow). bytes_eq p.pending t.pending && not p.used && visible p.until now held.header.horizon) (rows_of held.records).pendings row pending.0 in
-    let first = and_parts (bytes_eq row.pending t.pending && not row.used) (visible row.until now held.header.horizon) found.2 in
+    let same =
+    the_issued r (login setup.id_key (next_number held) now row user.name user.attributes) _ (drafted ∙ added) refl in
+    let found =
+    found_at (λ (p : PendingRow). bytes_eq p.pending t.pending && not p.used && visible p.until now held.header.horizon)
+    (rows_of held.records).pendings row pending.0 in
+    let first =
+    and_parts (bytes_eq row.pending t.pending && not row.used) (visible row.until now held.header.horizon) found.2 in
     let second = and_parts (bytes_eq row.pending t.pending) (not row.used) first.0 in
     inl (record {
       to = to;
@@ -120,9 +128,11 @@ answers_have_users setup held request now answer r (steps.ByLogin t row peer use
 answers_have_users setup held request now answer r other =
     absurd (let says = (said setup held request now answer (Some (kinds.Issued r)) other).is in cc)
 
-if_issued : (setup : IdpConfig) (held : Held) (request : Request) (now : ℕ) (answer : Answer) (r : IdpRecord) → Answers setup held request now answer (Some r)
+if_issued : (setup : IdpConfig) (held : Held) (request : Request) (now : ℕ) (answer : Answer) (r : IdpRecord)
+    → Answers setup held request now answer (Some r)
     → IsOfUserIfIssued setup held request now r
-if_issued setup held request now answer (kinds.Issued r) answers = answers_have_users setup held request now answer r answers
+if_issued setup held request now answer (kinds.Issued r) answers =
+    answers_have_users setup held request now answer r answers
 if_issued setup held request now answer other answers = tt
 
 pub services_have_users : ServicesHaveUsers
@@ -134,31 +144,20 @@ services_have_users found request now before after answer old new serves unbroke
 -- ---- what stands behind an answer
 
 -- a page stands for a record, unless it is the metadata
-none_plain : (setup : IdpConfig) (held : Held) (request : Request) (now : ℕ) (bytes : List ℕ) (adds : Option IdpRecord) → adds ≡ None
+none_plain : (setup : IdpConfig) (held : Held) (request : Request) (now : ℕ) (bytes : List ℕ) (adds : Option IdpRecord)
+    → adds ≡ None
     → (route request ≡ To Metadata → ⊥) → Answers setup held request now (Full bytes) adds → ⊥
 none_plain setup held request now bytes adds empty routed (steps.ByMetadata to is none) = routed to
 none_plain setup held request now bytes adds empty routed other =
     let says = (said setup held request now (Full bytes) adds other).is in cc
 
--- an image that a disk may leave, where it tells
-leaves_ledger : (told : Option DiskState) (held : Held)
-    → ((image : Image) → Leaves told image → ledger_in image ≡ Ok (Some held)) → LeavesLedger told held
-leaves_ledger None held each = tt
-leaves_ledger (Some d) held each = each
+not_metadata : (request : Request) → IsPosted request → route request ≡ To Metadata → ⊥
+not_metadata request (inl at) to = let clash = sym at ∙ to in cc
+not_metadata request (inr (inl at)) to = let clash = sym at ∙ to in cc
+not_metadata request (inr (inr (inl at))) to = let clash = sym at ∙ to in cc
+not_metadata request (inr (inr (inr at))) to = let clash = sym at ∙ to in cc
 
--- a page that is not the metadata is recorded by a step
-pub step_recorded : (old new : Provider) (disk later : Option DiskState) (request : Request) (now : ℕ) (Risen : Type 0)
-    (bytes : List ℕ) → Steps old disk request now Risen (Full bytes) new → OwnsDisk new later
-    → (route request ≡ To Metadata → ⊥) → IsRecorded old.setup request now (Full bytes) later
-step_recorded old new disk later request now Risen bytes does own routed =
-    let is = page_stepped idp_rules Answers request now bytes old new later own disk Risen
-    (λ found answers. none_plain old.setup found request now bytes None refl routed answers) does in
-    record { held = is.held; r = is.r; stands = is.stands; kept = leaves_ledger later (held_with is.r is.held) is.kept }
-
-no_metadata : (request : Request) → (route request ≡ To SignOn) ⊎ (route request ≡ To Login) → route request ≡ To Metadata → ⊥
-no_metadata request (inl signs) to = let clash = sym signs ∙ to in cc
-no_metadata request (inr logs) to = let clash = sym logs ∙ to in cc
-
-pub what_is_answered : WhatIsAnsweredIsRecorded
-what_is_answered old new disk later request now before after bytes does own routed =
-    step_recorded old new disk later request now (Rose before after) bytes does own (no_metadata request routed)
+pub posted_recorded : WhatIsAnsweredIsRecorded idp_rules Answers IsPosted
+posted_recorded =
+    answered_recorded idp_rules Answers IsPosted (λ setup held request now bytes posted answers.
+    none_plain setup held request now bytes None refl (not_metadata request posted) answers)

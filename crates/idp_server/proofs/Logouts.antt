@@ -1,5 +1,5 @@
 -- For what a session is ended.
-use Rattle.std.proofs.Common.{◌≡◌, ◌⊎◌, inl, inr, ℕ, true, false, not, Bool, List, [], ◌∷◌, Option, None, Some, refl, sym, subst, ap, ◌∙◌}
+use Rattle.std.proofs.Common.{◌≡◌, inl, inr, ℕ, true, false, not, Bool, List, [], ◌∷◌, Option, None, Some, refl, sym, subst, ap, ◌∙◌}
 use Rattle.crash_disk.specs.Counts.{Rose}
 use Rattle.http_wire.specs.declared.answer.Answer.{Answer}
 use Rattle.http_wire.specs.Requests.{Request}
@@ -19,14 +19,13 @@ use Rattle.idp_rules.specs.declared.config.IdpConfig.{IdpConfig}
 use Rattle.provider_node.proofs.Changes.{changes}
 use Rattle.provider_node.proofs.Sessions.{found_itself}
 use Rattle.service_routes.specs.declared.route.Route.TheVariants.{To}
-use Rattle.idp_server.specs.declared.route.Service.TheVariants.{Logout, Metadata, SingleLogout}
+use Rattle.idp_server.specs.declared.route.Service.TheVariants.{Logout}
 use Rattle.idp_server.specs.Routes.{route}
 use Rattle.idp_server.specs.Step as steps
 use Rattle.idp_server.specs.Step.{Answers, ask_of, asker_of, ended_by, ending_by, left_by, session_for}
 use Rattle.round_rows.specs.Rounds.{is_turn_left}
 use Rattle.idp_server.specs.Rounds.{round_by}
-use Rattle.idp_server.specs.Logouts.{AnswersEndExactly, AsksAllOthers, IsOfLogoutIfEnding, IsOfPeerThatAsks, IsOfProviderInTurn, IsOfPeerThatReplies, IsOfUserWhoLeaves, ServicesEndExactly, WhatIsAnsweredToALogoutIsRecorded}
-use Rattle.idp_server.proofs.Issues.{step_recorded}
+use Rattle.idp_server.specs.Logouts.{AnswersEndExactly, AsksAllOthers, IsOfLogoutIfEnding, IsOfPeerThatAsks, IsOfProviderInTurn, IsOfPeerThatReplies, IsOfUserWhoLeaves, ServicesEndExactly}
 use Rattle.idp_server.proofs.StayingEnded.{begun_sessions}
 use Rattle.idp_server.proofs.Told.{said}
 use Rattle.logout_answers.specs.Answers.{is_in_part}
@@ -64,20 +63,30 @@ pub record HasAnswer (now : ℕ) (request : List ℕ) (confirms : Bool) (r : Tol
   pub request_is : r.request ≡ request
   pub confirms_is : r.confirmed ≡ confirms
 
-pub has_answer : (key : List ℕ) (next now : ℕ) (request : List ℕ) (confirms left : Bool) (r : Told) → told key next now request confirms left ≡ kinds.Told r → HasAnswer now request confirms r
+pub has_answer : (key : List ℕ) (next now : ℕ) (request : List ℕ) (confirms left : Bool) (r : Told)
+    → told key next now request confirms left ≡ kinds.Told r → HasAnswer now request confirms r
 has_answer key next now request confirms true r is =
     let same = the_told r (told key next now request confirms true) _ is refl in
-    record { moment_is = sym (ap (λ (t : Told). t.moment) same); request_is = sym (ap (λ (t : Told). t.request) same); confirms_is = sym (ap (λ (t : Told). t.confirmed) same) }
+    record {
+      moment_is = sym (ap (λ (t : Told). t.moment) same);
+      request_is = sym (ap (λ (t : Told). t.request) same);
+      confirms_is = sym (ap (λ (t : Told). t.confirmed) same);
+    }
 has_answer key next now request confirms false r is =
     let same = the_told r (told key next now request confirms false) _ is refl in
-    record { moment_is = sym (ap (λ (t : Told). t.moment) same); request_is = sym (ap (λ (t : Told). t.request) same); confirms_is = sym (ap (λ (t : Told). t.confirmed) same) }
+    record {
+      moment_is = sym (ap (λ (t : Told). t.moment) same);
+      request_is = sym (ap (λ (t : Told). t.request) same);
+      confirms_is = sym (ap (λ (t : Told). t.confirmed) same);
+    }
 
 pub the_ended : (r : Ended) (x : IdpRecord) (made : Ended) → x ≡ kinds.Ended r → ended_in x ≡ Some made → made ≡ r
 the_ended r x made is has = let both : Some made ≡ Some r = sym has ∙ ap ended_in is in cc
 
 -- ---- why
 
-of_user : (setup : IdpConfig) (held : Held) (request : Request) (now : ℕ) (row : SessionRow) (r : Left) → route request ≡ To Logout → session_for held now request ≡ Some row
+of_user : (setup : IdpConfig) (held : Held) (request : Request) (now : ℕ) (row : SessionRow) (r : Left)
+    → route request ≡ To Logout → session_for held now request ≡ Some row
     → left_by setup.id_key held now row.cookie ≡ kinds.Left r → IsOfUserWhoLeaves held request now r
 of_user setup held request now row r to live drafted =
     let same = the_left r (left_by setup.id_key held now row.cookie) _ drafted refl in
@@ -94,24 +103,32 @@ of_user setup held request now row r to live drafted =
       seen = found.seen;
     }
 
-ends_so : (setup : IdpConfig) (held : Held) (request : Request) (now : ℕ) (answer : Answer) (adds : Option IdpRecord) (r : IdpRecord) → adds ≡ Some r
+ends_so : (setup : IdpConfig) (held : Held) (request : Request) (now : ℕ) (answer : Answer) (adds : Option IdpRecord)
+    (r : IdpRecord) → adds ≡ Some r
     → Answers setup held request now answer adds → IsOfLogoutIfEnding setup held request now r
-ends_so setup held request now answer adds r some (steps.ByIssuing asked peer row other bytes to is known used drafted adding answers full) =
+ends_so setup held request now answer adds r some (steps.ByIssuing asked peer row other bytes to is known used drafted
+    adding answers full) =
     let same : kinds.Issued other ≡ r = (let e = sym adding ∙ some in cc) in
     subst (IsOfLogoutIfEnding setup held request now) same tt
-ends_so setup held request now answer adds r some (steps.ByPassive asked peer message bytes to is known none passive adding named answers full) =
+ends_so setup held request now answer adds r some (steps.ByPassive asked peer message bytes to is known none passive
+    adding named answers full) =
     let same : spoke setup.id_key (next_number held) now (ask_of asked peer) ≡ r = (let e = sym adding ∙ some in cc) in
     subst (IsOfLogoutIfEnding setup held request now) same tt
-ends_so setup held request now answer adds r some (steps.ByAsking asked peer id to is known none passive adding named full) =
-    let same : pending setup.id_key (next_number held) now (ask_of asked peer) ≡ r = (let e = sym adding ∙ some in cc) in
+ends_so setup held request now answer adds r some (steps.ByAsking asked peer id to is known none passive adding named
+    full) =
+    let same : pending setup.id_key (next_number held) now (ask_of asked peer) ≡ r =
+    (let e = sym adding ∙ some in cc) in
     subst (IsOfLogoutIfEnding setup held request now) same tt
-ends_so setup held request now answer adds r some (steps.ByLogin t row peer user other bytes to posted pending accepted drafted adding answers full) =
+ends_so setup held request now answer adds r some (steps.ByLogin t row peer user other bytes to posted pending accepted
+    drafted adding answers full) =
     let same : kinds.Issued other ≡ r = (let e = sym adding ∙ some in cc) in
     subst (IsOfLogoutIfEnding setup held request now) same tt
-ends_so setup held request now answer adds r some (steps.ByLeaving row left bytes to live alone drafted adding answers full) =
+ends_so setup held request now answer adds r some (steps.ByLeaving row left bytes to live alone drafted adding answers
+    full) =
     let same : kinds.Left left ≡ r = (let e = sym adding ∙ some in cc) in
     subst (IsOfLogoutIfEnding setup held request now) same (of_user setup held request now row left to live drafted)
-ends_so setup held request now answer adds r some (steps.ByLeavingAll row begun bytes to live asks drafted adding first full) =
+ends_so setup held request now answer adds r some (steps.ByLeavingAll row begun bytes to live asks drafted adding first
+    full) =
     let same : kinds.Round begun ≡ r = (let e = sym adding ∙ some in cc) in
     let made = the_round begun (round_by setup held now None (row.cookie ∷ [])) _ drafted refl in
     let of : AsksAllOthers setup held request now begun = subst (AsksAllOthers setup held request now) made (record {
@@ -121,7 +138,8 @@ ends_so setup held request now answer adds r some (steps.ByLeavingAll row begun 
       skips = refl;
     }) in
     subst (IsOfLogoutIfEnding setup held request now) same of
-ends_so setup held request now answer adds r some (steps.ByEnding asked peer relay ended bytes to asks some_end alone drafted adding answers full) =
+ends_so setup held request now answer adds r some (steps.ByEnding asked peer relay ended bytes to asks some_end alone
+    drafted adding answers full) =
     let same : kinds.Ended ended ≡ r = (let e = sym adding ∙ some in cc) in
     let made = the_ended ended (ended_by setup.id_key held now peer.peer.entity asked) _ drafted refl in
     let of : IsOfPeerThatAsks setup held request now ended = record {
@@ -136,24 +154,50 @@ ends_so setup held request now answer adds r some (steps.ByEnding asked peer rel
       peer_is = sym (ap (λ (l : Ended). l.peer) made);
     } in
     subst (IsOfLogoutIfEnding setup held request now) same of
-ends_so setup held request now answer adds r some (steps.ByEndingAll asked peer relay begun bytes to asks some_end others drafted adding first full) =
+ends_so setup held request now answer adds r some (steps.ByEndingAll asked peer relay begun bytes to asks some_end
+    others drafted adding first full) =
     let same : kinds.Round begun ≡ r = (let e = sym adding ∙ some in cc) in
     let asker = Some (asker_of peer asked relay) in
-    let made = the_round begun (round_by setup held now asker (ending_by held now peer.peer.entity asked)) _ drafted refl in
+    let made =
+    the_round begun (round_by setup held now asker (ending_by held now peer.peer.entity asked)) _ drafted refl in
     let of : AsksAllOthers setup held request now begun = subst (AsksAllOthers setup held request now) made (record {
-      of = inr (record { to = to; asked = asked; peer = peer; relay = relay; asks = asks; cookies_are = refl; some = some_end; asker_is = refl });
+      of = inr (record {
+        to = to;
+        asked = asked;
+        peer = peer;
+        relay = relay;
+        asks = asks;
+        cookies_are = refl;
+        some =
+            some_end;
+        asker_is = refl;
+      });
       asks = others;
       turns_are = refl;
       skips = refl;
     }) in
     subst (IsOfLogoutIfEnding setup held request now) same of
-ends_so setup held request now answer adds r some (steps.ByTold response peer row other bytes to replies waits drafted adding answers full) =
+ends_so setup held request now answer adds r some (steps.ByTold response peer row other bytes to replies waits drafted
+    adding answers full) =
     let same : kinds.Told other ≡ r = (let e = sym adding ∙ some in cc) in
-    let has = has_answer setup.id_key (next_number held) now response.request (not (is_in_part response.outcome)) (is_turn_left row) other drafted in
+    let has =
+    has_answer setup.id_key (next_number held) now response.request (not (is_in_part response.outcome))
+    (is_turn_left row) other drafted in
     let of : IsOfProviderInTurn setup held request now other =
-    record { to = to; response = response; peer = peer; replies = replies; row = row; waits = waits; request_is = has.request_is; confirms = has.confirms_is } in
+    record {
+      to = to;
+      response = response;
+      peer = peer;
+      replies = replies;
+      row = row;
+      waits = waits;
+      request_is =
+          has.request_is;
+      confirms = has.confirms_is;
+    } in
     subst (IsOfLogoutIfEnding setup held request now) same of
-ends_so setup held request now answer adds r some (steps.ByConfirming response peer to replies no_round waits adding full) =
+ends_so setup held request now answer adds r some (steps.ByConfirming response peer to replies no_round waits adding
+    full) =
     let of : IsOfPeerThatReplies setup held request now (record { moment = now; request = response.request }) =
     record { to = to; response = response; peer = peer; replies = replies; request_is = refl; awaited = waits } in
     let same : confirmed now response.request ≡ r = (let e = sym adding ∙ some in cc) in
@@ -162,20 +206,11 @@ ends_so setup held request now answer adds r some other =
     absurd (let says = (said setup held request now answer adds other).is in cc)
 
 pub answers_end_exactly : AnswersEndExactly
-answers_end_exactly setup held request now answer r answers = ends_so setup held request now answer (Some r) r refl answers
+answers_end_exactly setup held request now answer r answers =
+    ends_so setup held request now answer (Some r) r refl answers
 
 pub services_end_exactly : ServicesEndExactly
 services_end_exactly found request now before after answer old new serves unbroken =
     changes idp_rules Answers found request now (Rose before after) answer old new
     (λ held r. IsOfLogoutIfEnding old.setup held request now r)
     (λ held r answers. answers_end_exactly old.setup held request now answer r answers) unbroken serves
-
--- ---- what stands behind an answer
-
-no_metadata : (request : Request) → (route request ≡ To Logout) ⊎ (route request ≡ To SingleLogout) → route request ≡ To Metadata → ⊥
-no_metadata request (inl leaves) to = let clash = sym leaves ∙ to in cc
-no_metadata request (inr posts) to = let clash = sym posts ∙ to in cc
-
-pub what_is_answered_to_a_logout : WhatIsAnsweredToALogoutIsRecorded
-what_is_answered_to_a_logout old new disk later request now before after bytes does own routed =
-    step_recorded old new disk later request now (Rose before after) bytes does own (no_metadata request routed)

@@ -16,7 +16,8 @@ unfolding chars encode_utf8
 indexes_made [] all = tt
 indexes_made (index ∷ indexes) all = ((name_shown _ refl, refl), tt, tt, (all.0, tt), indexes_made indexes all.1)
 
-pub asking_made : (id issuer address name : List ℕ) (indexes : List (List ℕ)) (at end : List ℕ) → IsText id → IsText issuer → IsText address → IsText name → AllByRecursion IsText indexes
+pub asking_made : (id issuer address name : List ℕ) (indexes : List (List ℕ)) (at end : List ℕ) → IsText id
+    → IsText issuer → IsText address → IsText name → AllByRecursion IsText indexes
     → IsText at → IsText end → IsMade (logout_request id issuer address name indexes at end)
 unfolding chars encode_utf8
 asking_made id issuer address name indexes at end id_is issuer_is address_is name_is indexes_are at_is end_is = (
@@ -29,7 +30,10 @@ asking_made id issuer address name indexes at end id_is issuer_is address_is nam
         named (codes "IssueInstant") at (name_shown _ refl, refl) (other_bytes _ _ refl) at_is,
         (
           named (codes "NotOnOrAfter") end (name_shown _ refl, refl) (other_bytes _ _ refl) end_is,
-          (named (codes "Version") (codes "2.0") (name_shown _ refl, refl) (other_bytes _ _ refl) (ascii_text _ refl), tt),
+          (
+            named (codes "Version") (codes "2.0") (name_shown _ refl, refl) (other_bytes _ _ refl) (ascii_text _ refl),
+            tt,
+          ),
         ),
       ),
     ),
@@ -41,7 +45,19 @@ asking_made id issuer address name indexes at end id_is issuer_is address_is nam
       ((other_bytes _ _ refl, (other_bytes _ _ refl, tt)), ((other_bytes _ _ refl, tt), (tt, tt))),
     ),
   ),
-  ((name_shown _ refl, refl), tt, tt, (issuer_is, tt), ((name_shown _ refl, refl), tt, tt, (name_is, tt), indexes_made indexes indexes_are)),
+  (
+    (name_shown _ refl, refl),
+    tt,
+    tt,
+    (issuer_is, tt),
+    (
+      (name_shown _ refl, refl),
+      tt,
+      tt,
+      (name_is, tt),
+      indexes_made indexes indexes_are,
+    ),
+  ),
   tt,
 )
 
@@ -61,7 +77,11 @@ status_made true = (
     (tt, tt),
     (
       (name_shown _ refl, refl),
-      (named (codes "Value") partial_logout (name_shown _ refl, refl) (other_bytes _ _ refl) (ascii_text partial_logout refl), tt),
+      (
+        named (codes "Value") partial_logout (name_shown _ refl, refl) (other_bytes _ _ refl)
+            (ascii_text partial_logout refl),
+        tt,
+      ),
       (tt, tt),
       tt,
       tt,
@@ -74,11 +94,22 @@ status_made false = (
   (name_shown _ refl, refl),
   tt,
   tt,
-  ((name_shown _ refl, refl), (named (codes "Value") success (name_shown _ refl, refl) (other_bytes _ _ refl) (ascii_text success refl), tt), (tt, tt), tt, tt),
+  (
+    (name_shown _ refl, refl),
+    (
+      named (codes "Value") success (name_shown _ refl, refl) (other_bytes _ _ refl)
+          (ascii_text success refl),
+      tt,
+    ),
+    (tt, tt),
+    tt,
+    tt,
+  ),
   tt,
 )
 
-pub replying_made : (id issuer address request at : List ℕ) (partial : Bool) → IsText id → IsText issuer → IsText address → IsText request → IsText at
+pub replying_made : (id issuer address request at : List ℕ) (partial : Bool) → IsText id → IsText issuer
+    → IsText address → IsText request → IsText at
     → IsMade (logged_out id issuer address request (ended_status partial) at)
 unfolding chars encode_utf8
 replying_made id issuer address request at partial id_is issuer_is address_is request_is at_is = (
@@ -91,7 +122,10 @@ replying_made id issuer address request at partial id_is issuer_is address_is re
         named (codes "InResponseTo") request (name_shown _ refl, refl) (other_bytes _ _ refl) request_is,
         (
           named (codes "IssueInstant") at (name_shown _ refl, refl) (other_bytes _ _ refl) at_is,
-          (named (codes "Version") (codes "2.0") (name_shown _ refl, refl) (other_bytes _ _ refl) (ascii_text _ refl), tt),
+          (
+            named (codes "Version") (codes "2.0") (name_shown _ refl, refl) (other_bytes _ _ refl) (ascii_text _ refl),
+            tt,
+          ),
         ),
       ),
     ),

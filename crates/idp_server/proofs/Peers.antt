@@ -8,18 +8,23 @@ use Rattle.peer_keys.specs.Peers.{place_of}
 use Rattle.peer_keys.specs.declared.peers.LogoutPeer.{LogoutPeer}
 
 -- it stands at its place
-pub placed : (entity : List ℕ) (peers : List LogoutPeer) (place : ℕ) → place_of entity peers ≡ Some place → (peer : LogoutPeer) × (slice_get peers place ≡ Some peer)
+pub placed : (entity : List ℕ) (peers : List LogoutPeer) (place : ℕ) → place_of entity peers ≡ Some place
+    → (peer : LogoutPeer) × (slice_get peers place ≡ Some peer)
 placed entity [] place is = absurd (cc)
-placed entity (first ∷ peers) place is = by_test (bytes_eq first.peer.entity entity) (λ p found. placed entity peers p found) is
+placed entity (first ∷ peers) place is =
+    by_test (bytes_eq first.peer.entity entity) (λ p found. placed entity peers p found) is
   where
-    by_test : (b : Bool) → ((p : ℕ) → place_of entity peers ≡ Some p → (peer : LogoutPeer) × (slice_get peers p ≡ Some peer))
-        → cond b (Some 0) (option_map suc (place_of entity peers)) ≡ Some place → (peer : LogoutPeer) × (slice_get (first ∷ peers) place ≡ Some peer)
+    by_test : (b : Bool) → ((p : ℕ) → place_of entity peers ≡ Some p → (peer : LogoutPeer)
+        × (slice_get peers p ≡ Some peer))
+        → cond b (Some 0) (option_map suc (place_of entity peers)) ≡ Some place → (peer : LogoutPeer)
+        × (slice_get (first ∷ peers) place ≡ Some peer)
     by_test true later here =
         let at : 0 ≡ place = cc in
         (first, subst (λ (p : ℕ). slice_get (first ∷ peers) p ≡ Some first) at refl)
     by_test false later next = behind (place_of entity peers) refl next
       where
-        behind : (o : Option ℕ) → place_of entity peers ≡ o → option_map suc o ≡ Some place → (peer : LogoutPeer) × (slice_get (first ∷ peers) place ≡ Some peer)
+        behind : (o : Option ℕ) → place_of entity peers ≡ o → option_map suc o ≡ Some place → (peer : LogoutPeer)
+            × (slice_get (first ∷ peers) place ≡ Some peer)
         behind None none is = absurd (cc)
         behind (Some p) found is =
             let at : suc p ≡ place = cc in
@@ -27,7 +32,8 @@ placed entity (first ∷ peers) place is = by_test (bytes_eq first.peer.entity e
             (rest.0, subst (λ (q : ℕ). slice_get (first ∷ peers) q ≡ Some rest.0) at rest.1)
 
 -- the first peer of a name has it
-pub place_names : (entity : List ℕ) (peers : List LogoutPeer) (place : ℕ) (peer : LogoutPeer) → place_of entity peers ≡ Some place → slice_get peers place ≡ Some peer → peer.peer.entity ≡ entity
+pub place_names : (entity : List ℕ) (peers : List LogoutPeer) (place : ℕ) (peer : LogoutPeer)
+    → place_of entity peers ≡ Some place → slice_get peers place ≡ Some peer → peer.peer.entity ≡ entity
 place_names entity [] place peer is there = absurd (cc)
 place_names entity (first ∷ peers) place peer is there =
     by_test (bytes_eq first.peer.entity entity) refl (λ p q r. place_names entity peers p peer q r) is
@@ -37,7 +43,9 @@ place_names entity (first ∷ peers) place peer is there =
         → cond b (Some 0) (option_map suc (place_of entity peers)) ≡ Some place → peer.peer.entity ≡ entity
     by_test true same later here =
         let at : 0 ≡ place = cc in
-        let is_first : first ≡ peer = (let e : Some first ≡ Some peer = subst (λ (p : ℕ). slice_get (first ∷ peers) p ≡ Some peer) (sym at) there in cc) in
+        let is_first : first ≡ peer =
+        (let e : Some first ≡ Some peer = subst (λ (p : ℕ). slice_get (first ∷ peers) p ≡ Some peer) (sym at) there in
+        cc) in
         ap (λ (p : LogoutPeer). p.peer.entity) (sym is_first) ∙ (bytes_eq-Decides first.peer.entity entity).0 same
     by_test false other later next = behind (place_of entity peers) refl next
       where

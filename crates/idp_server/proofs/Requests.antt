@@ -28,11 +28,15 @@ pub ends_alike : (now : ℕ) → min LAST (now + 300000) ≡ request_end now
 ends_alike now = omega arith
 
 -- a request to the peer of a name
-request_to : (setup : IdpConfig) (entity id user : List ℕ) (indexes : List (List ℕ)) (now : ℕ) (peer : LogoutPeer) → IsPeer setup entity peer → IsText setup.entity → IsText id → IsText user
-    → AllByRecursion IsText indexes → IsTold now → IsTold (request_end now) → (address : Option (List ℕ)) → peer.peer.logout ≡ address → IfSome address IsText
+request_to : (setup : IdpConfig) (entity id user : List ℕ) (indexes : List (List ℕ)) (now : ℕ) (peer : LogoutPeer)
+    → IsPeer setup entity peer → IsText setup.entity → IsText id → IsText user
+    → AllByRecursion IsText indexes → IsTold now → IsTold (request_end now) → (address : Option (List ℕ))
+    → peer.peer.logout ≡ address → IfSome address IsText
     → (bytes : List ℕ) × IsRequestTo setup entity id user indexes now bytes
-request_to setup entity id user indexes now peer known name id_text user_text index_texts at end None none text = (end_answer true, ToPeer peer known (ByEnding none refl))
-request_to setup entity id user indexes now peer known name id_text user_text index_texts at end (Some address) given text =
+request_to setup entity id user indexes now peer known name id_text user_text index_texts at end None none text =
+    (end_answer true, ToPeer peer known (ByEnding none refl))
+request_to setup entity id user indexes now peer known name id_text user_text index_texts at end (Some address) given
+    text =
     let unsigned = logout_request id setup.entity address user indexes at.text end.text in
     let message = written (signed peer.key_out unsigned) in (
       answer 200 None None (auto_form address fields.Request message None),
@@ -44,7 +48,9 @@ request_to setup entity id user indexes now peer known name id_text user_text in
           unsigned = unsigned;
           made = record { instant = at.text; until = end.text; told = at.tells; ended = end.tells; is = refl };
           signed = record {
-            well_made = asking_made id setup.entity address user indexes at.text end.text id_text name text user_text index_texts at.may_stand end.may_stand;
+            well_made =
+                asking_made id setup.entity address user indexes at.text end.text id_text name text user_text
+                index_texts at.may_stand end.may_stand;
             is = refl;
           };
         };
@@ -52,21 +58,29 @@ request_to setup entity id user indexes now peer known name id_text user_text in
       })),
     )
 
-pub some_request : (setup : IdpConfig) (entity id user : List ℕ) (indexes : List (List ℕ)) (now : ℕ) → IsText setup.entity → AllByRecursion IsTextPeer setup.peers → IsText id → IsText user
-    → AllByRecursion IsText indexes → IsTold now → IsTold (request_end now) → (bytes : List ℕ) × IsRequestTo setup entity id user indexes now bytes
-some_request setup entity id user indexes now name peers id_text user_text index_texts at end = by_place (place_of entity setup.peers) refl
+pub some_request : (setup : IdpConfig) (entity id user : List ℕ) (indexes : List (List ℕ)) (now : ℕ)
+    → IsText setup.entity → AllByRecursion IsTextPeer setup.peers → IsText id → IsText user
+    → AllByRecursion IsText indexes → IsTold now → IsTold (request_end now) → (bytes : List ℕ)
+    × IsRequestTo setup entity id user indexes now bytes
+some_request setup entity id user indexes now name peers id_text user_text index_texts at end =
+    by_place (place_of entity setup.peers) refl
   where
-    by_place : (o : Option ℕ) → place_of entity setup.peers ≡ o → (bytes : List ℕ) × IsRequestTo setup entity id user indexes now bytes
+    by_place : (o : Option ℕ) → place_of entity setup.peers ≡ o → (bytes : List ℕ)
+        × IsRequestTo setup entity id user indexes now bytes
     by_place None none = (end_answer true, ToNone none refl)
     by_place (Some place) is =
         let peer = placed entity setup.peers place is in
-        request_to setup entity id user indexes now peer.0 (place, is, peer.1) name id_text user_text index_texts at end peer.0.peer.logout refl
+        request_to setup entity id user indexes now peer.0 (place, is, peer.1) name id_text user_text index_texts at end
+        peer.0.peer.logout refl
         (all_at IsTextPeer setup.peers place peer.0 peers peer.1).logout
 
 -- an answer to a peer that asked to end sessions
-pub some_response : (setup : IdpConfig) (message request : List ℕ) (partial : Bool) (relay : Option (List ℕ)) (now : ℕ) (peer : LogoutPeer) → IsText setup.entity → IsText message → IsText request
-    → IsTold now → (address : Option (List ℕ)) → peer.peer.logout ≡ address → IfSome address IsText → (bytes : List ℕ) × Ending peer message setup.entity now request partial relay bytes
-some_response setup message request partial relay now peer name message_text request_text at None none text = (end_answer partial, ByEnding none refl)
+pub some_response : (setup : IdpConfig) (message request : List ℕ) (partial : Bool) (relay : Option (List ℕ)) (now : ℕ)
+    (peer : LogoutPeer) → IsText setup.entity → IsText message → IsText request
+    → IsTold now → (address : Option (List ℕ)) → peer.peer.logout ≡ address → IfSome address IsText → (bytes : List ℕ)
+    × Ending peer message setup.entity now request partial relay bytes
+some_response setup message request partial relay now peer name message_text request_text at None none text =
+    (end_answer partial, ByEnding none refl)
 some_response setup message request partial relay now peer name message_text request_text at (Some address) given text =
     let unsigned = logged_out message setup.entity address request (ended_status partial) at.text in
     let sent = written (signed peer.key_out unsigned) in (
@@ -79,7 +93,9 @@ some_response setup message request partial relay now peer name message_text req
           unsigned = unsigned;
           made = record { instant = at.text; told = at.tells; is = refl };
           signed = record {
-            well_made = replying_made message setup.entity address request at.text partial message_text name text request_text at.may_stand;
+            well_made =
+                replying_made message setup.entity address request at.text partial message_text name text request_text
+                at.may_stand;
             is = refl;
           };
         };
@@ -88,15 +104,19 @@ some_response setup message request partial relay now peer name message_text req
     )
 
 -- the answer at the end of a round
-pub some_end : (setup : IdpConfig) (message : List ℕ) (asker : Option Asker) (partial : Bool) (now : ℕ) → IsText setup.entity → CanEnd setup message asker → IsTold now
+pub some_end : (setup : IdpConfig) (message : List ℕ) (asker : Option Asker) (partial : Bool) (now : ℕ)
+    → IsText setup.entity → CanEnd setup message asker → IsTold now
     → (bytes : List ℕ) × IsRoundEnd setup message asker partial now bytes
 some_end setup message None partial now name can at = (end_answer partial, ToUser refl refl)
 some_end setup message (Some asker) partial now name can at = by_place (place_of asker.peer setup.peers) refl
   where
-    by_place : (o : Option ℕ) → place_of asker.peer setup.peers ≡ o → (bytes : List ℕ) × IsRoundEnd setup message (Some asker) partial now bytes
+    by_place : (o : Option ℕ) → place_of asker.peer setup.peers ≡ o → (bytes : List ℕ)
+        × IsRoundEnd setup message (Some asker) partial now bytes
     by_place None none = (end_answer partial, ToUser (ap is_some none) refl)
     by_place (Some place) is =
         let peer = placed asker.peer setup.peers place is in
-        let some = some_response setup message asker.request partial asker.relay now peer.0 name can.message_text can.asker_text.1 at peer.0.peer.logout refl
+        let some =
+        some_response setup message asker.request partial asker.relay now peer.0 name can.message_text can.asker_text.1
+        at peer.0.peer.logout refl
         (all_at IsTextPeer setup.peers place peer.0 can.peers peer.1).logout in
         (some.0, ToAsker asker peer.0 refl (place, is, peer.1) some.1)

@@ -54,7 +54,8 @@ use Rattle.idp_server.proofs.Told.{said}
 
 -- ---- what is signed of a Response
 
-each_expected : (P : Made → Type 0) (mode : SignMode) (one other : Made) → (signs_assertion mode ≡ true → P one) → (signs_response mode ≡ true → P other)
+each_expected : (P : Made → Type 0) (mode : SignMode) (one other : Made) → (signs_assertion mode ≡ true → P one)
+    → (signs_response mode ≡ true → P other)
     → AllByRecursion P (signed_by mode one other)
 each_expected P modes.Assertion one other first second = (first refl, tt)
 each_expected P modes.Response one other first second = (second refl, tt)
@@ -62,17 +63,26 @@ each_expected P modes.Both one other first second = (second refl, (first refl, t
 
 -- ---- of an answer
 
-carries_issued : (setup : IdpConfig) (held : Held) (peer : LogoutPeer) (r : Issued) (cookie : Option (List ℕ)) (now : ℕ) (bytes : List ℕ) → IsPeer setup r.peer peer → r.moment ≡ now
+carries_issued : (setup : IdpConfig) (held : Held) (peer : LogoutPeer) (r : Issued) (cookie : Option (List ℕ)) (now : ℕ)
+    (bytes : List ℕ) → IsPeer setup r.peer peer → r.moment ≡ now
     → IsAnswerFor setup peer r cookie now bytes → Carries setup held (kinds.Issued r) bytes
 carries_issued setup held peer r cookie now bytes known at a =
     let key = peer.key_out in
     let i = a.issued in
     let P : Made → Type 0 = IsSignedOf setup held (kinds.Issued r) in
-    let built = response r.message setup.entity r.consumer r.request (Some (signed_assertion setup.mode key i.assertion)) i.answers.instant in
+    let built =
+    response r.message setup.entity r.consumer r.request (Some (signed_assertion setup.mode key i.assertion))
+    i.answers.instant in
     let response_is : signs_response setup.mode ≡ true → P (signed key built) = λ signs. record {
       key = key;
       made = built;
-      stands = AResponse r peer i.assertion built known signs i.of_login (record { instant = i.answers.instant; told = subst (TellsInFull i.answers.instant) (sym at) i.answers.told; is = refl });
+      stands =
+          AResponse r peer i.assertion built known signs i.of_login
+          (record {
+            instant = i.answers.instant;
+            told = subst (TellsInFull i.answers.instant) (sym at) i.answers.told;
+            is = refl;
+          });
       is = refl;
     } in
     let assertion_is : signs_assertion setup.mode ≡ true → P (signed key i.assertion) = λ signs. record {
@@ -82,14 +92,23 @@ carries_issued setup held peer r cookie now bytes known at a =
       is = refl;
     } in
     let all : AllByRecursion P (signed_elements (alone (signed_response setup.mode key built))) =
-    subst (AllByRecursion P) (sym (elements_are setup.mode key setup.entity r.message r.consumer r.request i.answers.instant (stated_by r) i.assertion i.of_login))
+    subst (AllByRecursion P) (sym (elements_are setup.mode key setup.entity r.message r.consumer r.request
+    i.answers.instant (stated_by r) i.assertion i.of_login))
     (each_expected P setup.mode (signed key i.assertion) (signed key built) assertion_is response_is) in
-    let sent : a.sent ≡ signed_response setup.mode key built = i.is ∙ ap (signed_response setup.mode key) i.answers.is in
-    AForm a.sent (record { consumer = r.consumer; relay = r.relay; cookie = option_map session_cookie cookie; is = a.is })
+    let sent : a.sent ≡ signed_response setup.mode key built =
+    i.is ∙ ap (signed_response setup.mode key) i.answers.is in
+    AForm a.sent (record {
+      consumer = r.consumer;
+      relay = r.relay;
+      cookie = option_map session_cookie cookie;
+      is =
+          a.is;
+    })
     (subst (λ (m : Made). AllByRecursion P (signed_elements (alone m))) (sym sent) all)
 
 -- in a Response without an Assertion nothing is signed
-carries_refusal : (setup : IdpConfig) (held : Held) (r : IdpRecord) (message request consumer : List ℕ) (relay : Option (List ℕ)) (now : ℕ) (bytes : List ℕ)
+carries_refusal : (setup : IdpConfig) (held : Held) (r : IdpRecord) (message request consumer : List ℕ)
+    (relay : Option (List ℕ)) (now : ℕ) (bytes : List ℕ)
     → IsNoPassiveAnswer setup.entity message request consumer relay now bytes → Carries setup held r bytes
 carries_refusal setup held r message request consumer relay now bytes a =
     AForm a.sent (record { consumer = consumer; relay = relay; cookie = None; is = a.is })
@@ -103,12 +122,15 @@ indexes_unsigned [] = refl
 indexes_unsigned (index ∷ indexes) = indexes_unsigned indexes
 
 request_signed : (key id issuer address name : List ℕ) (indexes : List (List ℕ)) (at end : List ℕ)
-    → signed_elements (alone (signed key (logout_request id issuer address name indexes at end))) ≡ signed key (logout_request id issuer address name indexes at end) ∷ []
+    → signed_elements (alone (signed key (logout_request id issuer address name indexes at end))) ≡ signed key
+    (logout_request id issuer address name indexes at end) ∷ []
 request_signed key id issuer address name indexes at end =
-    ap (λ (xs : List Made). signed key (logout_request id issuer address name indexes at end) ∷ (xs ++ [])) (indexes_unsigned indexes)
+    ap (λ (xs : List Made). signed key (logout_request id issuer address name indexes at end) ∷ (xs ++ []))
+    (indexes_unsigned indexes)
 
 response_signed : (key id issuer address request : List ℕ) (partial : Bool) (at : List ℕ)
-    → signed_elements (alone (signed key (logged_out id issuer address request (if partial then failed partial_logout else succeeded) at)))
+    → signed_elements (alone (signed key (logged_out id issuer address request
+    (if partial then failed partial_logout else succeeded) at)))
     ≡ signed key (logged_out id issuer address request (if partial then failed partial_logout else succeeded) at) ∷ []
 response_signed key id issuer address request true at = refl
 response_signed key id issuer address request false at = refl
@@ -117,17 +139,20 @@ response_signed key id issuer address request false at = refl
 abbrev IsLeft : Held → Left → SessionRow → Type 0
 IsLeft held r row = session_found (rows_of held.records).sessions r.cookie r.moment held.header.horizon ≡ Some row
 
-is_left : (held : Held) (r : Left) (row : SessionRow) (request : Request) (now : ℕ) → now ≡ r.moment → row.cookie ≡ r.cookie → session_for held now request ≡ Some row → IsLeft held r row
+is_left : (held : Held) (r : Left) (row : SessionRow) (request : Request) (now : ℕ) → now ≡ r.moment
+    → row.cookie ≡ r.cookie → session_for held now request ≡ Some row → IsLeft held r row
 is_left held r row request now at cookie live =
     let rows = (rows_of held.records).sessions in
     subst (λ (c : List ℕ). session_found rows c r.moment held.header.horizon ≡ Some row) cookie
-    (subst (λ (t : ℕ). session_found rows row.cookie t held.header.horizon ≡ Some row) at (found_itself held request now row live))
+    (subst (λ (t : ℕ). session_found rows row.cookie t held.header.horizon ≡ Some row) at
+    (found_itself held request now row live))
 
 -- a request that a record stands for, where it goes to a peer with an address
 module _ (setup : IdpConfig) (held : Held) (r : IdpRecord) (moment now : ℕ) (at : moment ≡ now) where
   request_sent : (id name : List ℕ) (indexes : List (List ℕ)) (bytes : List ℕ) (peer : LogoutPeer)
       → ((address : List ℕ) (made : Made) → peer.peer.logout ≡ Some address
-      → IsMadeFrom moment (request_end moment) (logout_request id setup.entity address name indexes) made → IsSignedFor setup held r peer.key_out made)
+      → IsMadeFrom moment (request_end moment) (logout_request id setup.entity address name indexes) made
+      → IsSignedFor setup held r peer.key_out made)
       → Leaving peer id setup.entity now name indexes bytes → Carries setup held r bytes
   request_sent id name indexes bytes peer stands (ByEnding none is) = AnEnd true is
   request_sent id name indexes bytes peer stands (BySending a) =
@@ -148,156 +173,224 @@ module _ (setup : IdpConfig) (held : Held) (r : IdpRecord) (moment now : ℕ) (a
         is = refl;
       } in
       ALogout (signed key built)
-      (record { address = q.address; field = fields.Request; relay = None; is = a.is ∙ ap (λ (m : List ℕ). answer 200 None None (auto_form q.address fields.Request m None)) (q.signed.is ∙ ap (λ (m : Made). written (signed key m)) q.made.is) })
-      (subst (AllByRecursion P) (sym (request_signed key id setup.entity q.address name indexes q.made.instant q.made.until)) (one, tt))
+      (record {
+        address = q.address;
+        field = fields.Request;
+        relay = None;
+        is = a.is
+            ∙ ap (λ (m : List ℕ). answer 200 None None (auto_form q.address fields.Request m None))
+            (q.signed.is ∙ ap (λ (m : Made). written (signed key m)) q.made.is);
+      })
+      (subst (AllByRecursion P) (sym (request_signed key id setup.entity q.address name indexes q.made.instant
+      q.made.until)) (one, tt))
 
   carries_request : (entity id name : List ℕ) (indexes : List (List ℕ)) (bytes : List ℕ)
-      → ((peer : LogoutPeer) (address : List ℕ) (made : Made) → IsPeer setup entity peer → peer.peer.logout ≡ Some address
-      → IsMadeFrom moment (request_end moment) (logout_request id setup.entity address name indexes) made → IsSignedFor setup held r peer.key_out made)
+      → ((peer : LogoutPeer) (address : List ℕ) (made : Made) → IsPeer setup entity peer
+      → peer.peer.logout ≡ Some address
+      → IsMadeFrom moment (request_end moment) (logout_request id setup.entity address name indexes) made
+      → IsSignedFor setup held r peer.key_out made)
       → IsRequestTo setup entity id name indexes now bytes → Carries setup held r bytes
   carries_request entity id name indexes bytes stands (ToPeer peer known answers) =
       request_sent id name indexes bytes peer (λ address made given is. stands peer address made known given is) answers
   carries_request entity id name indexes bytes stands (ToNone none is) = AnEnd true is
 
   -- and a response
-  carries_response : (message request : List ℕ) (partial : Bool) (relay : Option (List ℕ)) (bytes : List ℕ) (peer : LogoutPeer)
+  carries_response : (message request : List ℕ) (partial : Bool) (relay : Option (List ℕ)) (bytes : List ℕ)
+      (peer : LogoutPeer)
       → ((address : List ℕ) (made : Made) → peer.peer.logout ≡ Some address
-      → IsMadeAt moment (logged_out message setup.entity address request (if partial then failed partial_logout else succeeded)) made → IsSignedFor setup held r peer.key_out made)
+      → IsMadeAt moment (logged_out message setup.entity address request
+      (if partial then failed partial_logout else succeeded)) made → IsSignedFor setup held r peer.key_out made)
       → Ending peer message setup.entity now request partial relay bytes → Carries setup held r bytes
   carries_response message request partial relay bytes peer stands (ByEnding none is) = AnEnd partial is
   carries_response message request partial relay bytes peer stands (BySending a) =
       let q = a.response in
       let key = peer.key_out in
-      let built = logged_out message setup.entity q.address request (if partial then failed partial_logout else succeeded) q.made.instant in
+      let built =
+      logged_out message setup.entity q.address request (if partial then failed partial_logout else succeeded)
+      q.made.instant in
       let P : Made → Type 0 = IsSignedOf setup held r in
       let one : P (signed key built) = record {
         key = key;
         made = built;
-        stands = stands q.address built q.given (record { instant = q.made.instant; told = subst (TellsInFull q.made.instant) (sym at) q.made.told; is = refl });
+        stands =
+            stands q.address built q.given (record {
+              instant = q.made.instant;
+              told =
+                  subst (TellsInFull q.made.instant) (sym at) q.made.told;
+              is = refl;
+            });
         is = refl;
       } in
       ALogout (signed key built)
-      (record { address = q.address; field = fields.Response; relay = relay; is = a.is ∙ ap (λ (m : List ℕ). answer 200 None None (auto_form q.address fields.Response m relay)) (q.signed.is ∙ ap (λ (m : Made). written (signed key m)) q.made.is) })
-      (subst (AllByRecursion P) (sym (response_signed key message setup.entity q.address request partial q.made.instant)) (one, tt))
+      (record {
+        address = q.address;
+        field = fields.Response;
+        relay = relay;
+        is = a.is
+            ∙ ap (λ (m : List ℕ). answer 200 None None (auto_form q.address fields.Response m relay))
+            (q.signed.is ∙ ap (λ (m : Made). written (signed key m)) q.made.is);
+      })
+      (subst (AllByRecursion P) (sym (response_signed key message setup.entity q.address request partial
+      q.made.instant)) (one, tt))
 
   -- the end of a round
   carries_end : (message : List ℕ) (asked : Option Asker) (partial : Bool) (bytes : List ℕ)
-      → ((asker : Asker) (peer : LogoutPeer) (address : List ℕ) (made : Made) → asked ≡ Some asker → IsPeer setup asker.peer peer → peer.peer.logout ≡ Some address
-      → IsMadeAt moment (logged_out message setup.entity address asker.request (if partial then failed partial_logout else succeeded)) made → IsSignedFor setup held r peer.key_out made)
+      → ((asker : Asker) (peer : LogoutPeer) (address : List ℕ) (made : Made) → asked ≡ Some asker
+      → IsPeer setup asker.peer peer → peer.peer.logout ≡ Some address
+      → IsMadeAt moment (logged_out message setup.entity address asker.request
+      (if partial then failed partial_logout else succeeded)) made → IsSignedFor setup held r peer.key_out made)
       → IsRoundEnd setup message asked partial now bytes → Carries setup held r bytes
   carries_end message asked partial bytes stands (ToAsker asker peer is known answers) =
-      carries_response message asker.request partial asker.relay bytes peer (λ address made given made_is. stands asker peer address made is known given made_is) answers
+      carries_response message asker.request partial asker.relay bytes peer
+      (λ address made given made_is. stands asker peer address made is known given made_is) answers
   carries_end message asked partial bytes stands (ToUser none is) = AnEnd partial is
 
-carries_leaving : (setup : IdpConfig) (held : Held) (r : Left) (row : SessionRow) (now : ℕ) (bytes : List ℕ) → r.moment ≡ now → IsLeft held r row → IsLeavingAnswer setup r row.user row.index now bytes
+carries_leaving : (setup : IdpConfig) (held : Held) (r : Left) (row : SessionRow) (now : ℕ) (bytes : List ℕ)
+    → r.moment ≡ now → IsLeft held r row → IsLeavingAnswer setup r row.user row.index now bytes
     → Carries setup held (kinds.Left r) bytes
 carries_leaving setup held r row now bytes at live answers =
     carries_request setup held (kinds.Left r) r.moment now at r.peer r.request row.user (row.index ∷ []) bytes
     (λ peer address made known given is. ARequest r peer row address made known given live is) answers
 
-carries_ending : (setup : IdpConfig) (held : Held) (r : Ended) (relay : Option (List ℕ)) (now : ℕ) (bytes : List ℕ) (peer : LogoutPeer) → IsPeer setup r.peer peer → r.moment ≡ now
+carries_ending : (setup : IdpConfig) (held : Held) (r : Ended) (relay : Option (List ℕ)) (now : ℕ) (bytes : List ℕ)
+    (peer : LogoutPeer) → IsPeer setup r.peer peer → r.moment ≡ now
     → IsEndingAnswer setup peer r relay now bytes → Carries setup held (kinds.Ended r) bytes
 carries_ending setup held r relay now bytes peer known at answers =
     carries_response setup held (kinds.Ended r) r.moment now at r.message r.request r.partial relay bytes peer
     (λ address made given is. AReply r peer address made known given is) answers
 
-carries_first : (setup : IdpConfig) (held : Held) (r : Round) (now : ℕ) (bytes : List ℕ) → r.moment ≡ now → AsksFirst setup r now bytes → Carries setup held (kinds.Round r) bytes
+carries_first : (setup : IdpConfig) (held : Held) (r : Round) (now : ℕ) (bytes : List ℕ) → r.moment ≡ now
+    → AsksFirst setup r now bytes → Carries setup held (kinds.Round r) bytes
 carries_first setup held r now bytes at asks =
-    carries_request setup held (kinds.Round r) r.moment now at asks.turn.peer r.request asks.turn.name asks.turn.indexes bytes
-    (λ peer address made known given is. AFirstRequest r asks.turn peer address made asks.first known given is) asks.asks
+    carries_request setup held (kinds.Round r) r.moment now at asks.turn.peer r.request asks.turn.name asks.turn.indexes
+    bytes
+    (λ peer address made known given is. AFirstRequest r asks.turn peer address made asks.first known given is)
+    asks.asks
 
-carries_told : (setup : IdpConfig) (held : Held) (r : Told) (row : RoundRow) (confirms : Bool) (now : ℕ) (bytes : List ℕ) → r.moment ≡ now → confirms ≡ r.confirmed → Waits held r row
+carries_told : (setup : IdpConfig) (held : Held) (r : Told) (row : RoundRow) (confirms : Bool) (now : ℕ)
+    (bytes : List ℕ) → r.moment ≡ now → confirms ≡ r.confirmed → Waits held r row
     → IsToldAnswer setup row confirms r now bytes → Carries setup held (kinds.Told r) bytes
 carries_told setup held r row confirms now bytes at same waits (AsksNext place turn id next there named asks) =
     carries_request setup held (kinds.Told r) r.moment now at turn.peer id turn.name turn.indexes bytes
-    (λ peer address made known given is. ANextRequest r row place turn id peer address made waits (sym (ap (next_in row) same) ∙ next) there named known given is) asks
+    (λ peer address made known given is. ANextRequest r row place turn id peer address made waits
+    (sym (ap (next_in row) same) ∙ next) there named known given is) asks
 carries_told setup held r row confirms now bytes at same waits (EndsRound partial next ends) =
     carries_end setup held (kinds.Told r) r.moment now at row.message row.asker partial bytes
-    (λ asker peer address made asked known given is. ALastReply r row partial asker peer address made waits (sym (ap (next_in row) same) ∙ next) asked known given is) ends
+    (λ asker peer address made asked known given is. ALastReply r row partial asker peer address made waits
+    (sym (ap (next_in row) same) ∙ next) asked known given is) ends
 
 -- ---- the peer of a record
 
-known_peer : (setup : IdpConfig) (address body : List ℕ) (asked : Asked) (peer : LogoutPeer) → IsAsked setup.peers address body asked → slice_get setup.peers asked.peer ≡ Some peer
+known_peer : (setup : IdpConfig) (address body : List ℕ) (asked : Asked) (peer : LogoutPeer)
+    → IsAsked setup.peers address body asked → slice_get setup.peers asked.peer ≡ Some peer
     → IsPeer setup peer.peer.entity peer
 known_peer setup address body asked peer is there =
     let same : asked.peer ≡ is.place = ap (λ (a : Asked). a.peer) is.is in
-    let at : slice_get setup.peers is.place ≡ Some peer = subst (λ (p : ℕ). slice_get setup.peers p ≡ Some peer) same there in
+    let at : slice_get setup.peers is.place ≡ Some peer =
+    subst (λ (p : ℕ). slice_get setup.peers p ≡ Some peer) same there in
     let named = place_names is.carried.request.issuer setup.peers is.place peer is.asks.known at in
     (is.place, subst (λ (e : List ℕ). place_of e setup.peers ≡ Some is.place) (sym named) is.asks.known, at)
 
 -- a round that waits is found
-pub waiting_turn : (setup : IdpConfig) (held : Held) (now : ℕ) (of peer : List ℕ) (row : RoundRow) → round_waiting setup held now of peer ≡ Some row
+pub waiting_turn : (setup : IdpConfig) (held : Held) (now : ℕ) (of peer : List ℕ) (row : RoundRow)
+    → round_waiting setup held now of peer ≡ Some row
     → turn_found (rows_of held.records).rounds of peer now held.header.horizon ≡ Some row
 waiting_turn setup held now of peer row waits = by_line setup.fanout waits
   where
-    by_line : (b : Bool) → (if b then turn_found (rows_of held.records).rounds of peer now held.header.horizon else None) ≡ Some row
+    by_line : (b : Bool) → (if b then turn_found (rows_of held.records).rounds of peer now held.header.horizon else
+        None) ≡ Some row
         → turn_found (rows_of held.records).rounds of peer now held.header.horizon ≡ Some row
     by_line true is = is
     by_line false is = absurd (cc)
 
-carried : IsAtItsPlace → (setup : IdpConfig) (held : Held) (request : Request) (now : ℕ) (answer : Answer) (bytes : List ℕ) (adds : Option IdpRecord) (r : IdpRecord) → answer ≡ Full bytes → adds ≡ Some r
+carried : IsAtItsPlace → (setup : IdpConfig) (held : Held) (request : Request) (now : ℕ) (answer : Answer)
+    (bytes : List ℕ) (adds : Option IdpRecord) (r : IdpRecord) → answer ≡ Full bytes → adds ≡ Some r
     → Answers setup held request now answer adds → Carries setup held r bytes
-carried law setup held request now answer bytes adds r shown some (steps.ByIssuing asked peer row other sent to is known used drafted adding answers full) =
+carried law setup held request now answer bytes adds r shown some
+    (steps.ByIssuing asked peer row other sent to is known used drafted adding answers full) =
     let same : kinds.Issued other ≡ r = (let e = sym adding ∙ some in cc) in
     let spelled : sent ≡ bytes = (let e = sym full ∙ shown in cc) in
     let made = the_issued other (issue setup.id_key (next_number held) now row (ask_of asked peer)) _ drafted refl in
-    let known_as = subst (λ (e : List ℕ). IsPeer setup e peer) (ap (λ (i : Issued). i.peer) made) (known_peer setup _ request.body asked peer is known) in
+    let known_as =
+    subst (λ (e : List ℕ). IsPeer setup e peer) (ap (λ (i : Issued). i.peer) made)
+    (known_peer setup _ request.body asked peer is known) in
     subst (λ (x : IdpRecord). Carries setup held x bytes) same (subst (Carries setup held (kinds.Issued other)) spelled
     (carries_issued setup held peer other None now sent known_as (sym (ap (λ (i : Issued). i.moment) made)) answers))
-carried law setup held request now answer bytes adds r shown some (steps.ByPassive asked peer message sent to is known none passive adding named answers full) =
+carried law setup held request now answer bytes adds r shown some
+    (steps.ByPassive asked peer message sent to is known none passive adding named answers full) =
     let spelled : sent ≡ bytes = (let e = sym full ∙ shown in cc) in
-    subst (Carries setup held r) spelled (carries_refusal setup held r message asked.request asked.consumer asked.relay now sent answers)
-carried law setup held request now answer bytes adds r shown some (steps.ByAsking asked peer id to is known none passive adding named full) =
+    subst (Carries setup held r) spelled (carries_refusal setup held r message asked.request asked.consumer asked.relay
+    now sent answers)
+carried law setup held request now answer bytes adds r shown some
+    (steps.ByAsking asked peer id to is known none passive adding named full) =
     AQuestion id (let e = sym shown ∙ full in cc)
-carried law setup held request now answer bytes adds r shown some (steps.ByLogin t row peer user other sent to posted pending accepted drafted adding answers full) =
+carried law setup held request now answer bytes adds r shown some
+    (steps.ByLogin t row peer user other sent to posted pending accepted drafted adding answers full) =
     let same : kinds.Issued other ≡ r = (let e = sym adding ∙ some in cc) in
     let spelled : sent ≡ bytes = (let e = sym full ∙ shown in cc) in
-    let made = the_issued other (login setup.id_key (next_number held) now row user.name user.attributes) _ drafted refl in
+    let made =
+    the_issued other (login setup.id_key (next_number held) now row user.name user.attributes) _ drafted refl in
     let known_as = subst (λ (e : List ℕ). IsPeer setup e peer) (ap (λ (i : Issued). i.peer) made) pending.1 in
     subst (λ (x : IdpRecord). Carries setup held x bytes) same (subst (Carries setup held (kinds.Issued other)) spelled
-    (carries_issued setup held peer other (Some other.cookie) now sent known_as (sym (ap (λ (i : Issued). i.moment) made)) answers))
-carried law setup held request now answer bytes adds r shown some (steps.ByLeaving row left sent to live alone drafted adding answers full) =
+    (carries_issued setup held peer other (Some other.cookie) now sent known_as
+    (sym (ap (λ (i : Issued). i.moment) made)) answers))
+carried law setup held request now answer bytes adds r shown some
+    (steps.ByLeaving row left sent to live alone drafted adding answers full) =
     let same : kinds.Left left ≡ r = (let e = sym adding ∙ some in cc) in
     let spelled : sent ≡ bytes = (let e = sym full ∙ shown in cc) in
     let made = the_left left (left_by setup.id_key held now row.cookie) _ drafted refl in
     subst (λ (x : IdpRecord). Carries setup held x bytes) same (subst (Carries setup held (kinds.Left left)) spelled
     (carries_leaving setup held left row now sent (sym (ap (λ (l : Left). l.moment) made))
-    (is_left held left row request now (ap (λ (l : Left). l.moment) made) (ap (λ (l : Left). l.cookie) made) live) answers))
-carried law setup held request now answer bytes adds r shown some (steps.ByLeavingAll row begun sent to live others drafted adding first full) =
+    (is_left held left row request now (ap (λ (l : Left). l.moment) made) (ap (λ (l : Left). l.cookie) made) live)
+    answers))
+carried law setup held request now answer bytes adds r shown some
+    (steps.ByLeavingAll row begun sent to live others drafted adding first full) =
     let same : kinds.Round begun ≡ r = (let e = sym adding ∙ some in cc) in
     let spelled : sent ≡ bytes = (let e = sym full ∙ shown in cc) in
     let made = the_round begun (round_by setup held now None (row.cookie ∷ [])) _ drafted refl in
     subst (λ (x : IdpRecord). Carries setup held x bytes) same (subst (Carries setup held (kinds.Round begun)) spelled
     (carries_first setup held begun now sent (sym (ap (λ (b : Round). b.moment) made)) first))
-carried law setup held request now answer bytes adds r shown some (steps.ByEnding asked peer relay ended sent to asks some_end alone drafted adding answers full) =
+carried law setup held request now answer bytes adds r shown some
+    (steps.ByEnding asked peer relay ended sent to asks some_end alone drafted adding answers full) =
     let same : kinds.Ended ended ≡ r = (let e = sym adding ∙ some in cc) in
     let spelled : sent ≡ bytes = (let e = sym full ∙ shown in cc) in
     let made = the_ended ended (ended_by setup.id_key held now peer.peer.entity asked) _ drafted refl in
-    let known_as = subst (λ (e : List ℕ). IsPeer setup e peer) (ap (λ (l : Ended). l.peer) made) (asking_peer law setup request now asked peer relay asks) in
+    let known_as =
+    subst (λ (e : List ℕ). IsPeer setup e peer) (ap (λ (l : Ended). l.peer) made)
+    (asking_peer law setup request now asked peer relay asks) in
     subst (λ (x : IdpRecord). Carries setup held x bytes) same (subst (Carries setup held (kinds.Ended ended)) spelled
     (carries_ending setup held ended relay now sent peer known_as (sym (ap (λ (l : Ended). l.moment) made)) answers))
-carried law setup held request now answer bytes adds r shown some (steps.ByEndingAll asked peer relay begun sent to asks some_end others drafted adding first full) =
+carried law setup held request now answer bytes adds r shown some
+    (steps.ByEndingAll asked peer relay begun sent to asks some_end others drafted adding first full) =
     let same : kinds.Round begun ≡ r = (let e = sym adding ∙ some in cc) in
     let spelled : sent ≡ bytes = (let e = sym full ∙ shown in cc) in
-    let made = the_round begun (round_by setup held now (Some (asker_of peer asked relay)) (ending_by held now peer.peer.entity asked)) _ drafted refl in
+    let made =
+    the_round begun (round_by setup held now (Some (asker_of peer asked relay))
+    (ending_by held now peer.peer.entity asked)) _ drafted refl in
     subst (λ (x : IdpRecord). Carries setup held x bytes) same (subst (Carries setup held (kinds.Round begun)) spelled
     (carries_first setup held begun now sent (sym (ap (λ (b : Round). b.moment) made)) first))
-carried law setup held request now answer bytes adds r shown some (steps.ByTold response peer row told sent to replies waits drafted adding answers full) =
+carried law setup held request now answer bytes adds r shown some
+    (steps.ByTold response peer row told sent to replies waits drafted adding answers full) =
     let same : kinds.Told told ≡ r = (let e = sym adding ∙ some in cc) in
     let spelled : sent ≡ bytes = (let e = sym full ∙ shown in cc) in
     let confirms = not (is_in_part response.outcome) in
-    let has = has_answer setup.id_key (next_number held) now response.request confirms (is_turn_left row) told drafted in
+    let has =
+    has_answer setup.id_key (next_number held) now response.request confirms (is_turn_left row) told drafted in
     let found = waiting_turn setup held now response.request peer.peer.entity row waits in
     subst (λ (x : IdpRecord). Carries setup held x bytes) same (subst (Carries setup held (kinds.Told told)) spelled
     (carries_told setup held told row confirms now sent has.moment_is (sym has.confirms_is) (
       peer.peer.entity,
-      subst (λ (q : List ℕ). turn_found (rows_of held.records).rounds q peer.peer.entity told.moment held.header.horizon ≡ Some row) (sym has.request_is)
-          (subst (λ (m : ℕ). turn_found (rows_of held.records).rounds response.request peer.peer.entity m held.header.horizon ≡ Some row) (sym has.moment_is) found),
+      subst (λ (q : List ℕ). turn_found (rows_of held.records).rounds q peer.peer.entity told.moment
+          held.header.horizon ≡ Some row) (sym has.request_is)
+          (subst (λ (m : ℕ). turn_found (rows_of held.records).rounds response.request peer.peer.entity m
+          held.header.horizon ≡ Some row) (sym has.moment_is) found),
     ) answers))
-carried law setup held request now answer bytes adds r shown some (steps.ByConfirming response peer to replies no_round waits adding full) =
+carried law setup held request now answer bytes adds r shown some
+    (steps.ByConfirming response peer to replies no_round waits adding full) =
     AnEnd (is_in_part response.outcome) (let e = sym shown ∙ full in cc)
 carried law setup held request now answer bytes adds r shown some other =
     absurd (let says = (said setup held request now answer adds other).is in cc)
 
 pub each_signed : IsAtItsPlace → EachSignedElementIsOfARecord
-each_signed law setup held request now bytes r answers = carried law setup held request now (Full bytes) bytes (Some r) r refl refl answers
+each_signed law setup held request now bytes r answers =
+    carried law setup held request now (Full bytes) bytes (Some r) r refl refl answers

@@ -17,7 +17,8 @@ use Rattle.idp_ledger.proofs.RowLaws.{rows_of-push}
 use Rattle.provider_node.specs.Histories.{CameFrom}
 use Rattle.provider_node.proofs.Sessions.{live_found}
 use Rattle.provider_node.proofs.Staying.{Stood, found_as_left, stay_in_a_service, stay_over_starts, stood}
-use Rattle.idp_server.specs.Staying.{Began, IsAsLeft, SessionsStayInAService, SessionsStayOverStarts, WhatWasBegunIsAsLeft}
+use Rattle.idp_server.specs.Staying.{Began, IsAsLeft}
+use Rattle.provider_node.specs.Staying.{SessionsStayInAService, SessionsStayOverStarts, WhatWasOpenedIsAsLeft}
 use Rattle.idp_server.specs.Step.{Answers}
 use Rattle.idp_server.proofs.Histories.{draws_above}
 use Rattle.idp_server.proofs.StayingEnded.{begun_sessions}
@@ -28,7 +29,8 @@ use Rattle.idp_server.proofs.StayingEnded.{begun_sessions}
 last_row : (before : List IdpRecord) (r : Issued) (pending : List ℕ) → r.pending ≡ Some pending
     → Contains (session_rows (before ++ kinds.Issued r ∷ [])) (session_row false r)
 last_row before r pending has =
-    subst (λ (rows : IdpRows). Contains rows.sessions (session_row false r)) (sym (rows_of-push before (kinds.Issued r)))
+    subst (λ (rows : IdpRows). Contains rows.sessions (session_row false r))
+    (sym (rows_of-push before (kinds.Issued r)))
     (Contains-append_right (session_rows before) (begun false r) (session_row false r)
     (subst (λ (o : Option (List ℕ)). Contains (if_pending o (session_row false r ∷ [])) (session_row false r)) (sym has)
     (0, omega arith, refl)))
@@ -66,12 +68,12 @@ module _ (rows_stay : RowsStay) (moments : List ℕ) (start held : Held) (record
 -- ---- the laws
 
 module _ (rows_stay : RowsStay) where
-  pub was_left : WhatWasBegunIsAsLeft
+  pub was_left : WhatWasOpenedIsAsLeft idp_rules Began IsAsLeft
   was_left = found_as_left idp_rules Began IsAsLeft Answers (as_left rows_stay)
 
   module _ (law : ImagesHoldRecords) where
-    pub sessions_stay_in_a_service : SessionsStayInAService
+    pub sessions_stay_in_a_service : SessionsStayInAService idp_rules Began IsAsLeft Answers
     sessions_stay_in_a_service = stay_in_a_service idp_rules Began IsAsLeft Answers (as_left rows_stay) law draws_above
 
-    pub sessions_stay_over_starts : SessionsStayOverStarts
+    pub sessions_stay_over_starts : SessionsStayOverStarts idp_rules Began IsAsLeft Answers
     sessions_stay_over_starts = stay_over_starts idp_rules Began IsAsLeft Answers (as_left rows_stay) law draws_above

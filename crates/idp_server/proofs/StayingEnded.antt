@@ -109,7 +109,8 @@ ends_it records other cookie is ending = absurd (false≢true ending)
 
 -- and stays ended over a history in which the record was added
 pub stays_dead : CompactionsChangeNoAnswer → (start : Held) → AreRecords start.records → (r : IdpRecord)
-    (cookie : List ℕ) → ends cookie r ≡ true → (events : List (Event IdpRecord)) (records : List IdpRecord) (held : Held)
+    (cookie : List ℕ) → ends cookie r ≡ true → (events : List (Event IdpRecord)) (records : List IdpRecord)
+    (held : Held)
     → Includes events records → Contains records r → Leads idp_rules start events held → IsDead held cookie
 stays_dead law start are r cookie ending =
     shut_behind idp_rules begun_sessions session_rows (keeps law) start are r cookie

@@ -28,10 +28,12 @@ turn_at : (peer : List ℕ) (o : Option Turn) → is_of peer o ≡ true → (tur
 turn_at peer None is = absurd (cc)
 turn_at peer (Some turn) is = (turn, refl)
 
-pub turn_is : (rounds : List RoundRow) (request peer : List ℕ) (now horizon : ℕ) (row : RoundRow) → turn_found rounds request peer now horizon ≡ Some row
+pub turn_is : (rounds : List RoundRow) (request peer : List ℕ) (now horizon : ℕ) (row : RoundRow)
+    → turn_found rounds request peer now horizon ≡ Some row
     → IsTurnFound rounds request peer row
 turn_is rounds request peer now horizon row found =
-    let is = found_at (λ (r : RoundRow). waits_for request r && (visible r.until now horizon && is_turn_of peer r)) rounds row found in
+    let is = found_at (λ (r : RoundRow). waits_for request r && (visible r.until now horizon && is_turn_of peer r))
+    rounds row found in
     let one = and_parts (waits_for request row) (visible row.until now horizon && is_turn_of peer row) is.2 in
     let two = and_parts (visible row.until now horizon) (is_turn_of peer row) one.1 in
     let turn = turn_at peer (slice_get row.turns row.told) two.1 in

@@ -10,5 +10,4 @@ pub mod Signed
 pub mod Logouts
 pub mod Outcomes
 pub mod Examples
-pub mod Starving
 pub mod Staying

@@ -4,8 +4,9 @@ use Rattle.assertion_model.specs.declared.login.Login.{Login}
 use Rattle.ledger_records.specs.declared.idp_record.Issued.{Issued}
 use Rattle.idp_answers.specs.Stating.{Stated, stated_login}
 
--- What an issuer states by an issued record: the user has logged in, for the peer that asked alone. The Assertion may be presented from
--- the moment at which it was issued until that which the record says, at the address to which the answer goes.
+-- What an issuer states by an issued record: the user has logged in, for the peer that asked alone. The Assertion may
+-- be presented from the moment at which it was issued until that which the record says, at the address to which the
+-- answer goes.
 abbrev pub stated_by : Issued → Stated
 stated_by r = record {
   assertion = r.assertion;

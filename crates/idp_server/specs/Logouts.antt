@@ -29,18 +29,20 @@ use Rattle.provider_node.specs.Changes as any
 use Rattle.provider_node.specs.Room.{HasRoom}
 use Rattle.provider_node.specs.declared.codes.TheConstants.{NO_MEMORY}
 use Rattle.idp_server.specs.Histories.{IsEnded}
-use Rattle.idp_server.specs.Issues.{IsRecorded, LeavesLedger}
 use Rattle.service_routes.specs.declared.route.Route.TheVariants.{To}
 use Rattle.idp_server.specs.declared.route.Service.TheVariants.{Logout, SingleLogout}
-use Rattle.idp_server.specs.Routes.{route}
+use Rattle.idp_server.specs.Routes.{route, IsOfALogout}
 use Rattle.idp_server.specs.Replies.{OfPeer, OfUser}
 use Rattle.idp_server.specs.Rounds.{asks_others, round_by, round_waiting, skips_for, turns_for}
-use Rattle.idp_server.specs.Step.{Provider, Answers, AsksToEnd, OwnsDisk, RepliesTo, Serves, Steps, asker_of, ended_by, ending_by, is_awaited, left_by, session_for}
+use Rattle.idp_server.specs.Step.{Provider, Answers, AsksToEnd, RepliesTo, asker_of, ended_by, ending_by, is_awaited, left_by, session_for}
+use Rattle.provider_node.specs.Step.{Serves, Steps, OwnsDisk}
 use Rattle.logout_answers.specs.Answers.{is_in_part}
+use Rattle.provider_node.specs.Recorded.{IsRecorded}
 
 -- ONLY
 
--- The user leaves by a POST, whose cookie is that of a session that is in the ledger, was not ended and is visible: that session ends.
+-- The user leaves by a POST, whose cookie is that of a session that is in the ledger, was not ended and is visible:
+-- that session ends.
 pub record IsOfUserWhoLeaves (held : Held) (request : Request) (now : ℕ) (r : Left) : Type 0 where
   pub to : route request ≡ To Logout
   pub cookie : option_and_then (λ header. cookie_value header (codes "idp_sid")) request.cookie ≡ Some r.cookie
@@ -51,7 +53,8 @@ pub record IsOfUserWhoLeaves (held : Held) (request : Request) (now : ℕ) (r : 
   pub unended : row.ended ≡ false
   pub seen : visible row.until now held.header.horizon ≡ true
 
--- A LogoutRequest of a peer was posted and accepted, and the sessions that end are those that it asks to end, of which there are some.
+-- A LogoutRequest of a peer was posted and accepted, and the sessions that end are those that it asks to end, of which
+-- there are some.
 pub record IsOfPeerThatAsks (setup : IdpConfig) (held : Held) (request : Request) (now : ℕ) (r : Ended) : Type 0 where
   pub to : route request ≡ To SingleLogout
   pub asked : LogoutRequest
@@ -82,13 +85,14 @@ pub record IsOfProviderInTurn (setup : IdpConfig) (held : Held) (request : Reque
   pub confirms : r.confirmed ≡ not (is_in_part response.outcome)
 
 -- A LogoutResponse of a peer was posted and accepted, and the logout that it replies to waits for a reply.
-pub record IsOfPeerThatReplies (setup : IdpConfig) (held : Held) (request : Request) (now : ℕ) (r : Confirmed) : Type 0 where
-  pub to : route request ≡ To SingleLogout
-  pub response : LogoutResponse
-  pub peer : LogoutPeer
-  pub replies : RepliesTo setup request now response peer
-  pub request_is : r.request ≡ response.request
-  pub awaited : is_awaited held now response.request ≡ true
+pub record IsOfPeerThatReplies (setup : IdpConfig) (held : Held) (request : Request) (now : ℕ) (r : Confirmed) : Type 0
+  where
+    pub to : route request ≡ To SingleLogout
+    pub response : LogoutResponse
+    pub peer : LogoutPeer
+    pub replies : RepliesTo setup request now response peer
+    pub request_is : r.request ≡ response.request
+    pub awaited : is_awaited held now response.request ≡ true
 
 -- what is behind a record of a logout
 abbrev pub IsOfLogoutIfEnding : IdpConfig → Held → Request → ℕ → IdpRecord → Type 0
@@ -101,13 +105,14 @@ IsOfLogoutIfEnding setup held request now (kinds.Spoke r) = Unit {0}
 IsOfLogoutIfEnding setup held request now (kinds.Round r) = AsksAllOthers setup held request now r
 IsOfLogoutIfEnding setup held request now (kinds.Told r) = IsOfProviderInTurn setup held request now r
 
--- what a request may do to a ledger that stays whole: nothing, a compaction, or a record behind either, and a record of a logout only
--- for one
+-- what a request may do to a ledger that stays whole: nothing, a compaction, or a record behind either, and a record of
+-- a logout only for one
 abbrev pub Ends : IdpConfig → (found : Held) → Request → ℕ → (new : Provider) → Type 0
 Ends setup found request now new =
     any.Changes idp_rules (λ held r. IsOfLogoutIfEnding setup held request now r) now found new.ledger.held
 
--- Each session that is ended was left by its user or ended by a peer: an answer's record, and what a request does to the ledger.
+-- Each session that is ended was left by its user or ended by a peer: an answer's record, and what a request does to
+-- the ledger.
 abbrev pub AnswersEndExactly : Type 0
 AnswersEndExactly =
     (setup : IdpConfig) (held : Held) (request : Request) (now : ℕ) (answer : Answer) (r : IdpRecord)
@@ -116,17 +121,20 @@ AnswersEndExactly =
 abbrev pub ServicesEndExactly : Type 0
 ServicesEndExactly =
     (found : Held) (request : Request) (now before after : ℕ) (answer : Answer) (old new : Provider)
-    → Serves found request now (Rose before after) answer old new → new.ledger.broken ≡ false → Ends old.setup found request now new
+    → Serves idp_rules Answers found request now (Rose before after) answer old new → new.ledger.broken ≡ false
+    → Ends old.setup found request now new
 
 -- WHEREVER
 
--- Over a ledger, at a moment, the user of a request leaves the session of this row: the session lives, and the request has its cookie.
+-- Over a ledger, at a moment, the user of a request leaves the session of this row: the session lives, and the request
+-- has its cookie.
 pub record LeavesOver (held : Held) (request : Request) (now : ℕ) (row : SessionRow) : Type 0 where
   pub posted : route request ≡ To Logout
   pub live : session_for held now request ≡ Some row
 
 -- a peer asks by a form that is accepted to end sessions
-pub record EndsOver (setup : IdpConfig) (request : Request) (now : ℕ) (asked : LogoutRequest) (peer : LogoutPeer) : Type 0 where
+pub record EndsOver (setup : IdpConfig) (request : Request) (now : ℕ) (asked : LogoutRequest) (peer : LogoutPeer) : Type
+    0 where
   pub posted : route request ≡ To SingleLogout
   pub relay : Option (List ℕ)
   pub asks : AsksToEnd setup request now asked peer relay
@@ -144,44 +152,37 @@ ending_record setup held now peer asked relay =
     if asks_others setup held asker cookies then round_by setup held now asker cookies
     else ended_by setup.id_key held now peer.peer.entity asked
 
--- Wherever a session is left or a peer asks to end it, there is room for the record, at once or behind one compaction, and the disk does
--- not fail, it is ended behind the step; or there was no memory.
+-- Wherever a session is left or a peer asks to end it, there is room for the record, at once or behind one compaction,
+-- and the disk does not fail, it is ended behind the step; or there was no memory.
 abbrev pub WhereverAUserLeaves : Type 0
 WhereverAUserLeaves =
     (found : Held) (request : Request) (now faults later : ℕ) (answer : Answer) (old new : Provider) (row : SessionRow)
-    → Serves found request now (Rose faults later) answer old new → LeavesOver found request now row
+    → Serves idp_rules Answers found request now (Rose faults later) answer old new → LeavesOver found request now row
     → HasRoom idp_rules found now (λ held. leaving_record old.setup held now row.cookie) → ¬ (Rose faults later)
     → (answer ≡ Fixed NO_MEMORY) ⊎ IsEnded new.ledger.held row.cookie
 
 abbrev pub WhereverAPeerEnds : Type 0
 WhereverAPeerEnds =
-    (found : Held) (request : Request) (now faults later : ℕ) (answer : Answer) (old new : Provider) (asked : LogoutRequest) (peer : LogoutPeer) (cookie : List ℕ)
-    → Serves found request now (Rose faults later) answer old new → (over : EndsOver old.setup request now asked peer)
+    (found : Held) (request : Request) (now faults later : ℕ) (answer : Answer) (old new : Provider)
+    (asked : LogoutRequest) (peer : LogoutPeer) (cookie : List ℕ)
+    → Serves idp_rules Answers found request now (Rose faults later) answer old new
+    → (over : EndsOver old.setup request now asked peer)
     → is_among cookie (ending_by found now peer.peer.entity asked) ≡ true
-    → HasRoom idp_rules found now (λ held. ending_record old.setup held now peer asked over.relay) → ¬ (Rose faults later)
+    → HasRoom idp_rules found now (λ held. ending_record old.setup held now peer asked over.relay)
+    → ¬ (Rose faults later)
     → (answer ≡ Fixed NO_MEMORY) ⊎ IsEnded new.ledger.held cookie
 
 -- WHAT IS ANSWERED
 
--- Whatever form or page is answered to a user who leaves, or to a message of a logout, its record is in every image that a crash may
--- leave behind the step: it was written before the answer is sent.
-abbrev pub WhatIsAnsweredToALogoutIsRecorded : Type 0
-WhatIsAnsweredToALogoutIsRecorded =
-    (old new : Provider) (disk later : Option DiskState) (request : Request) (now before after : ℕ) (bytes : List ℕ)
-    → Steps old disk request now (Rose before after) (Full bytes) new → OwnsDisk new later
-    → (route request ≡ To Logout) ⊎ (route request ≡ To SingleLogout) → IsRecorded old.setup request now (Full bytes) later
-
--- And in each of these images every session is ended that the record ends: so those of a round are ended before the first provider is
--- asked to end them, too.
-pub record EndsBeforeItAnswers (setup : IdpConfig) (request : Request) (now : ℕ) (answer : Answer) (later : Option DiskState) : Type 0 where
-  pub held : Held
-  pub r : IdpRecord
-  pub stands : Answers setup held request now answer (Some r)
-  pub kept : LeavesLedger later (held_with r held)
-  pub ended : (cookie : List ℕ) → ends cookie r ≡ true → IsEnded (held_with r held) cookie
+-- Behind an answer that stands for a record every session is ended that this ends, in each image that a crash may
+-- leave: so those of a round are ended before the first provider is asked to end them, too.
+pub record EndsBeforeItAnswers (setup : IdpConfig) (request : Request) (now : ℕ) (answer : Answer)
+    (later : Option DiskState) : Type 0 where
+  pub recorded : IsRecorded idp_rules Answers setup request now answer later
+  pub ended : (cookie : List ℕ) → ends cookie recorded.r ≡ true → IsEnded (held_with recorded.r recorded.held) cookie
 
 abbrev pub SessionsEndBeforeTheAnswer : Type 0
 SessionsEndBeforeTheAnswer =
     (old new : Provider) (disk later : Option DiskState) (request : Request) (now before after : ℕ) (bytes : List ℕ)
-    → Steps old disk request now (Rose before after) (Full bytes) new → OwnsDisk new later
-    → (route request ≡ To Logout) ⊎ (route request ≡ To SingleLogout) → EndsBeforeItAnswers old.setup request now (Full bytes) later
+    → Steps idp_rules Answers old disk request now (Rose before after) (Full bytes) new → OwnsDisk idp_rules new later
+    → IsOfALogout request → EndsBeforeItAnswers old.setup request now (Full bytes) later

@@ -66,25 +66,29 @@ use Rattle.idp_server.specs.Step.{AsksToEnd, IsAnswerFor, IsEndingAnswer, IsLeav
 abbrev pub turn_of : Held → ℕ → (request peer : List ℕ) → Option RoundRow
 turn_of held now request peer = turn_found (rows_of held.records).rounds request peer now held.header.horizon
 
--- the record that stands for a reply over a ledger where there is something to record; none where the session does not live, or the login
--- is not pending
+-- the record that stands for a reply over a ledger where there is something to record; none where the session does not
+-- live, or the login is not pending
 abbrev pub found_record : (key : List ℕ) → Held → ℕ → Reply → Option IdpRecord
 found_record key held now (replies.InSession cookie ask peer) =
-    option_map (λ row. issue key (next_number held) now row ask) (session_found (rows_of held.records).sessions cookie now held.header.horizon)
+    option_map (λ row. issue key (next_number held) now row ask)
+    (session_found (rows_of held.records).sessions cookie now held.header.horizon)
 found_record key held now (replies.Passive ask) = Some (spoke key (next_number held) now ask)
 found_record key held now (replies.Question ask) = Some (pending key (next_number held) now ask)
 found_record key held now (replies.Login id user attributes peer) =
-    option_map (λ row. login key (next_number held) now row user attributes) (pending_found (rows_of held.records).pendings id now held.header.horizon)
+    option_map (λ row. login key (next_number held) now row user attributes)
+    (pending_found (rows_of held.records).pendings id now held.header.horizon)
 found_record key held now (replies.Leave cookie user index) =
-    option_map (λ row. left_by key held now cookie) (session_found (rows_of held.records).sessions cookie now held.header.horizon)
+    option_map (λ row. left_by key held now cookie) (session_found (rows_of held.records).sessions cookie now
+    held.header.horizon)
 found_record key held now (replies.End asked peer name relay) = Some (ended_by key held now name asked)
 found_record key held now (replies.Confirm request partial) = Some (confirmed now request)
-found_record key held now (replies.AskAll cookies asker plan) = Some (round key (next_number held) now cookies asker plan.turns plan.skipped)
+found_record key held now (replies.AskAll cookies asker plan) =
+    Some (round key (next_number held) now cookies asker plan.turns plan.skipped)
 found_record key held now (replies.Told request peer confirms next) =
     Some (told key (next_number held) now request confirms (is_turn_left (turn_of held now request peer)))
 
--- whether there is nothing to record: no session to end, or no logout that waits; and the code that says so. A round that is replied to
--- waits.
+-- whether there is nothing to record: no session to end, or no logout that waits; and the code that says so. A round
+-- that is replied to waits.
 abbrev pub is_nothing : Held → ℕ → Reply → Bool
 is_nothing held now (replies.End asked peer name relay) = is_empty (ending_by held now name asked)
 is_nothing held now (replies.Confirm request partial) = not (is_awaited held now request)
@@ -102,7 +106,8 @@ record_for key held now reply = if is_nothing held now reply then None else foun
 -- THE PAGE
 
 -- an answer with the Assertion of an issued record, for the peer at this place
-pub record IsAssertionPage (setup : IdpConfig) (place : ℕ) (cookie : Option (List ℕ)) (r : IdpRecord) (now : ℕ) (answer : Answer) : Type 0 where
+pub record IsAssertionPage (setup : IdpConfig) (place : ℕ) (cookie : Option (List ℕ)) (r : IdpRecord) (now : ℕ)
+    (answer : Answer) : Type 0 where
   pub issued : Issued
   pub is : r ≡ kinds.Issued issued
   pub peer : LogoutPeer
@@ -132,15 +137,17 @@ pub record IsQuestionPage (r : IdpRecord) (answer : Answer) : Type 0 where
   pub full : answer ≡ Full (login_answer id)
 
 -- the answer to a user who leaves
-pub record IsLeavingPage (setup : IdpConfig) (user index : List ℕ) (r : IdpRecord) (now : ℕ) (answer : Answer) : Type 0 where
-  pub left : Left
-  pub is : r ≡ kinds.Left left
-  pub bytes : List ℕ
-  pub answers : IsLeavingAnswer setup left user index now bytes
-  pub full : answer ≡ Full bytes
+pub record IsLeavingPage (setup : IdpConfig) (user index : List ℕ) (r : IdpRecord) (now : ℕ) (answer : Answer) : Type 0
+  where
+    pub left : Left
+    pub is : r ≡ kinds.Left left
+    pub bytes : List ℕ
+    pub answers : IsLeavingAnswer setup left user index now bytes
+    pub full : answer ≡ Full bytes
 
 -- the answer to a peer that asked to end sessions
-pub record IsEndingPage (setup : IdpConfig) (place : ℕ) (relay : Option (List ℕ)) (r : IdpRecord) (now : ℕ) (answer : Answer) : Type 0 where
+pub record IsEndingPage (setup : IdpConfig) (place : ℕ) (relay : Option (List ℕ)) (r : IdpRecord) (now : ℕ)
+    (answer : Answer) : Type 0 where
   pub ended : Ended
   pub is : r ≡ kinds.Ended ended
   pub peer : LogoutPeer
@@ -165,7 +172,8 @@ pub record IsNextPage (setup : IdpConfig) (turn : Turn) (r : IdpRecord) (now : �
   pub asks : IsRequestTo setup turn.peer id turn.name turn.indexes now bytes
   pub full : answer ≡ Full bytes
 
-pub record IsLastPage (setup : IdpConfig) (message : List ℕ) (asker : Option Asker) (partial : Bool) (now : ℕ) (answer : Answer) : Type 0 where
+pub record IsLastPage (setup : IdpConfig) (message : List ℕ) (asker : Option Asker) (partial : Bool) (now : ℕ)
+    (answer : Answer) : Type 0 where
   pub bytes : List ℕ
   pub ends : IsRoundEnd setup message asker partial now bytes
   pub full : answer ≡ Full bytes
@@ -334,15 +342,17 @@ pub record IsTextPending (row : PendingRow) : Type 0 where
   pub consumer : IsText row.consumer
 
 -- a peer asks for a login
-pub record AsksFor (setup : IdpConfig) (request : Request) (ask : Ask) (asked : Asked) (peer : LogoutPeer) : Type 0 where
-  pub to : route request ≡ To routes.SignOn
-  pub is : IsAsked setup.peers (sign_on setup) request.body asked
-  pub known : slice_get setup.peers asked.peer ≡ Some peer
-  pub says : ask ≡ ask_of asked peer
-  pub texts : IsTextAsk ask
+pub record AsksFor (setup : IdpConfig) (request : Request) (ask : Ask) (asked : Asked) (peer : LogoutPeer) : Type 0
+  where
+    pub to : route request ≡ To routes.SignOn
+    pub is : IsAsked setup.peers (sign_on setup) request.body asked
+    pub known : slice_get setup.peers asked.peer ≡ Some peer
+    pub says : ask ≡ ask_of asked peer
+    pub texts : IsTextAsk ask
 
 -- and the user has a session, of this cookie
-pub record AsksInSession (setup : IdpConfig) (held : Held) (request : Request) (now : ℕ) (cookie : List ℕ) (ask : Ask) (place : ℕ) : Type 0 where
+pub record AsksInSession (setup : IdpConfig) (held : Held) (request : Request) (now : ℕ) (cookie : List ℕ) (ask : Ask)
+    (place : ℕ) : Type 0 where
   pub asked : Asked
   pub peer : LogoutPeer
   pub asks : AsksFor setup request ask asked peer
@@ -354,7 +364,8 @@ pub record AsksInSession (setup : IdpConfig) (held : Held) (request : Request) (
   pub told : AreTold now row.until
 
 -- and has none, and may be asked or not
-pub record AsksAnew (passive : Bool) (setup : IdpConfig) (held : Held) (request : Request) (now : ℕ) (ask : Ask) : Type 0 where
+pub record AsksAnew (passive : Bool) (setup : IdpConfig) (held : Held) (request : Request) (now : ℕ) (ask : Ask) : Type
+    0 where
   pub asked : Asked
   pub peer : LogoutPeer
   pub asks : AsksFor setup request ask asked peer
@@ -363,7 +374,8 @@ pub record AsksAnew (passive : Bool) (setup : IdpConfig) (held : Held) (request 
   pub told : IsTold now
 
 -- the page of a pending login was posted, with the name and the password of a user
-pub record LogsIn (setup : IdpConfig) (held : Held) (request : Request) (now : ℕ) (id user : List ℕ) (attributes : List Attribute) (place : ℕ) : Type 0 where
+pub record LogsIn (setup : IdpConfig) (held : Held) (request : Request) (now : ℕ) (id user : List ℕ)
+    (attributes : List Attribute) (place : ℕ) : Type 0 where
   pub to : route request ≡ To routes.Login
   pub fields : Typed
   pub posted : typed request.body ≡ Some fields
@@ -383,22 +395,24 @@ pub record LogsIn (setup : IdpConfig) (held : Held) (request : Request) (now : �
   pub told : AreTold now (min LAST (now + SESSION_LIFE))
 
 -- a user leaves the session of this cookie, and nobody is asked, or only the peer to which its last Assertion went
-pub record Leaves (setup : IdpConfig) (held : Held) (request : Request) (now : ℕ) (cookie user index : List ℕ) : Type 0 where
-  pub to : route request ≡ To routes.Logout
-  pub row : SessionRow
-  pub live : session_for held now request ≡ Some row
-  pub found : session_found (rows_of held.records).sessions cookie now held.header.horizon ≡ Some row
-  pub cookie_is : cookie ≡ row.cookie
-  pub alone : asks_others setup held None (cookie ∷ []) ≡ false
-  pub user_is : user ≡ row.user
-  pub index_is : index ≡ row.index
-  pub user_text : IsText user
-  pub index_text : IsText index
-  pub peers : AllByRecursion IsTextPeer setup.peers
-  pub told : AreTold now row.until
+pub record Leaves (setup : IdpConfig) (held : Held) (request : Request) (now : ℕ) (cookie user index : List ℕ) : Type 0
+  where
+    pub to : route request ≡ To routes.Logout
+    pub row : SessionRow
+    pub live : session_for held now request ≡ Some row
+    pub found : session_found (rows_of held.records).sessions cookie now held.header.horizon ≡ Some row
+    pub cookie_is : cookie ≡ row.cookie
+    pub alone : asks_others setup held None (cookie ∷ []) ≡ false
+    pub user_is : user ≡ row.user
+    pub index_is : index ≡ row.index
+    pub user_text : IsText user
+    pub index_text : IsText index
+    pub peers : AllByRecursion IsTextPeer setup.peers
+    pub told : AreTold now row.until
 
 -- the peer of this name at this place asks to end sessions, and nobody else is asked
-pub record AsksForAnEnd (setup : IdpConfig) (held : Held) (request : Request) (now : ℕ) (asked : LogoutRequest) (place : ℕ) (name : List ℕ) (relay : Option (List ℕ)) : Type 0 where
+pub record AsksForAnEnd (setup : IdpConfig) (held : Held) (request : Request) (now : ℕ) (asked : LogoutRequest)
+    (place : ℕ) (name : List ℕ) (relay : Option (List ℕ)) : Type 0 where
   pub to : route request ≡ To routes.SingleLogout
   pub obeyed : IsObeyed setup now request.body (messages.Ask asked place relay)
   pub peer : LogoutPeer
@@ -410,7 +424,8 @@ pub record AsksForAnEnd (setup : IdpConfig) (held : Held) (request : Request) (n
   pub told : IsTold now
 
 -- a peer replies to the logout of this request, for which no round waits
-pub record Confirms (setup : IdpConfig) (held : Held) (request : Request) (now : ℕ) (of : List ℕ) (partial : Bool) : Type 0 where
+pub record Confirms (setup : IdpConfig) (held : Held) (request : Request) (now : ℕ) (of : List ℕ)
+    (partial : Bool) : Type 0 where
   pub to : route request ≡ To routes.SingleLogout
   pub response : LogoutResponse
   pub peer : LogoutPeer
@@ -420,14 +435,16 @@ pub record Confirms (setup : IdpConfig) (held : Held) (request : Request) (now :
   pub partial_is : partial ≡ is_in_part response.outcome
 
 -- The user leaves, or a peer asks to end sessions of which there are some: those of these cookies.
-pub record OfUser (held : Held) (request : Request) (now : ℕ) (cookies : List (List ℕ)) (asker : Option Asker) : Type 0 where
-  pub to : route request ≡ To routes.Logout
-  pub row : SessionRow
-  pub live : session_for held now request ≡ Some row
-  pub cookies_are : cookies ≡ row.cookie ∷ []
-  pub asker_is : asker ≡ None
+pub record OfUser (held : Held) (request : Request) (now : ℕ) (cookies : List (List ℕ)) (asker : Option Asker) : Type 0
+  where
+    pub to : route request ≡ To routes.Logout
+    pub row : SessionRow
+    pub live : session_for held now request ≡ Some row
+    pub cookies_are : cookies ≡ row.cookie ∷ []
+    pub asker_is : asker ≡ None
 
-pub record OfPeer (setup : IdpConfig) (held : Held) (request : Request) (now : ℕ) (cookies : List (List ℕ)) (asker : Option Asker) : Type 0 where
+pub record OfPeer (setup : IdpConfig) (held : Held) (request : Request) (now : ℕ) (cookies : List (List ℕ))
+    (asker : Option Asker) : Type 0 where
   pub to : route request ≡ To routes.SingleLogout
   pub asked : LogoutRequest
   pub peer : LogoutPeer
@@ -438,7 +455,8 @@ pub record OfPeer (setup : IdpConfig) (held : Held) (request : Request) (now : �
   pub asker_is : asker ≡ Some (asker_of peer asked relay)
 
 -- and the others are asked by this plan
-pub record AsksAll (setup : IdpConfig) (held : Held) (request : Request) (now : ℕ) (cookies : List (List ℕ)) (asker : Option Asker) (plan : Plan) : Type 0 where
+pub record AsksAll (setup : IdpConfig) (held : Held) (request : Request) (now : ℕ) (cookies : List (List ℕ))
+    (asker : Option Asker) (plan : Plan) : Type 0 where
   pub of : OfUser held request now cookies asker ⊎ OfPeer setup held request now cookies asker
   pub asks : asks_others setup held asker cookies ≡ true
   pub turns_are : plan.turns ≡ turns_for setup held asker cookies
@@ -450,7 +468,8 @@ pub record AsksAll (setup : IdpConfig) (held : Held) (request : Request) (now : 
   pub told : AreTold now now
 
 -- the provider of this name replies, whose turn it is in a round, and this follows
-pub record Tells (setup : IdpConfig) (held : Held) (request : Request) (now : ℕ) (of peer : List ℕ) (confirms : Bool) (next : Follows) : Type 0 where
+pub record Tells (setup : IdpConfig) (held : Held) (request : Request) (now : ℕ) (of peer : List ℕ) (confirms : Bool)
+    (next : Follows) : Type 0 where
   pub to : route request ≡ To routes.SingleLogout
   pub response : LogoutResponse
   pub who : LogoutPeer
@@ -471,15 +490,19 @@ abbrev pub Wants : IdpConfig → Held → Request → ℕ → Reply → Type 0
 Wants setup held request now (replies.InSession cookie ask peer) = AsksInSession setup held request now cookie ask peer
 Wants setup held request now (replies.Passive ask) = AsksAnew true setup held request now ask
 Wants setup held request now (replies.Question ask) = AsksAnew false setup held request now ask
-Wants setup held request now (replies.Login id user attributes peer) = LogsIn setup held request now id user attributes peer
+Wants setup held request now (replies.Login id user attributes peer) =
+    LogsIn setup held request now id user attributes peer
 Wants setup held request now (replies.Leave cookie user index) = Leaves setup held request now cookie user index
-Wants setup held request now (replies.End asked peer name relay) = AsksForAnEnd setup held request now asked peer name relay
+Wants setup held request now (replies.End asked peer name relay) =
+    AsksForAnEnd setup held request now asked peer name relay
 Wants setup held request now (replies.Confirm request_id partial) = Confirms setup held request now request_id partial
 Wants setup held request now (replies.AskAll cookies asker plan) = AsksAll setup held request now cookies asker plan
-Wants setup held request now (replies.Told request_id peer confirms next) = Tells setup held request now request_id peer confirms next
+Wants setup held request now (replies.Told request_id peer confirms next) =
+    Tells setup held request now request_id peer confirms next
 
 -- the reply that asks all others where these sessions end, where there are some to ask
-pub record AsksByPlan (setup : IdpConfig) (held : Held) (asker : Option Asker) (cookies : List (List ℕ)) (reply : Reply) : Type 0 where
+pub record AsksByPlan (setup : IdpConfig) (held : Held) (asker : Option Asker) (cookies : List (List ℕ))
+    (reply : Reply) : Type 0 where
   pub asks : asks_others setup held asker cookies ≡ true
   pub plan : Plan
   pub is : reply ≡ replies.AskAll cookies asker plan
@@ -492,7 +515,8 @@ IsAskAll setup held asker cookies None = asks_others setup held asker cookies �
 IsAskAll setup held asker cookies (Some reply) = AsksByPlan setup held asker cookies reply
 
 -- the reply to the answer of a provider, where a round waits for it
-pub record AnswersRound (setup : IdpConfig) (held : Held) (now : ℕ) (of peer : List ℕ) (confirms : Bool) (reply : Reply) : Type 0 where
+pub record AnswersRound (setup : IdpConfig) (held : Held) (now : ℕ) (of peer : List ℕ) (confirms : Bool)
+    (reply : Reply) : Type 0 where
   pub fanout : setup.fanout ≡ true
   pub row : RoundRow
   pub waits : turn_of held now of peer ≡ Some row

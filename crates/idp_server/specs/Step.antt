@@ -1,7 +1,6 @@
 -- What an identity provider does at one request.
 use Rattle.std.specs.Prelude.{◌≡◌, ℕ, Bool, true, false, not, List, [], ◌∷◌, codes, Option, None, Some, if◌then◌else◌, slice_get}
 use Rattle.std.specs.Option.{option_and_then}
-use Rattle.crash_disk.specs.Disk.{Image, DiskState}
 use Rattle.http_wire.specs.declared.answer.Answer.{Answer}
 use Rattle.http_wire.specs.declared.answer.Answer.TheVariants.{Fixed, Full}
 use Rattle.http_wire.specs.Requests.{Request}
@@ -29,7 +28,6 @@ use Rattle.idp_rows.specs.declared.row.PendingRow.{PendingRow}
 use Rattle.idp_rows.specs.declared.row.SessionRow.{SessionRow}
 use Rattle.idp_rows.specs.RowsOf.{rows_of}
 use Rattle.idp_rows.specs.Finding.{ending, is_empty, is_partial, is_waiting_now, last_peer, pending_found, session_found}
-use Rattle.idp_ledger.specs.Record.{idp_rules}
 use Rattle.idp_ledger.specs.Ledger.{Held, next_number}
 use Rattle.idp_ledger.specs.Draft.{first_id}
 use Rattle.idp_ledger.specs.Drafts.{confirmed, ended, issue, left, login, pending, spoke}
@@ -64,14 +62,15 @@ session_for held now request =
     option_and_then (λ cookie. session_found (rows_of held.records).sessions cookie now held.header.horizon)
     (option_and_then (λ header. cookie_value header (codes "idp_sid")) request.cookie)
 
--- the session in which an Assertion is issued at once: there is none where the user has to be authenticated anew (SAML Core, 3.4.1,
--- ForceAuthn)
+-- the session in which an Assertion is issued at once: there is none where the user has to be authenticated anew (SAML
+-- Core, 3.4.1, ForceAuthn)
 abbrev pub session_used : Asked → Option SessionRow → Option SessionRow
 session_used asked session = if asked.force then None else session
 
 -- what is asked of the ledger for a request of this peer
 abbrev pub ask_of : Asked → LogoutPeer → Ask
-ask_of asked peer = record { request = asked.request; peer = peer.peer.entity; consumer = asked.consumer; relay = asked.relay }
+ask_of asked peer =
+    record { request = asked.request; peer = peer.peer.entity; consumer = asked.consumer; relay = asked.relay }
 
 -- the fields of the page of a pending login
 pub record Typed : Type 0 where
@@ -101,13 +100,15 @@ abbrev pub IsNotObeyed : IdpConfig → ℕ → (body : List ℕ) → Verdict →
 IsNotObeyed setup now body verdict = logouts.IsRefused setup.peers None (logout setup) setup.skew now body verdict
 
 -- a peer asks by a posted form to end sessions, and the form had this relay
-pub record AsksToEnd (setup : IdpConfig) (request : Request) (now : ℕ) (asked : LogoutRequest) (peer : LogoutPeer) (relay : Option (List ℕ)) : Type 0 where
+pub record AsksToEnd (setup : IdpConfig) (request : Request) (now : ℕ) (asked : LogoutRequest) (peer : LogoutPeer)
+    (relay : Option (List ℕ)) : Type 0 where
   pub place : ℕ
   pub there : slice_get setup.peers place ≡ Some peer
   pub obeyed : IsObeyed setup now request.body (messages.Ask asked place relay)
 
 -- a peer replies by a posted form to a logout that began here
-pub record RepliesTo (setup : IdpConfig) (request : Request) (now : ℕ) (response : LogoutResponse) (peer : LogoutPeer) : Type 0 where
+pub record RepliesTo (setup : IdpConfig) (request : Request) (now : ℕ) (response : LogoutResponse)
+    (peer : LogoutPeer) : Type 0 where
   pub place : ℕ
   pub there : slice_get setup.peers place ≡ Some peer
   pub obeyed : IsObeyed setup now request.body (messages.Reply response place)
@@ -122,7 +123,8 @@ ended_by key held now peer asked =
     ended key (next_number held) now (ending_by held now peer asked) asked.id peer
     (is_partial now held.header.horizon peer asked.name asked.indexes (rows_of held.records))
 
--- the record of a user who leaves the session of this cookie: the peer to which its last Assertion went is asked to end it too
+-- the record of a user who leaves the session of this cookie: the peer to which its last Assertion went is asked to end
+-- it too
 abbrev pub left_by : (key : List ℕ) → Held → ℕ → (cookie : List ℕ) → IdpRecord
 left_by key held now cookie = left key (next_number held) now cookie (last_peer (rows_of held.records).issues cookie)
 
@@ -136,26 +138,33 @@ is_awaited held now request = is_waiting_now (rows_of held.records).lefts reques
 
 -- ---- the answers that stand for records
 
--- the answer to a request for which this was issued, to this peer, with a cookie where a session began: SAML Profiles, 4.1.4.2
+-- the answer to a request for which this was issued, to this peer, with a cookie where a session began: SAML Profiles,
+-- 4.1.4.2
 abbrev pub IsAnswerFor : IdpConfig → LogoutPeer → Issued → (cookie : Option (List ℕ)) → ℕ → List ℕ → Type 0
 IsAnswerFor setup peer r cookie now bytes =
     IsIssuedAnswer setup.mode peer.key_out (login_of setup.entity r) r.message r.consumer r.relay cookie now bytes
 
--- What is answered to a request by this ledger at this moment where nothing fails, and the record that is added with it.
-pub data Answers (setup : IdpConfig) (held : Held) (request : Request) (now : ℕ) (answer : Answer) (adds : Option IdpRecord) : Type 0 where
+-- What is answered to a request by this ledger at this moment where nothing fails, and the record that is added with
+-- it.
+pub data Answers (setup : IdpConfig) (held : Held) (request : Request) (now : ℕ) (answer : Answer)
+    (adds : Option IdpRecord) : Type 0 where
   -- there is no such service
-  ByStatus : (status : ℕ) → route request ≡ Refused status → answer ≡ Fixed status → adds ≡ None → Answers setup held request now answer adds
+  ByStatus : (status : ℕ) → route request ≡ Refused status → answer ≡ Fixed status → adds ≡ None
+      → Answers setup held request now answer adds
   -- the metadata
   ByMetadata : route request ≡ To Metadata → answer ≡ Full (metadata_answer setup.entity setup.base) → adds ≡ None
       → Answers setup held request now answer adds
   -- a posted form that asks for no login
-  ByVerdict : (verdict : Verdict) → route request ≡ To SignOn → IsRefused setup.peers (sign_on setup) request.body verdict
+  ByVerdict : (verdict : Verdict) → route request ≡ To SignOn
+      → IsRefused setup.peers (sign_on setup) request.body verdict
       → answer ≡ Fixed (number_of verdict) → adds ≡ None → Answers setup held request now answer adds
   -- a login is asked for, and the user has a live session: an Assertion is issued in it
-  ByIssuing : (asked : Asked) (peer : LogoutPeer) (row : SessionRow) (r : Issued) (bytes : List ℕ) → route request ≡ To SignOn
+  ByIssuing : (asked : Asked) (peer : LogoutPeer) (row : SessionRow) (r : Issued) (bytes : List ℕ)
+      → route request ≡ To SignOn
       → IsAsked setup.peers (sign_on setup) request.body asked → slice_get setup.peers asked.peer ≡ Some peer
       → session_used asked (session_for held now request) ≡ Some row
-      → issue setup.id_key (next_number held) now row (ask_of asked peer) ≡ kinds.Issued r → adds ≡ Some (kinds.Issued r)
+      → issue setup.id_key (next_number held) now row (ask_of asked peer) ≡ kinds.Issued r
+      → adds ≡ Some (kinds.Issued r)
       → IsAnswerFor setup peer r None now bytes → answer ≡ Full bytes → Answers setup held request now answer adds
   -- there is none, and the user may not be asked: SAML Core, 3.4.1, IsPassive
   ByPassive : (asked : Asked) (peer : LogoutPeer) (message bytes : List ℕ) → route request ≡ To SignOn
@@ -173,99 +182,90 @@ pub data Answers (setup : IdpConfig) (held : Held) (request : Request) (now : �
       → first_id (pending setup.id_key (next_number held) now (ask_of asked peer)) ≡ Some id
       → answer ≡ Full (login_answer id) → Answers setup held request now answer adds
   -- what is posted is not the page of a login
-  ByFields : route request ≡ To Login → typed request.body ≡ None → answer ≡ Fixed (number_of verdicts.BadForm) → adds ≡ None
+  ByFields : route request ≡ To Login → typed request.body ≡ None → answer ≡ Fixed (number_of verdicts.BadForm)
+      → adds ≡ None
       → Answers setup held request now answer adds
   -- no such login is pending, or its peer is not known any more
   ByNoPending : (t : Typed) → route request ≡ To Login → typed request.body ≡ Some t
       → ((row : PendingRow) (peer : LogoutPeer) → ¬ (IsPending setup held now t.pending row peer))
       → answer ≡ Fixed (number_of verdicts.NoSuchPending) → adds ≡ None → Answers setup held request now answer adds
   -- no user has this name and this password
-  ByPassword : (t : Typed) (row : PendingRow) (peer : LogoutPeer) → route request ≡ To Login → typed request.body ≡ Some t
+  ByPassword : (t : Typed) (row : PendingRow) (peer : LogoutPeer) → route request ≡ To Login
+      → typed request.body ≡ Some t
       → IsPending setup held now t.pending row peer → checked setup.users t.user t.password ≡ None
       → answer ≡ Fixed (number_of verdicts.LoginRefused) → adds ≡ None → Answers setup held request now answer adds
   -- a user logs in: a session begins, and an Assertion is issued in it
-  ByLogin : (t : Typed) (row : PendingRow) (peer : LogoutPeer) (user : User) (r : Issued) (bytes : List ℕ) → route request ≡ To Login
-      → typed request.body ≡ Some t → IsPending setup held now t.pending row peer → checked setup.users t.user t.password ≡ Some user
-      → login setup.id_key (next_number held) now row user.name user.attributes ≡ kinds.Issued r → adds ≡ Some (kinds.Issued r)
-      → IsAnswerFor setup peer r (Some r.cookie) now bytes → answer ≡ Full bytes → Answers setup held request now answer adds
+  ByLogin : (t : Typed) (row : PendingRow) (peer : LogoutPeer) (user : User) (r : Issued) (bytes : List ℕ)
+      → route request ≡ To Login
+      → typed request.body ≡ Some t → IsPending setup held now t.pending row peer
+      → checked setup.users t.user t.password ≡ Some user
+      → login setup.id_key (next_number held) now row user.name user.attributes ≡ kinds.Issued r
+      → adds ≡ Some (kinds.Issued r)
+      → IsAnswerFor setup peer r (Some r.cookie) now bytes → answer ≡ Full bytes
+      → Answers setup held request now answer adds
   -- a user leaves who has no live session
-  ByNoSession : route request ≡ To Logout → session_for held now request ≡ None → answer ≡ Fixed (number_of verdicts.NoSuchSession) → adds ≡ None
+  ByNoSession : route request ≡ To Logout → session_for held now request ≡ None
+      → answer ≡ Fixed (number_of verdicts.NoSuchSession) → adds ≡ None
       → Answers setup held request now answer adds
   -- a user leaves, and the session ends: nobody else is asked, or only the peer to which its last Assertion went
-  ByLeaving : (row : SessionRow) (r : Left) (bytes : List ℕ) → route request ≡ To Logout → session_for held now request ≡ Some row
+  ByLeaving : (row : SessionRow) (r : Left) (bytes : List ℕ) → route request ≡ To Logout
+      → session_for held now request ≡ Some row
       → asks_others setup held None (row.cookie ∷ []) ≡ false
-      → left_by setup.id_key held now row.cookie ≡ kinds.Left r → adds ≡ Some (kinds.Left r) → IsLeavingAnswer setup r row.user row.index now bytes
+      → left_by setup.id_key held now row.cookie ≡ kinds.Left r → adds ≡ Some (kinds.Left r)
+      → IsLeavingAnswer setup r row.user row.index now bytes
       → answer ≡ Full bytes → Answers setup held request now answer adds
   -- a user leaves, the session ends, and each provider that it was used for is asked
-  ByLeavingAll : (row : SessionRow) (r : Round) (bytes : List ℕ) → route request ≡ To Logout → session_for held now request ≡ Some row
+  ByLeavingAll : (row : SessionRow) (r : Round) (bytes : List ℕ) → route request ≡ To Logout
+      → session_for held now request ≡ Some row
       → asks_others setup held None (row.cookie ∷ []) ≡ true
-      → round_by setup held now None (row.cookie ∷ []) ≡ kinds.Round r → adds ≡ Some (kinds.Round r) → AsksFirst setup r now bytes
+      → round_by setup held now None (row.cookie ∷ []) ≡ kinds.Round r → adds ≡ Some (kinds.Round r)
+      → AsksFirst setup r now bytes
       → answer ≡ Full bytes → Answers setup held request now answer adds
   -- a posted form neither asks nor replies anything of a logout
   ByLogoutVerdict : (verdict : Verdict) → route request ≡ To SingleLogout → IsNotObeyed setup now request.body verdict
       → answer ≡ Fixed (number_of verdict) → adds ≡ None → Answers setup held request now answer adds
   -- a peer asks to end sessions, and there are none of these
-  ByNothingToEnd : (asked : LogoutRequest) (peer : LogoutPeer) (relay : Option (List ℕ)) → route request ≡ To SingleLogout
+  ByNothingToEnd : (asked : LogoutRequest) (peer : LogoutPeer) (relay : Option (List ℕ))
+      → route request ≡ To SingleLogout
       → AsksToEnd setup request now asked peer relay → is_empty (ending_by held now peer.peer.entity asked) ≡ true
       → answer ≡ Fixed (number_of verdicts.NoSuchSession) → adds ≡ None → Answers setup held request now answer adds
   -- there are, and they end, and nobody else is asked
-  ByEnding : (asked : LogoutRequest) (peer : LogoutPeer) (relay : Option (List ℕ)) (r : Ended) (bytes : List ℕ) → route request ≡ To SingleLogout
+  ByEnding : (asked : LogoutRequest) (peer : LogoutPeer) (relay : Option (List ℕ)) (r : Ended) (bytes : List ℕ)
+      → route request ≡ To SingleLogout
       → AsksToEnd setup request now asked peer relay → is_empty (ending_by held now peer.peer.entity asked) ≡ false
       → asks_others setup held (Some (asker_of peer asked relay)) (ending_by held now peer.peer.entity asked) ≡ false
-      → ended_by setup.id_key held now peer.peer.entity asked ≡ kinds.Ended r → adds ≡ Some (kinds.Ended r) → IsEndingAnswer setup peer r relay now bytes
+      → ended_by setup.id_key held now peer.peer.entity asked ≡ kinds.Ended r → adds ≡ Some (kinds.Ended r)
+      → IsEndingAnswer setup peer r relay now bytes
       → answer ≡ Full bytes → Answers setup held request now answer adds
   -- there are, they end, and each other provider that they were used for is asked
   ByEndingAll : (asked : LogoutRequest) (peer : LogoutPeer) (relay : Option (List ℕ)) (r : Round) (bytes : List ℕ)
       → route request ≡ To SingleLogout → AsksToEnd setup request now asked peer relay
       → is_empty (ending_by held now peer.peer.entity asked) ≡ false
       → asks_others setup held (Some (asker_of peer asked relay)) (ending_by held now peer.peer.entity asked) ≡ true
-      → round_by setup held now (Some (asker_of peer asked relay)) (ending_by held now peer.peer.entity asked) ≡ kinds.Round r
-      → adds ≡ Some (kinds.Round r) → AsksFirst setup r now bytes → answer ≡ Full bytes → Answers setup held request now answer adds
+      → round_by setup held now (Some (asker_of peer asked relay))
+      (ending_by held now peer.peer.entity asked) ≡ kinds.Round r
+      → adds ≡ Some (kinds.Round r) → AsksFirst setup r now bytes → answer ≡ Full bytes
+      → Answers setup held request now answer adds
   -- the provider replies whose turn it is in a round: the next one is asked, or the round ends
-  ByTold : (response : LogoutResponse) (peer : LogoutPeer) (row : RoundRow) (r : Told) (bytes : List ℕ) → route request ≡ To SingleLogout
-      → RepliesTo setup request now response peer → round_waiting setup held now response.request peer.peer.entity ≡ Some row
-      → told_by setup held now response.request (not (is_in_part response.outcome)) row ≡ kinds.Told r → adds ≡ Some (kinds.Told r)
+  ByTold : (response : LogoutResponse) (peer : LogoutPeer) (row : RoundRow) (r : Told) (bytes : List ℕ)
+      → route request ≡ To SingleLogout
+      → RepliesTo setup request now response peer → round_waiting setup held now response.request
+      peer.peer.entity ≡ Some row
+      → told_by setup held now response.request (not (is_in_part response.outcome)) row ≡ kinds.Told r
+      → adds ≡ Some (kinds.Told r)
       → IsToldAnswer setup row (not (is_in_part response.outcome)) r now bytes → answer ≡ Full bytes
       → Answers setup held request now answer adds
   -- a peer replies to a logout that does not wait for a reply
   ByUnknownLogout : (response : LogoutResponse) (peer : LogoutPeer) → route request ≡ To SingleLogout
-      → RepliesTo setup request now response peer → round_waiting setup held now response.request peer.peer.entity ≡ None
+      → RepliesTo setup request now response peer → round_waiting setup held now response.request
+      peer.peer.entity ≡ None
       → is_awaited held now response.request ≡ false → answer ≡ Fixed (number_of verdicts.UnknownLogout) → adds ≡ None
       → Answers setup held request now answer adds
   -- it does, and the logout is over
   ByConfirming : (response : LogoutResponse) (peer : LogoutPeer) → route request ≡ To SingleLogout
-      → RepliesTo setup request now response peer → round_waiting setup held now response.request peer.peer.entity ≡ None
+      → RepliesTo setup request now response peer → round_waiting setup held now response.request
+      peer.peer.entity ≡ None
       → is_awaited held now response.request ≡ true → adds ≡ Some (confirmed now response.request)
       → answer ≡ Full (end_answer (is_in_part response.outcome)) → Answers setup held request now answer adds
 
 -- ---- one request
-
--- What is done at a request over the ledger that it finds: the request and the moment; whether the disk's count of faults rose;
--- the answer; the provider before and after.
-abbrev pub Serves : (found : Held) (request : Request) (now : ℕ) (Risen : Type 0) (answer : Answer) (old new : Provider) → Type 0
-Serves = any.Serves idp_rules Answers
-
--- The step of a provider at one request. A ledger that is broken is opened again first.
-abbrev pub Steps : (old : Provider) (disk : Option DiskState) (request : Request) (now : ℕ) (Risen : Type 0) (answer : Answer) (new : Provider) → Type 0
-Steps = any.Steps idp_rules Answers
-
--- And in the same case which changing calls it makes on its disk, with what this tells behind it.
-abbrev pub StepsOnDisk : (old : Provider) (disk : Option DiskState) (request : Request) (now : ℕ) (Risen : Type 0)
-    (answer : Answer) (new : Provider)
-    (later : Option DiskState) → Type 0
-StepsOnDisk = any.StepsOnDisk idp_rules Answers
-
--- What a crash while a request is served over a ledger may leave, amid the calls on its disk: this ledger, or it after
--- the one compaction, and either with the record that the request adds.
-abbrev pub ServingLeaves : (setup : IdpConfig) (found : Held) (request : Request) (now : ℕ) (told : Option DiskState)
-    (image : Image) → Type 0
-ServingLeaves = any.ServingLeaves idp_rules Answers
-
--- What a crash at a moment of a request may leave: that, and while a broken ledger is opened again what the disk stood for, or what is
--- opened from it.
-abbrev pub StepLeaves : (old : Provider) (disk : Option DiskState) (request : Request) (now : ℕ) (image : Image) → Type 0
-StepLeaves = any.StepLeaves idp_rules Answers
-
--- the disk is the provider's own
-abbrev pub OwnsDisk : Provider → Option DiskState → Type 0
-OwnsDisk = any.OwnsDisk idp_rules

@@ -39,7 +39,8 @@ fn statement_of(issued: &Issued) -> Statement<'_>
 }
 
 impl IdpRole {
-    /// The answer with the Assertion of a record, for the peer at this place, which sets this cookie where there is one.
+    /// The answer with the Assertion of a record, for the peer at this place, which sets this cookie where there is
+    /// one.
     fn assertion_page(
         &self,
         entry: &IdpRecord,
@@ -50,7 +51,8 @@ impl IdpRole {
         requires moment { now ≤ LAST }
         requires shown { HasAssertion self.now peer entry.now }
         requires cookie { ForSome cookie (λ token. IsTrue (is_one_line token.now)) }
-        ensures { IfOk result (λ bytes. IsAssertionPage self.now peer (option_map (λ text. text.now) cookie.entry) entry.now now (Full bytes)) }
+        ensures { IfOk result (λ bytes. IsAssertionPage self.now peer (option_map (λ text. text.now) cookie.entry)
+            entry.now now (Full bytes)) }
     {
         let issued = issued(entry);
         let statement = statement_of(issued);
@@ -85,7 +87,8 @@ impl IdpRole {
         )
     }
 
-    /// The answer to this user, who leaves the session with this index: a request to the peer of the record, where it is known.
+    /// The answer to this user, who leaves the session with this index: a request to the peer of the record, where it
+    /// is known.
     fn leaving_page(
         &self,
         entry: &IdpRecord,

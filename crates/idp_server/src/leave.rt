@@ -35,7 +35,8 @@ impl IdpRole {
         requires moment { now ≤ LAST }
         requires route { route (request_view request.now) ≡ To Logout }
         ensures reply { IfOk result (Wants self.now ledger.now.held (request_view request.now) now) }
-        ensures refused { IfErr result (IsJudged (λ verdict. Answers self.now ledger.now.held (request_view request.now) now (Fixed (number_of verdict)) None)) }
+        ensures refused { IfErr result (IsJudged (λ verdict. Answers self.now ledger.now.held (request_view request.now)
+            now (Fixed (number_of verdict)) None)) }
     {
         let _usable = &self.config;
         what_is_recorded_may_stand();

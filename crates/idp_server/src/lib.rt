@@ -14,15 +14,15 @@
 //! | POST `/slo` | the verdict on the posted form; to a LogoutRequest a form with a LogoutResponse, where there are sessions to end, else code 33; to a LogoutResponse the page at the end of the logout that it replies to, else code 34 |
 //! | GET `/metadata` | the metadata of the provider |
 //!
-//! Where the config has `fanout`, a logout asks each other provider to which an Assertion was issued in the sessions that it
-//! ends, one after the other: the answer to POST `/logout` and to a LogoutRequest is then a form with a LogoutRequest to the
-//! first of them, and to the LogoutResponse of each the form to the next one; behind the last answer it is the
-//! LogoutResponse to the provider that asked, or the page at the end. It says Success exactly where each confirmed and none
-//! was skipped. The sessions are ended before the first is asked.
+//! Where the config has `fanout`, a logout asks each other provider to which an Assertion was issued in the sessions
+//! that it ends, one after the other: the answer to POST `/logout` and to a LogoutRequest is then a form with a
+//! LogoutRequest to the first of them, and to the LogoutResponse of each the form to the next one; behind the last
+//! answer it is the LogoutResponse to the provider that asked, or the page at the end. It says Success exactly where
+//! each confirmed and none was skipped. The sessions are ended before the first is asked.
 //!
-//! What one request does is one definition, `Steps` of `specs/Step.antt`, by the named cases of `provider_node`: nothing
-//! is recorded; a record is added; it is added after one compaction that made room; there is no room (code 51); the
-//! disk failed (50); it holds no ledger (53); there was no memory (52). What is answered, and with which record, is
+//! What one request does is one definition, `Steps` of `specs/Step.antt`, by the named cases of `provider_node`:
+//! nothing is recorded; a record is added; it is added after one compaction that made room; there is no room (code 51);
+//! the disk failed (50); it holds no ledger (53); there was no memory (52). What is answered, and with which record, is
 //! `Answers`. An answer that stands for a record is sent only where the record is in every image that a crash may
 //! leave. All pages are made before the record is written, so from then on only the disk can refuse.
 //!
@@ -42,17 +42,17 @@
 //! Success exactly where each confirmed. Records, codes 50 to 53, crashes, `start`, `restart` and `compact` as at the
 //! service provider. Laws: each Assertion is issued to a user whose password was posted for a login that was pending
 //! and unused, or in the user's live session (`each_issue_has_a_password_or_a_session`); whatever is answered to a
-//! request for a login stands for a record that is in every image that a crash may leave behind the step
-//! (`what_is_answered_is_recorded`); each signed element in an answer, those of a logout too, is one that its record
-//! stands for (`each_signed_element_is_of_a_record`); a session is ended only where its user leaves it or a peer asks
-//! to end it that it issued to, and wherever one does, where there is room, at once or behind one compaction, the disk
-//! does not fail and memory is found (`a_session_is_ended_exactly`); where the disk tells, what an answer acknowledged
-//! is in the history of every ledger that a crash may leave, and in none of these a session lives that was ended
-//! (`what_is_acknowledged_is_kept`); over each list of starts the first half holds
+//! request for a login or a message of a logout stands for a record that is in every image that a crash may leave
+//! behind the step (`what_is_answered_is_recorded`); each signed element in an answer, those of a logout too, is one
+//! that its record stands for (`each_signed_element_is_of_a_record`); a session is ended only where its user leaves it
+//! or a peer asks to end it that it issued to, and wherever one does, where there is room, at once or behind one
+//! compaction, the disk does not fail and memory is found (`a_session_is_ended_exactly`); where the disk tells, what an
+//! answer acknowledged is in the history of every ledger that a crash may leave, and in none of these a session lives
+//! that was ended (`what_is_acknowledged_is_kept`); over each list of starts the first half holds
 //! (`what_is_acknowledged_is_kept_over_starts`), and a session that was ended at their start is live in no ledger that
 //! may be opened behind them (`sessions_stay_ended_over_starts`); a session that is ended is live at no later request
-//! (`sessions_stay_ended_in_a_service`); what is answered to a logout is recorded
-//! (`what_is_answered_to_a_logout_is_recorded`); a session whose answer went out is found as it was left
+//! (`sessions_stay_ended_in_a_service`), and each that a record ends is ended before the answer is sent
+//! (`sessions_end_before_the_answer`); a session whose answer went out is found as it was left
 //! (`what_was_begun_is_as_left`, `sessions_stay_in_a_service`, `sessions_stay_over_starts`), and at 52 what was visible
 //! is, where the ledger was not broken (`what_is_visible_stays`). Of a logout that asks all others: the answer that
 //! begins it asks the provider of the first turn, each later one that of the next turn or, where that is no peer any

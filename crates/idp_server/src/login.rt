@@ -1,18 +1,17 @@
 //! POST of the page where a user logs in.
-ghost use Rattle.std.specs.Prelude.{◌≡◌, ◌≤◌, ◌+◌, ◌∷◌, [], min, codes, true, IfErr, IfOk, None, Some};
+ghost use Rattle.std.specs.Prelude.{◌≡◌, ◌≤◌, ◌∷◌, [], codes, IfErr, IfOk, None, Some};
 ghost use Rattle.fault_verdicts.specs.Judging.{IsJudged};
 ghost use Rattle.http_wire.specs.Views.{request_view};
 ghost use Rattle.http_wire.specs.declared.answer.Answer.TheVariants.{Fixed};
 ghost use Rattle.post_binding.specs.Form.{fields};
 ghost use Rattle.saml_time.specs.declared.TheConstants.{LAST};
 ghost use Rattle.verdict_codes.specs.Codes.{number_of};
-ghost use Rattle.ledger_rules.specs.Numbers.{is_xml_text};
 ghost use Rattle.idp_ledger.specs.Drafts.{SESSION_LIFE};
 ghost use Rattle.service_routes.specs.declared.route.Route.TheVariants.{To};
 ghost use Rattle.idp_server.specs.declared.route.Service.TheVariants.{Login};
 ghost use Rattle.idp_server.specs.Routes.{route};
 ghost use Rattle.idp_server.specs.Step.{Answers};
-ghost use Rattle.idp_server.specs.Replies.{AreTold, IsTextPending, Wants};
+ghost use Rattle.idp_server.specs.Replies.{Wants};
 
 use crate::reply::Reply;
 use crate::role::IdpRole;
@@ -51,9 +50,11 @@ impl IdpRole {
     ) -> Result<Reply, Judged>
         requires moment { now ≤ LAST }
         requires route { route (request_view request.now) ≡ To Login }
-        requires given { fields request.now.body.now (codes "pending" ∷ codes "user" ∷ codes "password" ∷ []) ≡ Some given.now }
+        requires given { fields request.now.body.now (codes "pending" ∷ codes "user" ∷ codes "password" ∷ []) ≡ Some
+            given.now }
         ensures reply { IfOk result (Wants self.now ledger.now.held (request_view request.now) now) }
-        ensures refused { IfErr result (IsJudged (λ verdict. Answers self.now ledger.now.held (request_view request.now) now (Fixed (number_of verdict)) None)) }
+        ensures refused { IfErr result (IsJudged (λ verdict. Answers self.now ledger.now.held (request_view request.now)
+            now (Fixed (number_of verdict)) None)) }
     {
         what_is_recorded_may_stand();
         each_moment_is_told();
@@ -81,8 +82,9 @@ impl IdpRole {
     ///
     /// # Errors
     ///
-    /// `BadForm` where it is no such page, `NoSuchPending` where the login is not pending or its peer is not known any more,
-    /// `LoginRefused` where no user has this name and this password. `NoMemory` may come in place of any other answer.
+    /// `BadForm` where it is no such page, `NoSuchPending` where the login is not pending or its peer is not known any
+    /// more, `LoginRefused` where no user has this name and this password. `NoMemory` may come in place of any other
+    /// answer.
     pub(crate) fn log_in(
         &self,
         ledger: &IdpLedger,
@@ -92,7 +94,8 @@ impl IdpRole {
         requires moment { now ≤ LAST }
         requires route { route (request_view request.now) ≡ To Login }
         ensures reply { IfOk result (Wants self.now ledger.now.held (request_view request.now) now) }
-        ensures refused { IfErr result (IsJudged (λ verdict. Answers self.now ledger.now.held (request_view request.now) now (Fixed (number_of verdict)) None)) }
+        ensures refused { IfErr result (IsJudged (λ verdict. Answers self.now ledger.now.held (request_view request.now)
+            now (Fixed (number_of verdict)) None)) }
     {
         let names = field_names(self.alloc)?;
         match read_fields(self.alloc, request.body, &names)? {

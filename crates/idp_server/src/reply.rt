@@ -1,5 +1,5 @@
 //! How a request is replied to with a record.
-ghost use Rattle.std.specs.Prelude.{◌≡◌, ◌≤◌, IfSome, IsSome};
+ghost use Rattle.std.specs.Prelude.{◌≤◌, IfSome, IsSome};
 ghost use Rattle.saml_time.specs.declared.TheConstants.{LAST};
 ghost use Rattle.idp_ledger.specs.Drafts.{DraftsSome};
 ghost use Rattle.record_ledger.specs.Drafts.{SameLedger};
@@ -57,7 +57,8 @@ pub enum Reply {
         request: Text,
         partial: bool,
     },
-    /// A LogoutRequest to the first of those whom the plan asks, as the sessions of these cookies end (SAML Profiles, 4.4.3.3).
+    /// A LogoutRequest to the first of those whom the plan asks, as the sessions of these cookies end (SAML Profiles,
+    /// 4.4.3.3).
     AskAll {
         cookies: Texts,
         asker: Option<Asker>,
@@ -77,8 +78,8 @@ pub enum Reply {
 pub enum Follows {
     /// A LogoutRequest to the provider of this turn (SAML Profiles, 4.4.3.3).
     Turn(Turn),
-    /// Each has answered: a LogoutResponse of this ID to the provider that asked for the logout (SAML Profiles, 4.4.3.4), or the
-    /// page at the end where none did. `partial` where not each confirmed, or some were not asked.
+    /// Each has answered: a LogoutResponse of this ID to the provider that asked for the logout (SAML Profiles,
+    /// 4.4.3.4), or the page at the end where none did. `partial` where not each confirmed, or some were not asked.
     End {
         message: Text,
         asker: Option<Asker>,

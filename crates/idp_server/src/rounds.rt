@@ -1,4 +1,5 @@
-//! Logouts at which each other provider is asked in turn (SAML Profiles, 4.4.3.3): what is replied, and the pages of it.
+//! Logouts at which each other provider is asked in turn (SAML Profiles, 4.4.3.3): what is replied, and the pages of
+//! it.
 ghost use Rattle.std.specs.Prelude.{◌≡◌, ◌≤◌, ◌<◌, [], ◌∷◌, true, length, IfOk, IfSome, None, Some, option_copied};
 ghost use Rattle.std.specs.Option.{is_some};
 ghost use Rattle.http_wire.specs.declared.answer.Answer.TheVariants.{Full};
@@ -88,8 +89,10 @@ impl IdpRole {
     ) -> Result<Option<Plan>, NoMemory>
         requires fanout { self.now.fanout ≡ true }
         ensures some { IfOk result (λ plan. is_some plan ≡ asks_others self.now ledger.now.held asker.now cookies.now) }
-        ensures turns { IfOk result (λ plan. IfSome plan (λ p. p.turns ≡ turns_for self.now ledger.now.held asker.now cookies.now)) }
-        ensures skipped { IfOk result (λ plan. IfSome plan (λ p. p.skipped ≡ skips_for self.now ledger.now.held asker.now cookies.now)) }
+        ensures turns { IfOk result (λ plan. IfSome plan
+            (λ p. p.turns ≡ turns_for self.now ledger.now.held asker.now cookies.now)) }
+        ensures skipped { IfOk result (λ plan. IfSome plan
+            (λ p. p.skipped ≡ skips_for self.now ledger.now.held asker.now cookies.now)) }
     {
         let parts = parts(ledger, cookies)?;
         let peers = self.config.peers.as_slice();
@@ -101,8 +104,8 @@ impl IdpRole {
         }
     }
 
-    /// The reply that asks all others where the sessions of these cookies end; none where nobody is asked, and then the provider that
-    /// asks and the cookies are let go.
+    /// The reply that asks all others where the sessions of these cookies end; none where nobody is asked, and then the
+    /// provider that asks and the cookies are let go.
     fn ask_all(
         &self,
         ledger: &IdpLedger,
@@ -124,7 +127,8 @@ impl IdpRole {
         }))
     }
 
-    /// The same where a user leaves the session of this cookie; none where the provider is not set up to ask others, too.
+    /// The same where a user leaves the session of this cookie; none where the provider is not set up to ask others,
+    /// too.
     pub(crate) fn ask_for_user(
         &self,
         ledger: &IdpLedger,
@@ -148,7 +152,9 @@ impl IdpRole {
         relay: &Option<Text>,
         now: u64,
     ) -> Result<Option<Reply>, NoMemory>
-        ensures { IfOk result (IsAskAll self.now ledger.now.held (Some (record { peer = name.now; request = asked.now.id; relay = relay.now })) (ending_by ledger.now.held now name.now asked.now)) }
+        ensures { IfOk result (IsAskAll self.now ledger.now.held
+            (Some (record { peer = name.now; request = asked.now.id; relay = relay.now }))
+            (ending_by ledger.now.held now name.now asked.now)) }
     {
         if !self.config.fanout {
             return Ok(None);
@@ -199,7 +205,8 @@ impl IdpRole {
     fn request_page(&self, turn: &Turn, id: &str, now: u64) -> Result<Blob, NoMemory>
         requires moment { now ≤ LAST }
         requires shown { CanAsk self.now turn.now id.now }
-        ensures { IfOk result (λ bytes. IsRequestTo self.now turn.now.peer id.now turn.now.name turn.now.indexes now bytes) }
+        ensures { IfOk result (λ bytes. IsRequestTo self.now turn.now.peer id.now turn.now.name turn.now.indexes now
+            bytes) }
     {
         let Some(place) = self.config.peers.place_of(turn.peer.as_str()) else {
             return end_answer(self.alloc, true);

@@ -1,12 +1,10 @@
 //! POST of a form at the address for sign-on.
-ghost use Rattle.std.specs.Prelude.{◌≡◌, ◌≤◌, ◌<◌, length, slice_get, true, IfErr, IfOk, None, Some, option_copied, if◌then◌else◌};
+ghost use Rattle.std.specs.Prelude.{◌≡◌, ◌≤◌, ◌<◌, length, slice_get, IfErr, IfOk, None, Some, option_copied, if◌then◌else◌};
 ghost use Rattle.fault_verdicts.specs.Judging.{IsJudged};
 ghost use Rattle.http_wire.specs.Views.{request_view};
 ghost use Rattle.http_wire.specs.declared.answer.Answer.TheVariants.{Fixed};
 ghost use Rattle.saml_time.specs.declared.TheConstants.{LAST};
 ghost use Rattle.verdict_codes.specs.Codes.{number_of};
-ghost use Rattle.ledger_rules.specs.Numbers.{is_xml_text};
-ghost use Rattle.idp_ledger.specs.Drafts.{AreXmlAttributes};
 ghost use Rattle.peer_keys.specs.declared.peers.LogoutPeer.{LogoutPeer};
 ghost use Rattle.idp_rules.specs.Asking.{IsAsked};
 ghost use Rattle.idp_rules.specs.Config.{sign_on};
@@ -15,7 +13,7 @@ ghost use Rattle.service_routes.specs.declared.route.Route.TheVariants.{To};
 ghost use Rattle.idp_server.specs.declared.route.Service.TheVariants.{SignOn};
 ghost use Rattle.idp_server.specs.Routes.{route};
 ghost use Rattle.idp_server.specs.Step.{Answers, ask_of, session_for};
-ghost use Rattle.idp_server.specs.Replies.{AreTold, IsTextAsk, IsTextSession, Wants};
+ghost use Rattle.idp_server.specs.Replies.{Wants};
 
 use crate::reply::Reply;
 use crate::role::IdpRole;
@@ -49,7 +47,8 @@ fn session_used<'a>(
     request: &HttpRequest<'_>,
     now: u64,
 ) -> Option<&'a SessionRow>
-    ensures { option_copied result ≡ (if force then None else session_for ledger.now.held now (request_view request.now)) }
+    ensures { option_copied result ≡ (if force then None else session_for ledger.now.held now
+        (request_view request.now)) }
 {
     if force {
         return None;
@@ -61,7 +60,8 @@ impl IdpRole {
     /// What is asked of the ledger.
     fn ask_of(&self, asked: Asked) -> Result<Ask, NoMemory>
         requires { asked.peer < length self.now.peers }
-        ensures { IfOk result (λ ask. (peer : LogoutPeer) → slice_get self.now.peers asked.peer ≡ Some peer → ask ≡ ask_of asked peer) }
+        ensures { IfOk result (λ ask. (peer : LogoutPeer) → slice_get self.now.peers asked.peer ≡ Some peer
+            → ask ≡ ask_of asked peer) }
     {
         let peer = self.config.peers.at(asked.peer).peer.entity.copy()?;
         Ok(Ask {
@@ -134,7 +134,8 @@ impl IdpRole {
         requires moment { now ≤ LAST }
         requires route { route (request_view request.now) ≡ To SignOn }
         ensures reply { IfOk result (Wants self.now ledger.now.held (request_view request.now) now) }
-        ensures refused { IfErr result (IsJudged (λ verdict. Answers self.now ledger.now.held (request_view request.now) now (Fixed (number_of verdict)) None)) }
+        ensures refused { IfErr result (IsJudged (λ verdict. Answers self.now ledger.now.held (request_view request.now)
+            now (Fixed (number_of verdict)) None)) }
     {
         match self.asked_by(request) {
             Ok(asked) => Ok(self.reply_to(ledger, request, asked, now)?),

@@ -4,7 +4,6 @@ ghost use Rattle.fault_verdicts.specs.Judging.{IsJudged};
 ghost use Rattle.http_wire.specs.Views.{request_view};
 ghost use Rattle.saml_time.specs.declared.TheConstants.{LAST};
 ghost use Rattle.logout_profile.specs.declared.logout.Logout.TheVariants as messages;
-ghost use Rattle.idp_rules.specs.Config.{logout};
 ghost use Rattle.service_routes.specs.declared.route.Route.TheVariants.{To};
 ghost use Rattle.idp_server.specs.declared.route.Service.TheVariants.{SingleLogout};
 ghost use Rattle.idp_server.specs.Routes.{route};

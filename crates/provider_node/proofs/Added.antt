@@ -1,6 +1,7 @@
 -- That what stands anew in a ledger is of the request.
 use Rattle.std.specs.Prelude.{Contains, IfSome, IsSome, Option, None, Some, Result, Ok, if◌then◌else◌, ◌==◌}
-use Rattle.std.proofs.Common.{◌≡◌, ◌⊎◌, inl, inr, ℕ, zero, suc, ◌+◌, Bool, true, false, List, [], ◌∷◌, sym, subst, refl, ap, ◌∙◌, arith}
+use Rattle.std.proofs.Common.{◌≡◌, ◌⊎◌, ⊎_elim, inl, inr, ℕ, zero, suc, ◌+◌, Bool, true, false, List, [], ◌∷◌, sym}
+use Rattle.std.proofs.Common.{subst, refl, ap, ◌∙◌, arith}
 use Rattle.std.proofs.lemmas.List.Elements.{Contains-append_cases}
 use Rattle.crash_disk.specs.Disk.{Image, DiskState, MayLeave, image_of}
 use Rattle.crash_disk.specs.Torn.{other_file}
@@ -11,13 +12,13 @@ use Rattle.record_ledger.specs.Rules.{RecordRules}
 use Rattle.record_ledger.specs.Ledger.{Held, IsWithOrWithout, LeftByOpening, held_with, ledger_in, migrated, taken}
 use Rattle.record_ledger.specs.Compacting.{Compacts}
 use Rattle.provider_node.specs.Added.{IsAddedBy, IsNew, WhatIsNewIsOfTheRequest}
-use Rattle.provider_node.specs.Calls.{MakesCompaction}
-use Rattle.provider_node.specs.Step.{Adding, AnswersBy, AtFirst, InCommit, InCompaction, InLedger, InOpened, InOpening, MakesRoom, Provider, ServingLeaves}
+use Rattle.provider_node.specs.Step.{Adding, AnswersBy, AtFirst, InCommit, InCompaction, InLedger, InOpened, InOpening}
+use Rattle.provider_node.specs.Step.{Provider, ServingLeaves}
 
 -- ---- what is kept stood there
 
-among_selected : {R : Type 0} (flags : List Bool) (items : List R) (r : R) → Contains (selected flags items) r
-    → Contains items r
+among_selected : {R : Type 0} (flags : List Bool) (items : List R) (r : R)
+    → Contains (selected flags items) r → Contains items r
 among_selected [] items r there = absurd (omega (arith, there.1))
 among_selected (flag ∷ flags) [] r there = absurd (omega (arith, there.1))
 among_selected (true ∷ flags) (item ∷ items) r (zero, less, is) = (0, omega arith, is)
@@ -34,50 +35,40 @@ among_compacted rules now old new r (inr (less, made)) there =
     among_selected made.records.flags old.records r (subst (λ (l : List _). Contains l r) made.records.are there)
 
 -- a migration leaves the records
-pub migrated_records : {R : Type 0} (held : Held R) (b : Bool)
-    → (if b
-    then record held {
-      file = other_file held.file;
-      version = 2;
-      header = record (held.header)
-          { generation = held.header.generation + 1 };
-    }
-    else held).records ≡ held.records
+pub migrated_records : {R : Type 0} (held : Held R) (b : Bool) → (if b then record held {
+  file = other_file held.file;
+  version = 2;
+  header = record (held.header) { generation = held.header.generation + 1 };
+} else held).records ≡ held.records
 migrated_records held true = refl
 migrated_records held false = refl
 
 -- what stands in the one ledger that is found stands in the other
-in_found : {R : Type 0} (found : Result (Option (Held R)) Fault) (held other : Held R) (r : R) → found ≡ Ok (Some held)
-    → found ≡ Ok (Some other) → Contains held.records r → Contains other.records r
+in_found : {R : Type 0} (found : Result (Option (Held R)) Fault) (held other : Held R) (r : R)
+    → found ≡ Ok (Some held) → found ≡ Ok (Some other) → Contains held.records r → Contains other.records r
 in_found found held other r is also there =
     subst (λ (h : Held _). Contains h.records r) (let same : held ≡ other = cc in same) there
 
 -- ---- a record that stands there
 
-module _ {Setup R : Type 0} (rules : RecordRules R) (Answers : AnswersBy Setup R) (setup : Setup) (request : Request)
-    (now : ℕ) (r : R) where
+module _ {Setup R : Type 0}
+    (rules : RecordRules R) (Answers : AnswersBy Setup R) (setup : Setup) (request : Request) (now : ℕ) (r : R) where
   abbrev Is : Type 0
   Is = IsAddedBy Answers setup request now r
 
   -- of a request that is served over a ledger
-  module _ (found : Held R) (told : Option DiskState) (image : Image) (held : Held R)
-      (is : ledger_in rules image ≡ Ok (Some held)) (there : Contains held.records r) where
-    in_over : (one : Adding rules Answers setup found request now told) → Contains one.held.records r
-        → Contains found.records r
-    in_over one stands = of_case one.over
-      where
-        of_case : ((one.held ≡ found) × (one.disk ≡ told)) ⊎
-            (MakesRoom rules Answers setup found request now one.held × MakesCompaction rules now found told one.disk)
-            → Contains found.records r
-        of_case (inl (same, disk)) = subst (λ (h : Held R). Contains h.records r) same stands
-        of_case (inr (room, calls)) = among_compacted rules now found one.held r room.made stands
+  module _ (found : Held R) (told : Option DiskState) (image : Image)
+      (held : Held R) (is : ledger_in rules image ≡ Ok (Some held)) (there : Contains held.records r) where
+    in_over : (one : Adding rules Answers setup found request now told)
+        → Contains one.held.records r → Contains found.records r
+    in_over one stands = ⊎_elim (λ (same, disk). subst (λ (h : Held R). Contains h.records r) same stands)
+        (λ (room, calls). among_compacted rules now found one.held r room.made stands) one.over
 
-    in_commit : (one : Adding rules Answers setup found request now told) → IsWithOrWithout rules one.r one.held image
-        → Contains found.records r ⊎ Is
+    in_commit : (one : Adding rules Answers setup found request now told)
+        → IsWithOrWithout rules one.r one.held image → Contains found.records r ⊎ Is
     in_commit one (inl same) = inl (in_over one (in_found (ledger_in rules image) held one.held r is same there))
-    in_commit one (inr with) =
-        of_case (Contains-append_cases one.held.records (one.r ∷ []) r
-        (in_found (ledger_in rules image) held (held_with one.r one.held) r is with there))
+    in_commit one (inr with) = of_case (Contains-append_cases one.held.records
+        (one.r ∷ []) r (in_found (ledger_in rules image) held (held_with one.r one.held) r is with there))
       where
         of_case : Contains one.held.records r ⊎ Contains (one.r ∷ []) r → Contains found.records r ⊎ Is
         of_case (inl before) = inl (in_over one before)
@@ -85,37 +76,28 @@ module _ {Setup R : Type 0} (rules : RecordRules R) (Answers : AnswersBy Setup R
             inr (record {
               held = one.held;
               answer = one.answer;
-              adds = subst
-                  (λ (x : R). Answers setup one.held request now one.answer (Some x)) same one.adds;
+              adds = subst (λ (x : R). Answers setup one.held request now one.answer (Some x)) same one.adds;
             })
         of_case (inr (suc k, less, same)) = absurd (omega (arith, less))
 
     in_serving : ServingLeaves rules Answers setup found request now told image → Contains found.records r ⊎ Is
     in_serving (AtFirst same may) = inl (in_found (ledger_in rules image) held found r is same there)
     in_serving (InCompaction (inl same) amid) = inl (in_found (ledger_in rules image) held found r is same there)
-    in_serving (InCompaction (inr (made, room, same)) amid) =
-        inl (among_compacted rules now found made r room.made
-        (in_found (ledger_in rules image) held made r is same there))
+    in_serving (InCompaction (inr (made, room, same)) amid) = inl
+        (among_compacted rules now found made r room.made (in_found (ledger_in rules image) held made r is same there))
     in_serving (InCommit one left) = in_commit one left.stands
-
--- it stood there before
-either : {A B : Type 0} → ¬ A → A ⊎ B → B
-either none (inl a) = absurd (none a)
-either none (inr b) = b
 
 module _ {Setup R : Type 0} (rules : RecordRules R) (Answers : AnswersBy Setup R) where
   -- in a ledger that is opened from the disk
-  on_told : (old : Provider Setup R) (disk : Option DiskState) (found : Held R) (r : R) → IsSome disk
-      → IfSome disk (λ d. MayLeave d (image_of d)) → old.ledger.broken ≡ true
-      → IfSome disk (λ d. taken (ledger_in rules (image_of d)) ≡ Ok found) → IsNew rules old disk r
-      → ¬ (Contains found.records r)
+  on_told : (old : Provider Setup R) (disk : Option DiskState) (found : Held R) (r : R)
+      → IsSome disk → IfSome disk (λ d. MayLeave d (image_of d)) → old.ledger.broken ≡ true → IfSome disk
+      (λ d. taken (ledger_in rules (image_of d)) ≡ Ok found) → IsNew rules old disk r → ¬ (Contains found.records r)
   on_told old None found r tells reads broken is new = cc
   on_told old (Some d) found r tells reads broken is new = new.on_disk broken (image_of d) found reads is
 
-  in_opening : (old : Provider Setup R) (disk : Option DiskState) (image : Image) (held : Held R) (r : R) → IsSome disk
-      → old.ledger.broken ≡ true
-      → ledger_in rules image ≡ Ok (Some held) → LeftByOpening rules disk image → Contains held.records r
-      → IsNew rules old disk r → ⊥
+  in_opening : (old : Provider Setup R) (disk : Option DiskState) (image : Image) (held : Held R) (r : R)
+      → IsSome disk → old.ledger.broken ≡ true → ledger_in rules image ≡ Ok (Some held)
+      → LeftByOpening rules disk image → Contains held.records r → IsNew rules old disk r → ⊥
   in_opening old None image held r tells broken is left there new = cc
   in_opening old (Some d) image held r tells broken is (first, may, inl same) there new =
       new.on_disk broken first (migrated held) may (ap taken (sym same ∙ is))
@@ -125,11 +107,11 @@ module _ {Setup R : Type 0} (rules : RecordRules R) (Answers : AnswersBy Setup R
 
   pub new_is_of_the_request : WhatIsNewIsOfTheRequest rules Answers
   new_is_of_the_request old disk request now image held r tells reads (InLedger whole left) is there new =
-      either (new.in_ledger whole) (in_serving rules Answers old.setup request now r old.ledger.held disk image held is
-      there left)
-  new_is_of_the_request old disk request now image held r tells reads (InOpened found opened broken stands made left)
-      is there new =
-      either (on_told old disk found r tells reads broken stands new)
-      (in_serving rules Answers old.setup request now r found opened image held is there left)
+      ⊎_elim (λ stood. absurd (new.in_ledger whole stood))
+      (λ is. is) (in_serving rules Answers old.setup request now r old.ledger.held disk image held is there left)
+  new_is_of_the_request old disk request now image held r tells reads
+      (InOpened found opened broken stands made left) is there new =
+      ⊎_elim (λ stood. absurd (on_told old disk found r tells reads broken stands new stood))
+      (λ is. is) (in_serving rules Answers old.setup request now r found opened image held is there left)
   new_is_of_the_request old disk request now image held r tells reads (InOpening broken left) is there new =
       absurd (in_opening old disk image held r tells broken is left.stands there new)

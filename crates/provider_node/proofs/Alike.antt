@@ -6,11 +6,10 @@ use Rattle.record_ledger.specs.Ledger.{Held}
 use Rattle.record_ledger.specs.Compacting.{Compacts, IsCompacted}
 
 -- from the moment of a compaction on all that may be asked of the rows is answered alike
-abbrev pub CompactionsAnswerAlike : {R : Type 0} → RecordRules R
-    → (AnswerAlike : (now : ℕ) → (one other : Held R) → Type 0) → Type 0
-CompactionsAnswerAlike {R} rules AnswerAlike =
-    (now later : ℕ) (old new : Held R) → AreRecords rules old.records → IsCompacted rules now old new → now ≤ later
-    → AnswerAlike later new old
+abbrev pub CompactionsAnswerAlike : {R : Type 0}
+    → RecordRules R → (AnswerAlike : (now : ℕ) → (one other : Held R) → Type 0) → Type 0
+CompactionsAnswerAlike {R} rules AnswerAlike = (now later : ℕ) (old new : Held R) → AreRecords rules old.records
+    → IsCompacted rules now old new → now ≤ later → AnswerAlike later new old
 
 pub alike : {R : Type 0} (rules : RecordRules R) (AnswerAlike : (now : ℕ) → (one other : Held R) → Type 0)
     → ((now : ℕ) (held : Held R) → AnswerAlike now held held) → CompactionsAnswerAlike rules AnswerAlike
@@ -20,7 +19,7 @@ alike {R} rules AnswerAlike itself law now old new are (inl same) =
 alike rules AnswerAlike itself law now old new are (inr made) = law now now old new are made.1 (omega arith)
 
 -- what follows a text, where there is one, is the same where it is so for each
-pub followed_alike : {A B : Type 0} (one other : A → Option B) (o : Option A) → ((a : A) → one a ≡ other a)
-    → option_and_then one o ≡ option_and_then other o
+pub followed_alike : {A B : Type 0} (one other : A → Option B) (o : Option A)
+    → ((a : A) → one a ≡ other a) → option_and_then one o ≡ option_and_then other o
 followed_alike one other None each = refl
 followed_alike one other (Some a) each = each a

@@ -16,20 +16,24 @@ seen_same old new same = λ i. record { held = same.held i; key = same.key i; br
 
 module _ {R S : Type 0} (rules : RecordRules R) (row_rules : RowRules R S) where
   -- there is room for what is drafted
-  place_of : (old new : OpenedLedger R S) (r drafted : R) → SameLedger old new → IsDraftOf rules row_rules old new r drafted → HasPlace rules old.held drafted
-  place_of old new r drafted same is =
-      subst (λ (x : R). HasPlace rules old.held x) (sym is.is) (record { few = is.few; fits = subst (λ (h : Held R). IsFitting rules h r) same.held is.can.fits })
+  place_of : (old new : OpenedLedger R S) (r drafted : R)
+      → SameLedger old new → IsDraftOf rules row_rules old new r drafted → HasPlace rules old.held drafted
+  place_of old new r drafted same is = subst (λ (x : R). HasPlace rules old.held x)
+      (sym is.is) (record { few = is.few; fits = subst (λ (h : Held R). IsFitting rules h r) same.held is.can.fits })
 
   -- there is none where a draft is refused for it
-  no_place : (old : OpenedLedger R S) (r : R) (wanted : Option R) (fault : DraftFault) → wanted ≡ Some r → IsCause rules old r fault
-      → IsDrafted rules old.held (CanCommit rules row_rules old) wanted (drafted_of (Err fault))
-  no_place old r wanted (LedgerFull kept) is cause = record { r = r; is = is; none = λ place. let clash = sym cause.0 ∙ place.few in cc }
-  no_place old r wanted (JournalFull long room next) is cause = record { r = r; is = is; none = λ place. cause.1 place.fits }
+  no_place : (old : OpenedLedger R S) (r : R) (wanted : Option R) (fault : DraftFault) → wanted ≡ Some r → IsCause
+      rules old r fault → IsDrafted rules old.held (CanCommit rules row_rules old) wanted (drafted_of (Err fault))
+  no_place old r wanted (LedgerFull kept) is cause =
+      record { r = r; is = is; none = λ place. let clash = sym cause.0 ∙ place.few in cc }
+  no_place old r wanted (JournalFull long room next) is cause =
+      record { r = r; is = is; none = λ place. cause.1 place.fits }
   no_place old r wanted NoMemory is cause = tt
 
   -- where there may be nothing to record
-  pub drafted_some : (old new : OpenedLedger R S) (nothing : Bool) (r : R) (wanted : Option R) (result : Result (Option R) DraftFault) → SameLedger old new
-      → (nothing ≡ true → wanted ≡ None) → (nothing ≡ false → wanted ≡ Some r) → DraftsSome rules row_rules old new nothing r result
+  pub drafted_some : (old new : OpenedLedger R S) (nothing : Bool) (r : R) (wanted : Option R)
+      (result : Result (Option R) DraftFault) → SameLedger old new → (nothing ≡ true → wanted ≡ None)
+      → (nothing ≡ false → wanted ≡ Some r) → DraftsSome rules row_rules old new nothing r result
       → IsDrafted rules old.held (CanCommit rules row_rules new) wanted (drafted_of result)
   drafted_some old new nothing r wanted (Ok None) same none some drafts = none drafts
   drafted_some old new nothing r wanted (Ok (Some drafted)) same none some drafts = (
@@ -37,6 +41,8 @@ module _ {R S : Type 0} (rules : RecordRules R) (row_rules : RowRules R S) where
     subst (CanCommit rules row_rules new) (sym drafts.1.is) drafts.1.can,
     place_of old new r drafted same drafts.1,
   )
-  drafted_some old new nothing r wanted (Err (LedgerFull kept)) same none some drafts = no_place old r wanted (LedgerFull kept) (some drafts.0) drafts.1
-  drafted_some old new nothing r wanted (Err (JournalFull long room next)) same none some drafts = no_place old r wanted (JournalFull long room next) (some drafts.0) drafts.1
+  drafted_some old new nothing r wanted (Err (LedgerFull kept)) same none some drafts =
+      no_place old r wanted (LedgerFull kept) (some drafts.0) drafts.1
+  drafted_some old new nothing r wanted (Err (JournalFull long room next)) same none some drafts =
+      no_place old r wanted (JournalFull long room next) (some drafts.0) drafts.1
   drafted_some old new nothing r wanted (Err NoMemory) same none some drafts = tt

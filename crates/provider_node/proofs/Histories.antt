@@ -1,6 +1,7 @@
 -- The histories of what a provider's disk may hold, from turn to turn.
 use Rattle.std.specs.Prelude.{Contains, map, IfSome, IsSome, Option, None, Some, Ok}
-use Rattle.std.proofs.Common.{◌≡◌, ◌⊎◌, inl, inr, ℕ, suc, ◌≤◌, List, [], ◌∷◌, ◌++◌, All, sym, subst, refl, ap, ◌∙◌, true, false, append_assoc, arith}
+use Rattle.std.proofs.Common.{◌≡◌, ◌⊎◌, ⊎_elim, inl, inr, ℕ, suc, ◌≤◌, List, [], ◌∷◌, ◌++◌, All, sym, subst, refl, ap}
+use Rattle.std.proofs.Common.{◌∙◌, true, false, append_assoc, arith}
 use Rattle.std.proofs.lemmas.List.{append-nil}
 use Rattle.std.proofs.lemmas.List.Elements.{All-from_recursion, Contains-append_left, Contains-append_right}
 use Rattle.std.specs.List.{AllByRecursion}
@@ -11,11 +12,12 @@ use Rattle.conn_table.specs.Table.{Table}
 use Rattle.http_wire.specs.declared.answer.Answer.{Answer}
 use Rattle.http_wire.specs.Requests.{Request}
 use Rattle.ledger_rules.specs.Numbers.{Drawn}
-use Rattle.serve_loop.specs.Worlds.{World, OnlySends}
-use Rattle.serve_loop.specs.Turns.{AreTold, Asked, Asks, Turn, Taken, Full, StarvedStart, Over, Unknown, Waiting, Answered, Refused, StarvedPiece, Does, Run, asked_by}
+use Rattle.serve_loop.specs.Worlds.{World}
+use Rattle.serve_loop.specs.Turns.{AreTold, Asked, Asks, Turn, Run, asked_by}
+use Rattle.serve_loop.proofs.Quiet.{Asking, Goes as GoesOn, IsButTheLink, Quiet, goes}
 use Rattle.record_ledger.specs.Rules.{RecordRules}
-use Rattle.record_ledger.specs.Ledger.{Held, IsWithOrWithout, LeftByOpening, held_with, ledger_in, migrated, next_number, taken}
-use Rattle.record_ledger.specs.Compacting.{Compacts, IsOldOrCompacted}
+use Rattle.record_ledger.specs.Ledger.{Held, LeftByOpening, held_with, ledger_in, migrated, next_number, taken}
+use Rattle.record_ledger.specs.Compacting.{Compacts}
 use Rattle.record_ledger.specs.Laws.{ImagesHoldRecords}
 use Rattle.record_ledger.specs.Linking.{as_list}
 use Rattle.record_ledger.specs.Runs as events
@@ -23,12 +25,16 @@ use Rattle.record_ledger.specs.Runs.{Event, Adds, Opens, Leads}
 use Rattle.record_ledger.proofs.Records.{record_there}
 use Rattle.provider_node.specs.declared.codes.TheConstants.{DISK_FAULT, FOREIGN, FULL, NO_MEMORY}
 use Rattle.serve_loop.proofs.Telling.{goes_on_reading, goes_on_telling}
-use Rattle.provider_node.specs.Histories.{Another, AreAcknowledged, AreBehind, AreKept, AreKeptSo, CameFrom, moments_of, ForCode, ForNone, ForRecord, HoldsWhatCame, HoldsWhatCameSo, IsAtStart, IsProviders, Nothing, Stands, StepOf, This}
-use Rattle.provider_node.specs.Calls.{CompactingLeaves, MakesCompaction}
+use Rattle.provider_node.specs.Histories.{Another, AreAcknowledged, AreBehind, AreKept, AreKeptSo, CameFrom}
+use Rattle.provider_node.specs.Histories.{CompactsWhere, Includes, moments_of, ForCode, ForNone, ForRecord}
+use Rattle.provider_node.specs.Histories.{HoldsWhatCame, HoldsWhatCameSo, IsAtStart, IsProviders, Nothing, Stands}
+use Rattle.provider_node.specs.Histories.{StepOf, This}
+use Rattle.provider_node.specs.Calls.{CompactingLeaves}
 use Rattle.provider_node.specs.Node as node
 use Rattle.provider_node.specs.Node.{CompactionLeaves}
 use Rattle.provider_node.specs.Step as steps
-use Rattle.provider_node.specs.Step.{Adding, AnswersBy, Ledger, Owns, Provider, IsWhole, MakesRoom, OwnsDisk, Serves, ServingLeaves, StepLeaves, Steps}
+use Rattle.provider_node.specs.Step.{AnswersBy, Ledger, Owns, Provider, IsWhole, MakesRoom, OwnsDisk, Serves}
+use Rattle.provider_node.specs.Step.{ServingLeaves, StepLeaves, Steps}
 use Rattle.provider_node.proofs.Serving.{settled}
 
 -- ---- what came of a ledger
@@ -43,62 +49,39 @@ above_of_each rules held made r same each =
     subst (IsAbove rules held) same (All-from_recursion (λ (d : Drawn). next_number rules held ≤ d.number) _ each)
 
 module _ {R : Type 0} (rules : RecordRules R) (IsMoment : ℕ → Type 0) (start : Held R) where
+  came_by : {records : List R} {held : Held R} (events : List (Event R)) → Leads rules start events held
+      → Includes events records → CompactsWhere IsMoment events → CameFrom rules IsMoment start records held
+  came_by events leads includes at = record { events = events; leads = leads; includes = includes; at = at }
+
   pub added : (records : List R) (held : Held R) (r : R) → rules.is_record held.records r ≡ true → IsAbove rules held r
       → CameFrom rules IsMoment start records held → CameFrom rules IsMoment start (r ∷ records) (held_with r held)
   added records held r is above came =
-      record {
-        events = Adds r ∷ came.events;
-        leads = (held, came.leads, is, above, refl);
-        includes = This
-            came.includes;
-        at = came.at;
-      }
+      came_by (Adds r ∷ came.events) (held, came.leads, is, above, refl) (This came.includes) came.at
 
-  added_unknown : (records : List R) (held : Held R) (r : R) → rules.is_record held.records r ≡ true → IsAbove rules held r
-      → CameFrom rules IsMoment start records held → CameFrom rules IsMoment start records (held_with r held)
+  added_unknown : (records : List R) (held : Held R) (r : R) → rules.is_record held.records r ≡ true → IsAbove rules
+      held r → CameFrom rules IsMoment start records held → CameFrom rules IsMoment start records (held_with r held)
   added_unknown records held r is above came =
-      record {
-        events = Adds r ∷ came.events;
-        leads = (held, came.leads, is, above, refl);
-        includes = Another
-            came.includes;
-        at = came.at;
-      }
+      came_by (Adds r ∷ came.events) (held, came.leads, is, above, refl) (Another came.includes) came.at
 
   compacted : (records : List R) (now : ℕ) (found held : Held R) → IsMoment now → Compacts rules now found held
       → CameFrom rules IsMoment start records found → CameFrom rules IsMoment start records held
   compacted records now found held moment made came =
-      record {
-        events = events.Compacts now ∷ came.events;
-        leads = (found, came.leads, made);
-        includes = Another
-            came.includes;
-        at = (moment, came.at);
-      }
+      came_by (events.Compacts now ∷ came.events) (found, came.leads, made) (Another came.includes) (moment, came.at)
 
   reopened : (records : List R) (before found : Held R) → migrated before ≡ found
       → CameFrom rules IsMoment start records before → CameFrom rules IsMoment start records found
   reopened records before found is came =
-      record {
-        events = Opens ∷ came.events;
-        leads = (before, came.leads, sym is);
-        includes = Another came.includes;
-        at
-            = came.at;
-      }
+      came_by (Opens ∷ came.events) (before, came.leads, sym is) (Another came.includes) came.at
 
   -- what is opened of an image
-  pub opened_from : (records : List R) (image : Image) (found : Held R)
-      → HoldsWhatCame rules IsMoment start records image → taken (ledger_in rules image) ≡ Ok found
-      → CameFrom rules IsMoment start records found
-  opened_from records image found (before, is, came) opens =
-      reopened records before found (let same : taken (Ok (Some before)) ≡ Ok found = sym (ap taken is) ∙ opens in cc)
-      came
+  pub opened_from : (records : List R) (image : Image) (found : Held R) → HoldsWhatCame rules IsMoment
+      start records image → taken (ledger_in rules image) ≡ Ok found → CameFrom rules IsMoment start records found
+  opened_from records image found (before, is, came) opens = reopened records before found
+      (let same : taken (Ok (Some before)) ≡ Ok found = sym (ap taken is) ∙ opens in cc) came
 
   -- what is opened of a disk that tells
-  found_told : (records : List R) (told : Option DiskState) (found : Held R) → IsSome told
-      → IfSome told (λ d. MayLeave d (image_of d))
-      → ((image : Image) → Leaves told image → HoldsWhatCame rules IsMoment start records image)
+  found_told : (records : List R) (told : Option DiskState) (found : Held R) → IsSome told → IfSome told (λ d. MayLeave
+      d (image_of d)) → ((image : Image) → Leaves told image → HoldsWhatCame rules IsMoment start records image)
       → IfSome told (λ d. taken (ledger_in rules (image_of d)) ≡ Ok found) → CameFrom rules IsMoment start records found
   found_told records None found tells reads each is = cc
   found_told records (Some d) found tells reads each is =
@@ -106,8 +89,8 @@ module _ {R : Type 0} (rules : RecordRules R) (IsMoment : ℕ → Type 0) (start
 
   -- what a crash leaves inside an opening
   pub opening_left : (records : List R) (told : Option DiskState) (image : Image) → IsSome told
-      → ((i : Image) → Leaves told i → HoldsWhatCame rules IsMoment start records i)
-      → LeftByOpening rules told image → HoldsWhatCame rules IsMoment start records image
+      → ((i : Image) → Leaves told i → HoldsWhatCame rules IsMoment start records i) → LeftByOpening rules told image
+      → HoldsWhatCame rules IsMoment start records image
   opening_left records None image tells each left = cc
   opening_left records (Some d) image tells each (first, may, inl same) =
       let (held, is, came) = each first may in (held, same ∙ is, came)
@@ -120,14 +103,12 @@ abbrev pub AreMoments : {N : Type 0} (IsMoment : ℕ → Type 0) → List (Turn 
 AreMoments IsMoment [] = Unit {0}
 AreMoments IsMoment (turn ∷ past) = AllByRecursion (λ one. IsMoment one.now) (asked_by turn) × AreMoments IsMoment past
 
-each_moment : {N : Type 0} (IsMoment : ℕ → Type 0) (asked : List (Asked N))
-    → ((now : ℕ) → Contains (map (λ one. one.now) asked) now → IsMoment now)
-    → AllByRecursion (λ one. IsMoment one.now) asked
+each_moment : {N : Type 0} (IsMoment : ℕ → Type 0) (asked : List (Asked N)) → ((now : ℕ)
+    → Contains (map (λ one. one.now) asked) now → IsMoment now) → AllByRecursion (λ one. IsMoment one.now) asked
 each_moment IsMoment [] is = tt
 each_moment IsMoment (one ∷ others) is = (
   is one.now (0, omega arith, refl),
-  each_moment IsMoment others
-      (λ now there. is now (suc there.0, omega (arith, there.1), there.2)),
+  each_moment IsMoment others (λ now there. is now (suc there.0, omega (arith, there.1), there.2)),
 )
 
 pub moments_are : {N : Type 0} (IsMoment : ℕ → Type 0) (turns : List (Turn N))
@@ -136,93 +117,68 @@ moments_are IsMoment [] is = tt
 moments_are IsMoment (turn ∷ past) is = (
   each_moment IsMoment (asked_by turn)
       (λ now there. is now (Contains-append_left (map (λ one. one.now) (asked_by turn)) (moments_of past) now there)),
-  moments_are IsMoment past (λ now there. is now
-      (Contains-append_right (map (λ one. one.now) (asked_by turn)) (moments_of past) now there)),
+  moments_are IsMoment past
+      (λ now there. is now (Contains-append_right (map (λ one. one.now) (asked_by turn)) (moments_of past) now there)),
 )
 
 -- ---- what is known of a provider, its disk and the records that were acknowledged
 
 -- the numbers of a record that is added were not drawn before
 abbrev pub DrawsAbove : {Setup R : Type 0} → RecordRules R → AnswersBy Setup R → Type 0
-DrawsAbove {Setup} {R} rules Answers =
-    (setup : Setup) (held : Held R) (request : Request) (now : ℕ) (answer : Answer) (r : R)
-    → Answers setup held request now answer (Some r) → IsAbove rules held r
+DrawsAbove {Setup} {R} rules Answers = (setup : Setup) (held : Held R) (request : Request)
+    (now : ℕ) (answer : Answer) (r : R) → Answers setup held request now answer (Some r) → IsAbove rules held r
 
-pub record Holds {Setup R : Type 0} (rules : RecordRules R) (IsMoment : ℕ → Type 0) (start : Held R)
-    (w : World (Provider Setup R)) (records : List R) : Type 0 where
+pub record Holds {Setup R : Type 0} (rules : RecordRules R)
+    (IsMoment : ℕ → Type 0) (start : Held R) (w : World (Provider Setup R)) (records : List R) : Type 0 where
   pub own : OwnsDisk rules w.node w.disk
   pub disk : (image : Image) → Leaves w.disk image → HoldsWhatCame rules IsMoment start records image
 
-module _ {Setup R : Type 0} (rules : RecordRules R) (Answers : AnswersBy Setup R) (law : ImagesHoldRecords rules)
-    (numbers : DrawsAbove rules Answers) (IsMoment : ℕ → Type 0)
-    (start : Held R) where
+module _ {Setup R : Type 0} (rules : RecordRules R) (Answers : AnswersBy Setup R)
+    (law : ImagesHoldRecords rules) (numbers : DrawsAbove rules Answers) (IsMoment : ℕ → Type 0) (start : Held R) where
   -- a record is added, as an image shows
-  is_new : (held : Held R) (r : R) (image : Image) → ledger_in rules image ≡ Ok (Some (held_with r held))
-      → rules.is_record held.records r ≡ true
+  is_new : (held : Held R) (r : R) (image : Image)
+      → ledger_in rules image ≡ Ok (Some (held_with r held)) → rules.is_record held.records r ≡ true
   is_new held r image is = record_there rules [] held.records [] r (law image (held_with r held) is)
 
   -- what a crash leaves while a request is served
-  roomed : (records : List R) (setup : Setup) (found held : Held R) (request : Request) (now : ℕ) → IsMoment now
-      → (held ≡ found) ⊎ MakesRoom rules Answers setup found request now held
-      → CameFrom rules IsMoment start records found → CameFrom rules IsMoment start records held
-  roomed records setup found held request now moment (inl same) came =
-      subst (CameFrom rules IsMoment start records) (sym same) came
-  roomed records setup found held request now moment (inr room) came =
-      compacted rules IsMoment start records now found held moment room.made came
+  module _ (records : List R) (setup : Setup) (found : Held R)
+      (request : Request) (now : ℕ) (moment : IsMoment now) (came : CameFrom rules IsMoment start records found) where
+    roomed : (held : Held R) → (held ≡ found) ⊎ MakesRoom rules Answers setup found request now held
+        → CameFrom rules IsMoment start records held
+    roomed held (inl same) = subst (CameFrom rules IsMoment start records) (sym same) came
+    roomed held (inr room) = compacted rules IsMoment start records now found held moment room.made came
 
-  -- the ledger over which a record is added
-  over_what : (records : List R) (setup : Setup) (found : Held R) (request : Request) (now : ℕ) → IsMoment now
-      → (told : Option DiskState) (one : Adding rules Answers setup found request now told)
-      → CameFrom rules IsMoment start records found → CameFrom rules IsMoment start records one.held
-  over_what records setup found request now moment told one came = of_case one.over
-    where
-      of_case : ((one.held ≡ found) × (one.disk ≡ told)) ⊎
-          (MakesRoom rules Answers setup found request now one.held × MakesCompaction rules now found told one.disk)
-          → CameFrom rules IsMoment start records one.held
-      of_case (inl (same, disk)) = subst (CameFrom rules IsMoment start records) (sym same) came
-      of_case (inr (room, calls)) = compacted rules IsMoment start records now found one.held moment room.made came
+    serving_left : (told : Option DiskState) (image : Image) → ServingLeaves
+        rules Answers setup found request now told image → HoldsWhatCame rules IsMoment start records image
+    serving_left told image (steps.AtFirst is may) = (found, is, came)
+    serving_left told image (steps.InCompaction (inl is) amid) = (found, is, came)
+    serving_left told image (steps.InCompaction (inr (held, room, is)) amid) = (held, is, roomed held (inr room))
+    serving_left told image (steps.InCommit one left) =
+        let over = roomed one.held (⊎_elim (λ same. inl same.0) (λ made. inr made.0) one.over) in
+        ⊎_elim (λ is. (one.held, is, over)) (λ is. (
+          held_with one.r one.held,
+          is,
+          added_unknown rules IsMoment start records one.held one.r
+              (is_new one.held one.r image is) (numbers setup one.held request now one.answer one.r one.adds) over,
+        )) left.stands
 
-  serving_left : (records : List R) (setup : Setup) (found : Held R) (request : Request) (now : ℕ) → IsMoment now
-      → (told : Option DiskState) (image : Image) → CameFrom rules IsMoment start records found
-      → ServingLeaves rules Answers setup found request now told image
-      → HoldsWhatCame rules IsMoment start records image
-  serving_left records setup found request now moment told image came (steps.AtFirst is may) = (found, is, came)
-  serving_left records setup found request now moment told image came (steps.InCompaction (inl is) amid) =
-      (found, is, came)
-  serving_left records setup found request now moment told image came (steps.InCompaction (inr (held, room, is)) amid) =
-      (held, is, compacted rules IsMoment start records now found held moment room.made came)
-  serving_left records setup found request now moment told image came (steps.InCommit one left) = of_case left.stands
-    where
-      of_case : IsWithOrWithout rules one.r one.held image → HoldsWhatCame rules IsMoment start records image
-      of_case (inl is) = (one.held, is, over_what records setup found request now moment told one came)
-      of_case (inr is) = (
-        held_with one.r one.held,
-        is,
-        added_unknown rules IsMoment start records one.held one.r (is_new one.held one.r image is)
-            (numbers setup one.held request now one.answer one.r one.adds)
-            (over_what records setup found request now moment told one came),
-      )
-
-module _ {Setup R : Type 0} (rules : RecordRules R) (Answers : AnswersBy Setup R) (law : ImagesHoldRecords rules)
-    (numbers : DrawsAbove rules Answers) (IsMoment : ℕ → Type 0)
-    (start : Held R) where
+module _ {Setup R : Type 0} (rules : RecordRules R) (Answers : AnswersBy Setup R)
+    (law : ImagesHoldRecords rules) (numbers : DrawsAbove rules Answers) (IsMoment : ℕ → Type 0) (start : Held R) where
   abbrev Known : World (Provider Setup R) → List R → Type 0
   Known w records = Holds rules IsMoment start w records
 
-  pub holds_same : (w later : World (Provider Setup R)) (records : List R) → later.node ≡ w.node → later.disk ≡ w.disk
-      → Known w records → Known later records
+  pub holds_same : (w later : World (Provider Setup R)) (records : List R)
+      → later.node ≡ w.node → later.disk ≡ w.disk → Known w records → Known later records
   holds_same w later records node disk holds = record {
-    own =
-        subst (λ (p : Provider Setup R). OwnsDisk rules p later.disk) (sym node)
-        (subst (λ (d : Option DiskState). OwnsDisk rules w.node d) (sym disk) holds.own);
+    own = subst (λ (p : Provider Setup R). OwnsDisk rules p later.disk)
+        (sym node) (subst (λ (d : Option DiskState). OwnsDisk rules w.node d) (sym disk) holds.own);
     disk = λ image left. holds.disk image (subst (λ (d : Option DiskState). Leaves d image) disk left);
   }
 
   -- the ledger that is found: what a whole provider has
-  pub found_whole : (records : List R) (told : Option DiskState) (ledger : Ledger R) → IsSome told
-      → IfSome told (λ d. MayLeave d (image_of d)) → ledger.broken ≡ false → Owns rules told ledger
-      → ((image : Image) → Leaves told image → HoldsWhatCame rules IsMoment start records image)
-      → CameFrom rules IsMoment start records ledger.held
+  pub found_whole : (records : List R) (told : Option DiskState) (ledger : Ledger R) → IsSome told → IfSome told
+      (λ d. MayLeave d (image_of d)) → ledger.broken ≡ false → Owns rules told ledger → ((image : Image) → Leaves
+      told image → HoldsWhatCame rules IsMoment start records image) → CameFrom rules IsMoment start records ledger.held
   found_whole records None ledger tells reads whole own each = cc
   found_whole records (Some d) ledger tells reads whole own each =
       let is = settled rules (Some d) ledger (image_of d) whole own reads in
@@ -230,166 +186,120 @@ module _ {Setup R : Type 0} (rules : RecordRules R) (Answers : AnswersBy Setup R
       let same : held ≡ ledger.held = (let e = sym there ∙ is in cc) in
       subst (CameFrom rules IsMoment start records) same came
 
-  pub step_left : (records : List R) (w : World (Provider Setup R)) (request : Request) (now : ℕ) → IsMoment now
-      → (image : Image) → IsSome w.disk → IfSome w.disk (λ d. MayLeave d (image_of d))
-      → Known w records → StepLeaves rules Answers w.node w.disk request now image
-      → HoldsWhatCame rules IsMoment start records image
-  step_left records w request now moment image tells reads holds (steps.InLedger whole left) =
-      serving_left rules Answers law numbers IsMoment start records w.node.setup w.node.ledger.held request now moment
-      w.disk image (found_whole records w.disk w.node.ledger tells reads whole holds.own holds.disk) left
-  step_left records w request now moment image tells reads holds (steps.InOpened found opened broken is made left) =
-      serving_left rules Answers law numbers IsMoment start records w.node.setup found request now moment opened image
-      (found_told rules IsMoment start records w.disk found tells reads holds.disk is) left
-  step_left records w request now moment image tells reads holds (steps.InOpening broken left) =
-      opening_left rules IsMoment start records w.disk image tells holds.disk left.stands
+  module _ (records : List R) (w : World (Provider Setup R)) (tells : IsSome w.disk) (reads : IfSome
+      w.disk (λ d. MayLeave d (image_of d))) (holds : Known w records) (now : ℕ) (moment : IsMoment now) where
+    whole_came : w.node.ledger.broken ≡ false → CameFrom rules IsMoment start records w.node.ledger.held
+    whole_came whole = found_whole records w.disk w.node.ledger tells reads whole holds.own holds.disk
 
-  -- what a crash leaves inside a compaction of a ledger that is found
-  compacting_left : (records : List R) (found : Held R) (told : Option DiskState) (now : ℕ) → IsMoment now
-      → (image : Image) → CameFrom rules IsMoment start records found → CompactingLeaves rules now found told image
-      → HoldsWhatCame rules IsMoment start records image
-  compacting_left records found told now moment image came left = of_case left.stands
-    where
-      of_case : IsOldOrCompacted rules now found image → HoldsWhatCame rules IsMoment start records image
-      of_case (inl is) = (found, is, came)
-      of_case (inr (held, made, is)) =
-          (held, is, compacted rules IsMoment start records now found held moment made came)
+    pub step_left : (request : Request) (image : Image)
+        → StepLeaves rules Answers w.node w.disk request now image → HoldsWhatCame rules IsMoment start records image
+    step_left request image (steps.InLedger whole left) = serving_left rules Answers law numbers
+        IsMoment start records w.node.setup w.node.ledger.held request now moment (whole_came whole) w.disk image left
+    step_left request image (steps.InOpened found opened broken is made left) =
+        serving_left rules Answers law numbers IsMoment start records w.node.setup found request now moment
+        (found_told rules IsMoment start records w.disk found tells reads holds.disk is) opened image left
+    step_left request image (steps.InOpening broken left) =
+        opening_left rules IsMoment start records w.disk image tells holds.disk left.stands
 
-  pub compaction_left : (records : List R) (w : World (Provider Setup R)) (now : ℕ) → IsMoment now → (image : Image)
-      → IsSome w.disk → IfSome w.disk (λ d. MayLeave d (image_of d)) → Known w records
-      → CompactionLeaves rules w.node w.disk now image → HoldsWhatCame rules IsMoment start records image
-  compaction_left records w now moment image tells reads holds (node.InCompaction whole left) =
-      compacting_left records w.node.ledger.held w.disk now moment image
-      (found_whole records w.disk w.node.ledger tells reads whole holds.own holds.disk) left
-  compaction_left records w now moment image tells reads holds
-      (node.InCompactionOfOpened found opened broken is made left) =
-      compacting_left records found opened now moment image
-      (found_told rules IsMoment start records w.disk found tells reads holds.disk is) left
-  compaction_left records w now moment image tells reads holds (node.InRestart broken left) =
-      opening_left rules IsMoment start records w.disk image tells holds.disk left.stands
+    -- what a crash leaves inside a compaction of a ledger that is found
+    compacting_left : (found : Held R) (told : Option DiskState) (image : Image) → CameFrom rules IsMoment start
+        records found → CompactingLeaves rules now found told image → HoldsWhatCame rules IsMoment start records image
+    compacting_left found told image came left = ⊎_elim (λ is. (found, is, came)) (λ (held, made, is).
+        (held, is, compacted rules IsMoment start records now found held moment made came)) left.stands
 
-  -- a provider that is whole behind a request, and one that is broken
-  whole_behind : (records : List R) (w later : World (Provider Setup R)) (held : Held R)
-      → CameFrom rules IsMoment start records held → IsWhole w.node later.node held
-      → OwnsDisk rules later.node later.disk
-      → Known later records
-  whole_behind records w later held came whole own = record {
-    own = own;
-    disk =
-        λ image left. (
-          later.node.ledger.held,
-          settled rules later.disk later.node.ledger image whole.unbroken own
-              left,
-          subst (CameFrom rules IsMoment start records) (sym whole.is) came,
-        );
-  }
-
-  broken_behind : (records : List R) (w later : World (Provider Setup R)) (request : Request) (now : ℕ) → IsMoment now
-      → IsSome w.disk → IfSome w.disk (λ d. MayLeave d (image_of d))
-      → Known w records → OwnsDisk rules later.node later.disk
-      → ((image : Image) → Leaves later.disk image → StepLeaves rules Answers w.node w.disk request now image)
-      → Known later records
-  broken_behind records w later request now moment tells reads holds own left = record {
-    own = own;
-    disk = λ image there. step_left records w request now moment image tells reads holds (left image there);
-  }
+    pub compaction_left : (image : Image)
+        → CompactionLeaves rules w.node w.disk now image → HoldsWhatCame rules IsMoment start records image
+    compaction_left image (node.InCompaction whole left) =
+        compacting_left w.node.ledger.held w.disk image (whole_came whole) left
+    compaction_left image (node.InCompactionOfOpened found opened broken is made left) = compacting_left found
+        opened image (found_told rules IsMoment start records w.disk found tells reads holds.disk is) left
+    compaction_left image (node.InRestart broken left) =
+        opening_left rules IsMoment start records w.disk image tells holds.disk left.stands
 
   -- what a request does
   abbrev Goes : List R → Asked (Provider Setup R) → World (Provider Setup R) → Type 0
   Goes records one later = (r : Option R) × Stands Answers one r × Known later (as_list r ++ records)
 
   module _ (one : Asked (Provider Setup R)) (w later : World (Provider Setup R)) (records : List R)
-      (tells : IsSome w.disk) (node : one.node ≡ w.node)
-      (reads : IfSome w.disk (λ d. MayLeave d (image_of d))) (holds : Known w records)
-      (own : OwnsDisk rules later.node later.disk)
-      (left_over : (image : Image) → Leaves later.disk image → StepLeaves rules Answers w.node w.disk one.request
-      one.now image) (Risen : Type 0)
-      (moment : IsMoment one.now) where
+      (tells : IsSome w.disk) (node : one.node ≡ w.node) (reads : IfSome w.disk (λ d. MayLeave d (image_of d)))
+      (holds : Known w records) (own : OwnsDisk rules later.node later.disk) (left_over : (image : Image)
+      → Leaves later.disk image → StepLeaves rules Answers w.node w.disk one.request one.now image)
+      (Risen : Type 0) (moment : IsMoment one.now) where
     answers_of : (held : Held R) (adds : Option R) → Answers w.node.setup held one.request one.now one.answer adds
         → Answers one.node.setup held one.request one.now one.answer adds
     answers_of held adds answers =
         subst (λ (p : Provider Setup R). Answers p.setup held one.request one.now one.answer adds) (sym node) answers
 
-    added_behind : (held : Held R) (r : R) → Answers w.node.setup held one.request one.now one.answer (Some r)
-        → CameFrom rules IsMoment start records held
+    added_behind : (held : Held R) (r : R)
+        → Answers w.node.setup held one.request one.now one.answer (Some r) → CameFrom rules IsMoment start records held
         → IsWhole w.node later.node (held_with r held) → Known later (r ∷ records)
     added_behind held r answers came whole = record {
       own = own;
-      disk = λ image left.
-          let is = settled rules later.disk later.node.ledger image whole.unbroken own left ∙ ap
-          (λ (h : Held R). Ok (Some h)) whole.is in (
+      disk =
+          λ image left. let is = settled rules later.disk later.node.ledger image whole.unbroken own left
+          ∙ ap (λ (h : Held R). Ok (Some h)) whole.is in (
             held_with r held,
             is,
-            added rules IsMoment start records held r
-                (is_new rules Answers law numbers IsMoment start held r image is)
-                (numbers w.node.setup held one.request one.now one.answer r answers) came,
+            added rules IsMoment start records held r (is_new rules Answers law numbers IsMoment
+                start held r image is) (numbers w.node.setup held one.request one.now one.answer r answers) came,
           );
+    }
+
+    -- a provider that is whole behind the request, and one that is broken
+    wholly : (held : Held R)
+        → CameFrom rules IsMoment start records held → IsWhole w.node later.node held → Known later records
+    wholly held came whole = record {
+      own = own;
+      disk = λ image left. (
+        later.node.ledger.held,
+        settled rules later.disk later.node.ledger image whole.unbroken own left,
+        subst (CameFrom rules IsMoment start records) (sym whole.is) came,
+      );
+    }
+
+    brokenly : Known later records
+    brokenly = record {
+      own = own;
+      disk =
+          λ image there. step_left records w tells reads holds one.now moment one.request image (left_over image there);
     }
 
     served : (found : Held R) → CameFrom rules IsMoment start records found
         → Serves rules Answers found one.request one.now Risen one.answer w.node later.node → Goes records one later
     served found came (steps.Plain answers whole) =
-        (None, ForNone found (answers_of found None answers), whole_behind records w later found came whole own)
+        (None, ForNone found (answers_of found None answers), wholly found came whole)
     served found came (steps.Recorded r answers place whole) =
         (Some r, ForRecord found r (answers_of found (Some r) answers), added_behind found r answers came whole)
-    served found came (steps.RecordedAfterCompaction held r room answers place whole) = (
-      Some r,
-      ForRecord held r (answers_of held (Some r) answers),
-      added_behind held r answers (compacted rules IsMoment start records one.now found held moment room.made came)
-          whole,
-    )
+    served found came (steps.RecordedAfterCompaction held r room answers place whole) =
+        let then = compacted rules IsMoment start records one.now found held moment room.made came in
+        (Some r, ForRecord held r (answers_of held (Some r) answers), added_behind held r answers then whole)
     served found came (steps.NoPlace held r another room answers still is whole) = (
       None,
       ForCode FULL is,
-      whole_behind records w later held
-          (compacted rules IsMoment start records one.now found held moment room.made came) whole own,
+      wholly held (compacted rules IsMoment start records one.now found held moment room.made came) whole,
     )
-    served found came (steps.Failed wanted other wants risen is broken) = (
-      None,
-      ForCode DISK_FAULT is,
-      broken_behind records w later one.request one.now moment tells reads holds own
-          left_over,
-    )
-    served found came (steps.Starved held which is whole) = (
-      None,
-      ForCode NO_MEMORY is,
-      whole_behind records w later held
-          (roomed rules Answers law numbers IsMoment start records w.node.setup found held one.request one.now moment
-          which came) whole own,
-    )
+    served found came (steps.Failed wanted other wants risen is broken) = (None, ForCode DISK_FAULT is, brokenly)
+    served found came (steps.Starved held which is whole) =
+        let then = roomed rules
+        Answers law numbers IsMoment start records w.node.setup found one.request one.now moment came held which in
+        (None, ForCode NO_MEMORY is, wholly held then whole)
 
     stepped : Steps rules Answers w.node w.disk one.request one.now Risen one.answer later.node → Goes records one later
     stepped (steps.WithLedger whole serves) =
-        served w.node.ledger.held (found_whole records w.disk w.node.ledger tells reads whole holds.own holds.disk)
-        serves
+        served w.node.ledger.held (whole_came records w tells reads holds one.now moment whole) serves
     stepped (steps.WithOpened found broken is serves) =
         served found (found_told rules IsMoment start records w.disk found tells reads holds.disk is) serves
-    stepped (steps.NotOpened was risen is broken) = (
-      None,
-      ForCode DISK_FAULT is,
-      broken_behind records w later one.request one.now moment tells reads holds own
-          left_over,
-    )
-    stepped (steps.Strange was none is broken) = (
-      None,
-      ForCode FOREIGN is,
-      broken_behind records w later one.request one.now moment tells reads holds own
-          left_over,
-    )
-    stepped (steps.StarvedAtOpening was is broken) = (
-      None,
-      ForCode NO_MEMORY is,
-      broken_behind records w later one.request one.now moment tells reads holds own
-          left_over,
-    )
+    stepped (steps.NotOpened was risen is broken) = (None, ForCode DISK_FAULT is, brokenly)
+    stepped (steps.Strange was none is broken) = (None, ForCode FOREIGN is, brokenly)
+    stepped (steps.StarvedAtOpening was is broken) = (None, ForCode NO_MEMORY is, brokenly)
 
   -- what a request does to a world
   pub asked_goes : (one : Asked (Provider Setup R)) (w later : World (Provider Setup R)) (records : List R)
-      → IsSome one.disk → IsMoment one.now → Known w records
-      → Asks (IsProviders rules Answers) one w later → Goes records one later
+      → IsSome one.disk
+      → IsMoment one.now → Known w records → Asks (IsProviders rules Answers) one w later → Goes records one later
   asked_goes one w later records tells moment holds asks =
-      stepped one w later records (subst IsSome asks.disk tells) asks.node asks.answers.reads holds asks.answers.owns
-      asks.answers.left
-      (Rose w.disk_faults later.disk_faults) moment asks.answers.does.step
+      stepped one w later records (subst IsSome asks.disk tells) asks.node asks.answers.reads
+      holds asks.answers.owns asks.answers.left (Rose w.disk_faults later.disk_faults) moment asks.answers.does.step
 
   -- ---- the world from turn to turn
 
@@ -402,21 +312,16 @@ module _ {Setup R : Type 0} (rules : RecordRules R) (Answers : AnswersBy Setup R
       pub joined : all ≡ records ++ former
       pub holds : Known w all
 
-  same_world : (w later : World (Provider Setup R)) (records : List R) → later ≡ w → Known w records
-      → Known later records
-  same_world w later records same holds = subst (λ (x : World (Provider Setup R)). Known x records) (sym same) holds
+  but_link : (w later : World (Provider Setup R)) (records : List R)
+      → IsButTheLink w later → Known w records → Known later records
+  but_link w later records same holds = holds_same w later records
+      (ap (λ (x : World (Provider Setup R)). x.node) same) (ap (λ (x : World (Provider Setup R)). x.disk) same) holds
 
-  sent : (w later : World (Provider Setup R)) (records : List R) (conn : ℕ) (bytes : List ℕ)
-      → OnlySends conn bytes w later → Known w records → Known later records
-  sent w later records conn bytes sends holds =
-      holds_same w later records (ap (λ (x : World (Provider Setup R)). x.node) sends.same)
-      (ap (λ (x : World (Provider Setup R)). x.disk) sends.same) holds
-
-  -- where nothing is asked, what was acknowledged stays as it was
-  stays : (former : List R) (turns : List (Turn (Provider Setup R))) (turn : Turn (Provider Setup R))
-      (w later : World (Provider Setup R)) → asked_by turn ≡ [] → (knows : Knows former turns w) → Known later knows.all
-      → Knows former (turn ∷ turns) later
-  stays former turns turn w later none knows holds = record {
+  passes : (former : List R) (turns : List (Turn (Provider Setup R))) (turn : Turn (Provider Setup R)) (new : Table)
+      (w later : World (Provider Setup R)) → AllByRecursion (λ (one : Asked (Provider Setup R)). IsSome one.disk)
+      (asked_by turn) → AllByRecursion (λ (one : Asked (Provider Setup R)). IsMoment one.now) (asked_by turn)
+      → GoesOn (IsProviders rules Answers) w new later turn → Knows former turns w → Knows former (turn ∷ turns) later
+  passes former turns turn new w later told at (Quiet none same) knows = record {
     records = knows.records;
     are = (
       knows.records,
@@ -425,77 +330,47 @@ module _ {Setup R : Type 0} (rules : RecordRules R) (Answers : AnswersBy Setup R
     );
     all = knows.all;
     joined = knows.joined;
-    holds = holds;
+    holds = but_link w later knows.all same knows.holds;
   }
-
-  passes : (former : List R) (turns : List (Turn (Provider Setup R))) (turn : Turn (Provider Setup R))
-      (old new : Table) (w later : World (Provider Setup R))
-      → AllByRecursion (λ (one : Asked (Provider Setup R)). IsSome one.disk) (asked_by turn)
-      → AllByRecursion (λ (one : Asked (Provider Setup R)). IsMoment one.now) (asked_by turn)
-      → Does (IsProviders rules Answers) old w turn new later → Knows former turns w → Knows former (turn ∷ turns) later
-  passes former turns (Taken conn) old new w later told at does knows =
-      stays former turns (Taken conn) w later refl knows (same_world w later knows.all does.1 knows.holds)
-  passes former turns (Full conn) old new w later told at does knows =
-      stays former turns (Full conn) w later refl knows (sent w later knows.all conn _ does.1 knows.holds)
-  passes former turns (StarvedStart conn) old new w later told at does knows =
-      stays former turns (StarvedStart conn) w later refl knows (sent w later knows.all conn _ does.1 knows.holds)
-  passes former turns (Over conn) old new w later told at does knows =
-      stays former turns (Over conn) w later refl knows (same_world w later knows.all does.1 knows.holds)
-  passes former turns (Unknown conn piece) old new w later told at does knows =
-      stays former turns (Unknown conn piece) w later refl knows (same_world w later knows.all does.1 knows.holds)
-  passes former turns (Waiting conn piece) old new w later told at does knows =
-      stays former turns (Waiting conn piece) w later refl knows (same_world w later knows.all does.1 knows.holds)
-  passes former turns (Answered piece one) old new w later told at (between, takes, answers) knows =
+  passes former turns turn new w later told at (Asking piece one old answers) knows =
       let (r, stands, holds) = asked_goes one w answers.told knows.all told.0 at.0 knows.holds answers.asks in
       record {
         records = as_list r ++ knows.records;
         are = (knows.records, knows.are, (r, stands, refl));
         all = as_list r ++ knows.all;
-        joined =
-            ap (λ (l : List R). as_list r ++ l) knows.joined ∙ sym (append_assoc (as_list r) knows.records former);
-        holds = sent answers.told later (as_list r ++ knows.all) one.conn _ answers.sends holds;
+        joined = ap (λ (l : List R). as_list r ++ l) knows.joined ∙ sym (append_assoc (as_list r) knows.records former);
+        holds = but_link answers.told later (as_list r ++ knows.all) answers.sends.same holds;
       }
-  passes former turns (Refused conn piece status) old new w later told at (between, takes, lets) knows =
-      stays former turns (Refused conn piece status) w later refl knows
-      (sent w later knows.all conn _ lets.sends knows.holds)
-  passes former turns (StarvedPiece conn piece) old new w later told at (between, takes, lets) knows =
-      stays former turns (StarvedPiece conn piece) w later refl knows
-      (sent w later knows.all conn _ lets.sends knows.holds)
 
-  pub known_behind : (former : List R) (first last : World (Provider Setup R)) (turns : List (Turn (Provider Setup R)))
-      (kept : Table) → Known first former → AreTold turns → AreMoments IsMoment turns
-      → Run (IsProviders rules Answers) first turns kept last → Knows former turns last
+  pub known_behind : (former : List R) (first last : World (Provider Setup R))
+      (turns : List (Turn (Provider Setup R))) (kept : Table) → Known first former → AreTold turns
+      → AreMoments IsMoment turns → Run (IsProviders rules Answers) first turns kept last → Knows former turns last
   known_behind former first last [] kept begins told at run = record {
     records = [];
     are = refl;
     all = former;
     joined = refl;
-    holds = same_world first last former run.1 begins;
+    holds = subst (λ (x : World (Provider Setup R)). Known x former) (sym run.1) begins;
   }
   known_behind former first last (turn ∷ past) kept begins told at (old, before, given, run, next, does) =
       let knows = known_behind former first before past old begins told.1 at.1 run in
-      let given_holds = holds_same before given knows.all (ap (λ (x : World (Provider Setup R)). x.node) next.same)
-      (ap (λ (x : World (Provider Setup R)). x.disk) next.same) knows.holds in
-      passes former past turn old kept given last told.0 at.0 does
-      (record {
+      passes former past turn kept given last told.0 at.0
+      (goes (IsProviders rules Answers) given kept last turn old does) (record {
         records = knows.records;
         are = knows.are;
         all = knows.all;
         joined = knows.joined;
-        holds = given_holds;
+        holds = holds_same before given knows.all (ap (λ (x : World (Provider Setup R)). x.node) next.same)
+            (ap (λ (x : World (Provider Setup R)). x.disk) next.same) knows.holds;
       })
 
   -- those of the turns alone
   pub known : (first last : World (Provider Setup R)) (turns : List (Turn (Provider Setup R))) (kept : Table)
-      → Known first [] → AreTold turns → AreMoments IsMoment turns
-      → Run (IsProviders rules Answers) first turns kept last
-      → (records : List R) × AreAcknowledged Answers turns records × Known last records
+      → Known first [] → AreTold turns → AreMoments IsMoment turns → Run (IsProviders rules Answers)
+      first turns kept last → (records : List R) × AreAcknowledged Answers turns records × Known last records
   known first last turns kept begins told at run =
-      let knows = known_behind [] first last turns kept begins told at run in (
-        knows.records,
-        knows.are,
-        subst (Known last) (knows.joined ∙ append-nil knows.records) knows.holds,
-      )
+      let knows = known_behind [] first last turns kept begins told at run in
+      (knows.records, knows.are, subst (Known last) (knows.joined ∙ append-nil knows.records) knows.holds)
 
 -- at the start
 pub came_itself : {R : Type 0} (rules : RecordRules R) (IsMoment : ℕ → Type 0) (start : Held R)
@@ -503,31 +378,28 @@ pub came_itself : {R : Type 0} (rules : RecordRules R) (IsMoment : ℕ → Type 
 came_itself rules IsMoment start = record { events = []; leads = refl; includes = Nothing; at = tt }
 
 pub begins : {Setup R : Type 0} (rules : RecordRules R) (IsMoment : ℕ → Type 0) (first : World (Provider Setup R))
-    → IsAtStart rules first
-    → Holds rules IsMoment first.node.ledger.held first []
+    → IsAtStart rules first → Holds rules IsMoment first.node.ledger.held first []
 begins rules IsMoment first at = record {
   own = at.own;
-  disk =
-      λ image left. (
-        first.node.ledger.held,
-        settled rules first.disk first.node.ledger image at.whole at.own left,
-        came_itself rules IsMoment first.node.ledger.held,
-      );
+  disk = λ image left. (
+    first.node.ledger.held,
+    settled rules first.disk first.node.ledger image at.whole at.own left,
+    came_itself rules IsMoment first.node.ledger.held,
+  );
 }
 
 -- ---- the laws
 
 -- an image that a disk may leave which tells
-pub an_image : (told : Option DiskState) → IsSome told → IfSome told (λ d. MayLeave d (image_of d))
-    → (image : Image) × Leaves told image
+pub an_image : (told : Option DiskState)
+    → IsSome told → IfSome told (λ d. MayLeave d (image_of d)) → (image : Image) × Leaves told image
 an_image None tells reads = cc
 an_image (Some d) tells reads = (image_of d, reads)
 
 module _ {Setup R : Type 0} (rules : RecordRules R) (Answers : AnswersBy Setup R) where
   -- a disk that tells at first tells all along, and in the end an image may be left of it
   pub all_told : (first last : World (Provider Setup R)) (turns : List (Turn (Provider Setup R))) (kept : Table)
-      → IsSome first.disk → Run (IsProviders rules Answers) first turns kept last
-      → AreTold turns × IsSome last.disk
+      → IsSome first.disk → Run (IsProviders rules Answers) first turns kept last → AreTold turns × IsSome last.disk
   all_told first last turns kept tells run =
       goes_on_telling (OwnsDisk rules) (StepOf rules Answers) (StepLeaves rules Answers) first turns kept last run tells
 
@@ -535,27 +407,22 @@ module _ {Setup R : Type 0} (rules : RecordRules R) (Answers : AnswersBy Setup R
       → IsAtStart rules first → IsSome first.disk
       → Run (IsProviders rules Answers) first turns kept last → (image : Image) × Leaves last.disk image
   some_left first last turns kept at tells run =
-      an_image last.disk (all_told first last turns kept tells run).1
-      (goes_on_reading (OwnsDisk rules) (StepOf rules Answers) (StepLeaves rules Answers) first turns kept last run
-      at.reads)
+      an_image last.disk (all_told first last turns kept tells run).1 (goes_on_reading
+      (OwnsDisk rules) (StepOf rules Answers) (StepLeaves rules Answers) first turns kept last run at.reads)
 
-  pub what_is_kept : (law : ImagesHoldRecords rules) (numbers : DrawsAbove rules Answers)
-      (first last : World (Provider Setup R)) (turns : List (Turn (Provider Setup R))) (kept : Table)
-      → IsAtStart rules first → IsSome first.disk → Run (IsProviders rules Answers) first turns kept last
-      → AreKept rules Answers first last turns
-  what_is_kept law numbers first last turns kept at tells run =
-      let told = all_told first last turns kept tells run in
+  pub what_is_kept : (law : ImagesHoldRecords rules) (numbers : DrawsAbove rules Answers) (first last : World
+      (Provider Setup R)) (turns : List (Turn (Provider Setup R))) (kept : Table) → IsAtStart rules first → IsSome
+      first.disk → Run (IsProviders rules Answers) first turns kept last → AreKept rules Answers first last turns
+  what_is_kept law numbers first last turns kept at tells run = let told = all_told first last turns kept tells run in
       let IsMoment : ℕ → Type 0 = Contains (moments_of turns) in
       let knows = known rules Answers law numbers IsMoment first.node.ledger.held first last turns kept
-      (begins rules IsMoment first at) told.0
-      (moments_are IsMoment turns (λ now there. there)) run in
+      (begins rules IsMoment first at) told.0 (moments_are IsMoment turns (λ now there. there)) run in
       record { records = knows.0; are = knows.1; kept = knows.2.disk }
 
 -- ---- what else holds of what is kept
 
-module _ {Setup R : Type 0} (Answers : AnswersBy Setup R) (Holds : List R → Image → Type 0)
-    (last : World (Provider Setup R)) (turns : List (Turn (Provider Setup R)))
-    (kept : AreKeptSo Answers Holds last turns) where
+module _ {Setup R : Type 0} (Answers : AnswersBy Setup R) (Holds : List R → Image → Type 0) (last : World
+    (Provider Setup R)) (turns : List (Turn (Provider Setup R))) (kept : AreKeptSo Answers Holds last turns) where
   abbrev pub kept_so : (IsSo : List R → Image → Type 0)
       → ((image : Image) → Holds kept.records image → IsSo kept.records image) → AreKeptSo Answers IsSo last turns
   kept_so IsSo so =

@@ -16,11 +16,11 @@ begins_in_line b is = rw is
 
 digits_in_line : (digits : List ℕ) → list_all is_lower_hex digits ≡ true → is_one_line digits ≡ true
 digits_in_line [] h = refl
-digits_in_line (b ∷ digits) h =
-    let both = both_true (is_lower_hex b) (list_all is_lower_hex digits) h in
-    and_true (not (b == carriage_return || b == line_feed)) (is_one_line digits) (ends_no_line b both.0) (digits_in_line digits both.1)
+digits_in_line (b ∷ digits) h = let both = both_true (is_lower_hex b) (list_all is_lower_hex digits) h in
+    and_true (not (b == carriage_return || b == line_feed))
+    (is_one_line digits) (ends_no_line b both.0) (digits_in_line digits both.1)
 
 pub one_line_id : (id : List ℕ) → IsIdForm id → is_one_line id ≡ true
 one_line_id [] form = absurd form
-one_line_id (b ∷ digits) form =
-    and_true (not (b == carriage_return || b == line_feed)) (is_one_line digits) (begins_in_line b form.0) (digits_in_line digits (list_all-from_AllPass is_lower_hex digits form.2))
+one_line_id (b ∷ digits) form = and_true (not (b == carriage_return || b == line_feed)) (is_one_line digits)
+    (begins_in_line b form.0) (digits_in_line digits (list_all-from_AllPass is_lower_hex digits form.2))

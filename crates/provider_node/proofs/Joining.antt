@@ -15,7 +15,8 @@ use Rattle.record_ledger.specs.Ledger.{Held}
 use Rattle.provider_node.specs.Step.{AnswersBy, Provider, StepLeaves}
 use Rattle.provider_node.specs.Histories.{IsProviders}
 use Rattle.provider_node.specs.Joining.{EachImageGoesOn, GoesOn, InOpening, InServing, IsCutOf}
-use Rattle.provider_node.specs.Starts.{AreStarts, Cut, Goes, InAnswer, IsNext, IsServed, LeftBy, Served, Start, told_before}
+use Rattle.provider_node.specs.Starts.{AreStarts, Cut, Goes, InAnswer, IsNext, IsServed, LeftBy, Served, Start}
+use Rattle.provider_node.specs.Starts.{told_before}
 
 -- a disk that was synced as an image
 settled_reads : (image : Image) → MayLeave (settled_image image) image
@@ -38,8 +39,8 @@ module _ {Setup R : Type 0} (rules : RecordRules R) (Answers : AnswersBy Setup R
       now : ℕ
       left : StepLeaves rules Answers last.node last.disk request now image
 
-  cut_at : (first last : World (Provider Setup R)) (turns : List (Turn (Provider Setup R))) (kept : Table)
-      (image : Image) → Run (IsProviders rules Answers) first turns kept last
+  cut_at : (first last : World (Provider Setup R)) (turns : List (Turn (Provider Setup R)))
+      (kept : Table) (image : Image) → Run (IsProviders rules Answers) first turns kept last
       → LeftInside (StepLeaves rules Answers) (asked_in turns) image → CutAt first turns image
   cut_at first last [] kept image run inside = absurd (omega (arith, inside.1.1))
   cut_at first last (turn ∷ past) kept image (old, earlier, given, did, next, does) inside =
@@ -47,10 +48,9 @@ module _ {Setup R : Type 0} (rules : RecordRules R) (Answers : AnswersBy Setup R
       (inside_split (StepLeaves rules Answers) (asked_in past) (asked_by turn) image inside)
     where
       of_case : (LeftInside (StepLeaves rules Answers) (asked_in past) image → CutAt first past image)
-          → LeftInside (StepLeaves rules Answers) (asked_in past) image ⊎ LeftInside (StepLeaves rules Answers)
-          (asked_by turn) image → CutAt first (turn ∷ past) image
-      of_case cut_before (inl before) =
-          let cut = cut_before before in
+          → LeftInside (StepLeaves rules Answers) (asked_in past) image
+          ⊎ LeftInside (StepLeaves rules Answers) (asked_by turn) image → CutAt first (turn ∷ past) image
+      of_case cut_before (inl before) = let cut = cut_before before in
           record {
             past = cut.past;
             later = turn ∷ cut.later;
@@ -63,8 +63,8 @@ module _ {Setup R : Type 0} (rules : RecordRules R) (Answers : AnswersBy Setup R
             left = cut.left;
           }
       of_case cut_before (inr here) =
-          let (asked, told, asks, might) = inside_turn (IsProviders rules Answers) (StepLeaves rules Answers) turn old
-          given kept last does image here in
+          let (asked, told, asks, might) = inside_turn
+          (IsProviders rules Answers) (StepLeaves rules Answers) turn old given kept last does image here in
           let node = ap (λ (w : World (Provider Setup R)). w.node) next.same in
           let disk = ap (λ (w : World (Provider Setup R)). w.disk) next.same in
           record {
@@ -76,38 +76,32 @@ module _ {Setup R : Type 0} (rules : RecordRules R) (Answers : AnswersBy Setup R
             run = did;
             request = asked.request;
             now = asked.now;
-            left =
-                subst (λ (p : Provider Setup R). StepLeaves rules Answers p earlier.disk asked.request asked.now image)
-                node
-                (subst (λ (d : Option DiskState). StepLeaves rules Answers given.node d asked.request asked.now image)
-                disk might);
+            left = subst (λ (p : Provider Setup R). StepLeaves
+                rules Answers p earlier.disk asked.request asked.now image) node (subst (λ (d : Option DiskState).
+                StepLeaves rules Answers given.node d asked.request asked.now image) disk might);
           }
 
   module _ (start : Held R) (earlier : List (Start (Provider Setup R))) (before : Option DiskState)
-      (IsFirst : World (Provider Setup R) → Type 0)
-      (turns : List (Turn (Provider Setup R))) (image : Image) (were : AreStarts rules Answers start earlier)
-      (is_next : IsNext rules Answers start earlier (Cut before)) where
+      (IsFirst : World (Provider Setup R) → Type 0) (turns : List (Turn (Provider Setup R))) (image : Image)
+      (were : AreStarts rules Answers start earlier) (is_next : IsNext rules Answers start earlier (Cut before)) where
     -- a start on a disk that was synced as an image that the last one may leave
     goes_next : (one : Start (Provider Setup R)) → LeftBy rules Answers one image
-        → (later : Start (Provider Setup R)) (told : Option DiskState) → told_before later ≡ told
-        → told ≡ Some (settled_image image) → Goes rules Answers later
-        → IsNext rules Answers start (one ∷ earlier) later
+        → (later : Start (Provider Setup R)) (told : Option DiskState) → told_before later ≡ told → told ≡ Some
+        (settled_image image) → Goes rules Answers later → IsNext rules Answers start (one ∷ earlier) later
     goes_next one left later told same is goes =
         let tells : told_before later ≡ Some (settled_image image) = same ∙ is in
         record {
           tells = subst (λ (o : Option DiskState). IsSome o) (sym tells) refl;
-          reads =
-              subst (λ (o : Option DiskState). IfSome o (λ d. MayLeave d (image_of d))) (sym tells)
-              (settled_reads image);
-          left = λ other may.
-              let only = only-settled_image image other (subst (λ (o : Option DiskState). Leaves o other) tells may) in
-              subst (LeftBy rules Answers one) (sym only) left;
+          reads = subst
+              (λ (o : Option DiskState). IfSome o (λ d. MayLeave d (image_of d))) (sym tells) (settled_reads image);
+          left = λ other may. let only = only-settled_image image other (subst
+              (λ (o : Option DiskState). Leaves o other) tells may) in subst (LeftBy rules Answers one) (sym only) left;
           goes = goes;
         }
 
-    goes_on : (one : Start (Provider Setup R)) → IsCutOf rules Answers before IsFirst turns one
-        → IsNext rules Answers start earlier one → LeftBy rules Answers one image
-        → GoesOn rules Answers start earlier before IsFirst turns image
+    goes_on : (one : Start (Provider Setup R))
+        → IsCutOf rules Answers before IsFirst turns one → IsNext rules Answers start earlier one
+        → LeftBy rules Answers one image → GoesOn rules Answers start earlier before IsFirst turns image
     goes_on one cut next left = record {
       one = one;
       cut = cut;
@@ -122,16 +116,14 @@ module _ {Setup R : Type 0} (rules : RecordRules R) (Answers : AnswersBy Setup R
     served_next first last past kept served =
         record { tells = is_next.tells; reads = is_next.reads; left = is_next.left; goes = (served, λ now there. tt) }
 
-    in_serving : (first last : World (Provider Setup R)) (kept : Table) → IsFirst first
-        → IsServed rules Answers before first turns kept last
-        → LeftInside (StepLeaves rules Answers) (asked_in turns) image
-        → GoesOn rules Answers start earlier before IsFirst turns image
+    in_serving : (first last : World (Provider Setup R)) (kept : Table)
+        → IsFirst first → IsServed rules Answers before first turns kept last → LeftInside (StepLeaves rules Answers)
+        (asked_in turns) image → GoesOn rules Answers start earlier before IsFirst turns image
     in_serving first last kept is_first served inside =
         let cut = cut_at first last turns kept image served.run inside in
         goes_on (Served before first cut.past cut.kept cut.last)
-        (InServing first cut.past cut.later cut.kept cut.last is_first cut.are cut.run)
-        (served_next first cut.last cut.past cut.kept
-        (record { opened = served.opened; at = served.at; tells = served.tells; run = cut.run }))
+        (InServing first cut.past cut.later cut.kept cut.last is_first cut.are cut.run) (served_next first cut.last
+        cut.past cut.kept (record { opened = served.opened; at = served.at; tells = served.tells; run = cut.run }))
         (InAnswer cut.request cut.now tt cut.left)
 
   pub each_image_goes_on : (IsFirst : World (Provider Setup R) → Type 0) → EachImageGoesOn rules Answers IsFirst
@@ -140,9 +132,9 @@ module _ {Setup R : Type 0} (rules : RecordRules R) (Answers : AnswersBy Setup R
   each_image_goes_on IsFirst start earlier before turns image were next (inl bare) (inr inside) =
       absurd (omega (
         arith,
-        (subst (λ (l : List (Turn (Provider Setup R))). LeftInside (StepLeaves rules Answers)
-            (asked_in l) image) bare inside).1.1,
+        (subst (λ (l : List (Turn (Provider Setup R))). LeftInside (StepLeaves rules Answers) (asked_in l) image) bare
+            inside).1.1,
       ))
-  each_image_goes_on IsFirst start earlier before turns image were next (inr (first, last, kept, is_first, served))
-      (inr inside) =
+  each_image_goes_on IsFirst start earlier before turns image were next
+      (inr (first, last, kept, is_first, served)) (inr inside) =
       in_serving start earlier before IsFirst turns image were next first last kept is_first served inside

@@ -1,27 +1,30 @@
 -- What was acknowledged is kept from then on, also inside later answers.
 use Rattle.std.specs.Prelude.{Contains, is_some, IsSome, Option, None, Some}
 use Rattle.std.specs.List.{AllByRecursion}
-use Rattle.std.proofs.Common.{◌≡◌, ◌∙◌, List, [], ◌∷◌, ◌++◌, ℕ, zero, suc, refl, subst, ap, arith, ⊎_elim}
+use Rattle.std.proofs.Common.{◌≡◌, ◌∙◌, List, [], ◌∷◌, ◌++◌, ℕ, zero, suc, refl, sym, subst, ap, arith, ⊎_elim}
 use Rattle.crash_disk.specs.Disk.{Image}
 use Rattle.conn_table.specs.Table.{Table}
 use Rattle.serve_loop.specs.Serving.{LeavesInOrder, LeavesSince, LeftInside}
-use Rattle.serve_loop.specs.Turns.{AreTold, Asked, Turn, Taken, Full, StarvedStart, Over, Unknown, Waiting, Answered, Refused, StarvedPiece, Does, Run, asked_by}
+use Rattle.serve_loop.specs.Turns.{AreTold, Asked, Turn, Run, asked_by}
 use Rattle.serve_loop.specs.Worlds.{NodeLeaves, World}
 use Rattle.serve_loop.proofs.InOrder.{inside_split, inside_turn}
+use Rattle.serve_loop.proofs.Quiet.{Asking, Goes, Quiet, goes}
 use Rattle.record_ledger.specs.Rules.{RecordRules}
 use Rattle.record_ledger.specs.Ledger.{Held}
 use Rattle.record_ledger.specs.Laws.{ImagesHoldRecords}
 use Rattle.record_ledger.specs.Linking.{as_list}
 use Rattle.record_ledger.specs.Runs.{Event}
 use Rattle.provider_node.specs.Step.{AnswersBy, Provider, StepLeaves}
-use Rattle.provider_node.specs.Histories.{AreBehind, Another, CameFrom, HoldsWhatCame, Includes, IsAtStart, IsProviders, This, moments_of}
+use Rattle.provider_node.specs.Histories.{AreBehind, Another, CameFrom, HoldsWhatCame, Includes, IsAtStart, IsProviders}
+use Rattle.provider_node.specs.Histories.{This, moments_of}
 use Rattle.provider_node.specs.Lasting.{AreInEachSince, AreKeptSince, StayIn}
-use Rattle.provider_node.proofs.Histories.{AreMoments, DrawsAbove, Holds, all_told, moments_are, asked_goes, begins, holds_same, step_left}
+use Rattle.provider_node.proofs.Histories.{AreMoments, DrawsAbove, Holds, all_told, moments_are, asked_goes, begins}
+use Rattle.provider_node.proofs.Histories.{holds_same, step_left}
 
 -- ---- a history in which more records were added is one in which fewer were
 
-includes_fewer : {R : Type 0} (events : List (Event R)) (r : R) (records : List R) → Includes events (r ∷ records)
-    → Includes events records
+includes_fewer : {R : Type 0} (events : List (Event R)) (r : R) (records : List R)
+    → Includes events (r ∷ records) → Includes events records
 includes_fewer [] r records includes = elim includes [ ]
 includes_fewer (event ∷ past) r records (This includes) = Another includes
 includes_fewer (event ∷ past) r records (Another includes) = Another (includes_fewer past r records includes)
@@ -30,35 +33,32 @@ module _ {R : Type 0} (rules : RecordRules R) (IsMoment : ℕ → Type 0) where
   came_fewer : (start held : Held R) (r : Option R) (earlier : List R)
       → CameFrom rules IsMoment start (as_list r ++ earlier) held → CameFrom rules IsMoment start earlier held
   came_fewer start held None earlier came = came
-  came_fewer start held (Some r) earlier came =
-      record {
-        events = came.events;
-        leads = came.leads;
-        includes = includes_fewer came.events r earlier came.includes;
-        at = came.at;
-      }
+  came_fewer start held (Some r) earlier came = record {
+    events = came.events;
+    leads = came.leads;
+    includes = includes_fewer came.events r earlier came.includes;
+    at = came.at;
+  }
 
-came_behind : {Setup R : Type 0} (rules : RecordRules R) (Answers : AnswersBy Setup R) (IsMoment : ℕ
-    → Type 0) (start held : Held R) (asked : List (Asked (Provider Setup R))) (earlier records : List R)
-    → AreBehind Answers asked earlier records → CameFrom rules IsMoment start records held
-    → CameFrom rules IsMoment start earlier held
+came_behind : {Setup R : Type 0} (rules : RecordRules R) (Answers : AnswersBy Setup R) (IsMoment : ℕ → Type 0)
+    (start held : Held R) (asked : List (Asked (Provider Setup R))) (earlier records : List R) → AreBehind Answers
+    asked earlier records → CameFrom rules IsMoment start records held → CameFrom rules IsMoment start earlier held
 came_behind rules Answers IsMoment start held [] earlier records same came =
     subst (λ (l : List _). CameFrom rules IsMoment start l held) same came
-came_behind rules Answers IsMoment start held (one ∷ others) earlier records (r, stands, is) came =
-    came_fewer rules IsMoment start held r earlier
-    (subst (λ (l : List _). CameFrom rules IsMoment start l held) is came)
+came_behind rules Answers IsMoment start held (one ∷ others) earlier records (r, stands, is) came = came_fewer rules
+    IsMoment start held r earlier (subst (λ (l : List _). CameFrom rules IsMoment start l held) is came)
 
 -- ---- from each point on
 
-module _ {Setup R : Type 0} (rules : RecordRules R) (Answers : AnswersBy Setup R) (law : ImagesHoldRecords rules)
-    (numbers : DrawsAbove rules Answers) (IsMoment : ℕ → Type 0)
+module _ {Setup R : Type 0} (rules : RecordRules R) (Answers : AnswersBy Setup R)
+    (law : ImagesHoldRecords rules) (numbers : DrawsAbove rules Answers) (IsMoment : ℕ → Type 0)
     (first : World (Provider Setup R)) (at : IsAtStart rules first) (tells : IsSome first.disk) where
   abbrev Known : World (Provider Setup R) → List R → Type 0
   Known w records = Holds rules IsMoment first.node.ledger.held w records
 
   -- a world in which the provider and the disk are the same
-  stays : (w later : World (Provider Setup R)) (records : List R) → later.node ≡ w.node → later.disk ≡ w.disk
-      → Known w records → Known later records
+  stays : (w later : World (Provider Setup R)) (records : List R)
+      → later.node ≡ w.node → later.disk ≡ w.disk → Known w records → Known later records
   stays w later records node disk holds =
       holds_same rules Answers law numbers IsMoment first.node.ledger.held w later records node disk holds
 
@@ -66,78 +66,33 @@ module _ {Setup R : Type 0} (rules : RecordRules R) (Answers : AnswersBy Setup R
   Behind earlier turn later =
       (records : List R) × AreBehind Answers (asked_by turn) earlier records × Known later records
 
-  passes : (earlier : List R) (turn : Turn (Provider Setup R)) (old new : Table) (w later : World (Provider Setup R))
+  passes : (earlier : List R) (turn : Turn (Provider Setup R)) (new : Table) (w later : World (Provider Setup R))
       → AllByRecursion (λ (one : Asked (Provider Setup R)). IsSome one.disk) (asked_by turn)
       → AllByRecursion (λ (one : Asked (Provider Setup R)). IsMoment one.now) (asked_by turn)
-      → Does (IsProviders rules Answers) old w turn new later → Known w earlier → Behind earlier turn later
-  passes earlier (Taken conn) old new w later told moment does holds = (
+      → Goes (IsProviders rules Answers) w new later turn → Known w earlier → Behind earlier turn later
+  passes earlier turn new w later told moment (Quiet none same) holds = (
     earlier,
-    refl,
-    stays w later earlier (ap (λ (x : World (Provider Setup R)). x.node) does.1)
-        (ap (λ (x : World (Provider Setup R)). x.disk) does.1) holds,
+    subst (λ (l : List (Asked (Provider Setup R))). AreBehind Answers l earlier earlier) (sym none) refl,
+    stays w later earlier
+        (ap (λ (x : World (Provider Setup R)). x.node) same) (ap (λ (x : World (Provider Setup R)). x.disk) same) holds,
   )
-  passes earlier (Full conn) old new w later told moment does holds = (
-    earlier,
-    refl,
-    stays w later earlier (ap (λ (x : World (Provider Setup R)). x.node) does.1.same)
-        (ap (λ (x : World (Provider Setup R)). x.disk) does.1.same) holds,
-  )
-  passes earlier (StarvedStart conn) old new w later told moment does holds = (
-    earlier,
-    refl,
-    stays w later earlier (ap (λ (x : World (Provider Setup R)). x.node) does.1.same)
-        (ap (λ (x : World (Provider Setup R)). x.disk) does.1.same) holds,
-  )
-  passes earlier (Over conn) old new w later told moment does holds = (
-    earlier,
-    refl,
-    stays w later earlier (ap (λ (x : World (Provider Setup R)). x.node) does.1)
-        (ap (λ (x : World (Provider Setup R)). x.disk) does.1) holds,
-  )
-  passes earlier (Unknown conn piece) old new w later told moment does holds = (
-    earlier,
-    refl,
-    stays w later earlier (ap (λ (x : World (Provider Setup R)). x.node) does.1)
-        (ap (λ (x : World (Provider Setup R)). x.disk) does.1) holds,
-  )
-  passes earlier (Waiting conn piece) old new w later told moment does holds = (
-    earlier,
-    refl,
-    stays w later earlier (ap (λ (x : World (Provider Setup R)). x.node) does.1)
-        (ap (λ (x : World (Provider Setup R)). x.disk) does.1) holds,
-  )
-  passes earlier (Answered piece one) old new w later told moment (between, takes, answers) holds =
-      let (r, stands, now_holds) = asked_goes rules Answers law numbers IsMoment first.node.ledger.held one w
-      answers.told earlier told.0 moment.0 holds answers.asks in (
+  passes earlier turn new w later told moment (Asking piece one old answers) holds =
+      let (r, stands, now_holds) = asked_goes rules Answers
+      law numbers IsMoment first.node.ledger.held one w answers.told earlier told.0 moment.0 holds answers.asks in (
         as_list r ++ earlier,
         (r, stands, refl),
-        stays answers.told later (as_list r ++ earlier)
-            (ap (λ (x : World (Provider Setup R)). x.node) answers.sends.same)
-            (ap (λ (x : World (Provider Setup R)). x.disk) answers.sends.same) now_holds,
+        stays answers.told later (as_list r ++ earlier) (ap (λ (x : World (Provider Setup R)). x.node)
+            answers.sends.same) (ap (λ (x : World (Provider Setup R)). x.disk) answers.sends.same) now_holds,
       )
-  passes earlier (Refused conn piece status) old new w later told moment (between, takes, lets) holds = (
-    earlier,
-    refl,
-    stays w later earlier (ap (λ (x : World (Provider Setup R)). x.node) lets.sends.same)
-        (ap (λ (x : World (Provider Setup R)). x.disk) lets.sends.same) holds,
-  )
-  passes earlier (StarvedPiece conn piece) old new w later told moment (between, takes, lets) holds = (
-    earlier,
-    refl,
-    stays w later earlier (ap (λ (x : World (Provider Setup R)). x.node) lets.sends.same)
-        (ap (λ (x : World (Provider Setup R)). x.disk) lets.sends.same) holds,
-  )
 
   module _ (left : ℕ → Image → Type 0) where
     -- what a crash inside the answers to these requests leaves has these records
     abbrev HaveInside : List R → List (Asked (Provider Setup R)) → Type 0
-    HaveInside records later =
-        (image : Image) → LeftInside (StepLeaves rules Answers) later image → HoldsWhatCame rules IsMoment
-        first.node.ledger.held records image
+    HaveInside records later = (image : Image) → LeftInside (StepLeaves rules Answers) later image
+        → HoldsWhatCame rules IsMoment first.node.ledger.held records image
 
     since_point : (now : World (Provider Setup R)) (records : List R) (later : List (Asked (Provider Setup R)))
-        → Known now records → HaveInside records later
-        → LeavesSince (StepLeaves rules Answers) left now later
+        → Known now records → HaveInside records later → LeavesSince (StepLeaves rules Answers) left now later
         → AreInEachSince rules Answers IsMoment left first now.moment records
     since_point now records later holds inside since image might =
         ⊎_elim (holds.disk image) (inside image) (since.only image might)
@@ -146,9 +101,8 @@ module _ {Setup R : Type 0} (rules : RecordRules R) (Answers : AnswersBy Setup R
     abbrev LeavesAt : NodeLeaves (Provider Setup R)
     LeavesAt old disk request now image = IsMoment now × StepLeaves rules Answers old disk request now image
 
-    at_one : (asked : List (Asked (Provider Setup R))) (one : Asked (Provider Setup R))
-        → AllByRecursion (λ (x : Asked (Provider Setup R)). IsMoment x.now) asked → Contains asked one
-        → IsMoment one.now
+    at_one : (asked : List (Asked (Provider Setup R))) (one : Asked (Provider Setup R)) → AllByRecursion
+        (λ (x : Asked (Provider Setup R)). IsMoment x.now) asked → Contains asked one → IsMoment one.now
     at_one [] one all there = absurd (omega (arith, there.1))
     at_one (x ∷ xs) one all (zero, less, is) = subst (λ (a : Asked (Provider Setup R)). IsMoment a.now) is all.0
     at_one (x ∷ xs) one all (suc k, less, is) = at_one xs one all.1 (k, omega (arith, less), is)
@@ -156,15 +110,13 @@ module _ {Setup R : Type 0} (rules : RecordRules R) (Answers : AnswersBy Setup R
     -- the records that were acknowledged, what is known then, and that they stay, whatever requests come later
     abbrev Follows : (turns : List (Turn (Provider Setup R))) (kept : Table) (now : World (Provider Setup R))
         → Run (IsProviders rules Answers) first turns kept now → Type 0
-    Follows turns kept now run =
-        (records : List R) × Known now records
-        × ((later : List (Asked (Provider Setup R))) → HaveInside records later → LeavesInOrder
-        (IsProviders rules Answers) (StepLeaves rules Answers) left first turns kept now run later
-        → StayIn rules Answers IsMoment left first turns kept now run records)
+    Follows turns kept now run = (records : List R) × Known now records × ((later : List (Asked (Provider Setup R)))
+        → HaveInside records later → LeavesInOrder (IsProviders rules Answers) (StepLeaves rules Answers)
+        left first turns kept now run later → StayIn rules Answers IsMoment left first turns kept now run records)
 
-    follows : (turns : List (Turn (Provider Setup R))) (kept : Table) (now : World (Provider Setup R))
-        (run : Run (IsProviders rules Answers) first turns kept now) → AreTold turns → AreMoments IsMoment turns →
-        Follows turns kept now run
+    follows : (turns : List (Turn (Provider Setup R)))
+        (kept : Table) (now : World (Provider Setup R)) (run : Run (IsProviders rules Answers) first turns kept now)
+        → AreTold turns → AreMoments IsMoment turns → Follows turns kept now run
     follows [] kept now run told moments =
         let holds = stays first now [] (ap (λ (x : World (Provider Setup R)). x.node) run.1)
         (ap (λ (x : World (Provider Setup R)). x.disk) run.1) (begins rules IsMoment first at) in
@@ -173,22 +125,19 @@ module _ {Setup R : Type 0} (rules : RecordRules R) (Answers : AnswersBy Setup R
         let (earlier, was, stay) = follows past old before did told.1 moments.1 in
         let disk = ap (λ (x : World (Provider Setup R)). x.disk) next.same in
         let found = stays before given earlier (ap (λ (x : World (Provider Setup R)). x.node) next.same) disk was in
-        let (records, behind, holds) = passes earlier turn old kept given now told.0 moments.0 does found in
-        let tells_now : IsSome given.disk = ap is_some disk ∙
-        (all_told rules Answers first before past old tells did).1 in
-        let in_turn : HaveInside earlier (asked_by turn) =
-        λ image among.
-        let (asked, then, asks, might) = inside_turn (IsProviders rules Answers) LeavesAt turn old given kept now does
-        image
+        let (records, behind, holds) = passes earlier turn kept given now told.0 moments.0
+        (goes (IsProviders rules Answers) given kept now turn old does) found in
+        let tells_now : IsSome given.disk = ap is_some disk
+        ∙ (all_told rules Answers first before past old tells did).1 in
+        let in_turn : HaveInside earlier (asked_by turn) = λ image among. let (asked, then, asks, might) = inside_turn
+        (IsProviders rules Answers) LeavesAt turn old given kept now does image
         (among.0, among.1, (at_one (asked_by turn) among.0 moments.0 among.1, among.2)) in
-        step_left rules Answers law numbers IsMoment first.node.ledger.held earlier given asked.request asked.now
-        might.0 image tells_now asks.answers.reads found might.1 in (
+        step_left rules Answers law numbers IsMoment first.node.ledger.held
+        earlier given tells_now asks.answers.reads found asked.now might.0 asked.request image might.1 in (
           records,
           holds,
           λ later inside in_order.
-              let fewer : HaveInside earlier later =
-              λ image there. let (held, is, came) =
-              inside image there in (
+              let fewer : HaveInside earlier later = λ image there. let (held, is, came) = inside image there in (
                 held,
                 is,
                 came_behind rules Answers IsMoment first.node.ledger.held held
@@ -202,16 +151,14 @@ module _ {Setup R : Type 0} (rules : RecordRules R) (Answers : AnswersBy Setup R
               ),
         )
 
-module _ {Setup R : Type 0} (rules : RecordRules R) (Answers : AnswersBy Setup R) (law : ImagesHoldRecords rules)
-    (numbers : DrawsAbove rules Answers) (first : World (Provider Setup R))
-    (at : IsAtStart rules first) (tells : IsSome first.disk) where
-  pub kept_since : (left : ℕ → Image → Type 0) (turns : List (Turn (Provider Setup R))) (kept : Table)
-      (last : World (Provider Setup R)) (run : Run (IsProviders rules Answers) first turns kept last)
+module _ {Setup R : Type 0} (rules : RecordRules R)
+    (Answers : AnswersBy Setup R) (law : ImagesHoldRecords rules) (numbers : DrawsAbove rules Answers)
+    (first : World (Provider Setup R)) (at : IsAtStart rules first) (tells : IsSome first.disk) where
+  pub kept_since : (left : ℕ → Image → Type 0) (turns : List (Turn (Provider Setup R)))
+      (kept : Table) (last : World (Provider Setup R)) (run : Run (IsProviders rules Answers) first turns kept last)
       → LeavesInOrder (IsProviders rules Answers) (StepLeaves rules Answers) left first turns kept last run []
       → AreKeptSince rules Answers left first turns kept last run
-  kept_since left turns kept last run in_order =
-      let IsMoment : ℕ → Type 0 = Contains (moments_of turns) in
+  kept_since left turns kept last run in_order = let IsMoment : ℕ → Type 0 = Contains (moments_of turns) in
       let (records, holds, stay) = follows rules Answers law numbers IsMoment first at tells left turns kept last run
-      (all_told rules Answers first last turns kept tells run).0
-      (moments_are IsMoment turns (λ now there. there)) in
+      (all_told rules Answers first last turns kept tells run).0 (moments_are IsMoment turns (λ now there. there)) in
       (records, stay [] (λ image found. absurd (omega (arith, found.1.1))) in_order)

@@ -1,3 +1,4 @@
+pub mod Answered
 pub mod Calling
 pub mod Serving
 pub mod Behind

@@ -9,6 +9,7 @@ use Rattle.record_ledger.specs.Ledger.{Held, ledger_in, taken}
 
 -- what a disk stands for that tells, from what was opened of it
 pub stands : {R : Type 0} (rules : RecordRules R) (disk : Option DiskState) (held : Held R) (u : Unit {0})
-    → IfSome disk (λ d. Gives (λ _. held) open_fault_of (Ok u) (taken (ledger_in rules (image_of d)))) → IfSome disk (λ d. taken (ledger_in rules (image_of d)) ≡ Ok held)
+    → IfSome disk (λ d. Gives (λ _. held) open_fault_of (Ok u) (taken (ledger_in rules (image_of d))))
+    → IfSome disk (λ d. taken (ledger_in rules (image_of d)) ≡ Ok held)
 stands rules None held u gives = tt
 stands rules (Some d) held u gives = gives

@@ -1,6 +1,7 @@
 -- What a run of a ledger leads to.
 use Rattle.std.specs.Prelude.{Contains}
-use Rattle.std.proofs.Common.{◌≡◌, ◌⊎◌, inl, inr, ℕ, zero, suc, ◌≤◌, ◌+◌, ◌==◌, if◌then◌else◌, Bool, true, false, List, [], ◌∷◌, All, sym, subst, ap, ◌∙◌, arith}
+use Rattle.std.proofs.Common.{◌≡◌, ◌⊎◌, inl, inr, ℕ, zero, suc, ◌≤◌, ◌+◌, ◌==◌, if◌then◌else◌, Bool, true, false, List}
+use Rattle.std.proofs.Common.{[], ◌∷◌, All, sym, subst, ap, ◌∙◌, arith}
 use Rattle.crash_disk.specs.Torn.{other_file}
 use Rattle.ledger_rules.specs.Numbers.{Drawn}
 use Rattle.record_ledger.specs.Rules.{RecordRules, AreRecords}
@@ -41,8 +42,7 @@ module _ {R : Type 0} (rules : RecordRules R) (P : Held R → Type 0) (lasts : L
       → ((before : Held R) → Leads rules start past before → P before) → Leads rules start (event ∷ past) held → P held
   one_event start held (Adds r) past was leads =
       subst P (sym leads.4) (lasts.adds leads.0 r leads.2 leads.3 (was leads.0 leads.1))
-  one_event start held (events.Compacts now) past was leads =
-      compacted now leads.0 held leads.2 (was leads.0 leads.1)
+  one_event start held (events.Compacts now) past was leads = compacted now leads.0 held leads.2 (was leads.0 leads.1)
   one_event start held Opens past was leads =
       subst P (sym leads.2) (opened leads.0 (leads.0.version == 1) (was leads.0 leads.1))
 
@@ -52,15 +52,15 @@ module _ {R : Type 0} (rules : RecordRules R) (P : Held R → Type 0) (lasts : L
       one_event start held event past (λ before led. run_lasts start before past was led) leads
 
 -- It lasts also from a record on that was added.
-module _ {R : Type 0} (rules : RecordRules R) (P Q : Held R → Type 0) (lasts : Lasts rules P)
-    (lasts_before : Lasts rules Q) (start : Held R) (was : Q start) (r : R)
+module _ {R : Type 0} (rules : RecordRules R) (P Q : Held R → Type 0)
+    (lasts : Lasts rules P) (lasts_before : Lasts rules Q) (start : Held R) (was : Q start) (r : R)
     (comes : (before : Held R) → Q before → rules.is_record before.records r ≡ true → P (held_with r before)) where
   front : (x : R) (xs : List R) → Contains (x ∷ xs) r → (x ≡ r) ⊎ Contains xs r
   front x xs (zero, less, is) = inl is
   front x xs (suc k, less, is) = inr (k, omega (arith, less), is)
 
-  pub lasts_behind : (events : List (Event R)) (records : List R) (held : Held R) → Includes events records
-      → Contains records r → Leads rules start events held → P held
+  pub lasts_behind : (events : List (Event R)) (records : List R) (held : Held R)
+      → Includes events records → Contains records r → Leads rules start events held → P held
   lasts_behind [] [] held Nothing has leads = absurd (omega (arith, has.1))
   lasts_behind [] (x ∷ records) held includes has leads = elim includes [ ]
   lasts_behind (Adds x ∷ past) (same ∷ records) held (This includes) has leads = elim (front x records has) [
@@ -69,11 +69,10 @@ module _ {R : Type 0} (rules : RecordRules R) (P Q : Held R → Type 0) (lasts :
         subst P (sym (leads.4 ∙ ap (λ (y : R). held_with y leads.0) here))
         (comes leads.0 (run_lasts rules Q lasts_before start leads.0 past was leads.1) is)
     | inr there ↦
-        one_event rules P lasts start held (Adds x) past
-        (λ before led. lasts_behind past records before includes there led) leads
+        one_event rules P lasts start held
+        (Adds x) past (λ before led. lasts_behind past records before includes there led) leads
   ]
-  lasts_behind (event ∷ past) records held (Another includes) has leads =
-      one_event rules P lasts start held event past
+  lasts_behind (event ∷ past) records held (Another includes) has leads = one_event rules P lasts start held event past
       (λ before led. lasts_behind past records before includes has led) leads
 
 -- its records are records of the ledger

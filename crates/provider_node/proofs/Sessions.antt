@@ -1,10 +1,12 @@
 -- Rows that are found by a key until a moment, unless they are shut: none that is shut is found.
 use Rattle.std.specs.Prelude.{Contains, IsSome, Option, None, Some, filter, slice_get}
-use Rattle.std.proofs.Common.{◌≡◌, inl, inr, ℕ, suc, ◌<◌, max, Bool, true, false, cond, ◌&&◌, ◌||◌, not, nat_lt, List, [], ◌∷◌, ◌++◌, map, sym, subst, refl, ap, ◌∙◌, arith}
+use Rattle.std.proofs.Common.{◌≡◌, inl, inr, ℕ, suc, ◌<◌, max, Bool, true, false, cond, ◌&&◌, ◌||◌, not, nat_lt, List}
+use Rattle.std.proofs.Common.{[], ◌∷◌, ◌++◌, map, sym, subst, refl, ap, ◌∙◌, arith}
 use Rattle.std.specs.List.{find, list_any}
 use Rattle.std.specs.Option.{option_and_then}
 use Rattle.std.specs.Str.{bytes_eq}
-use Rattle.std.proofs.lemmas.Bool.{and_parts, false≢true, false_from_ne_true, lt-ltb, not-true, or_cases, or_left, or_parts, or_right, true≢false}
+use Rattle.std.proofs.lemmas.Bool.{and_parts, false≢true, false_from_ne_true, lt-ltb, not-true, or_cases, or_left}
+use Rattle.std.proofs.lemmas.Bool.{or_parts, or_right, true≢false}
 use Rattle.std.proofs.lemmas.Grind.{common_steps}
 use Rattle.std.proofs.lemmas.List.Folds.{list_any-append, list_any_at, list_any_none}
 use Rattle.ledger_rules.specs.Texts.{is_among, is_empty}
@@ -19,8 +21,8 @@ module _ {X : Type 0} where
   found_any test [] is = is
   found_any test (x ∷ xs) is = by_test (test x) is (found_any test xs)
     where
-      by_test : (b : Bool) → (b || list_any test xs) ≡ true → (list_any test xs ≡ true → IsSome (find test xs))
-          → IsSome (cond b (Some x) (find test xs))
+      by_test : (b : Bool) → (b || list_any test xs) ≡ true
+          → (list_any test xs ≡ true → IsSome (find test xs)) → IsSome (cond b (Some x) (find test xs))
       by_test true is later = refl
       by_test false is later = later is
 
@@ -28,9 +30,8 @@ module _ {X : Type 0} where
   found_by test xs x (k, less, is) passes = found_any test xs (list_any_at test xs k x less (ap test is ∙ passes))
 
   none_any : (test : X → Bool) (xs : List X) → find test xs ≡ None → list_any test xs ≡ false
-  none_any test xs is =
-      false_from_ne_true (list_any test xs)
-      (λ some. false≢true (subst (λ (o : Option X). IsSome o) is (found_any test xs some)))
+  none_any test xs is = false_from_ne_true
+      (list_any test xs) (λ some. false≢true (subst (λ (o : Option X). IsSome o) is (found_any test xs some)))
 
   any_none : (test : X → Bool) (xs : List X) → list_any test xs ≡ false → find test xs ≡ None
   any_none test xs none = of_case (find test xs) (any_of_found test xs)
@@ -40,11 +41,10 @@ module _ {X : Type 0} where
       of_case (Some x) some = absurd (true≢false (sym (some refl) ∙ none))
 
   -- nor does one where each that passes passes another test, which none passes
-  none_fewer : (test fewer : X → Bool) (xs : List X) → ((x : X) → fewer x ≡ true → test x ≡ true)
-      → list_any test xs ≡ false → list_any fewer xs ≡ false
+  none_fewer : (test fewer : X → Bool) (xs : List X)
+      → ((x : X) → fewer x ≡ true → test x ≡ true) → list_any test xs ≡ false → list_any fewer xs ≡ false
   none_fewer test fewer xs leads none =
-      false_from_ne_true (list_any fewer xs)
-      (λ some. true≢false (sym (any_more fewer test xs leads some) ∙ none))
+      false_from_ne_true (list_any fewer xs) (λ some. true≢false (sym (any_more fewer test xs leads some) ∙ none))
 
   -- what passes among those that were made of others, or were chosen of them
   any_mapped : {Y : Type 0} (test : Y → Bool) (f : X → Y) (xs : List X)
@@ -52,8 +52,8 @@ module _ {X : Type 0} where
   any_mapped test f [] = refl
   any_mapped test f (x ∷ xs) = ap (λ (b : Bool). test (f x) || b) (any_mapped test f xs)
 
-  any_chosen : (test chosen : X → Bool) (xs : List X) → list_any test (filter chosen xs) ≡ true
-      → list_any test xs ≡ true
+  any_chosen : (test chosen : X → Bool) (xs : List X)
+      → list_any test (filter chosen xs) ≡ true → list_any test xs ≡ true
   any_chosen test chosen [] is = is
   any_chosen test chosen (x ∷ xs) is = by_choice (chosen x) is (any_chosen test chosen xs)
     where
@@ -66,8 +66,8 @@ module _ {X : Type 0} where
       by_choice false is later = or_right (test x) (list_any test xs) (later is)
 
   -- where an element stands that is found, and that it passes
-  pub found_at : (test : X → Bool) (xs : List X) (x : X) → find test xs ≡ Some x
-      → (place : ℕ) × (slice_get xs place ≡ Some x) × (test x ≡ true)
+  pub found_at : (test : X → Bool) (xs : List X) (x : X)
+      → find test xs ≡ Some x → (place : ℕ) × (slice_get xs place ≡ Some x) × (test x ≡ true)
   found_at test [] x is = absurd (cc)
   found_at test (y ∷ ys) x is = by_test (test y) refl is (λ later. found_at test ys x later)
     where
@@ -108,8 +108,8 @@ pub record Sessions (S : Type 0) : Type 0 where
 
 -- such rows, of which it is to be seen that being shut changes neither the key nor the moment
 abbrev pub sessions_by : {S : Type 0} (key : S → List ℕ) (shut : S → Bool) (until : S → ℕ) (shut_if : Bool → S → S)
-    → ((now : Bool) (row : S) → (key (shut_if now row) ≡ key row) × (shut (shut_if now row) ≡ (shut row || now))
-    × (until (shut_if now row) ≡ until row)) → Sessions S
+    → ((now : Bool) (row : S) → (key (shut_if now row) ≡ key row)
+    × (shut (shut_if now row) ≡ (shut row || now)) × (until (shut_if now row) ≡ until row)) → Sessions S
 sessions_by key shut until shut_if laws = record {
   key = key;
   shut = shut;
@@ -148,83 +148,64 @@ module _ {S : Type 0} (sessions : Sessions S) where
       -- none is found where none is open; nor behind one row more of another key, nor where rows are shut
       pub none_open : is_open rows key ≡ false → found rows key now horizon ≡ None
       none_open shut =
-          any_none live rows
-          (none_fewer (λ row. bytes_eq (sessions.key row) key && not (sessions.shut row)) live rows
-          (λ row is. (and_parts (bytes_eq (sessions.key row) key && not (sessions.shut row)) _ is).0) shut)
+          any_none live rows (none_fewer (λ row. bytes_eq (sessions.key row) key && not (sessions.shut row)) live
+          rows (λ row is. (and_parts (bytes_eq (sessions.key row) key && not (sessions.shut row)) _ is).0) shut)
 
-      pub none_more : (row : S) → bytes_eq (sessions.key row) key ≡ false → found rows key now horizon ≡ None
-          → found (rows ++ row ∷ []) key now horizon ≡ None
+      pub none_more : (row : S) → bytes_eq (sessions.key row) key ≡ false
+          → found rows key now horizon ≡ None → found (rows ++ row ∷ []) key now horizon ≡ None
       none_more row other none =
-          any_none live (rows ++ row ∷ [])
-          (list_any-append live rows (row ∷ []) ∙ (λ i. none_any live rows none i
-          || (other i && not (sessions.shut row) && nat_lt (max now horizon) (sessions.until row) || false)))
+          any_none live (rows ++ row ∷ []) (list_any-append live rows (row ∷ []) ∙ (λ i. none_any live rows
+          none i || (other i && not (sessions.shut row) && nat_lt (max now horizon) (sessions.until row) || false)))
 
-      shut_any : (test : S → Bool) → list_any live (shut_where test rows)
-          ≡ list_any (λ row. bytes_eq (sessions.key row) key && not (sessions.shut row || test row)
-          && nat_lt (max now horizon) (sessions.until row)) rows
-      shut_any test =
-          any_mapped live (λ row. sessions.shut_if (test row) row) rows
-          ∙ (λ i. list_any (λ (row : S). bytes_eq (sessions.same_key (test row) row i) key
-          && not (sessions.shut_then (test row) row i)
-          && nat_lt (max now horizon) (sessions.same_until (test row) row i)) rows)
+      shut_any : (test : S → Bool) → list_any live (shut_where test rows) ≡ list_any (λ row. bytes_eq (sessions.key row)
+          key && not (sessions.shut row || test row) && nat_lt (max now horizon) (sessions.until row)) rows
+      shut_any test = any_mapped live (λ row. sessions.shut_if (test row) row) rows
+          ∙ (λ i. list_any (λ (row : S). bytes_eq (sessions.same_key (test row) row i) key && not (sessions.shut_then
+          (test row) row i) && nat_lt (max now horizon) (sessions.same_until (test row) row i)) rows)
 
-      pub none_shut : (test : S → Bool) → found rows key now horizon ≡ None
-          → found (shut_where test rows) key now horizon ≡ None
-      none_shut test none =
-          any_none live (shut_where test rows)
-          (shut_any test ∙ none_fewer live _ rows
-          (λ row is. still_live (bytes_eq (sessions.key row) key) (sessions.shut row) (test row) _ is)
-          (none_any live rows none))
+      pub none_shut : (test : S → Bool)
+          → found rows key now horizon ≡ None → found (shut_where test rows) key now horizon ≡ None
+      none_shut test none = any_none live (shut_where test rows) (shut_any test ∙ none_fewer live _ rows (λ row is.
+          still_live (bytes_eq (sessions.key row) key) (sessions.shut row) (test row) _ is) (none_any live rows none))
 
       -- none was found where no row of that key was shut, nor in front of others
       pub none_before : (test : S → Bool) → ((row : S) → bytes_eq (sessions.key row) key ≡ true → test row ≡ false)
           → found (shut_where test rows) key now horizon ≡ None → found rows key now horizon ≡ None
-      none_before test stays none =
-          any_none live rows
-          (none_fewer _ live rows
-          (λ row is. not_shut (bytes_eq (sessions.key row) key) (sessions.shut row) (test row) _ (stays row) is)
-          (sym (shut_any test) ∙ none_any live (shut_where test rows) none))
+      none_before test stays none = any_none live rows
+          (none_fewer _ live rows (λ row is. not_shut (bytes_eq (sessions.key row) key) (sessions.shut row)
+          (test row) _ (stays row) is) (sym (shut_any test) ∙ none_any live (shut_where test rows) none))
 
-      pub none_in_front : (more : List S) → found (rows ++ more) key now horizon ≡ None
-          → found rows key now horizon ≡ None
-      none_in_front more none =
-          any_none live rows
-          (or_parts (list_any live rows) (list_any live more)
-          (sym (list_any-append live rows more) ∙ none_any live (rows ++ more) none)).0
+      pub none_in_front : (more : List S)
+          → found (rows ++ more) key now horizon ≡ None → found rows key now horizon ≡ None
+      none_in_front more none = any_none live rows (or_parts (list_any live rows)
+          (list_any live more) (sym (list_any-append live rows more) ∙ none_any live (rows ++ more) none)).0
 
       -- what is found depends on the larger of the moment and the horizon alone
-      pub at_moment : (other : ℕ) → max now horizon ≡ max other horizon
-          → found rows key now horizon ≡ found rows key other horizon
-      at_moment other same =
-          ap (λ (m : ℕ). find (λ (row : S). bytes_eq (sessions.key row) key && not (sessions.shut row)
-          && nat_lt m (sessions.until row)) rows) same
+      pub at_moment : (other : ℕ)
+          → max now horizon ≡ max other horizon → found rows key now horizon ≡ found rows key other horizon
+      at_moment other same = ap (λ (m : ℕ). find (λ (row : S).
+          bytes_eq (sessions.key row) key && not (sessions.shut row) && nat_lt m (sessions.until row)) rows) same
 
     -- where rows are shut, there are the same
     pub keys_stay : (test : S → Bool) → is_there (shut_where test rows) key ≡ is_there rows key
-    keys_stay test =
-        any_mapped (λ row. bytes_eq (sessions.key row) key) (λ row. sessions.shut_if (test row) row) rows
+    keys_stay test = any_mapped (λ row. bytes_eq (sessions.key row) key) (λ row. sessions.shut_if (test row) row) rows
         ∙ (λ i. list_any (λ (row : S). bytes_eq (sessions.same_key (test row) row i) key) rows)
 
     shut_all : (test : S → Bool) → ((row : S) → bytes_eq (sessions.key row) key ≡ true → test row ≡ true)
         → is_open (shut_where test rows) key ≡ false
-    shut_all test shuts =
-        any_mapped (λ row. bytes_eq (sessions.key row) key && not (sessions.shut row))
-        (λ row. sessions.shut_if (test row) row) rows
-        ∙ (λ i. list_any (λ (row : S). bytes_eq (sessions.same_key (test row) row i) key
-        && not (sessions.shut_then (test row) row i)) rows)
-        ∙ list_any_none (λ (row : S). bytes_eq (sessions.key row) key && not (sessions.shut row || test row)) rows
-        (λ k d inside. shut_now _ _ _ (shuts _))
+    shut_all test shuts = any_mapped (λ row. bytes_eq (sessions.key row) key && not (sessions.shut row))
+        (λ row. sessions.shut_if (test row) row) rows ∙ (λ i. list_any (λ (row : S). bytes_eq (sessions.same_key
+        (test row) row i) key && not (sessions.shut_then (test row) row i)) rows) ∙ list_any_none (λ (row : S). bytes_eq
+        (sessions.key row) key && not (sessions.shut row || test row)) rows (λ k d inside. shut_now _ _ _ (shuts _))
 
     pub open_there : is_open rows key ≡ true → is_there rows key ≡ true
-    open_there some =
-        any_more (λ row. bytes_eq (sessions.key row) key && not (sessions.shut row)) _ rows
+    open_there some = any_more (λ row. bytes_eq (sessions.key row) key && not (sessions.shut row)) _ rows
         (λ row is. (and_parts (bytes_eq (sessions.key row) key) (not (sessions.shut row)) is).0) some
 
     -- a key of rows that were chosen is there
-    pub chosen_there : (chosen : S → Bool) → is_among key (map sessions.key (filter chosen rows)) ≡ true
-        → is_there rows key ≡ true
-    chosen_there chosen is =
-        any_chosen (λ row. bytes_eq (sessions.key row) key) chosen rows
+    pub chosen_there : (chosen : S → Bool)
+        → is_among key (map sessions.key (filter chosen rows)) ≡ true → is_there rows key ≡ true
+    chosen_there chosen is = any_chosen (λ row. bytes_eq (sessions.key row) key) chosen rows
         (sym (any_mapped (λ other. bytes_eq other key) sessions.key (filter chosen rows)) ∙ is)
 
     -- the rows of a key are shut: there is one, and none that is open
@@ -233,28 +214,26 @@ module _ {S : Type 0} (sessions : Sessions S) where
       pub shut : is_open rows key ≡ false
 
     -- they are where each of them is
-    shut_by : (new : List S) (test : S → Bool) → new ≡ shut_where test rows → is_there rows key ≡ true
-        → ((row : S) → bytes_eq (sessions.key row) key ≡ true → test row ≡ true)
+    shut_by : (new : List S) (test : S → Bool) → new ≡ shut_where test rows
+        → is_there rows key ≡ true → ((row : S) → bytes_eq (sessions.key row) key ≡ true → test row ≡ true)
         → (is_there new key ≡ true) × (is_open new key ≡ false)
-    shut_by new test is there shuts =
-        subst (λ (l : List S). (is_there l key ≡ true) × (is_open l key ≡ false)) (sym is)
-        (keys_stay test ∙ there, shut_all test shuts)
+    shut_by new test is there shuts = subst (λ (l : List S). (is_there l key ≡ true) × (is_open l key ≡ false))
+        (sym is) (keys_stay test ∙ there, shut_all test shuts)
 
   -- so they are where the rows of some keys are shut, or those of this one
   module _ (old new : List S) (key : List ℕ) where
     pub shut_among : (keys : List (List ℕ)) → new ≡ shut_where (λ row. is_among (sessions.key row) keys) old
         → is_there old key ≡ true → is_among key keys ≡ true → IsShut new key
     shut_among keys is there among =
-        let both = shut_by old key new (λ row. is_among (sessions.key row) keys) is there
-        (λ row same. subst (λ (text : List ℕ). is_among text keys ≡ true)
-        (sym (same_text (sessions.key row) key same)) among) in
+        let both = shut_by old key new (λ row. is_among (sessions.key row) keys) is there (λ row same.
+        subst (λ (text : List ℕ). is_among text keys ≡ true) (sym (same_text (sessions.key row) key same)) among) in
         record { there = both.0; shut = both.1 }
 
-    pub shut_one : new ≡ shut_where (λ row. bytes_eq key (sessions.key row)) old → is_there old key ≡ true
-        → IsShut new key
+    pub shut_one : new ≡ shut_where (λ row. bytes_eq key (sessions.key row)) old
+        → is_there old key ≡ true → IsShut new key
     shut_one is there =
-        let both = shut_by old key new (λ row. bytes_eq key (sessions.key row)) is there
-        (λ row same. other_way (sessions.key row) key same) in
+        let both = shut_by old key new
+        (λ row. bytes_eq key (sessions.key row)) is there (λ row same. other_way (sessions.key row) key same) in
         record { there = both.0; shut = both.1 }
 
   module _ (rows : List S) (now horizon : ℕ) where
@@ -271,8 +250,7 @@ module _ {S : Type 0} (sessions : Sessions S) where
     pub found_itself : (text : Option (List ℕ)) (row : S)
         → option_and_then (λ key. found rows key now horizon) text ≡ Some row → IsFound text row
     found_itself None row is = absurd (cc)
-    found_itself (Some key) row is =
-        let at = found_at (lives key now horizon) rows row is in
+    found_itself (Some key) row is = let at = found_at (lives key now horizon) rows row is in
         let first = and_parts (bytes_eq (sessions.key row) key && not (sessions.shut row)) _ at.2 in
         let second = and_parts (bytes_eq (sessions.key row) key) (not (sessions.shut row)) first.0 in
         let named : key ≡ sessions.key row = sym (same_text (sessions.key row) key second.0) in
@@ -283,17 +261,16 @@ module _ {S : Type 0} (sessions : Sessions S) where
           at = at.1;
           unshut = not-true (sessions.shut row) second.1;
           seen = first.1;
-          there =
-              any_more (lives (sessions.key row) now horizon) (λ other. bytes_eq (sessions.key other) (sessions.key row))
-              rows (λ other is. (and_parts (bytes_eq (sessions.key other) (sessions.key row)) _
+          there = any_more (lives (sessions.key row) now horizon) (λ other. bytes_eq (sessions.key other)
+              (sessions.key row)) rows (λ other is. (and_parts (bytes_eq (sessions.key other) (sessions.key row)) _
               (and_parts (bytes_eq (sessions.key other) (sessions.key row) && not (sessions.shut other)) _ is).0).0)
               (any_of_found _ rows (subst (λ (o : Option S). IsSome o) (sym again) refl));
           again = again;
         }
 
     -- a row that is there, is not shut and has not ended is found
-    pub live_found : (row : S) → Contains rows row → sessions.shut row ≡ false → now < sessions.until row
-        → horizon < sessions.until row → IsSome (found rows (sessions.key row) now horizon)
+    pub live_found : (row : S) → Contains rows row → sessions.shut row ≡ false
+        → now < sessions.until row → horizon < sessions.until row → IsSome (found rows (sessions.key row) now horizon)
     live_found row there unshut less also =
         let later = lt-ltb (max now horizon) (sessions.until row) (omega (arith, less, also)) in
         found_by (lives (sessions.key row) now horizon) rows row there

@@ -1,6 +1,7 @@
 -- What happened since a record was added.
 use Rattle.std.specs.Prelude.{Contains}
-use Rattle.std.proofs.Common.{◌≡◌, inl, inr, ℕ, zero, suc, ◌<◌, ◌+◌, ◌==◌, if◌then◌else◌, Bool, true, false, List, [], ◌∷◌, ◌++◌, sym, subst, ap, ◌∙◌, arith}
+use Rattle.std.proofs.Common.{◌≡◌, inl, inr, ℕ, zero, suc, ◌<◌, ◌+◌, ◌==◌, if◌then◌else◌, Bool, true, false, List, []}
+use Rattle.std.proofs.Common.{◌∷◌, ◌++◌, sym, subst, ap, ◌∙◌, arith}
 use Rattle.std.proofs.lemmas.List.Elements.{All-contains}
 use Rattle.crash_disk.specs.Torn.{other_file}
 use Rattle.record_ledger.specs.Rules.{RecordRules}
@@ -20,8 +21,7 @@ module _ {R : Type 0} (rules : RecordRules R) where
   onto : (start held : Held R) (event : Event R) (past : List (Event R)) (r : R) → Leads rules start (event ∷ past) held
       → ((mid : Held R) → Leads rules start past mid → WasAdded rules start mid past r)
       → WasAdded rules start held (event ∷ past) r
-  onto start held event past r leads was =
-      let (mid, led, more) = last_event rules start held past event leads in
+  onto start held event past r leads was = let (mid, led, more) = last_event rules start held past event leads in
       let w = was mid led in
       record {
         past = w.past;
@@ -32,13 +32,11 @@ module _ {R : Type 0} (rules : RecordRules R) where
         leads = more (held_with r w.before) w.later w.leads;
       }
 
-  pub was_added : (start held : Held R) (events : List (Event R)) (records : List R) (r : R)
-      → Leads rules start events held → Includes events records → Contains records r
-      → WasAdded rules start held events r
+  pub was_added : (start held : Held R) (events : List (Event R)) (records : List R) (r : R) → Leads
+      rules start events held → Includes events records → Contains records r → WasAdded rules start held events r
   was_added start held [] [] r leads includes there = absurd (omega (arith, there.1))
   was_added start held [] (x ∷ records) r leads includes there = elim includes [ ]
-  was_added start held (Adds x ∷ past) (same ∷ records) r leads (This includes) (zero, less, is) =
-      let y : x ≡ r = is in
+  was_added start held (Adds x ∷ past) (same ∷ records) r leads (This includes) (zero, less, is) = let y : x ≡ r = is in
       record {
         past = past;
         later = [];
@@ -47,62 +45,54 @@ module _ {R : Type 0} (rules : RecordRules R) where
         led = leads.1;
         leads = leads.4 ∙ ap (λ (z : R). held_with z leads.0) y;
       }
-  was_added start held (Adds x ∷ past) (same ∷ records) r leads (This includes) (suc k, less, is) =
-      onto start held (Adds x) past r leads
-      (λ mid led. was_added start mid past records r led includes (k, omega (arith, less), is))
+  was_added start held (Adds x ∷ past) (same ∷ records) r leads (This includes) (suc k, less, is) = onto start held
+      (Adds x) past r leads (λ mid led. was_added start mid past records r led includes (k, omega (arith, less), is))
   was_added start held (event ∷ past) records r leads (Another includes) there =
       onto start held event past r leads (λ mid led. was_added start mid past records r led includes there)
 
   -- the horizon of a ledger is that at the start or a moment of a compaction
   ends_before : (moments : List ℕ) (until : ℕ) (start held : Held R) (events : List (Event R))
-      → Leads rules start events held → CompactsAt moments events
-      → EndsBehind start.header.horizon moments until → held.header.horizon < until
+      → Leads rules start events held
+      → CompactsAt moments events → EndsBehind start.header.horizon moments until → held.header.horizon < until
   ends_before moments until start held [] leads at ends =
       subst (λ (h : Held R). h.header.horizon < until) (sym leads) ends.start
-  ends_before moments until start held (Adds x ∷ past) leads at ends =
-      subst (λ (h : Held R). h.header.horizon < until) (sym leads.4)
-      (ends_before moments until start leads.0 past leads.1 at ends)
+  ends_before moments until start held (Adds x ∷ past) leads at ends = subst (λ (h : Held R). h.header.horizon < until)
+      (sym leads.4) (ends_before moments until start leads.0 past leads.1 at ends)
   ends_before moments until start held (events.Compacts now ∷ past) leads at ends =
       of_case (ends_before moments until start leads.0 past leads.1 at.1 ends) leads.2
     where
       of_case : leads.0.header.horizon < until → Compacts rules now leads.0 held → held.header.horizon < until
       of_case earlier (inl (last, same)) = subst (λ (h : Held R). h.header.horizon < until) (sym same) earlier
-      of_case earlier (inr (less, made)) =
-          let at_now = All-contains (λ m. m < until) moments now ends.each at.0 in
-          let is = made.horizon in
-          omega (arith, earlier, at_now, is)
+      of_case earlier (inr (less, made)) = let at_now = All-contains (λ m. m < until) moments now ends.each at.0 in
+          let is = made.horizon in omega (arith, earlier, at_now, is)
   ends_before moments until start held (Opens ∷ past) leads at ends =
       subst (λ (h : Held R). h.header.horizon < until) (sym leads.2)
       (by_version leads.0 (leads.0.version == 1) (ends_before moments until start leads.0 past leads.1 at ends))
     where
-      by_version : (h : Held R) (b : Bool) → h.header.horizon < until
-          → (if b then record h {
-            file = other_file h.file;
-            version = 2;
-            header = record
-                (h.header) { generation = h.header.generation + 1 };
-          } else h).header.horizon < until
+      by_version : (h : Held R) (b : Bool) → h.header.horizon < until → (if b then record h
+          { file = other_file h.file; version = 2; header = record (h.header) { generation = h.header.generation + 1 } }
+          else h).header.horizon < until
       by_version h true less = less
       by_version h false less = less
 
 -- what is said of all events is said of those before and since
 module _ {R : Type 0} where
-  later_at : (moments : List ℕ) (later past : List (Event R)) → CompactsWhere (Contains moments) (later ++ past)
-      → CompactsAt moments later
+  later_at : (moments : List ℕ) (later past : List (Event R))
+      → CompactsWhere (Contains moments) (later ++ past) → CompactsAt moments later
   later_at moments [] past at = tt
   later_at moments (Adds x ∷ later) past at = later_at moments later past at
   later_at moments (events.Compacts now ∷ later) past at = (at.0, later_at moments later past at.1)
   later_at moments (Opens ∷ later) past at = later_at moments later past at
 
-  past_at : (moments : List ℕ) (later past : List (Event R)) → CompactsWhere (Contains moments) (later ++ past)
-      → CompactsWhere (Contains moments) past
+  past_at : (moments : List ℕ) (later past : List (Event R))
+      → CompactsWhere (Contains moments) (later ++ past) → CompactsWhere (Contains moments) past
   past_at moments [] past at = at
   past_at moments (Adds x ∷ later) past at = past_at moments later past at
   past_at moments (events.Compacts now ∷ later) past at = past_at moments later past at.1
   past_at moments (Opens ∷ later) past at = past_at moments later past at
 
-  pub all_at : (moments : List ℕ) (events : List (Event R)) → CompactsWhere (Contains moments) events
-      → CompactsAt moments events
+  pub all_at : (moments : List ℕ) (events : List (Event R))
+      → CompactsWhere (Contains moments) events → CompactsAt moments events
   all_at moments [] at = tt
   all_at moments (Adds x ∷ past) at = all_at moments past at
   all_at moments (events.Compacts now ∷ past) at = (at.0, all_at moments past at.1)
@@ -110,26 +100,25 @@ module _ {R : Type 0} where
 
 -- a record was added to a ledger; since then it was compacted at these moments alone, and what ends behind them and the
 -- horizon at the start ends behind its horizon
-pub record Stood {R : Type 0} (rules : RecordRules R) (moments : List ℕ) (start held : Held R)
-    (events : List (Event R)) (r : R) : Type 0 where
+pub record Stood {R : Type 0}
+    (rules : RecordRules R) (moments : List ℕ) (start held : Held R) (events : List (Event R)) (r : R) : Type 0 where
   pub was : WasAdded rules start held events r
   pub at : CompactsAt moments was.later
-  pub ends : (until : ℕ) → EndsBehind start.header.horizon moments until
-      → EndsBehind was.before.header.horizon moments until
+  pub ends : (until : ℕ)
+      → EndsBehind start.header.horizon moments until → EndsBehind was.before.header.horizon moments until
 
 pub stood : {R : Type 0} (rules : RecordRules R) (moments : List ℕ) (start held : Held R) (records : List R) (r : R)
-    → (came : CameFrom rules (Contains moments) start records held)
-    → Contains records r → Stood rules moments start held came.events r
+    → (came : CameFrom rules (Contains moments) start records held) → Contains records r
+    → Stood rules moments start held came.events r
 stood {R} rules moments start held records r came there =
     let w = was_added rules start held came.events records r came.leads came.includes there in
-    let both : CompactsWhere (Contains moments) (w.later ++ Adds r ∷ w.past) = subst (CompactsWhere (Contains moments))
-    w.is came.at in
+    let both : CompactsWhere
+    (Contains moments) (w.later ++ Adds r ∷ w.past) = subst (CompactsWhere (Contains moments)) w.is came.at in
     record {
       was = w;
       at = later_at moments w.later (Adds r ∷ w.past) both;
       ends = λ until ends. record {
-        start =
-            ends_before rules moments until start w.before w.past w.led
+        start = ends_before rules moments until start w.before w.past w.led
             (all_at moments w.past (past_at moments w.later (Adds r ∷ w.past) both)) ends;
         each = ends.each;
       };
@@ -137,9 +126,9 @@ stood {R} rules moments start held records r came there =
 
 -- Where a session that was opened is as it was left in each ledger that came by events, it is so in a service and over
 -- starts.
-module _ {Setup R X : Type 0} (rules : RecordRules R) (Opened : List R → X → Type 0)
-    (IsAsLeft : (moments : List ℕ) (start : Held R) → X → Held R → Type 0) (Answers : AnswersBy Setup R)
-    (as_left : (moments : List ℕ) (start held : Held R) (records : List R) (x : X)
+module _ {Setup R X : Type 0} (rules : RecordRules R)
+    (Opened : List R → X → Type 0) (IsAsLeft : (moments : List ℕ) (start : Held R) → X → Held R → Type 0)
+    (Answers : AnswersBy Setup R) (as_left : (moments : List ℕ) (start held : Held R) (records : List R) (x : X)
     → CameFrom rules (Contains moments) start records held → Opened records x → IsAsLeft moments start x held) where
   pub found_as_left : WhatWasOpenedIsAsLeft rules Opened IsAsLeft
   found_as_left moments start records x image (held, is, came) opened =
@@ -152,9 +141,8 @@ module _ {Setup R X : Type 0} (rules : RecordRules R) (Opened : List R → X →
         record {
           records = is.records;
           are = is.are;
-          stay =
-              λ x image opened left. found_as_left _ first.node.ledger.held is.records x image (is.kept image left)
-              opened;
+          stay = λ x image opened left. found_as_left _ first.node.ledger.held is.records x image
+              (is.kept image left) opened;
         }
 
     pub stay_over_starts : SessionsStayOverStarts rules Opened IsAsLeft Answers
@@ -163,7 +151,6 @@ module _ {Setup R X : Type 0} (rules : RecordRules R) (Opened : List R → X →
         record {
           records = is.records;
           are = is.are;
-          stay = λ x image opened left.
-              let opens = is.kept image left in
+          stay = λ x image opened left. let opens = is.kept image left in
               (opens.held, opens.opens, as_left moments start opens.held is.records x opens.came opened);
         }

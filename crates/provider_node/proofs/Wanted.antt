@@ -39,14 +39,14 @@ module _ {Setup R : Type 0} (rules : RecordRules R) (Answers : AnswersBy Setup R
 
   module _ (wanted : (held : Held R) → IsBehind rules found now held → (other : Answer) (adds : Option R)
       → Answers old.setup held request now other adds → adds ≡ Some (recorded held)) where
-    its_own : (held : Held R) → IsBehind rules found now held → (other : Answer) (r : R)
-        → Answers old.setup held request now other (Some r) → recorded held ≡ r
+    its_own : (held : Held R) → IsBehind rules found now held
+        → (other : Answer) (r : R) → Answers old.setup held request now other (Some r) → recorded held ≡ r
     its_own held behind other r answers =
         let same : Some (recorded held) ≡ Some r = sym (wanted held behind other (Some r) answers) in cc
 
     -- a compaction is made only where there was no place for it
-    no_place : (held : Held R) → MakesRoom rules Answers old.setup found request now held
-        → ¬ (HasPlace rules found (recorded found))
+    no_place : (held : Held R)
+        → MakesRoom rules Answers old.setup found request now held → ¬ (HasPlace rules found (recorded found))
     no_place held made place =
         made.none (subst (HasPlace rules found) (its_own found (inl refl) made.other made.wanted made.wants) place)
 
@@ -58,8 +58,7 @@ module _ {Setup R : Type 0} (rules : RecordRules R) (Answers : AnswersBy Setup R
 
     added_over : (held : Held R) → IsRecordedOver rules found now recorded held → IsBehind rules found now held
         → (r : R) → Answers old.setup held request now answer (Some r) → new.ledger.held ≡ held_with r held → IsAdded
-    added_over held over behind r answers added =
-        let same = sym (its_own held behind answer r answers) in
+    added_over held over behind r answers added = let same = sym (its_own held behind answer r answers) in
         record {
           held = held;
           over = over;
@@ -69,8 +68,8 @@ module _ {Setup R : Type 0} (rules : RecordRules R) (Answers : AnswersBy Setup R
         }
 
     -- it is, where the disk does not fail and memory is found
-    pub comes_of_wanted : HasRoom rules found now recorded → ¬ Risen
-        → Serves rules Answers found request now Risen answer old new → (answer ≡ Fixed NO_MEMORY) ⊎ IsAdded
+    pub comes_of_wanted : HasRoom rules found now recorded
+        → ¬ Risen → Serves rules Answers found request now Risen answer old new → (answer ≡ Fixed NO_MEMORY) ⊎ IsAdded
     comes_of_wanted room calm (steps.Plain answers whole) =
         absurd (let e = wanted found (inl refl) answer None answers in cc)
     comes_of_wanted room calm (steps.Recorded r answers place whole) =
@@ -85,11 +84,9 @@ module _ {Setup R : Type 0} (rules : RecordRules R) (Answers : AnswersBy Setup R
     comes_of_wanted room calm (steps.Starved held which is whole) = inl is
 
     -- and so what it brings about holds of the ledger
-    pub holds_of_wanted : (P : Held R → Type 0)
-        → ((held : Held R) → IsBehind rules found now held → P (held_with (recorded held) held))
-        → HasRoom rules found now recorded → ¬ Risen
-        → Serves rules Answers found request now Risen answer old new
-        → (answer ≡ Fixed NO_MEMORY) ⊎ P new.ledger.held
+    pub holds_of_wanted : (P : Held R → Type 0) → ((held : Held R) → IsBehind rules found now held
+        → P (held_with (recorded held) held)) → HasRoom rules found now recorded → ¬ Risen
+        → Serves rules Answers found request now Risen answer old new → (answer ≡ Fixed NO_MEMORY) ⊎ P new.ledger.held
     holds_of_wanted P with_it room calm serves = of_case (comes_of_wanted room calm serves)
       where
         of_case : (answer ≡ Fixed NO_MEMORY) ⊎ IsAdded → (answer ≡ Fixed NO_MEMORY) ⊎ P new.ledger.held

@@ -8,28 +8,25 @@ use Rattle.record_ledger.specs.Rules.{RecordRules}
 use Rattle.record_ledger.specs.Ledger.{Held, ledger_in, taken}
 use Rattle.provider_node.specs.Step.{AnswersBy, Provider, StepLeaves}
 
--- A record stands in no ledger that a request may find: not in the provider's while this is whole, and while it is
--- broken in none that may be opened from the disk.
-pub record IsNew {Setup R : Type 0} (rules : RecordRules R) (old : Provider Setup R) (disk : Option DiskState) (r : R)
-    : Type 0 where
-  pub in_ledger : old.ledger.broken ≡ false → ¬ (Contains old.ledger.held.records r)
-  pub on_disk : old.ledger.broken ≡ true → (image : Image) (held : Held R) → Leaves disk image
-      → taken (ledger_in rules image) ≡ Ok held
-      → ¬ (Contains held.records r)
+module _ {Setup R : Type 0} (rules : RecordRules R) (old : Provider Setup R) (disk : Option DiskState) (r : R) where
+  -- A record stands in no ledger that a request may find: not in the provider's while this is whole, and while it is
+  -- broken in none that may be opened from the disk.
+  pub record IsNew : Type 0 where
+    pub in_ledger : old.ledger.broken ≡ false → ¬ (Contains old.ledger.held.records r)
+    pub on_disk : old.ledger.broken ≡ true → (image : Image) (held : Held R) → Leaves disk image
+        → taken (ledger_in rules image) ≡ Ok held → ¬ (Contains held.records r)
 
--- A request adds this record: over some ledger, with some answer, be it one that was never sent.
-pub record IsAddedBy {Setup R : Type 0} (Answers : AnswersBy Setup R) (setup : Setup) (request : Request) (now : ℕ)
-    (r : R) : Type 0 where
-  pub held : Held R
-  pub answer : Answer
-  pub adds : Answers setup held request now answer (Some r)
+module _ {Setup R : Type 0} (Answers : AnswersBy Setup R) (setup : Setup) (request : Request) (now : ℕ) (r : R) where
+  -- A request adds this record: over some ledger, with some answer, be it one that was never sent.
+  pub record IsAddedBy : Type 0 where
+    pub held : Held R
+    pub answer : Answer
+    pub adds : Answers setup held request now answer (Some r)
 
 -- Each record that stands in an image which a crash inside the answer to a request may leave, or one behind it, and
 -- stood nowhere before, is one that this request adds.
 abbrev pub WhatIsNewIsOfTheRequest : {Setup R : Type 0} → RecordRules R → AnswersBy Setup R → Type 0
-WhatIsNewIsOfTheRequest {Setup} {R} rules Answers =
-    (old : Provider Setup R) (disk : Option DiskState) (request : Request) (now : ℕ) (image : Image) (held : Held R)
-    (r : R)
-    → IsSome disk → IfSome disk (λ d. MayLeave d (image_of d)) → StepLeaves rules Answers old disk request now image
-    → ledger_in rules image ≡ Ok (Some held) → Contains held.records r → IsNew rules old disk r
-    → IsAddedBy Answers old.setup request now r
+WhatIsNewIsOfTheRequest {Setup} {R} rules Answers = (old : Provider Setup R) (disk : Option DiskState)
+    (request : Request) (now : ℕ) (image : Image) (held : Held R) (r : R) → IsSome disk → IfSome disk
+    (λ d. MayLeave d (image_of d)) → StepLeaves rules Answers old disk request now image → ledger_in rules image ≡ Ok
+    (Some held) → Contains held.records r → IsNew rules old disk r → IsAddedBy Answers old.setup request now r

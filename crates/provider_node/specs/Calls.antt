@@ -23,47 +23,41 @@ Begins plan told later = IfSome told (λ disk. IsSomeAnd later (λ now. IsBegun 
 abbrev pub IsAmid : (plan : DiskState → List Change) → (told : Option DiskState) → Image → Type 0
 IsAmid plan told image = IfSome told (λ disk. LeftAmid (plan disk) disk image)
 
--- no call
-abbrev pub no_call : DiskState → List Change
-no_call disk = []
+module _ {R : Type 0} (rules : RecordRules R) (now : ℕ) (found : Held R) where
+  -- So it is of the calls of one compaction of a ledger at a moment. At the last generation it makes no call.
+  abbrev pub OfCompaction : ((plan : DiskState → List Change) → Type 0) → Type 0
+  OfCompaction Goes =
+      Goes (λ disk. []) ⊎ ((made : Held R) × IsCompacted rules now found made × Goes (compacting rules made))
 
-module _ {R : Type 0} (rules : RecordRules R) where
-  -- One compaction of a ledger at a moment: it ended; it was begun; a crash amid it. At the last generation it makes no
-  -- call.
-  abbrev pub MakesCompaction : (now : ℕ) → Held R → (told later : Option DiskState) → Type 0
-  MakesCompaction now found told later =
-      Makes no_call told later ⊎ ((made : Held R) × IsCompacted rules now found made × Makes (compacting rules made)
-      told later)
+  -- It ended; it was begun; a crash amid it.
+  abbrev pub MakesCompaction : (told later : Option DiskState) → Type 0
+  MakesCompaction told later = OfCompaction (λ plan. Makes plan told later)
 
-  abbrev pub BeginsCompaction : (now : ℕ) → Held R → (told later : Option DiskState) → Type 0
-  BeginsCompaction now found told later =
-      Begins no_call told later ⊎ ((made : Held R) × IsCompacted rules now found made × Begins (compacting rules made)
-      told later)
+  abbrev pub BeginsCompaction : (told later : Option DiskState) → Type 0
+  BeginsCompaction told later = OfCompaction (λ plan. Begins plan told later)
 
-  abbrev pub IsAmidCompaction : (now : ℕ) → Held R → (told : Option DiskState) → Image → Type 0
-  IsAmidCompaction now found told image =
-      IsAmid no_call told image ⊎ ((made : Held R) × IsCompacted rules now found made × IsAmid (compacting rules made)
-      told image)
+  abbrev pub IsAmidCompaction : (told : Option DiskState) → Image → Type 0
+  IsAmidCompaction told image = OfCompaction (λ plan. IsAmid plan told image)
 
   -- as far as its answer says
-  abbrev pub CompactionCalls : (now : ℕ) → Held R → (told later : Option DiskState) → Result (Unit {0}) OpenFault
-      → Type 0
-  CompactionCalls now found told later (Ok done) = MakesCompaction now found told later
-  CompactionCalls now found told later (Err NoMemory) = later ≡ told
-  CompactionCalls now found told later (Err fault) = BeginsCompaction now found told later
+  abbrev pub CompactionCalls : (told later : Option DiskState) → Result (Unit {0}) OpenFault → Type 0
+  CompactionCalls told later (Ok done) = MakesCompaction told later
+  CompactionCalls told later (Err NoMemory) = later ≡ told
+  CompactionCalls told later (Err fault) = BeginsCompaction told later
 
   -- WHAT A CRASH LEAVES
 
+  -- inside a compaction: the ledger that it finds, or that made anew, and no more than amid its calls
+  pub record CompactingLeaves (told : Option DiskState) (image : Image) : Type 0 where
+    pub stands : IsOldOrCompacted rules now found image
+    pub amid : IsAmidCompaction told image
+
+module _ {R : Type 0} (rules : RecordRules R) where
   -- inside an opening: what the disk stood for, or what is opened from it, and no more than amid the calls of an
   -- opening
   pub record OpeningLeaves (told : Option DiskState) (image : Image) : Type 0 where
     pub stands : LeftByOpening rules told image
     pub amid : IsAmid (opening rules) told image
-
-  -- inside a compaction: the ledger that it finds, or that made anew, and no more than amid its calls
-  pub record CompactingLeaves (now : ℕ) (found : Held R) (told : Option DiskState) (image : Image) : Type 0 where
-    pub stands : IsOldOrCompacted rules now found image
-    pub amid : IsAmidCompaction now found told image
 
   -- inside a commit: the ledger with the record or without, and no more than amid its calls
   pub record CommittingLeaves (r : R) (held : Held R) (told : Option DiskState) (image : Image) : Type 0 where

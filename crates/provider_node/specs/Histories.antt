@@ -10,34 +10,32 @@ use Rattle.serve_loop.specs.Turns.{Asked, Turn, asked_by}
 use Rattle.record_ledger.specs.Rules.{RecordRules, AreRecords}
 use Rattle.record_ledger.specs.Ledger.{Held, ledger_in}
 use Rattle.record_ledger.specs.Linking.{as_list}
-use Rattle.record_ledger.specs.Runs.{Event, Adds, Compacts, Opens, Leads}
+use Rattle.record_ledger.specs.Runs.{Event, Adds, Compacts, Leads}
 use Rattle.provider_node.specs.Step.{AnswersBy, Provider, OwnsDisk, StepsOnDisk, StepLeaves}
 
--- what an answer of a provider does, with the calls on its disk, and what a crash may leave
-abbrev pub StepOf : {Setup R : Type 0} → RecordRules R → AnswersBy Setup R → NodeStep (Provider Setup R)
-StepOf rules Answers old disk request now before after answer new later =
-    StepsOnDisk rules Answers old disk request now (Rose before after) answer new later
+module _ {Setup R : Type 0} (rules : RecordRules R) (Answers : AnswersBy Setup R) where
+  -- what an answer of a provider does, with the calls on its disk, and what a crash may leave
+  abbrev pub StepOf : NodeStep (Provider Setup R)
+  StepOf old disk request now before after = StepsOnDisk rules Answers old disk request now (Rose before after)
 
-abbrev pub IsProviders : {Setup R : Type 0} → RecordRules R → AnswersBy Setup R → NodeStep (Provider Setup R)
-IsProviders rules Answers = IsAnswered (OwnsDisk rules) (StepOf rules Answers) (StepLeaves rules Answers)
+  abbrev pub IsProviders : NodeStep (Provider Setup R)
+  IsProviders = IsAnswered (OwnsDisk rules) StepOf (StepLeaves rules Answers)
 
 -- WHAT IS ACKNOWLEDGED
 
--- The answer to a request stands for a record that is added with it, or for none.
-pub data Stands {Setup R : Type 0} (Answers : AnswersBy Setup R) (asked : Asked (Provider Setup R)) : Option R → Type 0
-  where
-    ForRecord : (held : Held R) (r : R) → Answers asked.node.setup held asked.request asked.now asked.answer (Some r)
-        → Stands Answers asked (Some r)
-    ForNone : (held : Held R) → Answers asked.node.setup held asked.request asked.now asked.answer None
-        → Stands Answers asked None
-    ForCode : (code : ℕ) → asked.answer ≡ Fixed code → Stands Answers asked None
-
--- the records for which the answers of some turns stand, the latest first
 module _ {Setup R : Type 0} (Answers : AnswersBy Setup R) where
+  module _ (asked : Asked (Provider Setup R)) where
+    -- The answer to a request stands for a record that is added with it, or for none.
+    pub data Stands : Option R → Type 0 where
+      ForRecord : (held : Held R) (r : R)
+          → Answers asked.node.setup held asked.request asked.now asked.answer (Some r) → Stands (Some r)
+      ForNone : (held : Held R) → Answers asked.node.setup held asked.request asked.now asked.answer None → Stands None
+      ForCode : (code : ℕ) → asked.answer ≡ Fixed code → Stands None
+
+  -- the records for which the answers of some turns stand, the latest first
   abbrev pub AreBehind : List (Asked (Provider Setup R)) → (earlier records : List R) → Type 0
   AreBehind [] earlier records = records ≡ earlier
-  AreBehind (asked ∷ others) earlier records =
-      (r : Option R) × Stands Answers asked r × (records ≡ as_list r ++ earlier)
+  AreBehind (asked ∷ others) earlier records = (r : Option R) × Stands asked r × (records ≡ as_list r ++ earlier)
 
   abbrev pub AreAcknowledged : List (Turn (Provider Setup R)) → List R → Type 0
   AreAcknowledged [] records = records ≡ []
@@ -49,17 +47,16 @@ module _ {Setup R : Type 0} (Answers : AnswersBy Setup R) where
 -- each of these records was added by one of these events, in order
 pub data Includes {R : Type 0} : List (Event R) → List R → Type 0 where
   Nothing : Includes [] []
-  This : {r : R} {past : List (Event R)} {records : List R} → Includes past records
-      → Includes (Adds r ∷ past) (r ∷ records)
-  Another : {event : Event R} {past : List (Event R)} {records : List R} → Includes past records
-      → Includes (event ∷ past) records
+  This : {r : R} {past : List (Event R)} {records : List R}
+      → Includes past records → Includes (Adds r ∷ past) (r ∷ records)
+  Another : {event : Event R} {past : List (Event R)} {records : List R}
+      → Includes past records → Includes (event ∷ past) records
 
 -- each compaction took place at a moment of which this is said
 abbrev pub CompactsWhere : {R : Type 0} → (IsMoment : ℕ → Type 0) → List (Event R) → Type 0
 CompactsWhere IsMoment [] = Unit {0}
-CompactsWhere IsMoment (Adds r ∷ past) = CompactsWhere IsMoment past
 CompactsWhere IsMoment (Compacts now ∷ past) = IsMoment now × CompactsWhere IsMoment past
-CompactsWhere IsMoment (Opens ∷ past) = CompactsWhere IsMoment past
+CompactsWhere IsMoment (event ∷ past) = CompactsWhere IsMoment past
 
 -- of any moment
 abbrev pub AnyMoment : ℕ → Type 0
@@ -70,27 +67,27 @@ abbrev pub moments_of : {N : Type 0} → List (Turn N) → List ℕ
 moments_of [] = []
 moments_of (turn ∷ past) = map (λ asked. asked.now) (asked_by turn) ++ moments_of past
 
--- a ledger that came from another one by events, in which these records were added, and each compaction was at such a
--- moment
-pub record CameFrom {R : Type 0} (rules : RecordRules R) (IsMoment : ℕ → Type 0) (start : Held R) (records : List R)
-    (held : Held R) : Type 0 where
-  pub events : List (Event R)
-  pub leads : Leads rules start events held
-  pub includes : Includes events records
-  pub at : CompactsWhere IsMoment events
+module _ {R : Type 0} (rules : RecordRules R) (IsMoment : ℕ → Type 0) (start : Held R) (records : List R) where
+  -- a ledger that came from another one by events, in which these records were added, and each compaction was at such a
+  -- moment
+  pub record CameFrom (held : Held R) : Type 0 where
+    pub events : List (Event R)
+    pub leads : Leads rules start events held
+    pub includes : Includes events records
+    pub at : CompactsWhere IsMoment events
 
--- the image stands for such a ledger
-abbrev pub HoldsWhatCame : {R : Type 0} → RecordRules R → (IsMoment : ℕ → Type 0) → Held R → List R → Image → Type 0
-HoldsWhatCame {R} rules IsMoment start records image =
-    (held : Held R) × (ledger_in rules image ≡ Ok (Some held)) × CameFrom rules IsMoment start records held
+  -- the image stands for such a ledger
+  abbrev pub HoldsWhatCame : Image → Type 0
+  HoldsWhatCame image = (held : Held R) × (ledger_in rules image ≡ Ok (Some held)) × CameFrom held
 
--- and this is said of its history
-pub record HoldsWhatCameSo {R : Type 0} (rules : RecordRules R) (IsSo : Held R → List (Event R) → Type 0)
-    (IsMoment : ℕ → Type 0) (start : Held R) (records : List R) (image : Image) : Type 0 where
-  pub held : Held R
-  pub is : ledger_in rules image ≡ Ok (Some held)
-  pub came : CameFrom rules IsMoment start records held
-  pub so : IsSo start came.events
+module _ {R : Type 0} (rules : RecordRules R) (IsSo : Held R → List (Event R) → Type 0)
+    (IsMoment : ℕ → Type 0) (start : Held R) (records : List R) (image : Image) where
+  -- and this is said of its history
+  pub record HoldsWhatCameSo : Type 0 where
+    pub held : Held R
+    pub is : ledger_in rules image ≡ Ok (Some held)
+    pub came : CameFrom rules IsMoment start records held
+    pub so : IsSo start came.events
 
 -- a provider whose ledger is whole, on its own disk
 pub record IsAtStart {Setup R : Type 0} (rules : RecordRules R) (first : World (Provider Setup R)) : Type 0 where
@@ -101,17 +98,18 @@ pub record IsAtStart {Setup R : Type 0} (rules : RecordRules R) (first : World (
 
 -- WHAT IS KEPT
 
--- Of the records for which the answers of a service stand this holds, and of every image that a crash may leave behind
--- it.
-pub record AreKeptSo {Setup R : Type 0} (Answers : AnswersBy Setup R) (Holds : List R → Image → Type 0)
-    (last : World (Provider Setup R)) (turns : List (Turn (Provider Setup R))) : Type 0 where
-  pub records : List R
-  pub are : AreAcknowledged Answers turns records
-  pub kept : (image : Image) → Leaves last.disk image → Holds records image
+module _ {Setup R : Type 0} (Answers : AnswersBy Setup R)
+    (Holds : List R → Image → Type 0) (last : World (Provider Setup R)) (turns : List (Turn (Provider Setup R))) where
+  -- Of the records for which the answers of a service stand this holds, and of every image that a crash may leave
+  -- behind it.
+  pub record AreKeptSo : Type 0 where
+    pub records : List R
+    pub are : AreAcknowledged Answers turns records
+    pub kept : (image : Image) → Leaves last.disk image → Holds records image
 
--- The records for which the answers of a service stand are in the history of every ledger that a crash may leave behind
--- it; in this each compaction was at the moment of one of its requests.
-abbrev pub AreKept : {Setup R : Type 0} → RecordRules R → AnswersBy Setup R → (first last : World (Provider Setup R))
-    → List (Turn (Provider Setup R)) → Type 0
-AreKept rules Answers first last turns =
-    AreKeptSo Answers (HoldsWhatCame rules (Contains (moments_of turns)) first.node.ledger.held) last turns
+module _ {Setup R : Type 0} (rules : RecordRules R) (Answers : AnswersBy Setup R) where
+  -- The records for which the answers of a service stand are in the history of every ledger that a crash may leave
+  -- behind it; in this each compaction was at the moment of one of its requests.
+  abbrev pub AreKept : (first last : World (Provider Setup R)) → List (Turn (Provider Setup R)) → Type 0
+  AreKept first last turns =
+      AreKeptSo Answers (HoldsWhatCame rules (Contains (moments_of turns)) first.node.ledger.held) last turns

@@ -10,8 +10,8 @@ use Rattle.provider_node.specs.Histories.{AreBehind, HoldsWhatCame, IsProviders,
 
 -- `left` says of a moment, seen from the end of a service, what a crash since then might have left, and `IsMoment` when
 -- it may have compacted.
-module _ {Setup R : Type 0} (rules : RecordRules R) (Answers : AnswersBy Setup R) (IsMoment : ℕ → Type 0)
-    (left : ℕ → Image → Type 0) (first : World (Provider Setup R)) where
+module _ {Setup R : Type 0} (rules : RecordRules R) (Answers : AnswersBy Setup R)
+    (IsMoment : ℕ → Type 0) (left : ℕ → Image → Type 0) (first : World (Provider Setup R)) where
   -- Each image that a crash since a moment might have left stands for a ledger in whose history these records are.
   abbrev pub AreInEachSince : ℕ → List R → Type 0
   AreInEachSince moment records =
@@ -23,15 +23,15 @@ module _ {Setup R : Type 0} (rules : RecordRules R) (Answers : AnswersBy Setup R
   abbrev pub StayIn : (turns : List (Turn (Provider Setup R))) (kept : Table) (now : World (Provider Setup R))
       → Run (IsProviders rules Answers) first turns kept now → List R → Type 0
   StayIn [] kept now run records = (records ≡ []) × AreInEachSince now.moment records
-  StayIn (turn ∷ past) kept now (old, before, given, did, next, does) records =
-      (earlier : List R) × AreBehind Answers (asked_by turn) earlier records × AreInEachSince now.moment records ×
-      StayIn past old before did earlier
+  StayIn (turn ∷ past) kept now (old, before, given, did, next, does) records = (earlier : List R)
+      × AreBehind Answers (asked_by turn) earlier records × AreInEachSince now.moment records
+      × StayIn past old before did earlier
 
--- From each point of a service on what was acknowledged up to there stays, over compactions at the moments of its
--- requests.
-abbrev pub AreKeptSince : {Setup R : Type 0} (rules : RecordRules R) (Answers : AnswersBy Setup R) (left : ℕ → Image
-    → Type 0) (first : World (Provider Setup R))
-    (turns : List (Turn (Provider Setup R))) (kept : Table) (last : World (Provider Setup R)) → Run
-    (IsProviders rules Answers) first turns kept last → Type 0
-AreKeptSince {Setup} {R} rules Answers left first turns kept last run =
-    (records : List R) × StayIn rules Answers (Contains (moments_of turns)) left first turns kept last run records
+module _ {Setup R : Type 0} (rules : RecordRules R) (Answers : AnswersBy Setup R)
+    (left : ℕ → Image → Type 0) (first : World (Provider Setup R)) (turns : List (Turn (Provider Setup R)))
+    (kept : Table) (last : World (Provider Setup R)) (run : Run (IsProviders rules Answers) first turns kept last) where
+  -- From each point of a service on what was acknowledged up to there stays, over compactions at the moments of its
+  -- requests.
+  abbrev pub AreKeptSince : Type 0
+  AreKeptSince =
+      (records : List R) × StayIn rules Answers (Contains (moments_of turns)) left first turns kept last run records

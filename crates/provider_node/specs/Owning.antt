@@ -10,9 +10,8 @@ use Rattle.provider_node.specs.Step.{Ledger, Owns}
 
 module _ {R : Type 0} (rules : RecordRules R) where
   opens_each : (disk : DiskState) (held : Held R) (b : Bool)
-      → MatchBool b ((image : Image) → MayLeave disk image → IsOk (ledger_in rules image))
-      (IsSettled disk × (ledger_in rules (image_of disk) ≡ Ok (Some held)) ×
-      (journal (image_of disk) ≡ Ok (Some (kept_of rules held))))
+      → MatchBool b ((image : Image) → MayLeave disk image → IsOk (ledger_in rules image)) (IsSettled disk
+      × (ledger_in rules (image_of disk) ≡ Ok (Some held)) × (journal (image_of disk) ≡ Ok (Some (kept_of rules held))))
       → (image : Image) → MayLeave disk image → IsOk (ledger_in rules image)
   opens_each disk held true own image may = own image may
   opens_each disk held false own image may =

@@ -16,14 +16,14 @@ pub record Point (N : Type 0) : Type 0 where
   pub node : N
   pub disk : Option DiskState
 
-abbrev pub point : {N : Type 0} → N → Option DiskState → Point N
-point node disk = record { node = node; disk = disk }
-
 abbrev pub point_of : {N : Type 0} → Asked N → Point N
-point_of asked = point asked.node asked.disk
+point_of asked = record { node = asked.node; disk = asked.disk }
 
 abbrev pub point_in : {N : Type 0} → World N → Point N
-point_in world = point world.node world.disk
+point_in world = record { node = world.node; disk = world.disk }
+
+abbrev pub point : {N : Type 0} → N → Option DiskState → Point N
+point node disk = record { node = node; disk = disk }
 
 -- the points up to the latest request, and all of them, the latest first
 abbrev pub points_asked : {N : Type 0} → World N → List (Turn N) → List (Point N)
@@ -33,18 +33,20 @@ points_asked first (turn ∷ past) = map point_of (asked_by turn) ++ points_aske
 abbrev pub points : {N : Type 0} → World N → List (Turn N) → World N → List (Point N)
 points first turns last = point_in last ∷ points_asked first turns
 
--- at a point the provider's ledger is whole, and the session of this token is closed in it
-pub record IsClosedAt {Setup R : Type 0} (IsClosed : Held R → List ℕ → Type 0) (token : List ℕ)
-    (point : Point (Provider Setup R)) : Type 0 where
-  pub whole : point.node.ledger.broken ≡ false
-  pub closed : IsClosed point.node.ledger.held token
+module _
+    {Setup R : Type 0} (IsClosed : Held R → List ℕ → Type 0) (token : List ℕ) (point : Point (Provider Setup R)) where
+  -- at a point the provider's ledger is whole, and the session of this token is closed in it
+  pub record IsClosedAt : Type 0 where
+    pub whole : point.node.ledger.broken ≡ false
+    pub closed : IsClosed point.node.ledger.held token
 
--- at a point no session of this token lives in the provider's ledger, nor in one that a crash may leave there
-pub record IsOverAt {Setup R : Type 0} (rules : RecordRules R) (IsOver : Held R → List ℕ → Type 0) (token : List ℕ)
-    (point : Point (Provider Setup R)) : Type 0 where
-  pub in_ledger : point.node.ledger.broken ≡ false → IsOver point.node.ledger.held token
-  pub on_disk : (image : Image) (held : Held R) → Leaves point.disk image → ledger_in rules image ≡ Ok (Some held)
-      → IsOver held token
+module _ {Setup R : Type 0} (rules : RecordRules R)
+    (IsOver : Held R → List ℕ → Type 0) (token : List ℕ) (point : Point (Provider Setup R)) where
+  -- at a point no session of this token lives in the provider's ledger, nor in one that a crash may leave there
+  pub record IsOverAt : Type 0 where
+    pub in_ledger : point.node.ledger.broken ≡ false → IsOver point.node.ledger.held token
+    pub on_disk : (image : Image) (held : Held R)
+        → Leaves point.disk image → ledger_in rules image ≡ Ok (Some held) → IsOver held token
 
 -- `IsClosed` says that the session of a token is closed in a ledger, `IsOver` that none of it lives there at any
 -- moment.
@@ -53,12 +55,11 @@ module _ {Setup R : Type 0} (rules : RecordRules R) (IsClosed IsOver : Held R �
   abbrev pub StayClosed : List (Point (Provider Setup R)) → Type 0
   StayClosed [] = Unit {0}
   StayClosed (point ∷ earlier) =
-      AllByRecursion (λ before. (token : List ℕ) → IsClosedAt IsClosed token before → IsOverAt rules IsOver token
-      point) earlier × StayClosed earlier
+      AllByRecursion (λ before. (token : List ℕ) → IsClosedAt IsClosed token before → IsOverAt rules IsOver token point)
+      earlier × StayClosed earlier
 
 -- A session that is closed is over since, whatever is recorded, compacted and opened.
-abbrev pub AClosedSessionStaysClosed : {R : Type 0} → RecordRules R → (IsClosed IsOver : Held R → List ℕ → Type 0)
-    → Type 0
-AClosedSessionStaysClosed {R} rules IsClosed IsOver =
-    (start held : Held R) (events : List (Event R)) (token : List ℕ) → AreRecords rules start.records → IsClosed start
-    token → Leads rules start events held → IsOver held token
+abbrev pub AClosedSessionStaysClosed : {R : Type 0}
+    → RecordRules R → (IsClosed IsOver : Held R → List ℕ → Type 0) → Type 0
+AClosedSessionStaysClosed {R} rules IsClosed IsOver = (start held : Held R) (events : List (Event R)) (token : List ℕ)
+    → AreRecords rules start.records → IsClosed start token → Leads rules start events held → IsOver held token

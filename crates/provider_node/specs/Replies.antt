@@ -29,8 +29,8 @@ pub record ReplyRules (Setup R Reply : Type 0) : Type 1 where
   pub refusal : Reply → Verdict
 
 -- a reply to a request: an answer that stands for no record, or a reply that is wanted
-abbrev pub IsReplied : {Reply : Type 0} (IsAnswer : Answer → Type 0) (IsWanted : Reply → Type 0) → Replied Reply
-    → Type 0
+abbrev pub IsReplied : {Reply : Type 0} (IsAnswer : Answer → Type 0) (IsWanted : Reply → Type 0)
+    → Replied Reply → Type 0
 IsReplied IsAnswer IsWanted (Plain answer) = IsAnswer answer × HasBytes answer
 IsReplied IsAnswer IsWanted (ForRecord reply) = IsWanted reply
 
@@ -48,8 +48,8 @@ pub record HasNoPlace {R : Type 0} (rules : RecordRules R) (held : Held R) (want
 
 -- What became of the draft of what is to be recorded: a draft of it, which can be committed and has its place; there
 -- was nothing to record; there is no place for it; there was no memory.
-abbrev pub IsDrafted : {R : Type 0} → RecordRules R → Held R → (CanCommit : R → Type 0) (wanted : Option R)
-    → DraftOutcome R → Type 0
+abbrev pub IsDrafted : {R : Type 0}
+    → RecordRules R → Held R → (CanCommit : R → Type 0) (wanted : Option R) → DraftOutcome R → Type 0
 IsDrafted rules held CanCommit wanted (drafts.Ready r) = (wanted ≡ Some r) × CanCommit r × HasPlace rules held r
 IsDrafted rules held CanCommit wanted drafts.Nothing = wanted ≡ None
 IsDrafted rules held CanCommit wanted drafts.NoPlace = HasNoPlace rules held wanted
@@ -71,9 +71,8 @@ module _ {Setup R Reply : Type 0} (replies : ReplyRules Setup R Reply) where
 
   -- One compaction was made as there was no place for the record of a reply that a request wants. Behind it the reply
   -- is wanted as before, and there is something to record.
-  pub record IsAgain (rules : RecordRules R) (Answers : AnswersBy Setup R) (setup : Setup) (now : ℕ)
-      (old new : Ledger R) (request : Request)
-      (reply : Reply) : Type 0 where
+  pub record IsAgain (rules : RecordRules R) (Answers : AnswersBy Setup R)
+      (setup : Setup) (now : ℕ) (old new : Ledger R) (request : Request) (reply : Reply) : Type 0 where
     pub room : MakesRoom rules Answers setup old.held request now new.held
     pub whole : IsWhole (provider setup old) (provider setup new) new.held
     pub wants : replies.wants setup new.held request now reply
@@ -85,21 +84,18 @@ module _ {Setup R Reply : Type 0} (replies : ReplyRules Setup R Reply) where
     -- the page of a reply that is wanted and of its record is the answer that adds this record, and there is such a
     -- page
     pub answers : (held : Held R) (request : Request) (reply : Reply) (r : R) (bytes : List ℕ)
-        → replies.wants setup held request now reply
-        → replies.record_for setup held now reply ≡ Some r → replies.shows setup reply r now bytes
-        → Answers setup held request now (Full bytes) (Some r)
+        → replies.wants setup held request now reply → replies.record_for setup held now reply ≡ Some r
+        → replies.shows setup reply r now bytes → Answers setup held request now (Full bytes) (Some r)
     pub has_page : (held : Held R) (request : Request) (reply : Reply) (r : R)
         → replies.wants setup held request now reply
         → replies.record_for setup held now reply ≡ Some r → (bytes : List ℕ) × replies.shows setup reply r now bytes
     -- where there is nothing to record the answer is its verdict
-    pub refused : (held : Held R) (request : Request) (reply : Reply) → replies.wants setup held request now reply
-        → replies.record_for setup held now reply ≡ None
+    pub refused : (held : Held R) (request : Request) (reply : Reply)
+        → replies.wants setup held request now reply → replies.record_for setup held now reply ≡ None
         → Answers setup held request now (Fixed (number_of (replies.refusal reply))) None
     -- behind a compaction the reply is wanted as before it, and there is something to record as before
-    pub still : (old new : Held R) (request : Request) (reply : Reply) → AreRecords rules old.records
-        → Compacts rules now old new
-        → replies.wants setup old request now reply → replies.wants setup new request now reply
-    pub stands : (old new : Held R) (request : Request) (reply : Reply) → AreRecords rules old.records
-        → Compacts rules now old new
-        → replies.wants setup old request now reply
+    pub still : (old new : Held R) (request : Request) (reply : Reply) → AreRecords rules old.records → Compacts
+        rules now old new → replies.wants setup old request now reply → replies.wants setup new request now reply
+    pub stands : (old new : Held R) (request : Request) (reply : Reply)
+        → AreRecords rules old.records → Compacts rules now old new → replies.wants setup old request now reply
         → is_some (replies.record_for setup new now reply) ≡ is_some (replies.record_for setup old now reply)

@@ -9,12 +9,10 @@ use Rattle.provider_node.specs.Step.{HasPlace}
 module _ {R : Type 0} (rules : RecordRules R) (found : Held R) (now : ℕ) (recorded : Held R → R) where
   -- There is room for it: there is a place for it at once, or behind one compaction at the moment.
   abbrev pub HasRoom : Type 0
-  HasRoom =
-      HasPlace rules found (recorded found)
+  HasRoom = HasPlace rules found (recorded found)
       ⊎ ((held : Held R) → Compacts rules now found held → HasPlace rules held (recorded held))
 
   -- It is recorded over the ledger that was found or, where there was no place for it, over what one compaction made of
   -- this.
   abbrev pub IsRecordedOver : Held R → Type 0
-  IsRecordedOver held =
-      (held ≡ found) ⊎ (¬ (HasPlace rules found (recorded found)) × Compacts rules now found held)
+  IsRecordedOver held = (held ≡ found) ⊎ (¬ (HasPlace rules found (recorded found)) × Compacts rules now found held)

@@ -11,7 +11,7 @@ use Rattle.record_ledger.specs.Rules.{RecordRules, AreRecords}
 use Rattle.record_ledger.specs.Ledger.{Held, LeftByOpening, ledger_in, migrated, taken}
 use Rattle.record_ledger.specs.Runs.{Event}
 use Rattle.provider_node.specs.Node.{CompactionLeaves}
-use Rattle.provider_node.specs.Step.{AnswersBy, OwnsDisk, Provider, StepLeaves}
+use Rattle.provider_node.specs.Step.{AnswersBy, IsFound, OwnsDisk, Provider, StepLeaves}
 use Rattle.provider_node.specs.Histories.{AnyMoment, AreAcknowledged, CameFrom, IsAtStart, IsProviders, moments_of}
 
 -- A start of a node, with what its disk told before: it was cut inside the opening of its ledger, or could not open it;
@@ -29,75 +29,73 @@ told_before (Cut before) = before
 told_before (Served before first turns kept last) = before
 told_before (Unopened first turns kept last) = first.disk
 
--- the requests that a node was asked in starts, in order
-abbrev pub asked_at : {N : Type 0} → Start N → List (Asked N)
-asked_at (Cut before) = []
-asked_at (Served before first turns kept last) = asked_in turns
-asked_at (Unopened first turns kept last) = asked_in turns
+-- the turns that were done
+abbrev pub turns_of : {N : Type 0} → Start N → List (Turn N)
+turns_of (Cut before) = []
+turns_of (Served before first turns kept last) = turns
+turns_of (Unopened first turns kept last) = turns
 
+-- the requests that a node was asked in starts, in order
 abbrev pub asked_over : {N : Type 0} → List (Start N) → List (Asked N)
 asked_over [] = []
-asked_over (one ∷ earlier) = asked_over earlier ++ asked_at one
-
--- the ledger was opened from what the disk told, and then the turns were done
-pub record IsServed {Setup R : Type 0} (rules : RecordRules R) (Answers : AnswersBy Setup R)
-    (before : Option DiskState) (first : World (Provider Setup R))
-    (turns : List (Turn (Provider Setup R))) (kept : Table) (last : World (Provider Setup R)) : Type 0 where
-  pub opened : IfSome before (λ d. taken (ledger_in rules (image_of d)) ≡ Ok first.node.ledger.held)
-  pub at : IsAtStart rules first
-  pub tells : IsSome first.disk
-  pub run : Run (IsProviders rules Answers) first turns kept last
+asked_over (one ∷ earlier) = asked_over earlier ++ asked_in (turns_of one)
 
 -- Whatever a crash leaves of a disk stands for a ledger that is opened as it stands there, in the version that is
 -- written.
 abbrev pub StandsAsOpened : {R : Type 0} → RecordRules R → Option DiskState → Type 0
-StandsAsOpened {R} rules told =
-    (image : Image) → Leaves told image
+StandsAsOpened {R} rules told = (image : Image) → Leaves told image
     → (held : Held R) × (ledger_in rules image ≡ Ok (Some held)) × (migrated held ≡ held)
 
--- the ledger is not opened, the disk is the node's own and holds one, and then the turns were done
-pub record IsUnopened {Setup R : Type 0} (rules : RecordRules R) (Answers : AnswersBy Setup R)
-    (first : World (Provider Setup R)) (turns : List (Turn (Provider Setup R))) (kept : Table)
-    (last : World (Provider Setup R)) : Type 0 where
-  pub is_broken : first.node.ledger.broken ≡ true
-  pub own : OwnsDisk rules first.node first.disk
-  pub holds : StandsAsOpened rules first.disk
-  pub run : Run (IsProviders rules Answers) first turns kept last
+module _ {Setup R : Type 0} (rules : RecordRules R) (Answers : AnswersBy Setup R) where
+  module _ (before : Option DiskState) (first : World (Provider Setup R))
+      (turns : List (Turn (Provider Setup R))) (kept : Table) (last : World (Provider Setup R)) where
+    -- the ledger was opened from what the disk told, and then the turns were done
+    pub record IsServed : Type 0 where
+      pub opened : IsFound rules before first.node.ledger.held
+      pub at : IsAtStart rules first
+      pub tells : IsSome first.disk
+      pub run : Run (IsProviders rules Answers) first turns kept last
+
+  module _ (first : World (Provider Setup R))
+      (turns : List (Turn (Provider Setup R))) (kept : Table) (last : World (Provider Setup R)) where
+    -- the ledger is not opened, the disk is the node's own and holds one, and then the turns were done
+    pub record IsUnopened : Type 0 where
+      pub is_broken : first.node.ledger.broken ≡ true
+      pub own : OwnsDisk rules first.node first.disk
+      pub holds : StandsAsOpened rules first.disk
+      pub run : Run (IsProviders rules Answers) first turns kept last
 
 -- from the image a ledger is opened that came from another one by events, in which these records were added
-pub record OpensWhatCame {R : Type 0} (rules : RecordRules R) (IsMoment : ℕ → Type 0) (start : Held R)
-    (records : List R) (image : Image) : Type 0 where
+pub record OpensWhatCame {R : Type 0}
+    (rules : RecordRules R) (IsMoment : ℕ → Type 0) (start : Held R) (records : List R) (image : Image) : Type 0 where
   pub held : Held R
   pub opens : taken (ledger_in rules image) ≡ Ok held
   pub came : CameFrom rules IsMoment start records held
 
--- from the image a ledger is opened that came from another one by events, in which these records were added, and this is
--- said of its history
-pub record OpensWhatCameSo {R : Type 0} (rules : RecordRules R) (IsSo : Held R → List (Event R) → Type 0)
-    (IsMoment : ℕ → Type 0) (start : Held R) (records : List R) (image : Image) : Type 0 where
-  pub held : Held R
-  pub opens : taken (ledger_in rules image) ≡ Ok held
-  pub came : CameFrom rules IsMoment start records held
-  pub so : IsSo start came.events
+module _ {R : Type 0} (rules : RecordRules R) (IsSo : Held R → List (Event R) → Type 0)
+    (IsMoment : ℕ → Type 0) (start : Held R) (records : List R) (image : Image) where
+  -- and this is said of its history
+  pub record OpensWhatCameSo : Type 0 where
+    pub held : Held R
+    pub opens : taken (ledger_in rules image) ≡ Ok held
+    pub came : CameFrom rules IsMoment start records held
+    pub so : IsSo start came.events
 
 module _ {Setup R : Type 0} (Answers : AnswersBy Setup R) where
   -- the records for which the answers of starts stand, the latest first
   abbrev pub AreAcknowledgedIn : List (Start (Provider Setup R)) → List R → Type 0
   AreAcknowledgedIn [] records = records ≡ []
   AreAcknowledgedIn (Cut before ∷ earlier) records = AreAcknowledgedIn earlier records
-  AreAcknowledgedIn (Served before first turns kept last ∷ earlier) records =
-      (latest : List R) × (former : List R) × AreAcknowledged Answers turns latest × AreAcknowledgedIn earlier former ×
-      (records ≡ latest ++ former)
-  AreAcknowledgedIn (Unopened first turns kept last ∷ earlier) records =
-      (latest : List R) × (former : List R) × AreAcknowledged Answers turns latest × AreAcknowledgedIn earlier former ×
-      (records ≡ latest ++ former)
+  AreAcknowledgedIn (one ∷ earlier) records = (latest : List R) × (former : List R)
+      × AreAcknowledged Answers (turns_of one) latest × AreAcknowledgedIn earlier former × (records ≡ latest ++ former)
 
-  -- Of the records for which the answers of starts stand this holds, and of every image that may be left behind these.
-  pub record AreKeptOverSo (IsLeft : Image → Type 0) (Holds : List R → Image → Type 0)
-      (starts : List (Start (Provider Setup R))) : Type 0 where
-    pub records : List R
-    pub are : AreAcknowledgedIn starts records
-    pub kept : (image : Image) → IsLeft image → Holds records image
+  module _ (IsLeft : Image → Type 0) (Holds : List R → Image → Type 0) (starts : List (Start (Provider Setup R))) where
+    -- Of the records for which the answers of starts stand this holds, and of every image that may be left behind
+    -- these.
+    pub record AreKeptOverSo : Type 0 where
+      pub records : List R
+      pub are : AreAcknowledgedIn starts records
+      pub kept : (image : Image) → IsLeft image → Holds records image
 
 -- `IsMoment` says of the moments of these starts, at each of which a request was asked or a compaction was begun.
 module _ {Setup R : Type 0} (rules : RecordRules R) (Answers : AnswersBy Setup R) (IsMoment : ℕ → Type 0) where
@@ -109,14 +107,14 @@ module _ {Setup R : Type 0} (rules : RecordRules R) (Answers : AnswersBy Setup R
   GoesAt (Unopened first turns kept last) =
       IsUnopened rules Answers first turns kept last × ((now : ℕ) → Contains (moments_of turns) now → IsMoment now)
 
-  -- What may be left of a node that served: behind its turns; inside the answer to one request more; inside a
-  -- compaction between two requests, or behind it.
-  pub data LeftFromAt (last : World (Provider Setup R)) (image : Image) : Type 0 where
-    Behind : Leaves last.disk image → LeftFromAt last image
-    InAnswer : (request : Request) (now : ℕ) → IsMoment now
-        → StepLeaves rules Answers last.node last.disk request now image → LeftFromAt last image
-    InCompaction : (now : ℕ) → IsMoment now → CompactionLeaves rules last.node last.disk now image
-        → LeftFromAt last image
+  module _ (last : World (Provider Setup R)) (image : Image) where
+    -- What may be left of a node that served: behind its turns; inside the answer to one request more; inside a
+    -- compaction between two requests, or behind it.
+    pub data LeftFromAt : Type 0 where
+      Behind : Leaves last.disk image → LeftFromAt
+      InAnswer : (request : Request) (now : ℕ)
+          → IsMoment now → StepLeaves rules Answers last.node last.disk request now image → LeftFromAt
+      InCompaction : (now : ℕ) → IsMoment now → CompactionLeaves rules last.node last.disk now image → LeftFromAt
 
   -- What a crash may leave of a start: inside the opening, or once it served.
   abbrev pub LeftByAt : Start (Provider Setup R) → Image → Type 0
@@ -129,14 +127,14 @@ module _ {Setup R : Type 0} (rules : RecordRules R) (Answers : AnswersBy Setup R
   LeftBehindAt start [] image = taken (ledger_in rules image) ≡ Ok start
   LeftBehindAt start (one ∷ earlier) image = LeftByAt one image
 
-  -- starts one after the other, the latest first: each on a disk that tells, reads as an image that it may leave, and
-  -- may leave nothing but what is left behind the starts before it
-  pub record IsNextAt (start : Held R) (earlier : List (Start (Provider Setup R))) (one : Start (Provider Setup R)) :
-      Type 0 where
-    pub tells : IsSome (told_before one)
-    pub reads : IfSome (told_before one) (λ d. MayLeave d (image_of d))
-    pub left : (image : Image) → Leaves (told_before one) image → LeftBehindAt start earlier image
-    pub goes : GoesAt one
+  module _ (start : Held R) (earlier : List (Start (Provider Setup R))) (one : Start (Provider Setup R)) where
+    -- starts one after the other, the latest first: each on a disk that tells, reads as an image that it may leave, and
+    -- may leave nothing but what is left behind the starts before it
+    pub record IsNextAt : Type 0 where
+      pub tells : IsSome (told_before one)
+      pub reads : IfSome (told_before one) (λ d. MayLeave d (image_of d))
+      pub left : (image : Image) → Leaves (told_before one) image → LeftBehindAt start earlier image
+      pub goes : GoesAt one
 
   abbrev pub AreStartsAt : (start : Held R) → List (Start (Provider Setup R)) → Type 0
   AreStartsAt start [] = Unit {0}
@@ -151,8 +149,8 @@ module _ {Setup R : Type 0} (rules : RecordRules R) (Answers : AnswersBy Setup R
     -- there is such a history
     pub history : (held : Held R) × CameFrom rules IsMoment start records held
 
--- and so it is at whatever moments
 module _ {Setup R : Type 0} (rules : RecordRules R) (Answers : AnswersBy Setup R) where
+  -- and so it is at whatever moments
   abbrev pub Goes : Start (Provider Setup R) → Type 0
   Goes = GoesAt rules Answers AnyMoment
 
@@ -172,8 +170,8 @@ module _ {Setup R : Type 0} (rules : RecordRules R) (Answers : AnswersBy Setup R
   AreKeptOver = AreKeptOverAt rules Answers AnyMoment
 
 -- A session that is closed at the start is over in each ledger that may be opened behind starts.
-abbrev pub StayClosedOverStarts : {Setup R : Type 0} → RecordRules R → AnswersBy Setup R
-    → (IsClosed IsOver : Held R → List ℕ → Type 0) → Type 0
+abbrev pub StayClosedOverStarts : {Setup R : Type 0}
+    → RecordRules R → AnswersBy Setup R → (IsClosed IsOver : Held R → List ℕ → Type 0) → Type 0
 StayClosedOverStarts {Setup} {R} rules Answers IsClosed IsOver =
     (start held : Held R) (starts : List (Start (Provider Setup R))) (image : Image) (token : List ℕ)
     → AreRecords rules start.records → AreStarts rules Answers start starts → IsClosed start token

@@ -13,9 +13,8 @@ use Rattle.provider_node.specs.declared.codes.TheConstants.{NO_MEMORY}
 
 -- no code stands for a record
 abbrev pub CodesAddNothing : {Setup R : Type 0} → AnswersBy Setup R → Type 0
-CodesAddNothing {Setup} {R} Answers =
-    (setup : Setup) (held : Held R) (request : Request) (now code : ℕ) (r : R) → ¬
-    (Answers setup held request now (Fixed code) (Some r))
+CodesAddNothing {Setup} {R} Answers = (setup : Setup) (held : Held R) (request : Request) (now code : ℕ) (r : R)
+    → ¬ (Answers setup held request now (Fixed code) (Some r))
 
 -- The ledger is as it was, or as one compaction at the moment makes it.
 abbrev pub IsSameOrCompacted : {R : Type 0} → RecordRules R → (now : ℕ) → (old new : Held R) → Type 0
@@ -27,22 +26,19 @@ pub record Keeps {R : Type 0} (rules : RecordRules R) (now : ℕ) (old new : Hel
   pub same : IsSameOrCompacted rules now old new
   pub stays : (front behind : List R) (r : R) → old.records ≡ front ++ r ∷ behind
       → IsVisibleThroughout rules old.header.horizon (now ∷ []) r → Stays rules r behind [] new
-  pub visible : (r : R) → IsVisibleThroughout rules old.header.horizon (now ∷ []) r
-      → rules.has_visible now new.header.horizon r ≡ true
+  pub visible : (r : R)
+      → IsVisibleThroughout rules old.header.horizon (now ∷ []) r → rules.has_visible now new.header.horizon r ≡ true
 
 abbrev pub WhatIsVisibleStays : {Setup R : Type 0} → RecordRules R → AnswersBy Setup R → Type 0
-WhatIsVisibleStays {Setup} {R} rules Answers =
-    CodesAddNothing Answers → (old new : Provider Setup R) (disk : Option DiskState) (request : Request)
-    (now before after : ℕ) → old.ledger.broken ≡ false
-    → Steps rules Answers old disk request now (Rose before after) (Fixed NO_MEMORY) new
-    → Keeps rules now old.ledger.held new.ledger.held
+WhatIsVisibleStays {Setup} {R} rules Answers = CodesAddNothing Answers → (old new : Provider Setup R) (disk : Option
+    DiskState) (request : Request) (now before after : ℕ) → old.ledger.broken ≡ false → Steps rules Answers
+    old disk request now (Rose before after) (Fixed NO_MEMORY) new → Keeps rules now old.ledger.held new.ledger.held
 
 -- `AnswerAlike` says that at a moment all that may be asked of the rows of two ledgers is answered alike. It is so of
 -- the ledger behind a request and the one before, where there was no memory and the ledger was not broken.
-abbrev pub RowsAnswerAsBefore : {Setup R : Type 0} → RecordRules R → AnswersBy Setup R
-    → (AnswerAlike : (now : ℕ) → (one other : Held R) → Type 0) → Type 0
+abbrev pub RowsAnswerAsBefore : {Setup R : Type 0}
+    → RecordRules R → AnswersBy Setup R → (AnswerAlike : (now : ℕ) → (one other : Held R) → Type 0) → Type 0
 RowsAnswerAsBefore {Setup} {R} rules Answers AnswerAlike =
     (old new : Provider Setup R) (disk : Option DiskState) (request : Request) (now before after : ℕ)
-    → AreRecords rules old.ledger.held.records → old.ledger.broken ≡ false
-    → Steps rules Answers old disk request now (Rose before after) (Fixed NO_MEMORY) new
-    → AnswerAlike now new.ledger.held old.ledger.held
+    → AreRecords rules old.ledger.held.records → old.ledger.broken ≡ false → Steps rules Answers old disk request now
+    (Rose before after) (Fixed NO_MEMORY) new → AnswerAlike now new.ledger.held old.ledger.held

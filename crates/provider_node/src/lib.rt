@@ -8,7 +8,8 @@
 //!
 //! A provider of any role is one struct, [`ProviderNode`], over its ledger on a disk, which is a
 //! [`RecordLedger`](record_ledger::RecordLedger). Its [`Role`] says for which rows the records of this stand, where a
-//! request goes and what is replied to it ([`Replied`]), how a reply is drafted ([`DraftOutcome`]), and how it is shown.
+//! request goes and what is replied to it ([`Replied`]), how a reply is drafted ([`DraftOutcome`]), and how it is
+//! shown.
 //!
 //! What a provider answers to a request, and which record it adds with an answer, is a definition of its own
 //! (`AnswersBy`). What comes of it is one definition, `Steps` of `specs/Step.antt`, by named cases: nothing is

@@ -66,8 +66,8 @@ pub trait Role: Drop {
         requires key { ledger.old.key ≡ key self.now }
         requires wanted { (request : Request)
             × replies.wants self.now ledger.old.held request now reply.now }
-        ensures drafts { IsDrafted Self.Rows.rules ledger.old.held
-            (CanCommit Self.Rows.rules Self.Rows.row_rules ledger.new) (replies.record_for self.now ledger.old.held now reply.now) result }
+        ensures drafts { IsDrafted Self.Rows.rules ledger.old.held (CanCommit Self.Rows.rules
+            Self.Rows.row_rules ledger.new) (replies.record_for self.now ledger.old.held now reply.now) result }
         ensures same { seen ledger.new ≡ seen ledger.old };
 
     /// The bytes of the page of a reply whose record was drafted.

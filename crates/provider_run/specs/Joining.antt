@@ -16,8 +16,7 @@ use Rattle.record_ledger.specs.Ledger.{Held}
 
 -- the world in which a run by the config in this file begins to serve
 pub record IsBegun {Setup R : Type 0} (SetsUp : SetUpBy Setup) (key : Setup → List ℕ) (rules : RecordRules R)
-    (told : Option (List File)) (file : List ℕ) (before : Outside)
-    (first : World (Provider Setup R)) : Type 0 where
+    (told : Option (List File)) (file : List ℕ) (before : Outside) (first : World (Provider Setup R)) : Type 0 where
   pub provider : Provider Setup R
   pub opened : Outside
   pub begins : Begins SetsUp key rules told file before provider opened
@@ -25,12 +24,10 @@ pub record IsBegun {Setup R : Type 0} (SetsUp : SetUpBy Setup) (key : Setup → 
 
 -- Where a run is next behind starts of its provider, on a disk that tells, each image that a crash at one of its
 -- moments may leave is one from which a later start goes on, as behind a start of this run that was cut at that moment.
-abbrev pub EachImageOfARunGoesOn : {Setup R : Type 0} (SetsUp : SetUpBy Setup) (IsBad : BadSetUpBy) (key : Setup
-    → List ℕ) (rules : RecordRules R)
-    (Answers : AnswersBy Setup R) (left : ℕ → Image → Type 0) → Type 0
-EachImageOfARunGoesOn {Setup} {R} SetsUp IsBad key rules Answers left =
-    (told : Option (List File)) (file : List ℕ) (budget : ℕ) (before : Outside)
-    (turns : List (Turn (Provider Setup R))) (result : Result Ended RunFault)
+abbrev pub EachImageOfARunGoesOn : {Setup R : Type 0} (SetsUp : SetUpBy Setup) (IsBad : BadSetUpBy)
+    (key : Setup → List ℕ) (rules : RecordRules R) (Answers : AnswersBy Setup R) (left : ℕ → Image → Type 0) → Type 0
+EachImageOfARunGoesOn {Setup} {R} SetsUp IsBad key rules Answers left = (told : Option (List File)) (file : List ℕ)
+    (budget : ℕ) (before : Outside) (turns : List (Turn (Provider Setup R))) (result : Result Ended RunFault)
     (after : Outside) (start : Held R) (earlier : List (Start (Provider Setup R))) (image : Image)
     → Runs SetsUp IsBad key rules Answers left told file budget before turns result after
     → AreStarts rules Answers start earlier → IsNext rules Answers start earlier (Cut before.disk)

@@ -8,11 +8,11 @@ use Rattle.provider_run.specs.declared.ended.Ended.{Ended}
 use Rattle.provider_run.specs.declared.ended.Ended.TheVariants as ends
 use Rattle.provider_run.specs.declared.ended.RunFault.{RunFault}
 use Rattle.provider_run.specs.declared.ended.RunFault.TheVariants as faults
-use Rattle.provider_run.specs.Runs.{Outside, RunsBy, RunLeavesBy}
+use Rattle.provider_run.specs.Runs.{IsButTheDisk, Outside, RunsBy, RunLeavesBy}
 use Rattle.provider_node.specs.Calls as calls
 use Rattle.provider_node.specs.Calls.{Makes, OpeningLeaves}
 use Rattle.provider_node.specs.Histories.{IsProviders}
-use Rattle.provider_node.specs.Step.{AnswersBy, OwnsDisk, Provider, StepLeaves}
+use Rattle.provider_node.specs.Step.{AnswersBy, IsFound, OwnsDisk, Provider, StepLeaves}
 use Rattle.record_ledger.specs.Rules.{RecordRules}
 use Rattle.record_ledger.specs.Calls.{opening}
 use Rattle.record_ledger.specs.Ledger.{ledger_in, taken}
@@ -24,27 +24,32 @@ SetUpBy Setup = Option (List File) → (config : List ℕ) → Setup → Type 0
 abbrev pub BadSetUpBy : Type 1
 BadSetUpBy = Option (List File) → (config file : List ℕ) → (line : ℕ) → Type 0
 
--- A provider that draws IDs by this key, whose ledger is whole: that which is opened from the disk, as far as the disk tells.
-pub record IsStarted {Setup R : Type 0} (key : Setup → List ℕ) (rules : RecordRules R) (disk : Option DiskState) (provider : Provider Setup R) : Type 0 where
-  pub key_is : provider.ledger.key ≡ key provider.setup
-  pub whole : provider.ledger.broken ≡ false
-  pub holds : IfSome disk (λ d. taken (ledger_in rules (image_of d)) ≡ Ok provider.ledger.held)
+module _ {Setup R : Type 0}
+    (key : Setup → List ℕ) (rules : RecordRules R) (disk : Option DiskState) (provider : Provider Setup R) where
+  -- A provider that draws IDs by this key, whose ledger is whole: that which is opened from the disk, as far as the
+  -- disk tells.
+  pub record IsStarted : Type 0 where
+    pub key_is : provider.ledger.key ≡ key provider.setup
+    pub whole : provider.ledger.broken ≡ false
+    pub holds : IsFound rules disk provider.ledger.held
 
--- The config in this file sets such a provider up, its ledger was opened, by all calls of an opening on the disk and no
--- other, and else all is as it was. From then on the disk is the provider's own; it tells as it did, and reads as an
--- image that it may leave.
-pub record Begins {Setup R : Type 0} (SetsUp : SetUpBy Setup) (key : Setup → List ℕ) (rules : RecordRules R) (told : Option (List File)) (file : List ℕ) (before : Outside)
-    (provider : Provider Setup R) (opened : Outside) : Type 0 where
-  pub set_up : SetsUp told file provider.setup
-  pub started : IsStarted key rules before.disk provider
-  pub opens : Makes (opening rules) before.disk opened.disk
-  pub own : OwnsDisk rules provider opened.disk
-  pub tells : is_some opened.disk ≡ is_some before.disk
-  pub reads : IfSome opened.disk (λ d. MayLeave d (image_of d))
-  pub same : opened ≡ record before { disk = opened.disk; disk_faults = opened.disk_faults; disk_moment = opened.disk_moment }
+module _ {Setup R : Type 0} (SetsUp : SetUpBy Setup) (key : Setup → List ℕ) (rules : RecordRules R)
+    (told : Option (List File)) (file : List ℕ) (before : Outside) (provider : Provider Setup R)
+    (opened : Outside) where
+  -- The config in this file sets such a provider up, its ledger was opened, by all calls of an opening on the disk and
+  -- no other, and else all is as it was. From then on the disk is the provider's own; it tells as it did, and reads as
+  -- an image that it may leave.
+  pub record Begins : Type 0 where
+    pub set_up : SetsUp told file provider.setup
+    pub started : IsStarted key rules before.disk provider
+    pub opens : Makes (opening rules) before.disk opened.disk
+    pub own : OwnsDisk rules provider opened.disk
+    pub tells : is_some opened.disk ≡ is_some before.disk
+    pub reads : IfSome opened.disk (λ d. MayLeave d (image_of d))
+    pub same : IsButTheDisk before opened
 
--- Why no ledger was opened: what the disk holds is none, and this is the fault that it has, as far as the disk tells; the disk
--- failed; there was no memory.
+-- Why no ledger was opened: what the disk holds is none, and this is the fault that it has, as far as the disk tells;
+-- the disk failed; there was no memory.
 abbrev pub OpeningFails : {R : Type 0} → RecordRules R → Outside → Outside → Result Ended RunFault → Type 0
 OpeningFails rules before after (Ok (ends.Foreign file place)) =
     IfSome before.disk (λ d. taken (ledger_in rules (image_of d)) ≡ Err (record { file = file; place = place }))
@@ -52,32 +57,39 @@ OpeningFails rules before after (Err faults.DiskFault) = Rose before.disk_faults
 OpeningFails rules before after (Err faults.NoMemory) = Unit {0}
 OpeningFails rules before after other = ⊥
 
--- The config in this file sets a provider up, and its ledger is not opened: no more than a beginning of the calls of an
--- opening was made.
-pub record IsNotOpened {Setup R : Type 0} (SetsUp : SetUpBy Setup) (rules : RecordRules R) (told : Option (List File)) (file : List ℕ) (before after : Outside)
-    (result : Result Ended RunFault) : Type 0 where
-  pub setup : Setup
-  pub set_up : SetsUp told file setup
-  pub fails : OpeningFails rules before after result
-  pub calls : calls.Begins (opening rules) before.disk after.disk
+module _ {Setup R : Type 0} (SetsUp : SetUpBy Setup) (rules : RecordRules R)
+    (told : Option (List File)) (file : List ℕ) (before after : Outside) (result : Result Ended RunFault) where
+  -- The config in this file sets a provider up, and its ledger is not opened: no more than a beginning of the calls of
+  -- an opening was made.
+  pub record IsNotOpened : Type 0 where
+    pub setup : Setup
+    pub set_up : SetsUp told file setup
+    pub fails : OpeningFails rules before after result
+    pub calls : calls.Begins (opening rules) before.disk after.disk
 
--- How a run by the config in this file goes, with this budget of events: the turns of its provider, and what the run comes to. `left` says of
--- each moment, seen from the end of the run, what a crash since then might have left.
-abbrev pub Runs : {Setup R : Type 0} (SetsUp : SetUpBy Setup) (IsBad : BadSetUpBy) (key : Setup → List ℕ) (rules : RecordRules R) (Answers : AnswersBy Setup R)
-    (left : ℕ → Image → Type 0) (told : Option (List File)) (file : List ℕ) (budget : ℕ) (before : Outside) (turns : List (Turn (Provider Setup R)))
-    (result : Result Ended RunFault) (after : Outside) → Type 0
-Runs SetsUp IsBad key rules Answers left told file budget before turns result after =
-    RunsBy (IsProviders rules Answers) (StepLeaves rules Answers) left (IsBad told file) (IsNotOpened SetsUp rules told file before) (Begins SetsUp key rules told file before)
-    budget before turns result after
+module _ {Setup R : Type 0} (SetsUp : SetUpBy Setup) (IsBad : BadSetUpBy) (key : Setup → List ℕ) (rules : RecordRules R)
+    (Answers : AnswersBy Setup R) (left : ℕ → Image → Type 0) (told : Option (List File)) (file : List ℕ) (budget : ℕ)
+    (before : Outside) (turns : List (Turn (Provider Setup R))) (result : Result Ended RunFault) (after : Outside) where
+  -- How a run by the config in this file goes, with this budget of events: the turns of its provider, and what the run
+  -- comes to. `left` says of each moment, seen from the end of the run, what a crash since then might have left.
+  abbrev pub Runs : Type 0
+  Runs = RunsBy (IsProviders rules Answers) (StepLeaves rules Answers) left (IsBad told file)
+      (IsNotOpened SetsUp rules told file before) (Begins SetsUp key rules told file before)
+      budget before turns result after
 
--- What a crash at a moment of a run may leave: what one inside the opening of the ledger may, or one inside the answer to a request.
-abbrev pub RunLeaves : {Setup R : Type 0} → RecordRules R → AnswersBy Setup R → Option DiskState → List (Turn (Provider Setup R)) → Image → Type 0
-RunLeaves rules Answers disk turns image = RunLeavesBy (OpeningLeaves rules disk) (StepLeaves rules Answers) turns image
+module _ {Setup R : Type 0} (rules : RecordRules R) (Answers : AnswersBy Setup R) where
+  -- What a crash at a moment of a run may leave: what one inside the opening of the ledger may, or one inside the
+  -- answer to a request.
+  abbrev pub RunLeaves : Option DiskState → List (Turn (Provider Setup R)) → Image → Type 0
+  RunLeaves disk turns image = RunLeavesBy (OpeningLeaves rules disk) (StepLeaves rules Answers) turns image
 
--- A provider can be run: the files tell, its config sets it up, and the disk tells that it holds a ledger, or no journal yet.
-pub record IsRunnable {Setup R : Type 0} (SetsUp : SetUpBy Setup) (rules : RecordRules R) (told : Option (List File)) (file : List ℕ) (disk : Option DiskState) : Type 0 where
-  pub files : List File
-  pub tells : told ≡ Some files
-  pub setup : Setup
-  pub set_up : SetsUp (Some files) file setup
-  pub holds : IsSomeAnd disk (λ d. IsOk (ledger_in rules (image_of d)))
+module _ {Setup R : Type 0} (SetsUp : SetUpBy Setup)
+    (rules : RecordRules R) (told : Option (List File)) (file : List ℕ) (disk : Option DiskState) where
+  -- A provider can be run: the files tell, its config sets it up, and the disk tells that it holds a ledger, or no
+  -- journal yet.
+  pub record IsRunnable : Type 0 where
+    pub files : List File
+    pub tells : told ≡ Some files
+    pub setup : Setup
+    pub set_up : SetsUp (Some files) file setup
+    pub holds : IsSomeAnd disk (λ d. IsOk (ledger_in rules (image_of d)))

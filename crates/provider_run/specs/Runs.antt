@@ -53,33 +53,37 @@ result_of (Ok served) = Ok (ends.Served served)
 result_of (Err serve_faults.LinkFault) = Err faults.LinkFault
 result_of (Err serve_faults.NoMemory) = Err faults.NoMemory
 
--- How a run goes, with this budget of events: the turns of its node, and what the run comes to. It is said of it which file and line
--- can't be used, when its ledger was not opened, and as what a node begins; and of each moment, seen from the end of the run, what a crash
--- since then might have left.
-pub data RunsBy {N : Type 0} (step : NodeStep N) (leaves : NodeLeaves N) (left : ℕ → Image → Type 0) (IsBadFile : List ℕ → ℕ → Type 0) (IsNotOpened : Outside → Result Ended RunFault → Type 0)
-    (Begins : N → Outside → Type 0) (budget : ℕ) (before : Outside) (turns : List (Turn N)) (result : Result Ended RunFault) (after : Outside) : Type 0 where
-  -- This is the first file, the config or one that it names, that can't be used, and its line.
-  BadSetUp : (bad : List ℕ) (line : ℕ) → IsBadFile bad line → result ≡ Ok (ends.BadFile bad line) → turns ≡ []
-      → after ≡ before → RunsBy step leaves left IsBadFile IsNotOpened Begins budget before turns result after
-  -- A file could not be read, or there was no memory.
-  NotSetUp : (result ≡ Err faults.ReadFault) ⊎ (result ≡ Err faults.NoMemory) → turns ≡ [] → after ≡ before
-      → RunsBy step leaves left IsBadFile IsNotOpened Begins budget before turns result after
-  -- The node was set up, and its ledger was not opened.
-  NotOpened : IsNotOpened after result → turns ≡ [] → after ≡ record before { disk = after.disk; disk_faults = after.disk_faults; disk_moment = after.disk_moment }
-      → RunsBy step leaves left IsBadFile IsNotOpened Begins budget before turns result after
-  -- It was started, and the link did not listen.
-  Deaf : (node : N) (opened : Outside) → Begins node opened → result ≡ Err faults.LinkFault
-      → Rose opened.link_faults after.link_faults → turns ≡ [] → after ≡ record opened { link_faults = after.link_faults }
-      → RunsBy step leaves left IsBadFile IsNotOpened Begins budget before turns result after
-  -- It was started, and served.
-  Serving : (node last : N) (opened : Outside) (served : Result Served ServeFault) → Begins node opened
-      → Serves step leaves left budget turns (world_of node opened) served (world_of last after) → result ≡ result_of served
-      → RunsBy step leaves left IsBadFile IsNotOpened Begins budget before turns result after
+-- all but the disk is as it was
+abbrev pub IsButTheDisk : (old new : Outside) → Type 0
+IsButTheDisk o n = n ≡ record o { disk = n.disk; disk_faults = n.disk_faults; disk_moment = n.disk_moment }
 
--- What a crash at a moment of a run may leave: what one inside the opening of the ledger may, or one inside the answer to a request.
+module _ {N : Type 0} (step : NodeStep N) (leaves : NodeLeaves N) (left : ℕ → Image → Type 0)
+    (IsBadFile : List ℕ → ℕ → Type 0) (IsNotOpened : Outside → Result Ended RunFault → Type 0)
+    (Begins : N → Outside → Type 0) (budget : ℕ) (before : Outside) (turns : List (Turn N))
+    (result : Result Ended RunFault) (after : Outside) where
+  -- How a run goes, with this budget of events: the turns of its node, and what the run comes to. It is said of it
+  -- which file and line can't be used, when its ledger was not opened, and as what a node begins; and of each moment,
+  -- seen from the end of the run, what a crash since then might have left.
+  pub data RunsBy : Type 0 where
+    -- This is the first file, the config or one that it names, that can't be used, and its line.
+    BadSetUp : (bad : List ℕ) (line : ℕ)
+        → IsBadFile bad line → result ≡ Ok (ends.BadFile bad line) → turns ≡ [] → after ≡ before → RunsBy
+    -- A file could not be read, or there was no memory.
+    NotSetUp : (result ≡ Err faults.ReadFault) ⊎ (result ≡ Err faults.NoMemory) → turns ≡ [] → after ≡ before → RunsBy
+    -- The node was set up, and its ledger was not opened.
+    NotOpened : IsNotOpened after result → turns ≡ [] → IsButTheDisk before after → RunsBy
+    -- It was started, and the link did not listen.
+    Deaf : (node : N) (opened : Outside) → Begins node opened → result ≡ Err faults.LinkFault → Rose opened.link_faults
+        after.link_faults → turns ≡ [] → after ≡ record opened { link_faults = after.link_faults } → RunsBy
+    -- It was started, and served.
+    Serving : (node last : N) (opened : Outside) (served : Result Served ServeFault)
+        → Begins node opened → Serves step leaves left budget turns (world_of node opened) served (world_of last after)
+        → result ≡ result_of served → RunsBy
+
+-- What a crash at a moment of a run may leave: what one inside the opening of the ledger may, or one inside the answer
+-- to a request.
 abbrev pub RunLeavesBy : {N : Type 0} → (OpeningLeaves : Image → Type 0) → NodeLeaves N → List (Turn N) → Image → Type 0
-RunLeavesBy OpeningLeaves leaves turns image =
-    OpeningLeaves image ⊎ LeftInside leaves (asked_in turns) image
+RunLeavesBy OpeningLeaves leaves turns image = OpeningLeaves image ⊎ LeftInside leaves (asked_in turns) image
 
 -- COMPLETENESS
 

@@ -8,9 +8,10 @@
 //! }
 //! ```
 //!
-//! What runs says by [`RunsProvider`] how its role is set up by a config, at which address it listens, and what its headline
-//! is. A contract sees how a run goes as one of five cases (`RunsBy` of `specs/Runs.antt`, `Runs` of `specs/Providers.antt`): a file can't be
-//! used; the provider was not set up; its ledger was not opened; the link did not listen; it served.
+//! What runs says by [`RunsProvider`] how its role is set up by a config, at which address it listens, and what its
+//! headline is. A contract sees how a run goes as one of five cases (`RunsBy` of `specs/Runs.antt`, `Runs` of
+//! `specs/Providers.antt`): a file can't be used; the provider was not set up; its ledger was not opened; the link did
+//! not listen; it served.
 //!
 //! # What is proved
 //!
@@ -18,8 +19,8 @@
 //! config, at which address it listens, and what its headline is): it goes by one of five cases (`RunsBy`, `Runs`) and
 //! carries the headline, a crash at any moment leaves what one inside the opening or inside an answer may leave, each
 //! fault has its cause, and where the provider can be run and no fault keeps it from that it served, or there was no
-//! memory (`complete`). What the headlines of all roles have in common stands in `specs/Headlines.antt`. What a run comes
-//! to where serving ended (`ended_of`).
+//! memory (`complete`). What the headlines of all roles have in common stands in `specs/Headlines.antt`. What a run
+//! comes to where serving ended (`ended_of`).
 #![tactic(auto)]
 
 mod ended;

@@ -48,6 +48,6 @@ pub trait RunsProvider {
 
     /// Each run carries the headline. It does nothing.
     fn carries_headline<D: Disk>()
-        ensures { (disk : D) → EachRunCarries sets_up is_bad Self.Role.key Self.Role.Rows.rules Self.Role.answers headline
-            (D.shows disk).left_since };
+        ensures { (disk : D) → EachRunCarries
+            sets_up is_bad Self.Role.key Self.Role.Rows.rules Self.Role.answers headline (D.shows disk).left_since };
 }

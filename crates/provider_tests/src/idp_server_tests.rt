@@ -2,7 +2,8 @@
 ghost use Rattle.std.specs.Prelude.{IfOk, Some};
 ghost use Rattle.crash_disk.specs.Memory.{state_of};
 ghost use Rattle.idp_rules.specs.Config.{IsTextPeer, IsUsable};
-ghost use Rattle.idp_server.specs.Step.{OwnsDisk};
+ghost use Rattle.idp_ledger.specs.Record.{idp_rules};
+ghost use Rattle.provider_node.specs.Step.{OwnsDisk};
 
 use crash_disk::MemDisk;
 use http_wire::{Answer, Found, request_of};
@@ -56,8 +57,8 @@ fn config(alloc: Global) -> Result<IdpConfig, UserFault>
 
 /// The code of the answer to a request, which comes whole; 0 where it has a page.
 fn code_answered(node: &mut IdpNode, disk: &mut MemDisk, bytes: &[u8]) -> u16
-    requires { OwnsDisk node.old (Some (state_of disk.old)) }
-    ensures { OwnsDisk node.new (Some (state_of disk.new)) }
+    requires { OwnsDisk idp_rules node.old (Some (state_of disk.old)) }
+    ensures { OwnsDisk idp_rules node.new (Some (state_of disk.new)) }
 {
     let Found::Whole(request) = request_of(bytes) else {
         return 400;
@@ -70,7 +71,7 @@ fn code_answered(node: &mut IdpNode, disk: &mut MemDisk, bytes: &[u8]) -> u16
 
 /// Whether each call of a provider has what it needs.
 fn answers(node: &mut IdpNode, disk: &mut MemDisk) -> bool
-    requires { OwnsDisk node.old (Some (state_of disk.old)) }
+    requires { OwnsDisk idp_rules node.old (Some (state_of disk.old)) }
 {
     let asked = code_answered(node, disk, ASKING);
     let shown = code_answered(node, disk, b"GET /metadata HTTP/1.1\r\n\r\n");

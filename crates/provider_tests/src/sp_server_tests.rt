@@ -2,7 +2,8 @@
 ghost use Rattle.std.specs.Prelude.{IfOk, Some};
 ghost use Rattle.crash_disk.specs.Memory.{state_of};
 ghost use Rattle.sp_server.specs.Config.{IsUsable};
-ghost use Rattle.sp_server.specs.Step.{OwnsDisk};
+ghost use Rattle.request_ledger.specs.Record.{request_rules};
+ghost use Rattle.provider_node.specs.Step.{OwnsDisk};
 
 use crash_disk::MemDisk;
 use http_wire::{Answer, Found, request_of};
@@ -36,8 +37,8 @@ fn config(alloc: Global) -> Result<SpConfig, NoMemory>
 
 /// The code of the answer to a request, which comes whole; 0 where it has a page.
 fn code_answered(node: &mut SpNode, disk: &mut MemDisk, bytes: &[u8]) -> u16
-    requires { OwnsDisk node.old (Some (state_of disk.old)) }
-    ensures { OwnsDisk node.new (Some (state_of disk.new)) }
+    requires { OwnsDisk request_rules node.old (Some (state_of disk.old)) }
+    ensures { OwnsDisk request_rules node.new (Some (state_of disk.new)) }
 {
     let Found::Whole(request) = request_of(bytes) else {
         return 400;
@@ -58,7 +59,7 @@ const POSTED: &[u8] =
 
 /// Whether each call of a provider has what it needs.
 fn answers(node: &mut SpNode, disk: &mut MemDisk) -> bool
-    requires { OwnsDisk node.old (Some (state_of disk.old)) }
+    requires { OwnsDisk request_rules node.old (Some (state_of disk.old)) }
 {
     let asked = code_answered(node, disk, b"GET /app HTTP/1.1\r\n\r\n");
     let shown = code_answered(node, disk, b"GET /metadata HTTP/1.1\r\n\r\n");

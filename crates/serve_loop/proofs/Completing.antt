@@ -1,26 +1,30 @@
 -- The calls of turns are calls of the table that complete requests.
-use Rattle.std.specs.Prelude.{◌≡◌, ℕ, List, [], ◌∷◌, ◌++◌, map, None}
+use Rattle.std.specs.Prelude.{◌≡◌, ◌≢◌, ℕ, List, [], ◌∷◌, ◌++◌, map, None}
 use Rattle.std.specs.FinMap as finite
 use Rattle.std.specs.Cmp.{nat_cmp_total}
 use Rattle.std.proofs.Common.{refl, sym, ap, ◌∙◌, cond, append-nil}
 use Rattle.std.proofs.lemmas.Grind.{flat_map-append}
 use Rattle.std.proofs.lemmas.List.{map-append}
-use Rattle.http_wire.specs.Requests.{Request, Whole}
-use Rattle.http_wire.specs.Requests.{Refused as RefusedReading}
+use Rattle.http_wire.specs.Requests.{Request, Whole, Refused as RefusedReading}
+use Rattle.conn_table.specs.declared.progress.Progress.{Progress}
 use Rattle.conn_table.specs.declared.progress.Progress.TheVariants as progress
+use Rattle.conn_table.specs.declared.progress.Start.{Start}
 use Rattle.conn_table.specs.declared.progress.Start.TheVariants as start
-use Rattle.conn_table.specs.Events.{Completion}
+use Rattle.conn_table.specs.Calls.{IsStarted, TakesPiece}
+use Rattle.conn_table.specs.Events.{Completion, Ended, History, Piece, Started}
 use Rattle.conn_table.specs.Laws.{CallsGiveCompletions}
-use Rattle.conn_table.specs.Served.{Served, Gone}
+use Rattle.conn_table.specs.Served.{Completes, Served, Gone}
 use Rattle.conn_table.specs.Table.{Table}
 use Rattle.conn_table.proofs.Tables.{tied}
 use Rattle.serve_loop.specs.Laws.{whole_of, whole_requests, RequestsAreCompletions}
-use Rattle.serve_loop.specs.Turns.{Asked, Turn, Taken, Full, StarvedStart, Over, Unknown, Waiting, Answered, Refused, StarvedPiece, history_of, asked_in, Does, Run}
+use Rattle.serve_loop.specs.Turns.{Asked, Turn, Taken, Full, StarvedStart, Over, Unknown, Waiting, Answered, Refused}
+use Rattle.serve_loop.specs.Turns.{StarvedPiece, history_of, asked_by, asked_in, Does, Run}
 use Rattle.serve_loop.specs.Worlds.{NodeStep, World}
 
 -- a connection that was let go is not kept
 pub get-removed : (m : Table) (conn : ℕ) → finite.get (finite.remove m conn) conn ≡ None
-get-removed m conn = finite.get-remove nat_cmp_total m conn conn ∙ ap (λ b. cond b None (finite.get m conn)) (tied conn conn refl)
+get-removed m conn =
+    finite.get-remove nat_cmp_total m conn conn ∙ ap (λ b. cond b None (finite.get m conn)) (tied conn conn refl)
 
 -- a request that was asked, with its connection
 abbrev asked_on : {N : Type 0} → Asked N → ℕ × Request
@@ -29,59 +33,59 @@ asked_on asked = (asked.conn, asked.request)
 abbrev whole_by : Completion → List (ℕ × Request)
 whole_by completion = whole_of completion.conn completion.reading
 
-none_asked : {N : Type 0} (asked : List (Asked N)) (done : List Completion) → map asked_on asked ≡ whole_requests done → map asked_on (asked ++ []) ≡ whole_requests done
-none_asked asked done same = ap (map asked_on) (append-nil asked) ∙ same
+module _ {N : Type 0} (past : List (Turn N)) (old new : Table) (done : List Completion)
+    (served : Served (history_of past) done old) (same : map asked_on (asked_in past) ≡ whole_requests done) where
+  -- the calls of events behind those of the past, and the requests that they complete
+  abbrev Behind : History → List (Asked N) → Type 0
+  Behind events asked = (after : List Completion) × Served events after new
+      × (map asked_on (asked_in past ++ asked) ≡ whole_requests after)
 
-joined : {N : Type 0} (asked more : List (Asked N)) (done added : List Completion) → map asked_on asked ≡ whole_requests done → map asked_on more ≡ whole_requests added
-    → map asked_on (asked ++ more) ≡ whole_requests (done ++ added)
-joined asked more done added same same_more =
-    map-append asked_on asked more ∙ ap (λ l. l ++ map asked_on more) same ∙ ap (λ l. whole_requests done ++ l) same_more ∙ sym (flat_map-append whole_by done added)
+  none_more : map asked_on (asked_in past ++ []) ≡ whole_requests done
+  none_more = ap (map asked_on) (append-nil (asked_in past)) ∙ same
+
+  started : (conn : ℕ) (answer : Start) → IsStarted (finite.remove old conn) conn answer new
+      → answer ≢ start.NoMemory → Behind (Started conn ∷ Ended conn ∷ history_of past) []
+  started conn answer is some =
+      (done, (finite.remove old conn, answer, (old, served, Gone refl), get-removed old conn, is, some), none_more)
+
+  ended : (conn : ℕ) → new ≡ finite.remove old conn → Behind (Ended conn ∷ history_of past) []
+  ended conn is = (done, (old, served, Gone is), none_more)
+
+  came : (conn : ℕ) (piece : List ℕ) (answer : Progress) (between : Table) (added : List Completion)
+      (asked : List (Asked N)) → TakesPiece old conn piece answer between → Completes between conn answer added new
+      → map asked_on asked ≡ whole_requests added → Behind (Piece conn piece ∷ history_of past) asked
+  came conn piece answer between added asked takes completes more =
+      let joined = map-append asked_on (asked_in past) asked ∙ ap (λ l. l ++ map asked_on asked) same
+      ∙ ap (λ l. whole_requests done ++ l) more ∙ sym (flat_map-append whole_by done added) in
+      (done ++ added, (old, between, answer, done, added, served, takes, completes, refl), joined)
+
+  one_served : (step : NodeStep N) (turn : Turn N) (given now : World N)
+      → Does step old given turn new now → Behind (history_of (turn ∷ past)) (asked_by turn)
+  one_served step (Taken conn) given now does = started conn start.Taken does.0 (λ e. absurd (cc))
+  one_served step (Full conn) given now does = started conn start.TableFull does.0 (λ e. absurd (cc))
+  one_served step (StarvedStart conn) given now does = ended conn (does.0.refused (λ e. absurd (cc)))
+  one_served step (Over conn) given now does = ended conn does.0
+  one_served step (Unknown conn piece) given now does =
+      came conn piece progress.Unknown new [] [] does.0 (refl, refl) refl
+  one_served step (Waiting conn piece) given now does =
+      came conn piece progress.Waiting new [] [] does.0 (refl, refl) refl
+  one_served step (Answered piece one) given now (between, takes, answers) =
+      came one.conn piece progress.Ready between (record { conn = one.conn; reading = Whole one.request } ∷ [])
+      (one ∷ []) takes (one.request, answers.request, refl, answers.gone) refl
+  one_served step (Refused conn piece status) given now (between, takes, lets) = came conn piece (progress.Refused
+      status) between (record { conn = conn; reading = RefusedReading status } ∷ []) [] takes (refl, lets.gone) refl
+  one_served step (StarvedPiece conn piece) given now (between, takes, lets) =
+      ended conn (lets.gone ∙ ap (λ (t : Table). finite.remove t conn) (takes.unchanged refl))
 
 module _ {N : Type 0} (step : NodeStep N) where
-  one_served : (past : List (Turn N)) (turn : Turn N) (old : Table) (given : World N) (new : Table) (now : World N) (done : List Completion) → Served (history_of past) done old
-      → map asked_on (asked_in past) ≡ whole_requests done → Does step old given turn new now
-      → (after : List Completion) × Served (history_of (turn ∷ past)) after new × (map asked_on (asked_in (turn ∷ past)) ≡ whole_requests after)
-  one_served past (Taken conn) old given new now done served same does = (
-    done,
-    (finite.remove old conn, start.Taken, (old, served, Gone refl), get-removed old conn, does.0, λ e. absurd (cc)),
-    none_asked (asked_in past) done same,
-  )
-  one_served past (Full conn) old given new now done served same does = (
-    done,
-    (finite.remove old conn, start.TableFull, (old, served, Gone refl), get-removed old conn, does.0, λ e. absurd (cc)),
-    none_asked (asked_in past) done same,
-  )
-  one_served past (StarvedStart conn) old given new now done served same does =
-      (done, (old, served, Gone (does.0.refused (λ e. absurd (cc)))), none_asked (asked_in past) done same)
-  one_served past (Over conn) old given new now done served same does = (done, (old, served, Gone does.0), none_asked (asked_in past) done same)
-  one_served past (Unknown conn piece) old given new now done served same does =
-      (done ++ [], (old, new, progress.Unknown, done, [], served, does.0, (refl, refl), refl), joined (asked_in past) [] done [] same refl)
-  one_served past (Waiting conn piece) old given new now done served same does =
-      (done ++ [], (old, new, progress.Waiting, done, [], served, does.0, (refl, refl), refl), joined (asked_in past) [] done [] same refl)
-  one_served past (Answered piece asked) old given new now done served same does =
-      let whole : Completion = record { conn = asked.conn; reading = Whole asked.request } in (
-        done ++ whole ∷ [],
-        (old, does.0, progress.Ready, done, whole ∷ [], served, does.1, (asked.request, does.2.request, refl, does.2.gone), refl),
-        joined (asked_in past) (asked ∷ []) done (whole ∷ []) same refl,
-      )
-  one_served past (Refused conn piece status) old given new now done served same does =
-      let refused : Completion = record { conn = conn; reading = RefusedReading status } in (
-        done ++ refused ∷ [],
-        (old, does.0, progress.Refused status, done, refused ∷ [], served, does.1, (refl, does.2.gone), refl),
-        joined (asked_in past) [] done (refused ∷ []) same refl,
-      )
-  one_served past (StarvedPiece conn piece) old given new now done served same does =
-      (done, (old, served, Gone (does.2.gone ∙ ap (λ (t : Table). finite.remove t conn) (does.1.unchanged refl))), none_asked (asked_in past) done same)
-
-  all_served : (first : World N) (turns : List (Turn N)) (kept : Table) (now : World N) → Run step first turns kept now
-      → (done : List Completion) × Served (history_of turns) done kept × (map asked_on (asked_in turns) ≡ whole_requests done)
+  all_served : (first : World N) (turns : List (Turn N)) (kept : Table) (now : World N)
+      → Run step first turns kept now → (done : List Completion) × Served (history_of turns) done kept
+      × (map asked_on (asked_in turns) ≡ whole_requests done)
   all_served first [] kept now run = ([], (refl, run.0), refl)
-  all_served first (turn ∷ past) kept now run =
-      let so_far = all_served first past run.0 run.1 run.3 in
-      one_served past turn run.0 run.2 kept now so_far.0 so_far.1 so_far.2 run.5
+  all_served first (turn ∷ past) kept now (old, before, given, did, next, does) =
+      let (done, served, same) = all_served first past old before did in
+      one_served past old kept done served same step turn given now does
 
   pub requests_are_completions : CallsGiveCompletions → RequestsAreCompletions step
-  requests_are_completions calls first turns kept now run =
-      let served = all_served first turns kept now run in
-      let given = calls (history_of turns) served.0 kept served.1 in
-      (served.0, (given.0, given.1, given.3), served.2)
+  requests_are_completions calls first turns kept now run = let served = all_served first turns kept now run in
+      let given = calls (history_of turns) served.0 kept served.1 in (served.0, (given.0, given.1, given.3), served.2)

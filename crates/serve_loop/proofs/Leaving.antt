@@ -10,14 +10,16 @@ use Rattle.serve_loop.specs.Serving.{MightLeave}
 
 module _ {N D : Type 0} (leaves : NodeLeaves N) (shows : D → DiskShown) where
   -- where the disk is as it was
-  pub untouched : ((disk : D) (image : Image) → (shows disk).left_since (shows disk).moment image → Leaves (shows disk).told image)
-      → (old new : D) (turns : List (Turn N)) → new ≡ old → LeavesOnly shows old new (MightLeave leaves (shows old).told turns)
+  pub untouched : ((disk : D) (image : Image) → (shows disk).left_since (shows disk).moment image
+      → Leaves (shows disk).told image) → (old new : D) (turns : List (Turn N)) → new ≡ old
+      → LeavesOnly shows old new (MightLeave leaves (shows old).told turns)
   untouched only_now old new turns same =
       subst (λ (disk : D). LeavesOnly shows old disk (MightLeave leaves (shows old).told turns)) (sym same)
       (started shows old (MightLeave leaves (shows old).told turns) (λ image left. inl (only_now old image left)))
 
   -- where a request was answered
-  pub asked_once : (told : Option DiskState) (old new : D) (piece : List ℕ) (asked : Asked N) → LeavesOnly shows old new (leaves asked.node asked.disk asked.request asked.now)
+  pub asked_once : (told : Option DiskState) (old new : D) (piece : List ℕ) (asked : Asked N)
+      → LeavesOnly shows old new (leaves asked.node asked.disk asked.request asked.now)
       → LeavesOnly shows old new (MightLeave leaves told (Answered piece asked ∷ []))
-  asked_once told old new piece asked only =
-      weaker shows old new (leaves asked.node asked.disk asked.request asked.now) (MightLeave leaves told (Answered piece asked ∷ [])) only (λ image left. inr (asked, (0, lit< tt, refl), left))
+  asked_once told old new piece asked only = weaker shows old new (leaves asked.node asked.disk asked.request asked.now)
+      (MightLeave leaves told (Answered piece asked ∷ [])) only (λ image left. inr (asked, (0, lit< tt, refl), left))

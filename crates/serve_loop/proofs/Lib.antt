@@ -3,6 +3,7 @@ pub mod InOrder
 pub mod Leaving
 pub mod Moments
 pub mod Outgoing
+pub mod Quiet
 pub mod Refusing
 pub mod Rounds
 pub mod Taking

@@ -8,7 +8,8 @@ use Rattle.serve_loop.specs.Worlds.{World, world_at}
 module _ {N L D C : Type 0} where
   -- the world as the code holds it
   abbrev pub world_in : (D → DiskShown) → (L → LinkShown) → (C → Option (List ℕ)) → Serving N L D C → World N
-  world_in disk link clock held = world_at held.node.now (disk held.disk.now) (link held.link.now) (clock held.clock.now)
+  world_in disk link clock held =
+      world_at held.node.now (disk held.disk.now) (link held.link.now) (clock held.clock.now)
 
   -- it holds the same objects
   pub record SameObjects (old new : Serving N L D C) : Type 0 where

@@ -22,27 +22,24 @@ whole_requests done = flat_map (λ completion. whole_of completion.conn completi
 module _ {N : Type 0} (step : NodeStep N) where
   -- The requests that the node was asked are, in order, the whole ones that the events complete.
   abbrev pub RequestsAreCompletions : Type 0
-  RequestsAreCompletions =
-      (first : World N) (turns : List (Turn N)) (kept : Table) (now : World N) → Run step first turns kept now
-      → (done : List Completion) × AreCompletions (history_of turns) done
+  RequestsAreCompletions = (first : World N) (turns : List (Turn N)) (kept : Table) (now : World N)
+      → Run step first turns kept now → (done : List Completion) × AreCompletions (history_of turns) done
       × (map (λ asked. (asked.conn, asked.request)) (asked_in turns) ≡ whole_requests done)
 
   -- Each was asked at the next moment of the clock, at most LAST.
   abbrev pub MomentsComeInOrder : Type 0
-  MomentsComeInOrder =
-      (first : World N) (turns : List (Turn N)) (kept : Table) (now : World N) (moments : List ℕ) → Run step first turns kept now
-      → first.clock ≡ Some moments → (k : ℕ) → k < length (asked_in turns)
+  MomentsComeInOrder = (first : World N) (turns : List (Turn N)) (kept : Table) (now : World N) (moments : List ℕ)
+      → Run step first turns kept now → first.clock ≡ Some moments → (k : ℕ) → k < length (asked_in turns)
       → slice_index (map (λ asked. asked.now) (asked_in turns)) k ≡ min (moment_at moments k) LAST
 
 module _ {N : Type 0} (own : NodeOwns N) (step : NodeStep N) (leaves : NodeLeaves N) where
   -- A disk that tells at first tells whenever a request comes, and at the end.
   abbrev pub ADiskThatTellsGoesOnTelling : Type 0
-  ADiskThatTellsGoesOnTelling =
-      (first : World N) (turns : List (Turn N)) (kept : Table) (last : World N) → Run (IsAnswered own step leaves) first turns kept last
-      → IsSome first.disk → AreTold turns × IsSome last.disk
+  ADiskThatTellsGoesOnTelling = (first : World N) (turns : List (Turn N)) (kept : Table) (last : World N)
+      → Run (IsAnswered own step leaves) first turns kept last → IsSome first.disk → AreTold turns × IsSome last.disk
 
   -- Where a disk reads at first as an image that it may leave, as far as it tells, it does so at the end.
   abbrev pub ADiskGoesOnReadingAnImage : Type 0
-  ADiskGoesOnReadingAnImage =
-      (first : World N) (turns : List (Turn N)) (kept : Table) (last : World N) → Run (IsAnswered own step leaves) first turns kept last
+  ADiskGoesOnReadingAnImage = (first : World N) (turns : List (Turn N)) (kept : Table) (last : World N)
+      → Run (IsAnswered own step leaves) first turns kept last
       → IfSome first.disk (λ d. MayLeave d (image_of d)) → IfSome last.disk (λ d. MayLeave d (image_of d))

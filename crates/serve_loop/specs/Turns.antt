@@ -14,8 +14,8 @@ use Rattle.conn_table.specs.Events.{Event, Started, Piece, Ended, History}
 use Rattle.conn_table.specs.Table.{Table}
 use Rattle.serve_loop.specs.Worlds.{NodeStep, World, TakesMoment, IsNext, OnlySends}
 
--- A request that the node was asked: on which connection, at which moment, the node and what its disk told when it came, and
--- what was answered.
+-- A request that the node was asked: on which connection, at which moment, the node and what its disk told when it
+-- came, and what was answered.
 pub record Asked (N : Type 0) : Type 0 where
   pub conn : ℕ
   pub request : Request
@@ -27,13 +27,11 @@ pub record Asked (N : Type 0) : Type 0 where
 -- What is done at an event.
 pub data Turn (N : Type 0) : Type 0 where
   -- A connection started: it is kept; as many are kept as there may be; there was no memory.
-  Taken : ℕ → Turn N
-  Full : ℕ → Turn N
-  StarvedStart : ℕ → Turn N
+  Taken Full StarvedStart : ℕ → Turn N
   -- A connection ended.
   Over : ℕ → Turn N
-  -- A piece came: its connection is not kept; all its bytes are the beginning of a request, or a whole one, or are refused with
-  -- a status; there was no memory.
+  -- A piece came: its connection is not kept; all its bytes are the beginning of a request, or a whole one, or are
+  -- refused with a status; there was no memory.
   Unknown : ℕ → List ℕ → Turn N
   Waiting : ℕ → List ℕ → Turn N
   Answered : List ℕ → Asked N → Turn N
@@ -52,8 +50,8 @@ event_at (Answered piece asked) = Piece (asked.conn) piece
 event_at (Refused conn piece status) = Piece conn piece
 event_at (StarvedPiece conn piece) = Piece conn piece
 
--- The events that a turn counts as, the latest first. A start is an end and a start: the end changes nothing where the connection
--- was not kept. A start or a piece that found no memory is an end.
+-- The events that a turn counts as, the latest first. A start is an end and a start: the end changes nothing where the
+-- connection was not kept. A start or a piece that found no memory is an end.
 abbrev pub counted_as : {N : Type 0} → Turn N → History
 counted_as (Taken conn) = Started conn ∷ Ended conn ∷ []
 counted_as (Full conn) = Started conn ∷ Ended conn ∷ []
@@ -85,25 +83,26 @@ abbrev pub AreTold : {N : Type 0} → List (Turn N) → Type 0
 AreTold [] = Unit {0}
 AreTold (turn ∷ past) = AllByRecursion (λ asked. IsSome asked.disk) (asked_by turn) × AreTold past
 
--- The page of a code is sent on a connection, and the connection is let go.
-pub record LetsGo {N : Type 0} (conn code : ℕ) (old : Table) (before : World N) (new : Table) (after : World N) : Type 0 where
-  pub sends : OnlySends conn (fixed code) before after
-  pub gone : new ≡ map.remove old conn
+module _ {N : Type 0} (conn code : ℕ) (old : Table) (before : World N) (new : Table) (after : World N) where
+  -- The page of a code is sent on a connection, and the connection is let go.
+  pub record LetsGo : Type 0 where
+    pub sends : OnlySends conn (fixed code) before after
+    pub gone : new ≡ map.remove old conn
 
 -- `step` says what an answer of the node does.
 module _ {N : Type 0} (step : NodeStep N) where
   -- The node is asked, at one moment of the clock, while the disk's moment goes on.
-  pub record Asks (asked : Asked N) (before after : World N) : Type 0 where
-    pub node : asked.node ≡ before.node
-    pub disk : asked.disk ≡ before.disk
-    pub moment : TakesMoment before.clock asked.now after.clock
-    pub time : before.moment ≤ after.moment
-    pub answers :
-        step before.node before.disk asked.request asked.now before.disk_faults after.disk_faults asked.answer after.node after.disk
-    pub link : after.link ≡ before.link
-    pub send_faults : after.send_faults ≡ before.send_faults
+  pub record Asks (a : Asked N) (old new : World N) : Type 0 where
+    pub node : a.node ≡ old.node
+    pub disk : a.disk ≡ old.disk
+    pub moment : TakesMoment old.clock a.now new.clock
+    pub time : old.moment ≤ new.moment
+    pub answers : step old.node old.disk a.request a.now old.disk_faults new.disk_faults a.answer new.node new.disk
+    pub link : new.link ≡ old.link
+    pub send_faults : new.send_faults ≡ old.send_faults
 
-  -- A whole request came on a connection that is kept: the node is asked, its answer is sent, and the connection is let go.
+  -- A whole request came on a connection that is kept: the node is asked, its answer is sent, and the connection is let
+  -- go.
   pub record Answers (old : Table) (before : World N) (asked : Asked N) (new : Table) (after : World N) : Type 0 where
     pub request : IfSome (map.get old asked.conn) (λ bytes. Reads bytes (Whole asked.request))
     pub told : World N
@@ -125,20 +124,18 @@ module _ {N : Type 0} (step : NodeStep N) where
   -- A piece of a connection that is not kept is passed over.
   Does old before (Unknown conn piece) new after = TakesPiece old conn piece progress.Unknown new × (after ≡ before)
   Does old before (Waiting conn piece) new after = TakesPiece old conn piece progress.Waiting new × (after ≡ before)
-  Does old before (Answered piece asked) new after =
-      (between : Table) × TakesPiece old asked.conn piece progress.Ready between × Answers between before asked new after
+  Does old before (Answered piece asked) new after = (between : Table)
+      × TakesPiece old asked.conn piece progress.Ready between × Answers between before asked new after
   -- The page of the status is sent, and the connection is let go.
-  Does old before (Refused conn piece status) new after =
-      (between : Table) × TakesPiece old conn piece (progress.Refused status) between
-      × LetsGo conn status between before new after
+  Does old before (Refused conn piece status) new after = (between : Table)
+      × TakesPiece old conn piece (progress.Refused status) between × LetsGo conn status between before new after
   -- For want of memory the page of 52 is sent, and the connection is let go.
   Does old before (StarvedPiece conn piece) new after =
       (between : Table) × TakesPiece old conn piece progress.NoMemory between × LetsGo conn 52 between before new after
 
-  -- The turns, the latest first, were done one after the other, from no connection and this world on, each at the event that
-  -- the link gave, and left these connections and that world.
+  -- The turns, the latest first, were done one after the other, from no connection and this world on, each at the event
+  -- that the link gave, and left these connections and that world.
   abbrev pub Run : World N → List (Turn N) → Table → World N → Type 0
   Run first [] table now = (table ≡ map.empty) × (now ≡ first)
-  Run first (turn ∷ past) table now =
-      (old : Table) × (before : World N) × (given : World N) × Run first past old before
+  Run first (turn ∷ past) table now = (old : Table) × (before : World N) × (given : World N) × Run first past old before
       × IsNext (Some (event_at turn)) before given × Does old given turn table now

@@ -1,5 +1,5 @@
 -- What serving works on, and what its calls do to it.
-use Rattle.std.specs.Prelude.{◌≡◌, ℕ, ◌≤◌, min, List, take, Option, None, Some, is_some, IfSome, IsSomeAnd, IsTrue}
+use Rattle.std.specs.Prelude.{◌≡◌, ℕ, ◌≤◌, min, List, take, Option, None, Some, is_some, IfSome, IsTrue, Ok}
 use Rattle.std.specs.Option.{option_map}
 use Rattle.saml_time.specs.declared.TheConstants.{LAST}
 use Rattle.crash_disk.specs.Counts.{Rose}
@@ -8,7 +8,7 @@ use Rattle.crash_disk.specs.Moments.{DiskShown, Leaves}
 use Rattle.event_link.specs.declared.link.LinkEvent.{LinkEvent}
 use Rattle.event_link.specs.declared.link.LinkEvent.TheVariants as events
 use Rattle.event_link.specs.Clocks.{now_of, later_of}
-use Rattle.event_link.specs.Links.{LinkShown, LinkState, IsSent, next_of}
+use Rattle.event_link.specs.Links.{LinkShown, LinkState, Sends, next_of}
 use Rattle.http_wire.specs.declared.answer.Answer.{Answer}
 use Rattle.http_wire.specs.declared.answer.Answer.TheVariants.{Fixed, Full}
 use Rattle.http_wire.specs.Answers.{is_fixed}
@@ -16,12 +16,13 @@ use Rattle.http_wire.specs.Requests.{Request}
 use Rattle.conn_table.specs.Events.{Event, Started, Piece, Ended}
 use Rattle.serve_loop.specs.declared.limits.TheConstants.{PIECE_ROOM}
 
--- What says what an answer of a node does: node and disk before it, the request, the moment, the disk's count of faults before
--- and after, the answer, node and disk after it.
+-- What says what an answer of a node does: node and disk before it, the request, the moment, the disk's count of faults
+-- before and after, the answer, node and disk after it.
 abbrev pub NodeStep : Type 0 → Type 1
 NodeStep N = N → Option DiskState → Request → ℕ → ℕ → ℕ → Answer → N → Option DiskState → Type 0
 
--- What says what a crash inside an answer of a node may leave: node and disk before it, the request, the moment, the image.
+-- What says what a crash inside an answer of a node may leave: node and disk before it, the request, the moment, the
+-- image.
 abbrev pub NodeLeaves : Type 0 → Type 1
 NodeLeaves N = N → Option DiskState → Request → ℕ → Image → Type 0
 
@@ -29,17 +30,18 @@ NodeLeaves N = N → Option DiskState → Request → ℕ → Image → Type 0
 abbrev pub NodeOwns : Type 0 → Type 1
 NodeOwns N = N → Option DiskState → Type 0
 
--- What an answer does, with what a crash may leave: a disk reads as one of the images that a crash might leave, when the request
--- came and once it is answered; then the disk is the node's own, it tells where it told, and a crash leaves only what one inside
--- the answer might leave.
-pub record IsAnswered {N : Type 0} (own : NodeOwns N) (step : NodeStep N) (leaves : NodeLeaves N) (old : N) (disk : Option DiskState) (request : Request) (now before after : ℕ)
-    (answer : Answer) (new : N) (later : Option DiskState) : Type 0 where
-  pub does : step old disk request now before after answer new later
-  pub reads : IfSome disk (λ d. MayLeave d (image_of d))
-  pub reads_later : IfSome later (λ d. MayLeave d (image_of d))
-  pub owns : own new later
-  pub tells : is_some later ≡ is_some disk
-  pub left : (image : Image) → Leaves later image → leaves old disk request now image
+module _ {N : Type 0} (own : NodeOwns N) (step : NodeStep N) (leaves : NodeLeaves N) (old : N) (disk : Option DiskState)
+    (request : Request) (now before after : ℕ) (answer : Answer) (new : N) (later : Option DiskState) where
+  -- What an answer does, with what a crash may leave: a disk reads as one of the images that a crash might leave, when
+  -- the request came and once it is answered; then the disk is the node's own, it tells where it told, and a crash
+  -- leaves only what one inside the answer might leave.
+  pub record IsAnswered : Type 0 where
+    pub does : step old disk request now before after answer new later
+    pub reads : IfSome disk (λ d. MayLeave d (image_of d))
+    pub reads_later : IfSome later (λ d. MayLeave d (image_of d))
+    pub owns : own new later
+    pub tells : is_some later ≡ is_some disk
+    pub left : (image : Image) → Leaves later image → leaves old disk request now image
 
 -- The node, and what the disk, the link and the clock tell.
 pub record World (N : Type 0) : Type 0 where
@@ -56,8 +58,7 @@ pub record World (N : Type 0) : Type 0 where
 
 -- the world of a node and of what was told
 abbrev pub world : {N : Type 0} → N → Option DiskState → ℕ → ℕ → Option LinkState → ℕ → Option (List ℕ) → World N
-world node disk disk_faults moment link send_faults clock =
-    record { node = node; disk = disk; disk_faults = disk_faults; moment = moment; link = link; send_faults = send_faults; clock = clock }
+world n d f m l s c = record { node = n; disk = d; disk_faults = f; moment = m; link = l; send_faults = s; clock = c }
 
 -- the world of a node and of what the disk, the link and the clock show
 abbrev pub world_at : {N : Type 0} → N → DiskShown → LinkShown → Option (List ℕ) → World N
@@ -78,8 +79,7 @@ event_of events.Stop bytes = None
 -- A `next` gives this event, or Stop: the first of what is to come, with room for PIECE_ROOM bytes.
 abbrev pub Comes : Option Event → Option LinkState → Option LinkState → Type 0
 Comes event None after = after ≡ None
-Comes event (Some link) after =
-    let given = next_of PIECE_ROOM link.coming in
+Comes event (Some link) after = let given = next_of PIECE_ROOM link.coming in
     (event ≡ event_of given.event given.bytes) × (after ≡ Some (record link { coming = given.later }))
 
 -- A `next` gives that, and else all is as it was.
@@ -93,17 +93,12 @@ pub record TakesMoment (before : Option (List ℕ)) (now : ℕ) (after : Option 
   pub limit : now ≤ LAST
   pub later : after ≡ option_map later_of before
 
--- These bytes were sent on that connection and nothing on others, as far as the link tells.
-abbrev pub IsSentOn : ℕ → List ℕ → Option LinkState → Option LinkState → Type 0
-IsSentOn conn bytes None after = after ≡ None
-IsSentOn conn bytes (Some link) after = IsSomeAnd after (IsSent conn bytes link)
-
--- The bytes of an answer go out on a connection: all of them, or the `send` failed, so that its count of faults rose, and the
--- first of them did.
-pub data GoesOut (conn : ℕ) (bytes : List ℕ) (before after : Option LinkState) (faults now_faults : ℕ) : Type 0 where
-  Whole : IsSentOn conn bytes before after → faults ≤ now_faults → GoesOut conn bytes before after faults now_faults
-  Cut : (n : ℕ) → IsSentOn conn (take n bytes) before after → Rose faults now_faults
-      → GoesOut conn bytes before after faults now_faults
+module _ (conn : ℕ) (bytes : List ℕ) (before after : Option LinkState) (faults later : ℕ) where
+  -- The bytes of an answer go out on a connection, and nothing on others, as far as the link tells: all of them, or the
+  -- `send` failed, so that its count of faults rose, and the first of them did.
+  pub data GoesOut : Type 0 where
+    Whole : Sends {E = Unit {0}} conn bytes before (Ok (tt {0})) after → faults ≤ later → GoesOut
+    Cut : (n : ℕ) → Sends {E = Unit {0}} conn (take n bytes) before (Ok (tt {0})) after → Rose faults later → GoesOut
 
 -- That answer goes out, and else all is as it was.
 pub record OnlySends {N : Type 0} (conn : ℕ) (bytes : List ℕ) (before after : World N) : Type 0 where

@@ -1,11 +1,12 @@
 //! Laws of serving, each the contract of a function that does nothing.
-ghost use Rattle.serve_loop.specs.Laws.{RequestsAreCompletions, MomentsComeInOrder, ADiskThatTellsGoesOnTelling, ADiskGoesOnReadingAnImage};
+ghost use Rattle.serve_loop.specs.Laws.{RequestsAreCompletions, MomentsComeInOrder, ADiskThatTellsGoesOnTelling};
+ghost use Rattle.serve_loop.specs.Laws.{ADiskGoesOnReadingAnImage};
 ghost use Rattle.serve_loop.specs.Worlds.{IsAnswered};
 
 use crate::Node;
 
-/// The requests that a node was asked are, in order, the whole ones that the events complete, as `conn_table` says of a list
-/// of events.
+/// The requests that a node was asked are, in order, the whole ones that the events complete, as `conn_table` says of a
+/// list of events.
 pub fn requests_are_completions<N: Node>()
     ensures { RequestsAreCompletions (IsAnswered N.own N.step N.leaves) }
 {

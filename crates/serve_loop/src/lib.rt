@@ -11,24 +11,25 @@
 //! |---|---|
 //! | a connection starts | it is kept; where it was kept already, it ended and starts anew |
 //! | as many are kept as there may be | the page of 503 is sent |
-//! | a piece, and its connection's bytes are a whole request | the node answers it at the clock's moment, or at [`LAST`](saml_time::LAST) where that is less, the answer is sent, and the connection is let go |
+//! | a piece, and its connection's bytes are a whole request | it is answered, and the connection is let go |
 //! | a piece, and they are refused | the page of the status is sent, and the connection is let go |
 //! | a piece, and they are the beginning of a request | they are kept |
 //! | a piece of a connection that is not kept | it is passed over |
-//! | there is no memory for a start or a piece | the page of the verdict NoMemory, 52, is sent, and the connection is let go |
+//! | there is no memory for a start or a piece | the page of the verdict NoMemory, 52, is sent, and it is let go |
 //! | a connection ends | it is let go |
 //!
-//! A connection on which something was sent is closed. A `send` that fails ends its connection alone.
+//! The node answers at the clock's moment, or at [`LAST`](saml_time::LAST) where that is less. A connection on which
+//! something was sent is closed. A `send` that fails ends its connection alone.
 //!
-//! A contract sees a list of turns, one for each event (`specs/Turns.antt`). Each is a case with a name, and says what it does to
-//! the connections, the node, the disk, the link and the clock; of the node it cites the node's own `step` and nothing else.
-//! What a crash may leave at some moment of the call is what it may leave at its start, or inside one of the answers; and
-//! since each point between two turns, what it may leave of the disk there, or inside the answer to a later request
-//! (`LeavesInOrder` of `specs/Serving.antt`). By the [`laws`] the requests that the node was asked are the whole ones that
-//! the events complete, as `conn_table` defines it, and a disk that tells goes on telling.
+//! A contract sees a list of turns, one for each event (`specs/Turns.antt`). Each is a case with a name, and says what
+//! it does to the connections, the node, the disk, the link and the clock; of the node it cites the node's own `step`
+//! and nothing else. What a crash may leave at some moment of the call is what it may leave at its start, or inside one
+//! of the answers; and since each point between two turns, what it may leave of the disk there, or inside the answer to
+//! a later request (`LeavesInOrder` of `specs/Serving.antt`). By the [`laws`] the requests that the node was asked are
+//! the whole ones that the events complete, as `conn_table` defines it, and a disk that tells goes on telling.
 //!
-//! [`serve`] answers [`ServeFault::LinkFault`] only where the link's count of faults rose, and [`ServeFault::NoMemory`] only
-//! before it began.
+//! [`serve`] answers [`ServeFault::LinkFault`] only where the link's count of faults rose, and [`ServeFault::NoMemory`]
+//! only before it began.
 //!
 //! # What is proved
 //!

@@ -1,5 +1,6 @@
 //! What serving does at an event.
-ghost use Rattle.std.specs.Prelude.{◌≡◌, ◌≢◌, ◌≤◌, List, ◌∷◌, [], IsSomeAnd, IsTrue, IfOk, IfSome, OnErr, MatchBool, None, Some, Err, length};
+ghost use Rattle.std.specs.Prelude.{◌≡◌, ◌≢◌, ◌≤◌, List, ◌∷◌, [], IsSomeAnd, IsTrue, IfOk, IfSome, OnErr, MatchBool};
+ghost use Rattle.std.specs.Prelude.{None, Some, Err, length};
 ghost use Rattle.std.specs.FinMap as map;
 ghost use Rattle.crash_disk.specs.Counts.{CountsFaults};
 ghost use Rattle.crash_disk.specs.Moments.{LeavesOnly};
@@ -34,7 +35,8 @@ pub(crate) struct Serving<'t, 'n, 'l, 'd, 'c, N, L, D, C> {
 impl<N: Node, L: Link, D: Disk, C: Clock> Serving<'_, '_, '_, '_, '_, N, L, D, C> {
     /// Sends all bytes of an answer on a connection, and closes it. A `send` that fails ends this connection alone.
     fn send(&mut self, conn: u32, bytes: &[u8])
-        ensures sends { GoesOut conn bytes.now (L.shows self.old.link.now).told (L.shows self.new.link.now).told (L.shows self.old.link.now).send_faults (L.shows self.new.link.now).send_faults }
+        ensures sends { GoesOut conn bytes.now (L.shows self.old.link.now).told (L.shows self.new.link.now).told
+            (L.shows self.old.link.now).send_faults (L.shows self.new.link.now).send_faults }
         ensures faults { (L.shows self.new.link.now).faults ≡ (L.shows self.old.link.now).faults }
         ensures conns { self.new.conns.now ≡ self.old.conns.now }
         ensures others { OthersStay self.old self.new }
@@ -46,7 +48,8 @@ impl<N: Node, L: Link, D: Disk, C: Clock> Serving<'_, '_, '_, '_, '_, N, L, D, C
     /// Sends the page of a code on a connection, and closes it.
     fn send_page(&mut self, conn: u32, code: u16)
         requires { IsTrue (is_fixed code) }
-        ensures sends { GoesOut conn (fixed code) (L.shows self.old.link.now).told (L.shows self.new.link.now).told (L.shows self.old.link.now).send_faults (L.shows self.new.link.now).send_faults }
+        ensures sends { GoesOut conn (fixed code) (L.shows self.old.link.now).told (L.shows self.new.link.now).told
+            (L.shows self.old.link.now).send_faults (L.shows self.new.link.now).send_faults }
         ensures faults { (L.shows self.new.link.now).faults ≡ (L.shows self.old.link.now).faults }
         ensures conns { self.new.conns.now ≡ self.old.conns.now }
         ensures others { OthersStay self.old self.new }
@@ -59,7 +62,8 @@ impl<N: Node, L: Link, D: Disk, C: Clock> Serving<'_, '_, '_, '_, '_, N, L, D, C
     /// Sends an answer on a connection, and closes it.
     fn send_answer(&mut self, conn: u32, answer: &Answer)
         requires { HasBytes answer.now }
-        ensures sends { GoesOut conn (answer_bytes answer.now) (L.shows self.old.link.now).told (L.shows self.new.link.now).told (L.shows self.old.link.now).send_faults (L.shows self.new.link.now).send_faults }
+        ensures sends { GoesOut conn (answer_bytes answer.now) (L.shows self.old.link.now).told (L.shows
+            self.new.link.now).told (L.shows self.old.link.now).send_faults (L.shows self.new.link.now).send_faults }
         ensures faults { (L.shows self.new.link.now).faults ≡ (L.shows self.old.link.now).faults }
         ensures conns { self.new.conns.now ≡ self.old.conns.now }
         ensures others { OthersStay self.old self.new }
@@ -72,7 +76,9 @@ impl<N: Node, L: Link, D: Disk, C: Clock> Serving<'_, '_, '_, '_, '_, N, L, D, C
 
     /// A connection started: where it was kept it had ended.
     fn start(&mut self, conn: u32)
-        ensures does { (turn : Turn _) × (event_at turn ≡ Started conn) × Does (IsAnswered N.own N.step N.leaves) self.old.conns.now (world_in D.shows L.shows C.to_come self.old) turn self.new.conns.now (world_in D.shows L.shows C.to_come self.new) }
+        ensures does { (turn : Turn _) × (event_at turn ≡ Started conn)
+            × Does (IsAnswered N.own N.step N.leaves) self.old.conns.now (world_in D.shows L.shows C.to_come self.old)
+            turn self.new.conns.now (world_in D.shows L.shows C.to_come self.new) }
         ensures faults { (L.shows self.new.link.now).faults ≡ (L.shows self.old.link.now).faults }
         ensures others { OthersStay self.old self.new }
     {
@@ -87,7 +93,8 @@ impl<N: Node, L: Link, D: Disk, C: Clock> Serving<'_, '_, '_, '_, '_, N, L, D, C
     /// Sends the page of a code on a connection, and lets it go.
     fn refuse(&mut self, conn: u32, code: u16)
         requires { IsTrue (is_fixed code) }
-        ensures lets_go { LetsGo conn code self.old.conns.now (world_in D.shows L.shows C.to_come self.old) self.new.conns.now (world_in D.shows L.shows C.to_come self.new) }
+        ensures lets_go { LetsGo conn code self.old.conns.now (world_in D.shows L.shows C.to_come self.old)
+            self.new.conns.now (world_in D.shows L.shows C.to_come self.new) }
         ensures faults { (L.shows self.new.link.now).faults ≡ (L.shows self.old.link.now).faults }
         ensures others { OthersStay self.old self.new }
     {
@@ -101,8 +108,9 @@ impl<N: Node, L: Link, D: Disk, C: Clock> Serving<'_, '_, '_, '_, '_, N, L, D, C
         requires own { N.own self.old.node.now (D.shows self.old.disk.now).told }
         ensures asked { (asked : Asked _) × (asked.conn ≡ conn) × (asked.answer ≡ result)
             × IfSome (map.get self.old.conns.now conn) (λ bytes. Reads bytes (Whole asked.request))
-            × Asks (IsAnswered N.own N.step N.leaves) asked (world_in D.shows L.shows C.to_come self.old) (world_in D.shows L.shows C.to_come self.new)
-            × LeavesOnly D.shows self.old.disk.now self.new.disk.now (N.leaves asked.node asked.disk asked.request asked.now) }
+            × Asks (IsAnswered N.own N.step N.leaves) asked (world_in D.shows L.shows C.to_come self.old)
+            (world_in D.shows L.shows C.to_come self.new) × LeavesOnly D.shows self.old.disk.now self.new.disk.now
+            (N.leaves asked.node asked.disk asked.request asked.now) }
         ensures has_bytes { HasBytes result }
         ensures own { N.own self.new.node.now (D.shows self.new.disk.now).told }
         ensures disk_faults { (D.shows self.old.disk.now).faults ≤ (D.shows self.new.disk.now).faults }
@@ -118,9 +126,10 @@ impl<N: Node, L: Link, D: Disk, C: Clock> Serving<'_, '_, '_, '_, '_, N, L, D, C
     fn answer(&mut self, conn: u32)
         requires whole { IsSomeAnd (map.get self.old.conns.now conn) IsWholeRequest }
         requires own { N.own self.old.node.now (D.shows self.old.disk.now).told }
-        ensures answers { (asked : Asked _) × (asked.conn ≡ conn)
-            × Answers (IsAnswered N.own N.step N.leaves) self.old.conns.now (world_in D.shows L.shows C.to_come self.old) asked self.new.conns.now (world_in D.shows L.shows C.to_come self.new)
-            × LeavesOnly D.shows self.old.disk.now self.new.disk.now (N.leaves asked.node asked.disk asked.request asked.now) }
+        ensures answers { (asked : Asked _) × (asked.conn ≡ conn) × Answers (IsAnswered N.own N.step N.leaves)
+            self.old.conns.now (world_in D.shows L.shows C.to_come self.old) asked self.new.conns.now
+            (world_in D.shows L.shows C.to_come self.new) × LeavesOnly D.shows self.old.disk.now self.new.disk.now
+            (N.leaves asked.node asked.disk asked.request asked.now) }
         ensures own { N.own self.new.node.now (D.shows self.new.disk.now).told }
         ensures disk_faults { (D.shows self.old.disk.now).faults ≤ (D.shows self.new.disk.now).faults }
         ensures faults { (L.shows self.new.link.now).faults ≡ (L.shows self.old.link.now).faults }
@@ -135,8 +144,9 @@ impl<N: Node, L: Link, D: Disk, C: Clock> Serving<'_, '_, '_, '_, '_, N, L, D, C
     fn piece(&mut self, conn: u32, bytes: &[u8])
         requires { N.own self.old.node.now (D.shows self.old.disk.now).told }
         ensures does { (turn : Turn _) × (event_at turn ≡ Piece conn bytes.now)
-            × Does (IsAnswered N.own N.step N.leaves) self.old.conns.now (world_in D.shows L.shows C.to_come self.old) turn self.new.conns.now (world_in D.shows L.shows C.to_come self.new)
-            × LeavesOnly D.shows self.old.disk.now self.new.disk.now (MightLeave N.leaves (D.shows self.old.disk.now).told (turn ∷ [])) }
+            × Does (IsAnswered N.own N.step N.leaves) self.old.conns.now (world_in D.shows L.shows C.to_come self.old)
+            turn self.new.conns.now (world_in D.shows L.shows C.to_come self.new) × LeavesOnly D.shows
+            self.old.disk.now self.new.disk.now (MightLeave N.leaves (D.shows self.old.disk.now).told (turn ∷ [])) }
         ensures own { N.own self.new.node.now (D.shows self.new.disk.now).told }
         ensures disk_faults { (D.shows self.old.disk.now).faults ≤ (D.shows self.new.disk.now).faults }
         ensures faults { (L.shows self.new.link.now).faults ≡ (L.shows self.old.link.now).faults }
@@ -154,12 +164,14 @@ impl<N: Node, L: Link, D: Disk, C: Clock> Serving<'_, '_, '_, '_, '_, N, L, D, C
     pub(crate) fn turn(&mut self, into: &mut [u8]) -> Result<bool, Failed>
         requires room { length into.old ≡ PIECE_ROOM }
         requires own { N.own self.old.node.now (D.shows self.old.disk.now).told }
-        ensures ok { IfOk result (λ more. MatchBool more
-            ((turn : Turn _) × (given : World _) × IsNext (Some (event_at turn)) (world_in D.shows L.shows C.to_come self.old) given
-            × Does (IsAnswered N.own N.step N.leaves) self.old.conns.now given turn self.new.conns.now (world_in D.shows L.shows C.to_come self.new)
-            × LeavesOnly D.shows self.old.disk.now self.new.disk.now (MightLeave N.leaves (D.shows self.old.disk.now).told (turn ∷ [])))
-            (IsNext None (world_in D.shows L.shows C.to_come self.old) (world_in D.shows L.shows C.to_come self.new) × (self.new.disk.now ≡ self.old.disk.now))) }
-        ensures err { OnErr result ((world_in D.shows L.shows C.to_come self.new ≡ world_in D.shows L.shows C.to_come self.old) × (self.new.disk.now ≡ self.old.disk.now)) }
+        ensures ok { IfOk result (λ more. MatchBool more ((turn : Turn _)
+            × (given : World _) × IsNext (Some (event_at turn)) (world_in D.shows L.shows C.to_come self.old) given
+            × Does (IsAnswered N.own N.step N.leaves) self.old.conns.now given turn self.new.conns.now (world_in D.shows
+            L.shows C.to_come self.new) × LeavesOnly D.shows self.old.disk.now self.new.disk.now (MightLeave N.leaves
+            (D.shows self.old.disk.now).told (turn ∷ []))) (IsNext None (world_in D.shows L.shows C.to_come self.old)
+            (world_in D.shows L.shows C.to_come self.new) × (self.new.disk.now ≡ self.old.disk.now))) }
+        ensures err { OnErr result ((world_in D.shows L.shows C.to_come
+            self.new ≡ world_in D.shows L.shows C.to_come self.old) × (self.new.disk.now ≡ self.old.disk.now)) }
         ensures own { N.own self.new.node.now (D.shows self.new.disk.now).told }
         ensures disk_faults { (D.shows self.old.disk.now).faults ≤ (D.shows self.new.disk.now).faults }
         ensures faults { CountsFaults result (L.shows self.old.link.now).faults (L.shows self.new.link.now).faults }
@@ -188,11 +200,14 @@ impl<N: Node, L: Link, D: Disk, C: Clock> Serving<'_, '_, '_, '_, '_, N, L, D, C
         requires room { length into.old ≡ PIECE_ROOM }
         requires none_kept { self.old.conns.now ≡ map.empty }
         requires own { N.own self.old.node.now (D.shows self.old.disk.now).told }
-        ensures serves { (turns : List (Turn _)) × Serves (IsAnswered N.own N.step N.leaves) N.leaves (D.shows self.new.disk.now).left_since budget turns (world_in D.shows L.shows C.to_come self.old) result (world_in D.shows L.shows C.to_come self.new)
-            × LeavesOnly D.shows self.old.disk.now self.new.disk.now (MightLeave N.leaves (D.shows self.old.disk.now).told turns) }
+        ensures serves { (turns : List (Turn _)) × Serves (IsAnswered N.own N.step N.leaves) N.leaves
+            (D.shows self.new.disk.now).left_since budget turns (world_in D.shows L.shows C.to_come self.old) result
+            (world_in D.shows L.shows C.to_come self.new) × LeavesOnly D.shows self.old.disk.now self.new.disk.now
+            (MightLeave N.leaves (D.shows self.old.disk.now).told turns) }
         ensures own { N.own self.new.node.now (D.shows self.new.disk.now).told }
         ensures disk_faults { (D.shows self.old.disk.now).faults ≤ (D.shows self.new.disk.now).faults }
-        ensures link_faults { CountsLinkFaults result (L.shows self.old.link.now).faults (L.shows self.new.link.now).faults }
+        ensures link_faults { CountsLinkFaults result
+            (L.shows self.old.link.now).faults (L.shows self.new.link.now).faults }
         ensures memory { result ≢ Err ServeFault.NoMemory }
         ensures objects { SameObjects self.old self.new }
     {

@@ -38,11 +38,12 @@ use Rattle.sp_server.specs.declared.route.Service.{Service}
 use Rattle.sp_server.specs.declared.route.Service.TheVariants.{App, Consumer, Metadata, Logout, SingleLogout, Guard}
 use Rattle.sp_server.specs.Routes.{at_target, is_guarded, is_target, route, service_at}
 use Rattle.sp_server.specs.Peer.{idp_at, logout_address, second_key}
-use Rattle.provider_node.specs.Step as any
-use Rattle.provider_node.specs.declared.codes.TheConstants as codes
 use Rattle.sp_server.specs.Step as steps
-use Rattle.sp_server.specs.Step.{Setup, Provider, Answers, Steps, is_expired, session_for}
+use Rattle.sp_server.specs.Step.{Setup, Provider, Answers, is_expired, session_for}
+use Rattle.provider_node.specs.Step.{Steps}
+use Rattle.request_ledger.specs.Record.{request_rules}
 use Rattle.sp_runs.proofs.Guarded.{guard_other}
+use Rattle.provider_node.proofs.Answered.{answered}
 
 -- ---- the verdict on a form has another number
 
@@ -86,34 +87,60 @@ number_small [] verdict e = small verdicts.NotOneAssertion verdict (omega arith)
 number_small (p ∷ []) verdict e = absurd (cc)
 number_small (p ∷ q ∷ others) verdict e = small verdicts.NotOneAssertion verdict (omega arith) e
 
-head_small : (success : Bool) (assertions : List ℕ) (verdict : Verdict) → (if success then number_refusal assertions else Some verdicts.NotSuccess) ≡ Some verdict → IsOfForms verdict
+head_small : (success : Bool) (assertions : List ℕ) (verdict : Verdict)
+    → (if success then number_refusal assertions else Some verdicts.NotSuccess) ≡ Some verdict → IsOfForms verdict
 head_small true assertions verdict e = number_small assertions verdict e
 head_small false assertions verdict e = small verdicts.NotSuccess verdict (omega arith) e
 
-first_small : (checks : List (Bool × Verdict)) (verdict : Verdict) → AllByRecursion (λ (c : Bool × Verdict). IsOfForms c.1) checks → first_failing checks ≡ Some verdict → IsOfForms verdict
+first_small : (checks : List (Bool × Verdict)) (verdict : Verdict)
+    → AllByRecursion (λ (c : Bool × Verdict). IsOfForms c.1) checks → first_failing checks ≡ Some verdict
+    → IsOfForms verdict
 first_small [] verdict all e = absurd (cc)
 first_small ((true, given) ∷ others) verdict all e = first_small others verdict all.1 e
 first_small ((false, given) ∷ others) verdict all e = small given verdict all.0 e
 
 login_small : (from for sent timely waits unspent unseen relayed : Bool) (verdict : Verdict) →
-    first_failing ((from, verdicts.WrongIssuer) ∷ (for, verdicts.WrongAudience) ∷ (sent, verdicts.WrongRecipient) ∷ (timely, verdicts.NotInTime) ∷ (waits, verdicts.NotOutstanding) ∷ (unspent, verdicts.RequestSpent) ∷ (unseen, verdicts.AssertionSeen) ∷ (relayed, verdicts.RelayDiffers) ∷ [])
+    first_failing ((from, verdicts.WrongIssuer) ∷ (for, verdicts.WrongAudience) ∷ (sent, verdicts.WrongRecipient)
+    ∷ (timely, verdicts.NotInTime) ∷ (waits, verdicts.NotOutstanding) ∷ (unspent, verdicts.RequestSpent)
+    ∷ (unseen, verdicts.AssertionSeen) ∷ (relayed, verdicts.RelayDiffers) ∷ [])
     ≡ Some verdict → IsOfForms verdict
 login_small from for sent timely waits unspent unseen relayed verdict e =
-    first_small ((from, verdicts.WrongIssuer) ∷ (for, verdicts.WrongAudience) ∷ (sent, verdicts.WrongRecipient) ∷ (timely, verdicts.NotInTime) ∷ (waits, verdicts.NotOutstanding) ∷ (unspent, verdicts.RequestSpent) ∷ (unseen, verdicts.AssertionSeen) ∷ (relayed, verdicts.RelayDiffers) ∷ [])
-    verdict (omega arith, (omega arith, (omega arith, (omega arith, (omega arith, (omega arith, (omega arith, (omega arith, tt)))))))) e
+    first_small ((from, verdicts.WrongIssuer) ∷ (for, verdicts.WrongAudience) ∷ (sent, verdicts.WrongRecipient)
+    ∷ (timely, verdicts.NotInTime) ∷ (waits, verdicts.NotOutstanding) ∷ (unspent, verdicts.RequestSpent)
+    ∷ (unseen, verdicts.AssertionSeen) ∷ (relayed, verdicts.RelayDiffers) ∷ [])
+    verdict (
+      omega arith,
+      (
+        omega arith,
+        (
+          omega arith,
+          (
+            omega arith,
+            (omega arith, (omega arith, (omega arith, (omega arith, tt)))),
+          ),
+        ),
+      ),
+    ) e
 
-refused_small : (config : SpConfig) (rows : RowsView) (horizon now : ℕ) (body : List ℕ) (verdict : Verdict) → IsRefused config rows horizon now body verdict → IsOfForms verdict
+refused_small : (config : SpConfig) (rows : RowsView) (horizon now : ℕ) (body : List ℕ) (verdict : Verdict)
+    → IsRefused config rows horizon now body verdict → IsOfForms verdict
 refused_small config rows horizon now body verdict (by_form e) = form_small (form body) verdict e
-refused_small config rows horizon now body verdict (by_document message relay fault p r e) = document_small fault verdict e
-refused_small config rows horizon now body verdict (by_root message relay tree p s n e) = subst IsOfForms (sym e) (omega arith)
-refused_small config rows horizon now body verdict (by_head c k e) = head_small c.head.success c.head.assertions verdict e
+refused_small config rows horizon now body verdict (by_document message relay fault p r e) =
+    document_small fault verdict e
+refused_small config rows horizon now body verdict (by_root message relay tree p s n e) =
+    subst IsOfForms (sym e) (omega arith)
+refused_small config rows horizon now body verdict (by_head c k e) =
+    head_small c.head.success c.head.assertions verdict e
 refused_small config rows horizon now body verdict (by_signature c p fault k s u e) = signature_small fault verdict e
-refused_small config rows horizon now body verdict (by_assertion c p e key k s covered none is) = subst IsOfForms (sym is) (omega arith)
+refused_small config rows horizon now body verdict (by_assertion c p e key k s covered none is) =
+    subst IsOfForms (sym is) (omega arith)
 refused_small config rows horizon now body verdict (by_login b k e) =
     let c = b.carried in
     let asked = asked_for rows horizon now b.login in
-    login_small (is_from config c.head b.login) (is_for config b.login) (is_sent_to (consumer config) c.head b.login) (is_in_time config now b.login)
-    (is_outstanding asked c.head b.login) (is_unspent rows b.login) (is_unseen rows horizon now b.login) (is_relayed asked c.relay) verdict e
+    login_small (is_from config c.head b.login) (is_for config b.login) (is_sent_to (consumer config) c.head b.login)
+    (is_in_time config now b.login)
+    (is_outstanding asked c.head b.login) (is_unspent rows b.login) (is_unseen rows horizon now b.login)
+    (is_relayed asked c.relay) verdict e
 
 -- ---- so has the verdict on a message of a logout
 
@@ -127,26 +154,35 @@ logout_small given verdict h e = let same : given ≡ verdict = cc in subst IsOf
 smaller : (verdict : Verdict) → IsOfForms verdict → IsOfLogouts verdict
 smaller verdict few = omega (arith, few)
 
-posted_small : (r : Result Posted FormFault) (verdict : Verdict) → logouts.form_refusal r ≡ Some verdict → IsOfLogouts verdict
+posted_small : (r : Result Posted FormFault) (verdict : Verdict) → logouts.form_refusal r ≡ Some verdict
+    → IsOfLogouts verdict
 posted_small (Err forms.BadForm) verdict e = logout_small verdicts.BadForm verdict (omega arith) e
 posted_small (Err forms.BadBase64) verdict e = logout_small verdicts.BadBase64 verdict (omega arith) e
 posted_small (Err (forms.TooLarge bytes)) verdict e = logout_small verdicts.TooLarge verdict (omega arith) e
 posted_small (Err forms.NoMemory) verdict e = absurd (cc)
 posted_small (Ok posted) verdict e = absurd (cc)
 
-meant_small : (sent timely : Bool) (verdict : Verdict) → (if sent then (if timely then None else Some verdicts.LogoutNotInTime) else Some verdicts.LogoutDestination) ≡ Some verdict → IsOfLogouts verdict
+meant_small : (sent timely : Bool) (verdict : Verdict) → (if sent then
+    (if timely then None else Some verdicts.LogoutNotInTime) else Some verdicts.LogoutDestination) ≡ Some verdict
+    → IsOfLogouts verdict
 meant_small true true verdict e = absurd (cc)
 meant_small true false verdict e = logout_small verdicts.LogoutNotInTime verdict (omega arith) e
 meant_small false timely verdict e = logout_small verdicts.LogoutDestination verdict (omega arith) e
 
-disobeyed_small : (peers : List LogoutPeer) (second : Option (List ℕ)) (address : List ℕ) (skew now : ℕ) (body : List ℕ) (verdict : Verdict) → logouts.IsRefused peers second address skew now body verdict → IsOfLogouts verdict
+disobeyed_small : (peers : List LogoutPeer) (second : Option (List ℕ)) (address : List ℕ) (skew now : ℕ) (body : List ℕ)
+    (verdict : Verdict) → logouts.IsRefused peers second address skew now body verdict → IsOfLogouts verdict
 disobeyed_small peers second address skew now body verdict (logouts.by_form e) = posted_small (form body) verdict e
-disobeyed_small peers second address skew now body verdict (logouts.by_document field text relay fault p r e) = smaller verdict (document_small fault verdict e)
-disobeyed_small peers second address skew now body verdict (logouts.by_root field text relay tree p s n e) = subst IsOfLogouts (sym e) (omega arith)
-disobeyed_small peers second address skew now body verdict (logouts.by_issuer c k n e) = subst IsOfLogouts (sym e) (omega arith)
-disobeyed_small peers second address skew now body verdict (logouts.by_signature c place peer fault k p n e) = smaller verdict (signature_small fault verdict e)
+disobeyed_small peers second address skew now body verdict (logouts.by_document field text relay fault p r e) =
+    smaller verdict (document_small fault verdict e)
+disobeyed_small peers second address skew now body verdict (logouts.by_root field text relay tree p s n e) =
+    subst IsOfLogouts (sym e) (omega arith)
+disobeyed_small peers second address skew now body verdict (logouts.by_issuer c k n e) =
+    subst IsOfLogouts (sym e) (omega arith)
+disobeyed_small peers second address skew now body verdict (logouts.by_signature c place peer fault k p n e) =
+    smaller verdict (signature_small fault verdict e)
 disobeyed_small peers second address skew now body verdict (logouts.by_message c place peer key k p v e) =
-    meant_small (logouts.is_sent_to address (destination_of c.message)) (logouts.is_in_time skew now (until_of c.message)) verdict e
+    meant_small (logouts.is_sent_to address (destination_of c.message))
+    (logouts.is_in_time skew now (until_of c.message)) verdict e
 
 -- ---- so has the status of a request that is not served
 
@@ -171,14 +207,16 @@ target_other path (Refused status) h = h
 checked_other : (request : Request) (o : Option (Method × Service)) → IsOther (checked request o)
 checked_other request None = λ e. omega (arith, e)
 checked_other request (Some (method, service)) =
-    chosen (is_method method request.method) (if is_typed method request.content_type then To service else Refused 415) (Refused 405)
+    chosen (is_method method request.method) (if is_typed method request.content_type then To service else Refused 415)
+    (Refused 405)
     (chosen (is_typed method request.content_type) (To service) (Refused 415) tt (λ e. omega (arith, e)))
     (λ e. omega (arith, e))
 
 route_other : (request : Request) → IsOther (route request)
 route_other request =
     chosen (is_guarded request.path) (To Guard) (at_target request.path (checked request (service_at request.path))) tt
-    (target_other request.path (checked request (service_at request.path)) (checked_other request (service_at request.path)))
+    (target_other request.path (checked request (service_at request.path))
+    (checked_other request (service_at request.path)))
 
 -- ---- an answer
 
@@ -188,49 +226,55 @@ number_in m n e = cc
 not_full : (bytes : List ℕ) (n : ℕ) → Full bytes ≡ Fixed n → ⊥
 not_full bytes n e = cc
 
-other_code : (answer : Answer) (n : ℕ) → n ≢ 70 → answer ≡ Fixed n → answer ≡ Fixed (number_of verdicts.RegistryExpired) → ⊥
+other_code : (answer : Answer) (n : ℕ) → n ≢ 70 → answer ≡ Fixed n → answer ≡ Fixed (number_of verdicts.RegistryExpired)
+    → ⊥
 other_code answer n differs is e = differs (number_in n (number_of verdicts.RegistryExpired) (sym is ∙ e))
 
-unexpired : (setup : Setup) (held : Held) (request : Request) (now : ℕ) (answer : Answer) (adds : Option SpRecord) → setup.expiry ≡ None → Answers setup held request now answer adds →
+unexpired : (setup : Setup) (held : Held) (request : Request) (now : ℕ) (answer : Answer) (adds : Option SpRecord)
+    → setup.expiry ≡ None → Answers setup held request now answer adds →
     answer ≡ Fixed (number_of verdicts.RegistryExpired) → ⊥
 unexpired setup held request now answer adds none (steps.ByStatus status to is nothing) e =
     subst IsOther to (route_other request) (number_in status (number_of verdicts.RegistryExpired) (sym is ∙ e))
-unexpired setup held request now answer adds none (steps.ByMetadata to is nothing) e = not_full _ (number_of verdicts.RegistryExpired) (sym is ∙ e)
-unexpired setup held request now answer adds none (steps.BySession row to found is nothing) e = not_full _ (number_of verdicts.RegistryExpired) (sym is ∙ e)
-unexpired setup held request now answer adds none (steps.ByAsking bytes to out before id relay page is ids shown) e = not_full bytes (number_of verdicts.RegistryExpired) (sym shown ∙ e)
+unexpired setup held request now answer adds none (steps.ByMetadata to is nothing) e =
+    not_full _ (number_of verdicts.RegistryExpired) (sym is ∙ e)
+unexpired setup held request now answer adds none (steps.BySession row to found is nothing) e =
+    not_full _ (number_of verdicts.RegistryExpired) (sym is ∙ e)
+unexpired setup held request now answer adds none (steps.ByAsking bytes to out before id relay page is ids shown) e =
+    not_full bytes (number_of verdicts.RegistryExpired) (sym shown ∙ e)
 unexpired setup held request now answer adds none (steps.ByGuard to is nothing) e =
     guard_other setup.guard setup.policy request (session_for held now request) (sym is ∙ e)
-unexpired setup held request now answer adds none (steps.ByOpening b row to before opens token is has shown) e = not_full _ (number_of verdicts.RegistryExpired) (sym shown ∙ e)
+unexpired setup held request now answer adds none (steps.ByOpening b row to before opens token is has shown) e =
+    not_full _ (number_of verdicts.RegistryExpired) (sym shown ∙ e)
 unexpired setup held request now answer adds none (steps.ByVerdict verdict to before refused is nothing) e =
     let few = refused_small setup.config _ held.header.horizon now request.body verdict refused in
-    let same : number_of verdict ≡ 70 = number_in (number_of verdict) (number_of verdicts.RegistryExpired) (sym is ∙ e) in omega (arith, few, same)
+    let same : number_of verdict ≡ 70 =
+    number_in (number_of verdict) (number_of verdicts.RegistryExpired) (sym is ∙ e) in omega (arith, few, same)
 unexpired setup held request now answer adds none (steps.ByExpiry at expired is nothing) e =
     let never : false ≡ true = sym (ap (λ (o : Option ℕ). is_expired o now) none) ∙ expired in cc
-unexpired setup held request now answer adds none (steps.ByLeaving row id bytes to before found is has leaves shown) e = not_full bytes (number_of verdicts.RegistryExpired) (sym shown ∙ e)
-unexpired setup held request now answer adds none (steps.ByNoSession to before found is nothing) e = other_code answer 33 (λ n. omega (arith, n)) is e
+unexpired setup held request now answer adds none (steps.ByLeaving row id bytes to before found is has leaves shown) e =
+    not_full bytes (number_of verdicts.RegistryExpired) (sym shown ∙ e)
+unexpired setup held request now answer adds none (steps.ByNoSession to before found is nothing) e =
+    other_code answer 33 (λ n. omega (arith, n)) is e
 unexpired setup held request now answer adds none (steps.ByLogoutVerdict verdict to before refused is nothing) e =
-    let few = disobeyed_small (idp_at setup.config now ∷ []) (second_key setup.config now) (logout_address setup.config) setup.config.skew now request.body verdict refused in
+    let few =
+    disobeyed_small (idp_at setup.config now ∷ []) (second_key setup.config now) (logout_address setup.config)
+    setup.config.skew now request.body verdict refused in
     other_code answer (number_of verdict) (λ n. omega (arith, few, n)) is e
-unexpired setup held request now answer adds none (steps.ByEnding asked relay id bytes to before obeyed some is has ends shown) e = not_full bytes (number_of verdicts.RegistryExpired) (sym shown ∙ e)
-unexpired setup held request now answer adds none (steps.ByNothingToEnd asked relay to before obeyed empty is nothing) e = other_code answer 33 (λ n. omega (arith, n)) is e
-unexpired setup held request now answer adds none (steps.ByConfirming response to before obeyed awaited is shown) e = not_full _ (number_of verdicts.RegistryExpired) (sym shown ∙ e)
-unexpired setup held request now answer adds none (steps.ByUnknownLogout response to before obeyed unknown is nothing) e = other_code answer 34 (λ n. omega (arith, n)) is e
+unexpired setup held request now answer adds none (steps.ByEnding asked relay id bytes to before obeyed some is has ends
+    shown) e = not_full bytes (number_of verdicts.RegistryExpired) (sym shown ∙ e)
+unexpired setup held request now answer adds none (steps.ByNothingToEnd asked relay to before obeyed empty is nothing)
+    e = other_code answer 33 (λ n. omega (arith, n)) is e
+unexpired setup held request now answer adds none (steps.ByConfirming response to before obeyed awaited is shown) e =
+    not_full _ (number_of verdicts.RegistryExpired) (sym shown ∙ e)
+unexpired setup held request now answer adds none (steps.ByUnknownLogout response to before obeyed unknown is nothing)
+    e = other_code answer 34 (λ n. omega (arith, n)) is e
 
-serves_unexpired : (found : Held) (request : Request) (now : ℕ) (Risen : Type 0) (answer : Answer) (old new : Provider) → old.setup.expiry ≡ None →
-    steps.Serves found request now Risen answer old new → answer ≡ Fixed (number_of verdicts.RegistryExpired) → ⊥
-serves_unexpired found request now Risen answer old new none (any.Plain answers whole) e = unexpired old.setup found request now answer None none answers e
-serves_unexpired found request now Risen answer old new none (any.Recorded r answers place whole) e = unexpired old.setup found request now answer (Some r) none answers e
-serves_unexpired found request now Risen answer old new none (any.RecordedAfterCompaction held r room answers place whole) e =
-    unexpired old.setup held request now answer (Some r) none answers e
-serves_unexpired found request now Risen answer old new none (any.NoPlace held r another room answers still is whole) e =
-    other_code answer codes.FULL (λ n. omega (arith, n)) is e
-serves_unexpired found request now Risen answer old new none (any.Failed wanted other wants risen is broken) e = other_code answer codes.DISK_FAULT (λ n. omega (arith, n)) is e
-serves_unexpired found request now Risen answer old new none (any.Starved held which is whole) e = other_code answer codes.NO_MEMORY (λ n. omega (arith, n)) is e
-
-pub step_unexpired : (old : Provider) (disk : Option DiskState) (request : Request) (now : ℕ) (Risen : Type 0) (answer : Answer) (new : Provider) → old.setup.expiry ≡ None →
-    Steps old disk request now Risen answer new → answer ≡ Fixed (number_of verdicts.RegistryExpired) → ⊥
-step_unexpired old disk request now Risen answer new none (any.WithLedger whole serves) e = serves_unexpired old.ledger.held request now Risen answer old new none serves e
-step_unexpired old disk request now Risen answer new none (any.WithOpened found broken is serves) e = serves_unexpired found request now Risen answer old new none serves e
-step_unexpired old disk request now Risen answer new none (any.NotOpened was risen is broken) e = other_code answer codes.DISK_FAULT (λ n. omega (arith, n)) is e
-step_unexpired old disk request now Risen answer new none (any.Strange was fault is broken) e = other_code answer codes.FOREIGN (λ n. omega (arith, n)) is e
-step_unexpired old disk request now Risen answer new none (any.StarvedAtOpening was is broken) e = other_code answer codes.NO_MEMORY (λ n. omega (arith, n)) is e
+pub step_unexpired : (old : Provider) (disk : Option DiskState) (request : Request) (now : ℕ) (Risen : Type 0)
+    (answer : Answer) (new : Provider) → old.setup.expiry ≡ None
+    → Steps request_rules Answers old disk request now Risen answer new
+    → answer ≡ Fixed (number_of verdicts.RegistryExpired) → ⊥
+step_unexpired old disk request now Risen answer new none =
+    answered request_rules Answers request now Risen answer old new
+    (λ a. a ≡ Fixed (number_of verdicts.RegistryExpired) → ⊥)
+    (λ held adds. unexpired old.setup held request now answer adds none)
+    (λ code few e. let n = number_in code (number_of verdicts.RegistryExpired) e in omega (arith, few, n)) disk

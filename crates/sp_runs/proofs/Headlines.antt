@@ -11,22 +11,25 @@ use Rattle.http_wire.specs.Requests.{Request}
 use Rattle.serve_loop.specs.Turns.{Asked, Asks, Run, Turn}
 use Rattle.serve_loop.specs.Worlds.{World}
 use Rattle.provider_run.specs.Headlines.{EachRunCarries}
-use Rattle.provider_run.proofs.Headlines.{adds_its_own, carries, each_goes, keeps_visible, kept_since, sessions_stay, stepped, stepped_to, of_asked}
+use Rattle.provider_run.proofs.Headlines.{adds_its_own, carries, each_goes, keeps_visible, kept_since, once_recorded, sessions_stay, stepped, of_asked}
 use Rattle.provider_run.specs.Runs.{Outside, world_of}
 use Rattle.sp_server.specs.Guarding.{AGuardTellsExactly, OnlyASessionIsVouchedFor}
-use Rattle.sp_server.specs.Histories.{IsProviders}
+use Rattle.provider_node.specs.Histories.{IsProviders}
 use Rattle.sp_server.specs.Logouts.{NothingElseCloses, OnlyWhereAUserLeaves, OnlyWhereSessionsEnd, WhereverAUserLeaves, WhereverSessionsEnd}
-use Rattle.sp_server.specs.Recorded.{WhatIsAnsweredIsRecorded, WhatIsAskedIsRecorded}
+use Rattle.sp_server.specs.Recorded.{IsPosted, WhatIsAskedIsRecorded}
+use Rattle.provider_node.specs.Recorded.{WhatIsAnsweredIsRecorded}
 use Rattle.sp_server.specs.Sessions.{OnlyWhereAFormOpens, WhereverAFormOpens}
-use Rattle.sp_server.specs.Step.{Provider, Answers, Serves}
+use Rattle.sp_server.specs.Step.{Provider, Answers}
+use Rattle.provider_node.specs.Step.{Serves}
 use Rattle.request_ledger.specs.Laws.{AnswerAlike, ImagesHoldRecords}
 use Rattle.request_ledger.specs.Ledger.{Held}
 use Rattle.request_ledger.specs.Record.{request_rules}
 use Rattle.sp_runs.specs.Headline.{Headline, ClosesExactly, GoesExactly, GuardsExactly, IsRecordedFirst, KeepsToItsConfig, OpensExactly, Says}
 use Rattle.sp_runs.specs.Laws.{AnEndedRegistryAsksNothing, AnEndedRegistryRecordsNothing, ARunUsesWhatItsRegistryLists, ASessionIsShownByItsRow, EachRequestIsServedByTheSameSetup, EachSessionWasSigned, SessionsStayClosedInARun, WhatARunAcknowledgedIsKeptOnce, WithoutARegistryNothingIsExpired}
 use Rattle.sp_runs.specs.Runs.{Begins, IsBadFile, IsServedBy, key}
-use Rattle.sp_server.specs.Staying.{IsAsLeft, SessionsStayInAService, WasOpened, WhatWasOpenedIsAsLeft}
-use Rattle.sp_server.specs.Starving.{WhatIsVisibleStays}
+use Rattle.sp_server.specs.Staying.{IsAsLeft, WasOpened}
+use Rattle.provider_node.specs.Staying.{SessionsStayInAService, WhatWasOpenedIsAsLeft}
+use Rattle.provider_node.specs.Starving.{RowsAnswerAsBefore}
 use Rattle.sp_server.proofs.Histories.{draws_above}
 
 -- the laws on which it stands
@@ -39,16 +42,16 @@ pub record Laws : Type 0 where
   pub nothing_else : NothingElseCloses
   pub wherever_left : WhereverAUserLeaves
   pub wherever_ended : WhereverSessionsEnd
-  pub posted : WhatIsAnsweredIsRecorded
+  pub posted : WhatIsAnsweredIsRecorded request_rules Answers IsPosted
   pub requested : WhatIsAskedIsRecorded
   pub guard_tells : AGuardTellsExactly
   pub guard_only : OnlyASessionIsVouchedFor
   pub hold : ImagesHoldRecords
   pub kept : WhatARunAcknowledgedIsKeptOnce
   pub closed : SessionsStayClosedInARun
-  pub stay : SessionsStayInAService
-  pub as_left : WhatWasOpenedIsAsLeft
-  pub starved : WhatIsVisibleStays
+  pub stay : SessionsStayInAService request_rules WasOpened IsAsLeft Answers
+  pub as_left : WhatWasOpenedIsAsLeft request_rules WasOpened IsAsLeft
+  pub starved : RowsAnswerAsBefore request_rules Answers AnswerAlike
   pub tells : ARunUsesWhatItsRegistryLists
   pub same : EachRequestIsServedByTheSameSetup
   pub ends : AnEndedRegistryRecordsNothing
@@ -57,10 +60,10 @@ pub record Laws : Type 0 where
   pub shown : ASessionIsShownByItsRow
 
 serves_of : (found : Held) (request : Request) (now : ℕ) (Risen : Type 0) (one other : Answer) (old new : Provider)
-    → one ≡ other → Serves found request now Risen one old new
-    → Serves found request now Risen other old new
+    → one ≡ other → Serves request_rules Answers found request now Risen one old new
+    → Serves request_rules Answers found request now Risen other old new
 serves_of found request now Risen one other old new same serves =
-    subst (λ (a : Answer). Serves found request now Risen a old new) same serves
+    subst (λ (a : Answer). Serves request_rules Answers found request now Risen a old new) same serves
 
 module _ (laws : Laws) (asked : Asked Provider) where
   opens_exactly : (before after : World Provider) → OpensExactly asked before after
@@ -81,14 +84,10 @@ module _ (laws : Laws) (asked : Asked Provider) where
     wherever_ended = of_asked asked before after laws.wherever_ended;
   }
 
-  recorded_first : (before after : World Provider) → Asks IsProviders asked before after
+  recorded_first : (before after : World Provider) → Asks (IsProviders request_rules Answers) asked before after
       → IsRecordedFirst asked before after
   recorded_first before after asks = record {
-    posted = λ bytes is posts.
-        laws.posted asked.node after.node asked.disk after.disk asked.request asked.now before.disk_faults
-        after.disk_faults bytes
-        (stepped_to request_rules Answers asked (answers.Full bytes) before after asks is)
-        asks.answers.owns posts;
+    posted = once_recorded request_rules Answers asked IsPosted laws.posted before after asks;
     requested = λ found bytes is serves app none.
         laws.requested found asked.request asked.now before.disk_faults after.disk_faults bytes asked.node after.node
         after.disk
@@ -96,12 +95,15 @@ module _ (laws : Laws) (asked : Asked Provider) where
         (answers.Full bytes) asked.node after.node is serves) asks.answers.owns app none;
   }
 
-  guards_exactly : (before after : World Provider) → Asks IsProviders asked before after → GuardsExactly asked before after
+  guards_exactly : (before after : World Provider) → Asks (IsProviders request_rules Answers) asked before after
+      → GuardsExactly asked before after
   guards_exactly before after asks = record {
     tells = λ found asking serves.
-        laws.guard_tells found asked.request asked.now before.disk_faults after.disk_faults asked.answer asked.node after.node asking serves;
+        laws.guard_tells found asked.request asked.now before.disk_faults after.disk_faults asked.answer asked.node
+        after.node asking serves;
     only = λ at ok.
-        laws.guard_only asked.node after.node asked.disk asked.request asked.now before.disk_faults after.disk_faults asked.answer at (stepped request_rules Answers asked before after asks).step ok;
+        laws.guard_only asked.node after.node asked.disk asked.request asked.now before.disk_faults after.disk_faults
+        asked.answer at (stepped request_rules Answers asked before after asks).step ok;
   }
 
   goes_exactly : GoesExactly asked
@@ -126,7 +128,7 @@ module _ (laws : Laws) where
   to_its_config : (told : Option (List File)) (file : List ℕ) (before opened : Outside) (provider : Provider)
       (turns : List (Turn Provider)) (kept : Table) (behind : World Provider)
       → (begins : Begins told file before provider opened)
-      → Run IsProviders (world_of provider opened) turns kept behind
+      → Run (IsProviders request_rules Answers) (world_of provider opened) turns kept behind
       → KeepsToItsConfig told file before provider opened begins turns
   to_its_config told file before opened provider turns kept behind begins run = record {
     tells = λ line lists. laws.tells told file before opened provider line begins lists;
@@ -141,7 +143,8 @@ module _ (laws : Laws) where
         λ asked none there. laws.without told file before opened provider turns kept behind asked begins run none there;
   }
 
-  pub headline : (left : ℕ → Image → Type 0) → EachRunCarries IsServedBy IsBadFile key request_rules Answers Headline left
+  pub headline : (left : ℕ → Image → Type 0) → EachRunCarries IsServedBy IsBadFile key request_rules Answers Headline
+      left
   headline left =
       carries IsServedBy key request_rules Answers IsBadFile Says left (λ told file before turns after run. record {
         config =

@@ -16,8 +16,10 @@ use Rattle.sp_runs.specs.Laws.{SessionsStayClosedInARun, WhatARunAcknowledgedIsK
 use Rattle.sp_runs.specs.Runs.{IsServedBy, key}
 
 pub kept_once : ImagesHoldRecords → WhatIsAcknowledgedIsKeptOnce → WhatARunAcknowledgedIsKeptOnce
-kept_once hold acknowledged told file budget before opened after provider last turns kept behind served tells begins run ends =
-    let is = acknowledged (world_of provider opened) behind turns kept (any.started IsServedBy key request_rules Answers hold told file before opened provider tells begins)
+kept_once hold acknowledged told file budget before opened after provider last turns kept behind served tells begins run
+    ends =
+    let is = acknowledged (world_of provider opened) behind turns kept
+    (any.started IsServedBy key request_rules Answers hold told file before opened provider tells begins)
     (any.still_tells IsServedBy key request_rules Answers hold told file before opened provider tells begins) run in
     let same = at_end budget turns behind (world_of last after) served ends in
     record {
@@ -27,7 +29,10 @@ kept_once hold acknowledged told file budget before opened after provider last t
     }
 
 pub stay_closed : ImagesHoldRecords → SessionsStayClosedInAService → SessionsStayClosedInARun
-stay_closed hold closed told file budget before opened after provider last turns kept behind served tells begins run ends =
-    any.points_behind StayClosed (world_of provider opened) turns behind (world_of last after) (at_end budget turns behind (world_of last after) served ends)
-    (closed (world_of provider opened) behind turns kept (any.started IsServedBy key request_rules Answers hold told file before opened provider tells begins)
+stay_closed hold closed told file budget before opened after provider last turns kept behind served tells begins run
+    ends =
+    any.points_behind StayClosed (world_of provider opened) turns behind (world_of last after)
+    (at_end budget turns behind (world_of last after) served ends)
+    (closed (world_of provider opened) behind turns kept
+    (any.started IsServedBy key request_rules Answers hold told file before opened provider tells begins)
     (any.still_tells IsServedBy key request_rules Answers hold told file before opened provider tells begins) run)

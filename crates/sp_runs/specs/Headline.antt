@@ -32,14 +32,17 @@ use Rattle.request_rows.specs.declared.row.AskedRow.{AskedRow}
 use Rattle.request_rows.specs.declared.row.OpenedRow.{OpenedRow}
 use Rattle.request_rows.specs.Rows.{session_row}
 use Rattle.sp_rules.specs.Opening.{Brought}
-use Rattle.sp_server.specs.Histories.{Stands, AreKeptOnce}
+use Rattle.sp_server.specs.Histories.{AreKeptOnce}
+use Rattle.provider_node.specs.Histories.{Stands}
 use Rattle.sp_server.specs.Logouts.{EndsOver, IsClosed, IsClosedWith, IsEndedBy, IsLeftBy, LeavesOver, StayClosed}
-use Rattle.sp_server.specs.Recorded.{IsRecorded, TakesPosts}
+use Rattle.sp_server.specs.Recorded.{IsPosted}
+use Rattle.provider_node.specs.Recorded.{IsRecorded}
 use Rattle.sp_server.specs.Guarding.{AsksGuard, IsVouchedAt, TellsExactly}
 use Rattle.service_routes.specs.declared.route.Route.TheVariants.{To}
 use Rattle.sp_server.specs.declared.route.Service.TheVariants.{App, Guard}
 use Rattle.sp_server.specs.Routes.{route}
-use Rattle.sp_server.specs.Staying.{SessionsStay, WhatWasOpenedIsAsLeft}
+use Rattle.sp_server.specs.Staying.{WasOpened, IsAsLeft}
+use Rattle.provider_node.specs.Staying.{SessionsStay, WhatWasOpenedIsAsLeft}
 use Rattle.sp_server.specs.Sessions.{GivesSession, HasRoom, IsOpened, OpensOver}
 use Rattle.provider_node.specs.declared.codes.TheConstants.{NO_MEMORY}
 use Rattle.provider_node.specs.Lasting.{AreKeptSince}
@@ -49,7 +52,7 @@ use Rattle.provider_node.specs.Step.{IsWhole}
 use Rattle.sp_server.specs.Step.{Provider, Answers, Setup, ended_by, ended_record, left_record, session_for, shown_to}
 use Rattle.verdict_codes.specs.Codes.{number_of}
 use Rattle.verdict_codes.specs.declared.codes.Verdict.TheVariants.{RegistryExpired}
-use Rattle.provider_run.specs.Headlines.{AddsOnlyItsOwn, EachGoes, GoesOnDisk, HeadlineBy, HeadlineOf, KeepsWhatIsVisible, ServedOver, ServedRun, WhereAsked}
+use Rattle.provider_run.specs.Headlines.{AddsOnlyItsOwn, AnswersOnceRecorded, EachGoes, GoesOnDisk, HeadlineBy, HeadlineOf, KeepsWhatIsVisible, ServedOver, ServedRun, WhereAsked}
 use Rattle.provider_run.specs.Providers.{Begins}
 use Rattle.provider_run.specs.Runs.{Outside, world_of}
 use Rattle.sp_setup.specs.Laws.{IsFromRegistry}
@@ -75,8 +78,8 @@ pub record OpensExactly (asked : Asked Provider) (before after : World Provider)
 -- A session is closed, with whatever answer, only by a Left of its token, which a POST to /logout with its cookie adds
 -- while it lives, or by an Ended that lists it, which a request with a LogoutRequest of the identity provider that is
 -- obeyed adds; nothing else closes one. And wherever one of them does, over the ledger that the step found, where there
--- is room, at once or behind one compaction, and the disk does not fail, the session is closed behind the step; or there
--- was no memory.
+-- is room, at once or behind one compaction, and the disk does not fail, the session is closed behind the step; or
+-- there was no memory.
 pub record ClosesExactly (asked : Asked Provider) (before after : World Provider) : Type 0 where
   pub only_left : (held : Held) (answer : Answer) (r : LeftRecord)
       → Answers asked.node.setup held asked.request asked.now answer (Some (kinds.Left r))
@@ -92,7 +95,8 @@ pub record ClosesExactly (asked : Asked Provider) (before after : World Provider
       → IsClosedWith asked.node.setup found asked.request asked.now asked.answer token
   pub wherever_left : (found : Held) (row : OpenedRow) → ServedOver request_rules Answers found asked before after
       → LeavesOver asked.node.setup found asked.request asked.now row
-      → room.HasRoom request_rules found asked.now (λ held. left_record asked.node.setup.config held asked.now row.token)
+      → room.HasRoom request_rules found asked.now (λ held. left_record asked.node.setup.config held asked.now
+      row.token)
       → ¬ (Rose before.disk_faults after.disk_faults)
       → (asked.answer ≡ Fixed NO_MEMORY) ⊎ IsClosed after.node.ledger.held row.token
   pub wherever_ended : (found : Held) (message : LogoutRequest) (relay : Option (List ℕ)) (token : List ℕ)
@@ -106,12 +110,11 @@ pub record ClosesExactly (asked : Asked Provider) (before after : World Provider
 -- Each form and each page that is answered to what is posted, and each form that asks for a login, stands for one
 -- record, which is in every image that a crash may leave once the provider has answered, before a byte is sent.
 pub record IsRecordedFirst (asked : Asked Provider) (before after : World Provider) : Type 0 where
-  pub posted : (bytes : List ℕ) → asked.answer ≡ Full bytes → TakesPosts (route asked.request)
-      → IsRecorded asked.node.setup asked.request asked.now (Full bytes) after.disk
+  pub posted : AnswersOnceRecorded request_rules Answers IsPosted asked after
   pub requested : (found : Held) (bytes : List ℕ) → asked.answer ≡ Full bytes
       → ServedOver request_rules Answers found asked before after
       → route asked.request ≡ To App → session_for found asked.now asked.request ≡ None
-      → IsRecorded asked.node.setup asked.request asked.now (Full bytes) after.disk
+      → IsRecorded request_rules Answers asked.node.setup asked.request asked.now (Full bytes) after.disk
 
 -- Each session that is given, with whatever answer, is of a login that was signed: for every list of what an identity
 -- provider signed, where no HMAC is forged and no hash collides in the posted form.
@@ -130,13 +133,15 @@ IsShownByItsRow asked =
     asked.node.ledger.held asked.now asked.request ≡ Some row
     → (asked.answer ≡ Full (shown_to asked.node.setup.policy asked.request.path row)) ⊎ (asked.answer ≡ Fixed NO_MEMORY)
 
--- A proxy that asks at /auth is answered 200 exactly where the session of the request's cookie lives at that moment over the ledger that the
--- step found, and no policy denies it the path, which is plain then; the answer names that session's user and values, or there was no memory.
--- And with whatever setup and ledger: where it is answered 200, it is for such a session. Nothing is recorded.
+-- A proxy that asks at /auth is answered 200 exactly where the session of the request's cookie lives at that moment
+-- over the ledger that the step found, and no policy denies it the path, which is plain then; the answer names that
+-- session's user and values, or there was no memory. And with whatever setup and ledger: where it is answered 200, it
+-- is for such a session. Nothing is recorded.
 pub record GuardsExactly (asked : Asked Provider) (before after : World Provider) : Type 0 where
   pub tells : (found : Held) → AsksGuard asked.node.setup asked.request
       → ServedOver request_rules Answers found asked before after
-      → ((asked.answer ≡ Fixed NO_MEMORY) ⊎ TellsExactly asked.node.setup found asked.request asked.now asked.answer) × IsWhole asked.node after.node found
+      → ((asked.answer ≡ Fixed NO_MEMORY) ⊎ TellsExactly asked.node.setup found asked.request asked.now asked.answer)
+      × IsWhole asked.node after.node found
   pub only : route asked.request ≡ To Guard → HasStatus 200 (answer_bytes asked.answer)
       → IsVouchedAt asked.node asked.disk asked.request asked.now (answer_bytes asked.answer)
 
@@ -151,7 +156,8 @@ pub record GoesExactly (asked : Asked Provider) : Type 0 where
   pub guards : WhereAsked request_rules Answers asked (GuardsExactly asked)
   pub signed : IsOfASignedLogin asked
   pub added : WhereAsked request_rules Answers asked (λ before after. AddsOnlyItsOwn request_rules Answers asked)
-  pub starved : WhereAsked request_rules Answers asked (λ before after. KeepsWhatIsVisible request_rules AnswerAlike asked after)
+  pub starved : WhereAsked request_rules Answers asked (λ before after. KeepsWhatIsVisible request_rules AnswerAlike
+      asked after)
   pub shown : WhereAsked request_rules Answers asked (λ before after. IsShownByItsRow asked)
 
 -- ---- its files
@@ -165,9 +171,10 @@ pub record KeepsToItsConfig (told : Option (List File)) (file : List ℕ) (befor
     (turns : List (Turn Provider)) : Type 0 where
   pub tells : (line : RegistryLine) → Contains begins.set_up.lines.files (Registry line)
       → IsFromRegistry told line begins.set_up.setup × (provider.setup ≡ served_by begins.set_up.setup)
-  pub same : (asked : Asked Provider) → Contains (asked_in turns) asked → asked.node.setup ≡ served_by begins.set_up.setup
+  pub same : (asked : Asked Provider) → Contains (asked_in turns) asked
+      → asked.node.setup ≡ served_by begins.set_up.setup
   pub ends : (asked : Asked Provider) (until : ℕ) (r : SpRecord) → begins.set_up.setup.expiry ≡ Some until
-      → Contains (asked_in turns) asked → until ≤ asked.now → ¬ (Stands asked (Some r))
+      → Contains (asked_in turns) asked → until ≤ asked.now → ¬ (Stands Answers asked (Some r))
   pub asks : (asked : Asked Provider) (until : ℕ) → begins.set_up.setup.expiry ≡ Some until
       → Contains (asked_in turns) asked → until ≤ asked.now
       → AsksAndOpensNothing (served_by begins.set_up.setup) asked.request asked.answer
@@ -178,14 +185,14 @@ pub record KeepsToItsConfig (told : Option (List File)) (file : List ℕ) (befor
 -- ---- all of it
 
 -- What is said of a run that served: it kept to its config; each request opened and closed sessions exactly, those that
--- it opened of logins that were signed, and was answered once its record was durable; and where the disk tells, what the
--- answers acknowledged is in the history of every ledger that a crash may leave behind the run, no two sessions are of
--- one request, those at the start and those that were let go included; from each point of the run on, also inside later
--- requests, what was acknowledged by then is in the history of every ledger that a crash might leave; a session that is
--- closed is live at no later request, and in no ledger that a crash may leave since; and one whose answer went out is as
--- it was left in every image that a crash may leave behind the run: where it ends behind each moment of the run it lives
--- there, closed only where a record that was added since closes it, and its request stays spent while it could be
--- answered.
+-- it opened of logins that were signed, and was answered once its record was durable; and where the disk tells, what
+-- the answers acknowledged is in the history of every ledger that a crash may leave behind the run, no two sessions are
+-- of one request, those at the start and those that were let go included; from each point of the run on, also inside
+-- later requests, what was acknowledged by then is in the history of every ledger that a crash might leave; a session
+-- that is closed is live at no later request, and in no ledger that a crash may leave since; and one whose answer went
+-- out is as it was left in every image that a crash may leave behind the run: where it ends behind each moment of the
+-- run it lives there, closed only where a record that was added since closes it, and its request stays spent while it
+-- could be answered.
 pub record Says (left : ℕ → Image → Type 0) (told : Option (List File)) (file : List ℕ) (before : Outside)
     (turns : List (Turn Provider)) (after : Outside)
     (run : ServedRun IsServedBy key request_rules Answers left told file before turns after) : Type 0 where
@@ -196,8 +203,9 @@ pub record Says (left : ℕ → Image → Type 0) (told : Option (List File)) (f
       run.serves.kept run.serves.last run.serves.run
   pub closed : IsSome before.disk
       → StayClosed (points (world_of run.provider run.opened) turns (world_of run.last after))
-  pub stay : IsSome before.disk → SessionsStay (world_of run.provider run.opened) (world_of run.last after) turns
-  pub as_left : WhatWasOpenedIsAsLeft
+  pub stay : IsSome before.disk → SessionsStay request_rules WasOpened IsAsLeft Answers
+      (world_of run.provider run.opened) (world_of run.last after) turns
+  pub as_left : WhatWasOpenedIsAsLeft request_rules WasOpened IsAsLeft
 
 -- A run served nothing, or it served so.
 abbrev pub Headline : HeadlineOf Setup SpRecord

@@ -29,11 +29,14 @@ use Rattle.sp_server.specs.declared.route.Service.TheVariants.{App}
 use Rattle.sp_server.specs.Routes.{route}
 use Rattle.provider_node.specs.declared.codes.TheConstants.{NO_MEMORY}
 use Rattle.provider_node.specs.Points.{points}
-use Rattle.sp_server.specs.Step.{Provider, Setup, Steps, session_for, shown_to}
+use Rattle.sp_server.specs.Step.{Provider, Setup, session_for, shown_to, Answers}
+use Rattle.provider_node.specs.Step.{Steps}
+use Rattle.request_ledger.specs.Record.{request_rules}
 use Rattle.verdict_codes.specs.Codes.{number_of}
 use Rattle.verdict_codes.specs.declared.codes.Verdict.TheVariants.{RegistryExpired}
 use Rattle.sp_server.specs.Sessions.{GivesSession}
-use Rattle.sp_server.specs.Histories.{IsProviders, Stands, AreKeptOnce}
+use Rattle.sp_server.specs.Histories.{AreKeptOnce}
+use Rattle.provider_node.specs.Histories.{IsProviders, Stands}
 use Rattle.sp_server.specs.Logouts.{StayClosed}
 use Rattle.sp_setup.specs.Laws.{IsFromRegistry}
 use Rattle.provider_run.specs.Runs.{Outside, world_of}
@@ -41,31 +44,39 @@ use Rattle.sp_runs.specs.Runs.{Begins, served_by}
 
 -- Whatever image a crash leaves, where it stands for a ledger no two of its sessions answer one request.
 abbrev pub NoImageHasARequestTwice : Type 0
-NoImageHasARequestTwice = (image : Image) (held : Held) → ledger_in image ≡ Ok (Some held) → AreDifferent (requests_opened held.records)
+NoImageHasARequestTwice =
+    (image : Image) (held : Held) → ledger_in image ≡ Ok (Some held) → AreDifferent (requests_opened held.records)
 
--- Where a provider was started on a disk that tells and served, what its answers acknowledged is in the history of every ledger that a
--- crash may leave behind the run, and no two sessions are of one request.
+-- Where a provider was started on a disk that tells and served, what its answers acknowledged is in the history of
+-- every ledger that a crash may leave behind the run, and no two sessions are of one request.
 abbrev pub WhatARunAcknowledgedIsKeptOnce : Type 0
 WhatARunAcknowledgedIsKeptOnce =
-    (told : Option (List File)) (file : List ℕ) (budget : ℕ) (before opened after : Outside) (provider last : Provider) (turns : List (Turn Provider)) (kept : Table) (behind : World Provider) (served : Result Served ServeFault)
+    (told : Option (List File)) (file : List ℕ) (budget : ℕ) (before opened after : Outside) (provider last : Provider)
+    (turns : List (Turn Provider)) (kept : Table) (behind : World Provider) (served : Result Served ServeFault)
     → IsSome before.disk → Begins told file before provider opened
-    → Run IsProviders (world_of provider opened) turns kept behind → Ends budget turns behind served (world_of last after)
+    → Run (IsProviders request_rules Answers) (world_of provider opened) turns kept behind
+    → Ends budget turns behind served (world_of last after)
     → AreKeptOnce (world_of provider opened) (world_of last after) turns
 
--- And a session that is closed is live at no later request of such a run, and in no ledger that a crash may leave since.
+-- And a session that is closed is live at no later request of such a run, and in no ledger that a crash may leave
+-- since.
 abbrev pub SessionsStayClosedInARun : Type 0
 SessionsStayClosedInARun =
-    (told : Option (List File)) (file : List ℕ) (budget : ℕ) (before opened after : Outside) (provider last : Provider) (turns : List (Turn Provider)) (kept : Table) (behind : World Provider) (served : Result Served ServeFault)
+    (told : Option (List File)) (file : List ℕ) (budget : ℕ) (before opened after : Outside) (provider last : Provider)
+    (turns : List (Turn Provider)) (kept : Table) (behind : World Provider) (served : Result Served ServeFault)
     → IsSome before.disk → Begins told file before provider opened
-    → Run IsProviders (world_of provider opened) turns kept behind → Ends budget turns behind served (world_of last after)
+    → Run (IsProviders request_rules Answers) (world_of provider opened) turns kept behind
+    → Ends budget turns behind served (world_of last after)
     → StayClosed (points (world_of provider opened) turns (world_of last after))
 
--- If only the identity provider makes HMACs that match, and no other text has the hash of one that it signed, then each session that
--- is given is that of a login which it signed.
+-- If only the identity provider makes HMACs that match, and no other text has the hash of one that it signed, then each
+-- session that is given is that of a login which it signed.
 abbrev pub EachSessionWasSigned : Type 0
 EachSessionWasSigned =
-    (issued : List Signed) (setup : Setup) (held : Held) (request : Request) (now : ℕ) (r : SpRecord) (answer : Answer) → AllByRecursion IsSigned issued
-    → Unforged issued setup.config now request.body → NoCollision issued request.body → (gives : GivesSession setup held request now r answer)
+    (issued : List Signed) (setup : Setup) (held : Held) (request : Request) (now : ℕ) (r : SpRecord) (answer : Answer)
+    → AllByRecursion IsSigned issued
+    → Unforged issued setup.config now request.body → NoCollision issued request.body
+    → (gives : GivesSession setup held request now r answer)
     → IsLoginOf issued gives.brought.login
 
 -- REGISTRIES
@@ -80,61 +91,73 @@ ARunUsesWhatItsRegistryLists =
 -- And so at each request of the run: the provider serves by what it was started with.
 abbrev pub EachRequestIsServedByTheSameSetup : Type 0
 EachRequestIsServedByTheSameSetup =
-    (told : Option (List File)) (file : List ℕ) (before opened : Outside) (provider : Provider) (turns : List (Turn Provider)) (kept : Table) (behind : World Provider)
+    (told : Option (List File)) (file : List ℕ) (before opened : Outside) (provider : Provider)
+    (turns : List (Turn Provider)) (kept : Table) (behind : World Provider)
     (asked : Asked Provider) → (begins : Begins told file before provider opened)
-    → Run IsProviders (world_of provider opened) turns kept behind
+    → Run (IsProviders request_rules Answers) (world_of provider opened) turns kept behind
     → Contains (asked_in turns) asked → asked.node.setup ≡ served_by begins.set_up.setup
 
--- From the moment on at which its registry ends no answer of a run stands for a record: no login is asked for, no session is opened, and
--- none is left or ended.
+-- From the moment on at which its registry ends no answer of a run stands for a record: no login is asked for, no
+-- session is opened, and none is left or ended.
 abbrev pub AnEndedRegistryRecordsNothing : Type 0
 AnEndedRegistryRecordsNothing =
-    (told : Option (List File)) (file : List ℕ) (before opened : Outside) (provider : Provider) (turns : List (Turn Provider)) (kept : Table) (behind : World Provider)
+    (told : Option (List File)) (file : List ℕ) (before opened : Outside) (provider : Provider)
+    (turns : List (Turn Provider)) (kept : Table) (behind : World Provider)
     (asked : Asked Provider) (until : ℕ) (r : SpRecord) → (begins : Begins told file before provider opened)
-    → Run IsProviders (world_of provider opened) turns kept behind
-    → begins.set_up.setup.expiry ≡ Some until → Contains (asked_in turns) asked → until ≤ asked.now → ¬ (Stands asked (Some r))
+    → Run (IsProviders request_rules Answers) (world_of provider opened) turns kept behind
+    → begins.set_up.setup.expiry ≡ Some until → Contains (asked_in turns) asked → until ≤ asked.now
+    → ¬ (Stands Answers asked (Some r))
 
--- an answer that is no form which asks for a login, and gives no session: a code, the metadata, the page of a session that lives, or what
--- a guard says of one
+-- an answer that is no form which asks for a login, and gives no session: a code, the metadata, the page of a session
+-- that lives, or what a guard says of one
 abbrev pub AsksAndOpensNothing : Setup → Request → Answer → Type 0
 AsksAndOpensNothing setup request answer =
     ((code : ℕ) × (answer ≡ Fixed code)) ⊎ ((answer ≡ Full (metadata_answer setup.config))
     ⊎ (((row : OpenedRow) × (answer ≡ Full (shown_to setup.policy request.path row)))
-    ⊎ ((setup.guard ≡ true) × ((row : OpenedRow) × (answer ≡ Full (vouched_to setup.policy (path_asked request.path) row))))))
+    ⊎ ((setup.guard ≡ true) × ((row : OpenedRow) × (answer ≡ Full
+    (vouched_to setup.policy (path_asked request.path) row))))))
 
 -- And each is such an answer.
 abbrev pub AnEndedRegistryAsksNothing : Type 0
 AnEndedRegistryAsksNothing =
-    (told : Option (List File)) (file : List ℕ) (before opened : Outside) (provider : Provider) (turns : List (Turn Provider)) (kept : Table) (behind : World Provider)
+    (told : Option (List File)) (file : List ℕ) (before opened : Outside) (provider : Provider)
+    (turns : List (Turn Provider)) (kept : Table) (behind : World Provider)
     (asked : Asked Provider) (until : ℕ) → (begins : Begins told file before provider opened)
-    → Run IsProviders (world_of provider opened) turns kept behind
+    → Run (IsProviders request_rules Answers) (world_of provider opened) turns kept behind
     → begins.set_up.setup.expiry ≡ Some until → Contains (asked_in turns) asked → until ≤ asked.now
     → AsksAndOpensNothing (served_by begins.set_up.setup) asked.request asked.answer
 
 -- The code for an ended registry is answered in no run whose config has none.
 abbrev pub WithoutARegistryNothingIsExpired : Type 0
 WithoutARegistryNothingIsExpired =
-    (told : Option (List File)) (file : List ℕ) (before opened : Outside) (provider : Provider) (turns : List (Turn Provider)) (kept : Table) (behind : World Provider)
+    (told : Option (List File)) (file : List ℕ) (before opened : Outside) (provider : Provider)
+    (turns : List (Turn Provider)) (kept : Table) (behind : World Provider)
     (asked : Asked Provider) → (begins : Begins told file before provider opened)
-    → Run IsProviders (world_of provider opened) turns kept behind
-    → ((line : RegistryLine) → ¬ (Contains begins.set_up.lines.files (Registry line))) → Contains (asked_in turns) asked → asked.answer ≢ Fixed (number_of RegistryExpired)
+    → Run (IsProviders request_rules Answers) (world_of provider opened) turns kept behind
+    → ((line : RegistryLine) → ¬ (Contains begins.set_up.lines.files (Registry line))) → Contains (asked_in turns) asked
+    → asked.answer ≢ Fixed (number_of RegistryExpired)
 
 -- POLICIES
 
--- Over a whole ledger a live session is answered by the page of its user, or by that of the rule that denies it, or there was no
--- memory.
+-- Over a whole ledger a live session is answered by the page of its user, or by that of the rule that denies it, or
+-- there was no memory.
 abbrev pub ASessionIsShownByItsRow : Type 0
 ASessionIsShownByItsRow =
-    (old new : Provider) (disk : Option DiskState) (request : Request) (now faults later : ℕ) (answer : Answer) (row : OpenedRow)
+    (old new : Provider) (disk : Option DiskState) (request : Request) (now faults later : ℕ) (answer : Answer)
+    (row : OpenedRow)
     → old.ledger.broken ≡ false → route request ≡ To App → session_for old.ledger.held now request ≡ Some row
-    → Steps old disk request now (Rose faults later) answer new
+    → Steps request_rules Answers old disk request now (Rose faults later) answer new
     → (answer ≡ Full (shown_to old.setup.policy request.path row)) ⊎ (answer ≡ Fixed NO_MEMORY)
 
--- Two providers of one policy in whose whole ledgers the session has the same row answer alike, whatever their other rows are.
+-- Two providers of one policy in whose whole ledgers the session has the same row answer alike, whatever their other
+-- rows are.
 abbrev pub EqualRowsAreShownAlike : Type 0
 EqualRowsAreShownAlike =
-    (old new other newer : Provider) (disk another : Option DiskState) (request : Request) (now faults later before after : ℕ) (one second : Answer) (row : OpenedRow)
-    → other.setup.policy ≡ old.setup.policy → old.ledger.broken ≡ false → other.ledger.broken ≡ false → route request ≡ To App
+    (old new other newer : Provider) (disk another : Option DiskState) (request : Request)
+    (now faults later before after : ℕ) (one second : Answer) (row : OpenedRow)
+    → other.setup.policy ≡ old.setup.policy → old.ledger.broken ≡ false → other.ledger.broken ≡ false
+    → route request ≡ To App
     → session_for old.ledger.held now request ≡ Some row → session_for other.ledger.held now request ≡ Some row
-    → Steps old disk request now (Rose faults later) one new → Steps other another request now (Rose before after) second newer
+    → Steps request_rules Answers old disk request now (Rose faults later) one new
+    → Steps request_rules Answers other another request now (Rose before after) second newer
     → (one ≡ second) ⊎ ((one ≡ Fixed NO_MEMORY) ⊎ (second ≡ Fixed NO_MEMORY))

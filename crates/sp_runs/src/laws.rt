@@ -10,7 +10,8 @@ ghost use Rattle.sp_runs.specs.Laws.{AnEndedRegistryAsksNothing, AnEndedRegistry
 use request_ledger::Disk;
 use request_ledger::laws::{images_hold_records, no_request_opens_twice};
 
-/// Whatever image a crash leaves at a moment of a run, where it stands for a ledger no two of its sessions answer one request.
+/// Whatever image a crash leaves at a moment of a run, where it stands for a ledger no two of its sessions answer one
+/// request.
 pub fn no_image_has_a_request_twice()
     ensures { NoImageHasARequestTwice }
 {
@@ -18,9 +19,9 @@ pub fn no_image_has_a_request_twice()
     no_request_opens_twice();
 }
 
-/// Where a provider was started on a disk that tells and served: what its answers acknowledged is in the history of every
-/// ledger that a crash may leave behind the run, and no two sessions are of one request, those at the start and those that
-/// were let go included.
+/// Where a provider was started on a disk that tells and served: what its answers acknowledged is in the history of
+/// every ledger that a crash may leave behind the run, and no two sessions are of one request, those at the start and
+/// those that were let go included.
 pub fn what_a_run_acknowledged_is_kept_once()
     ensures { WhatARunAcknowledgedIsKeptOnce }
 {
@@ -36,26 +37,26 @@ pub fn sessions_stay_closed_in_a_run()
     sp_server::laws::sessions_stay_closed_in_a_service();
 }
 
-/// A run that served is a start of its provider. So by the laws of starts of `sp_server` what several runs acknowledged is kept, once,
-/// over restarts with crashes between them.
+/// A run that served is a start of its provider. So by the laws of starts of `sp_server` what several runs acknowledged
+/// is kept, once, over restarts with crashes between them.
 pub fn a_run_is_a_start()
     ensures { EachRunIsAStart IsServedBy key request_rules Answers }
 {
     images_hold_records();
 }
 
-/// If only the identity provider makes HMACs that match, and no other text has the hash of one that it signed: each session
-/// that is given is that of a login which it signed.
+/// If only the identity provider makes HMACs that match, and no other text has the hash of one that it signed: each
+/// session that is given is that of a login which it signed.
 pub fn each_session_was_signed()
     ensures { EachSessionWasSigned }
 {
     login_origin::a_login_was_signed();
 }
 
-/// A run whose config has a registry has its identity provider from the one descriptor of that name that the registry lists,
-/// inside the element that the signature covers, at each of its requests; and from the moment on at which the registry ends it
-/// asks for no login, opens no session and serves no logout: nothing is recorded. A run whose config has none never answers that
-/// one has ended.
+/// A run whose config has a registry has its identity provider from the one descriptor of that name that the registry
+/// lists, inside the element that the signature covers, at each of its requests; and from the moment on at which the
+/// registry ends it asks for no login, opens no session and serves no logout: nothing is recorded. A run whose config
+/// has none never answers that one has ended.
 pub fn a_registry_tells_and_ends()
     ensures tells { ARunUsesWhatItsRegistryLists }
     ensures same { EachRequestIsServedByTheSameSetup }
@@ -81,7 +82,8 @@ pub fn a_session_is_shown_by_its_row()
 /// session whose answer went out is as it was left. A live session is shown what the policy says of its row,
 /// and the run keeps to its registry, up to the moment at which this ends.
 pub fn a_run_carries_the_headline<D: Disk>()
-    ensures { (disk : D) → EachRunCarries IsServedBy IsBadFile key request_rules Answers Headline (D.shows disk).left_since }
+    ensures { (disk : D) → EachRunCarries IsServedBy IsBadFile key request_rules Answers Headline
+        (D.shows disk).left_since }
 {
     images_hold_records();
     sp_server::laws::a_session_opens_exactly();
@@ -102,7 +104,8 @@ pub fn a_run_carries_the_headline<D: Disk>()
 /// moments may leave is one from which a later start goes on, as behind a start of this run that was cut at that
 /// moment: so runs that a crash cut join into one service, of which the laws of starts speak.
 pub fn each_image_of_a_run_goes_on<D: Disk>()
-    ensures { (disk : D) → EachImageOfARunGoesOn IsServedBy IsBadFile key request_rules Answers (D.shows disk).left_since }
+    ensures { (disk : D) → EachImageOfARunGoesOn IsServedBy IsBadFile key request_rules Answers
+        (D.shows disk).left_since }
 {
     images_hold_records();
 }

@@ -12,8 +12,8 @@ use std::alloc::Global;
 ///
 /// A run of it opens sessions exactly where a posted form opens one, each of a login that was signed, and no two of one
 /// request; it closes them exactly where their users leave them or the identity provider ends them, for good; a guard
-/// vouches for exactly the sessions that live and that no policy denies; and what its answers acknowledged is from then on
-/// in every image that a crash might leave (its headline: `Says` of `specs/Headline.antt`).
+/// vouches for exactly the sessions that live and that no policy denies; and what its answers acknowledged is from then
+/// on in every image that a crash might leave (its headline: `Says` of `specs/Headline.antt`).
 pub struct ServiceProvider;
 
 impl RunsProvider for ServiceProvider {

@@ -42,17 +42,23 @@ session_alike now one other request like =
 
 -- the rows of ledgers that answer alike do so
 rows_alike : (now : ℕ) (one other : Held) → AnswerAlike now one other
-    → RowsAnswerAlike now (rows_seen (rows_of one.records)) one.header.horizon (rows_seen (rows_of other.records)) other.header.horizon
+    → RowsAnswerAlike now (rows_seen (rows_of one.records)) one.header.horizon (rows_seen (rows_of other.records))
+    other.header.horizon
 rows_alike now one other like = record { asked = like.asked; spent = like.spent; seen = like.seen }
 
 -- a form that opens a session
-pub opens_alike : (config : SpConfig) (now : ℕ) (one other : Held) (body : List ℕ) (b : Brought) (row : AskedRow) → AnswerAlike now one other
-    → Opens config (rows_seen (rows_of other.records)) other.header.horizon now body b row → Opens config (rows_seen (rows_of one.records)) one.header.horizon now body b row
+pub opens_alike : (config : SpConfig) (now : ℕ) (one other : Held) (body : List ℕ) (b : Brought) (row : AskedRow)
+    → AnswerAlike now one other
+    → Opens config (rows_seen (rows_of other.records)) other.header.horizon now body b row
+    → Opens config (rows_seen (rows_of one.records)) one.header.horizon now body b row
 opens_alike config now one other body b row like opens =
-    open_alike config now (rows_seen (rows_of one.records)) one.header.horizon (rows_seen (rows_of other.records)) other.header.horizon body b row (rows_alike now one other like) opens
+    open_alike config now (rows_seen (rows_of one.records)) one.header.horizon (rows_seen (rows_of other.records))
+    other.header.horizon body b row (rows_alike now one other like) opens
 
-pub opening_alike : (config : SpConfig) (now : ℕ) (one other : Held) (body : List ℕ) (accepted : Accepted) → AnswerAlike now one other
-    → IsOpening config (rows_seen (rows_of other.records)) other.header.horizon now body accepted → IsOpening config (rows_seen (rows_of one.records)) one.header.horizon now body accepted
+pub opening_alike : (config : SpConfig) (now : ℕ) (one other : Held) (body : List ℕ) (accepted : Accepted)
+    → AnswerAlike now one other
+    → IsOpening config (rows_seen (rows_of other.records)) other.header.horizon now body accepted
+    → IsOpening config (rows_seen (rows_of one.records)) one.header.horizon now body accepted
 opening_alike config now one other body accepted like opening = record {
   brought = opening.brought;
   asked = opening.asked;

@@ -52,13 +52,15 @@ only_ended setup held request now answer r other =
 closed_behind : (held : Held) (r : SpRecord) (token : List ℕ)
     → IsShut opened_sessions (rows_after (rows_of held.records) r).opened token → IsClosed (held_with r held) token
 closed_behind held r token is =
-    let shut = subst (λ (rows : SpRows). IsShut opened_sessions rows.opened token) (sym (rows_of-push held.records r)) is
+    let shut =
+    subst (λ (rows : SpRows). IsShut opened_sessions rows.opened token) (sym (rows_of-push held.records r)) is
     in
     record { there = shut.there; shut = shut.shut }
 
 -- the session of a user who leaves
 left_closes : (config : SpConfig) (held : Held) (now : ℕ) (request : Request) (row : OpenedRow)
-    → session_for held now request ≡ Some row → IsClosed (held_with (left_record config held now row.token) held) row.token
+    → session_for held now request ≡ Some row → IsClosed (held_with (left_record config held now row.token) held)
+    row.token
 left_closes config held now request row live =
     let rows = opened_rows held.records in
     closed_behind held (left_record config held now row.token) row.token
@@ -103,19 +105,25 @@ module _ (law : IsOneLogout) where
       (asked : LogoutRequest) (relay : Option (List ℕ)) (token : List ℕ) → EndsOver setup request now asked relay
       → is_among token (ended_by setup.config held now asked) ≡ true → Answers setup held request now answer adds
       → adds ≡ Some (ended_record setup.config held now asked)
-  ended_added setup held request now answer adds asked relay token over among (steps.ByLogoutVerdict verdict to unexpired refused is none) =
+  ended_added setup held request now answer adds asked relay token over among
+      (steps.ByLogoutVerdict verdict to unexpired refused is none) =
       absurd (law.obeyed _ _ _ _ now request.body _ verdict over.obeyed refused)
-  ended_added setup held request now answer adds asked relay token over among (steps.ByEnding other r id bytes to unexpired obeyed any is has ends shown) =
+  ended_added setup held request now answer adds asked relay token over among
+      (steps.ByEnding other r id bytes to unexpired obeyed any is has ends shown) =
       let one = law.once _ _ _ _ now request.body _ _ obeyed over.obeyed in
       let same : other ≡ asked = cc in
       is ∙ ap (λ (x : LogoutRequest). Some (ended_record setup.config held now x)) same
-  ended_added setup held request now answer adds asked relay token over among (steps.ByNothingToEnd other r to unexpired obeyed none is nothing) =
+  ended_added setup held request now answer adds asked relay token over among
+      (steps.ByNothingToEnd other r to unexpired obeyed none is nothing) =
       let one = law.once _ _ _ _ now request.body _ _ obeyed over.obeyed in
       let same : other ≡ asked = cc in
-      absurd (some_among token (ended_by setup.config held now asked) among (subst (λ (x : LogoutRequest). is_empty (ended_by setup.config held now x) ≡ true) same none))
-  ended_added setup held request now answer adds asked relay token over among (steps.ByConfirming response to unexpired obeyed waits is shown) =
+      absurd (some_among token (ended_by setup.config held now asked) among
+      (subst (λ (x : LogoutRequest). is_empty (ended_by setup.config held now x) ≡ true) same none))
+  ended_added setup held request now answer adds asked relay token over among
+      (steps.ByConfirming response to unexpired obeyed waits is shown) =
       absurd (let one = law.once _ _ _ _ now request.body _ _ obeyed over.obeyed in cc)
-  ended_added setup held request now answer adds asked relay token over among (steps.ByUnknownLogout response to unexpired obeyed none is nothing) =
+  ended_added setup held request now answer adds asked relay token over among
+      (steps.ByUnknownLogout response to unexpired obeyed none is nothing) =
       absurd (let one = law.once _ _ _ _ now request.body _ _ obeyed over.obeyed in cc)
   ended_added setup held request now answer adds asked relay token over among other =
       absurd (let says = (said setup held request now answer adds other).is in cc)
@@ -126,7 +134,8 @@ module _ (law : IsOneLogout) where
       (λ held. ended_record old.setup.config held now asked)
       (λ held behind other adds answers. ended_added old.setup held request now other adds asked relay token over
       (still held behind) answers)
-      (λ held. IsClosed held token) (λ held behind. ended_closes old.setup.config held now asked token (still held behind))
+      (λ held. IsClosed held token) (λ held behind. ended_closes old.setup.config held now asked token
+      (still held behind))
       room calm serves
     where
       still : (held : Held) → IsBehind request_rules found now held
@@ -141,7 +150,8 @@ pub wherever_left : CompactionsChangeNoAnswer → WhereverAUserLeaves
 wherever_left same found request now faults later answer old new row serves over room calm =
     holds_of_wanted request_rules Answers found request now (Rose faults later) answer old new
     (λ held. left_record old.setup.config held now row.token)
-    (λ held behind other adds answers. left_added old.setup held request now other adds row (leaves held behind) answers)
+    (λ held behind other adds answers. left_added old.setup held request now other adds row (leaves held behind)
+    answers)
     (λ held. IsClosed held row.token)
     (λ held behind. left_closes old.setup.config held now request row (leaves held behind).live) room calm serves
   where
@@ -150,6 +160,7 @@ wherever_left same found request now faults later answer old new row serves over
       posted = over.posted;
       unexpired = over.unexpired;
       live =
-          session_alike now held found request (alike_behind request_rules found now AnswerAlike alike_self same held behind)
+          session_alike now held found request (alike_behind request_rules found now AnswerAlike alike_self same held
+          behind)
           ∙ over.live;
     }

@@ -21,8 +21,10 @@ record IsOpenedIn (records : List SpRecord) (row : OpenedRow) : Type 0 where
   there : Contains records (kinds.Opened r)
   is : row ≡ opened_row closed r
 
-further : (first : SpRecord) (records : List SpRecord) (row : OpenedRow) → IsOpenedIn records row → IsOpenedIn (first ∷ records) row
-further first records row h = record { r = h.r; closed = h.closed; there = (suc h.there.0, omega (arith, h.there.1), h.there.2); is = h.is }
+further : (first : SpRecord) (records : List SpRecord) (row : OpenedRow) → IsOpenedIn records row
+    → IsOpenedIn (first ∷ records) row
+further first records row h =
+    record { r = h.r; closed = h.closed; there = (suc h.there.0, omega (arith, h.there.1), h.there.2); is = h.is }
 
 of_place : (records : List SpRecord) (place : ℕ) (row : OpenedRow) → slice_get (opened_rows records) place ≡ Some row
     → IsOpenedIn records row

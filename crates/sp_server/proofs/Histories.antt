@@ -12,13 +12,16 @@ use Rattle.sp_server.proofs.Told.{said}
 
 pub draws_above : DrawsAbove request_rules Answers
 draws_above setup held request now answer r (steps.ByAsking bytes to none unexpired id relay page is ids shown) =
-    above_of_each request_rules held (asked setup.config.id_key (next_number held) now request.path) r (cc) (omega arith, (omega arith, tt))
+    above_of_each request_rules held (asked setup.config.id_key (next_number held) now request.path) r (cc)
+    (omega arith, (omega arith, tt))
 draws_above setup held request now answer r (steps.ByOpening b row to unexpired opens token is has shown) =
     let session = session_of setup.config now b.key.number b.login in
-    above_of_each request_rules held (opened setup.config.id_key (next_number held) now session) r (cc) (omega arith, tt)
+    above_of_each request_rules held (opened setup.config.id_key (next_number held) now session) r (cc)
+    (omega arith, tt)
 draws_above setup held request now answer r (steps.ByLeaving row id bytes to unexpired live is has leaves shown) =
     above_of_each request_rules held (left_record setup.config held now row.token) r (cc) (omega arith, tt)
-draws_above setup held request now answer r (steps.ByEnding asking relay id bytes to unexpired obeyed any is has ends shown) =
+draws_above setup held request now answer r (steps.ByEnding asking relay id bytes to unexpired obeyed any is has ends
+    shown) =
     above_of_each request_rules held (ended_record setup.config held now asking) r (cc) (omega arith, tt)
 draws_above setup held request now answer r (steps.ByConfirming response to unexpired obeyed waits is shown) =
     above_of_each request_rules held (confirmed now response.request) r (cc) tt

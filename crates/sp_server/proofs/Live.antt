@@ -37,7 +37,8 @@ rest_of (text ∷ index) more all =
     let two = and_parts (is_xml_text text) (list_all is_xml_text (index ++ more)) all in
     both (is_xml_text text) (list_all is_xml_text index) two.0 (rest_of index more two.1)
 
-rows_after : (before later : List SpRecord) → AreRecordsAfter before later → list_all is_allowed (opened_rows later) ≡ true
+rows_after : (before later : List SpRecord) → AreRecordsAfter before later
+    → list_all is_allowed (opened_rows later) ≡ true
 rows_after before [] are = refl
 rows_after before (kinds.Opened r ∷ later) are =
     let texts = (parts before (kinds.Opened r) are.0).texts in
@@ -53,9 +54,11 @@ rows_after before (other ∷ later) are = rows_after (before ++ other ∷ []) la
 
 -- ---- so has the one that is found
 
-index_allowed : (index : Option (List ℕ)) → list_all is_xml_text (of_option index) ≡ true → ForSome index (λ i. is_xml_text i ≡ true)
+index_allowed : (index : Option (List ℕ)) → list_all is_xml_text (of_option index) ≡ true
+    → ForSome index (λ i. is_xml_text i ≡ true)
 index_allowed None all x is = cc
-index_allowed (Some i) all x is = let same : i ≡ x = cc in subst (λ (t : List ℕ). is_xml_text t ≡ true) same (and_parts (is_xml_text i) true all).0
+index_allowed (Some i) all x is = let same : i ≡ x =
+    cc in subst (λ (t : List ℕ). is_xml_text t ≡ true) same (and_parts (is_xml_text i) true all).0
 
 pub record HasTexts (row : OpenedRow) : Type 0 where
   pub name : is_xml_text row.name ≡ true

@@ -19,37 +19,46 @@ use Rattle.sp_server.specs.Step.{Setup, Answers, ByOpening, HasToken}
 use Rattle.sp_server.proofs.Alike.{opening_alike}
 
 -- the answer with the session that a form opens
-pub opens_own : (setup : Setup) (held : Held) (request : Request) (now : ℕ) (accepted : Accepted) (bytes : List ℕ) → OpensSession setup held request now accepted
+pub opens_own : (setup : Setup) (held : Held) (request : Request) (now : ℕ) (accepted : Accepted) (bytes : List ℕ)
+    → OpensSession setup held request now accepted
     → IsOpeningAnswer accepted (opened setup.config.id_key (next_number held) now accepted.session) bytes
-    → Answers setup held request now (Full bytes) (Some (opened setup.config.id_key (next_number held) now accepted.session))
+    → Answers setup held request now (Full bytes) (Some (opened setup.config.id_key (next_number held) now
+    accepted.session))
 opens_own setup held request now accepted bytes may page =
     let b = may.opens.brought in
-    let r : opened setup.config.id_key (next_number held) now accepted.session ≡ opened setup.config.id_key (next_number held) now (session_of setup.config now b.key.number b.login) =
+    let r : opened setup.config.id_key (next_number held) now accepted.session ≡ opened setup.config.id_key
+    (next_number held) now (session_of setup.config now b.key.number b.login) =
     ap (λ (s : NewSession). opened setup.config.id_key (next_number held) now s) may.opens.is.session in
-    ByOpening b may.opens.asked may.to may.unexpired may.opens.opens page.token (ap Some r) (subst (λ (x : SpRecord). HasToken x page.token) r page.has)
+    ByOpening b may.opens.asked may.to may.unexpired may.opens.opens page.token (ap Some r)
+    (subst (λ (x : SpRecord). HasToken x page.token) r page.has)
     (ap Full (page.is ∙ ap (λ (t : List ℕ). opened_answer t page.token) may.opens.is.target))
 
 -- ---- its request was asked, and is not spent
 
-pub its_request : (setup : Setup) (held : Held) (request : Request) (now : ℕ) (accepted : Accepted) → OpensSession setup held request now accepted
+pub its_request : (setup : Setup) (held : Held) (request : Request) (now : ℕ) (accepted : Accepted)
+    → OpensSession setup held request now accepted
     → IsSome (asked_row (rows_of held.records).asked accepted.session.request now held.header.horizon)
 its_request setup held request now accepted may =
-    subst (λ (r : List ℕ). IsSome (asked_row (rows_of held.records).asked r now held.header.horizon)) (sym (ap (λ (s : NewSession). s.request) may.opens.is.session))
+    subst (λ (r : List ℕ). IsSome (asked_row (rows_of held.records).asked r now held.header.horizon))
+    (sym (ap (λ (s : NewSession). s.request) may.opens.is.session))
     (subst (λ (o : Option AskedRow). IsSome o) (sym may.opens.opens.request) refl)
 
 not_so : (b : Bool) → IsTrue (not b) → b ≡ false
 not_so true h = cc
 not_so false h = refl
 
-pub its_unspent : (setup : Setup) (held : Held) (request : Request) (now : ℕ) (accepted : Accepted) → OpensSession setup held request now accepted
+pub its_unspent : (setup : Setup) (held : Held) (request : Request) (now : ℕ) (accepted : Accepted)
+    → OpensSession setup held request now accepted
     → is_spent (rows_of held.records).opened accepted.session.request ≡ false
 its_unspent setup held request now accepted may =
-    subst (λ (r : List ℕ). is_spent (rows_of held.records).opened r ≡ false) (sym (ap (λ (s : NewSession). s.request) may.opens.is.session))
+    subst (λ (r : List ℕ). is_spent (rows_of held.records).opened r ≡ false)
+    (sym (ap (λ (s : NewSession). s.request) may.opens.is.session))
     (not_so (is_spent (rows_of held.records).opened may.opens.brought.login.request) may.opens.opens.unspent)
 
 -- ---- behind a compaction it opens one as before
 
-pub opens_still : (setup : Setup) (anew old : Held) (request : Request) (now : ℕ) (accepted : Accepted) → AnswerAlike now anew old → OpensSession setup old request now accepted
+pub opens_still : (setup : Setup) (anew old : Held) (request : Request) (now : ℕ) (accepted : Accepted)
+    → AnswerAlike now anew old → OpensSession setup old request now accepted
     → OpensSession setup anew request now accepted
 opens_still setup anew old request now accepted like opens = record {
   to = opens.to;

@@ -11,15 +11,16 @@ use Rattle.request_ledger.specs.Ledger.{Held}
 use Rattle.service_routes.specs.declared.route.Route.TheVariants.{To}
 use Rattle.sp_server.specs.declared.route.Service.TheVariants.{App}
 use Rattle.sp_server.specs.Routes.{route}
-use Rattle.provider_node.proofs.Recorded.{page_served, page_stepped}
+use Rattle.provider_node.specs.Recorded.{WhatIsAnsweredIsRecorded}
+use Rattle.provider_node.proofs.Recorded.{answered_recorded, page_served}
 use Rattle.sp_server.specs.Step as steps
 use Rattle.sp_server.specs.Step.{Setup, Answers, session_for}
-use Rattle.sp_server.specs.Recorded.{TakesPosts, WhatIsAnsweredIsRecorded, WhatIsAskedIsRecorded}
+use Rattle.sp_server.specs.Recorded.{IsPosted, WhatIsAskedIsRecorded}
 use Rattle.sp_server.proofs.Told.{said}
 
 -- a page that stands for no record is not one of what is posted
 unrecorded : (setup : Setup) (held : Held) (request : Request) (now : ℕ) (answer : Answer) (adds : Option SpRecord)
-    (bytes : List ℕ) → adds ≡ None → answer ≡ Full bytes → TakesPosts (route request)
+    (bytes : List ℕ) → adds ≡ None → answer ≡ Full bytes → IsPosted request
     → Answers setup held request now answer adds → ⊥
 unrecorded setup held request now answer adds bytes nothing shown posts (steps.ByStatus status to is none) =
     absurd (cc)
@@ -39,10 +40,10 @@ unasked setup held request now answer adds bytes nothing shown app none (steps.B
 unasked setup held request now answer adds bytes nothing shown app none other =
     absurd (let says = (said setup held request now answer adds other).is in cc)
 
-pub answered_recorded : WhatIsAnsweredIsRecorded
-answered_recorded old new disk later request now before after bytes step own posts =
-    page_stepped request_rules Answers request now bytes old new later own disk (Rose before after)
-    (λ found answers. unrecorded old.setup found request now (Full bytes) None bytes refl refl posts answers) step
+pub posted_recorded : WhatIsAnsweredIsRecorded request_rules Answers IsPosted
+posted_recorded =
+    answered_recorded request_rules Answers IsPosted (λ setup held request now bytes posts answers.
+    unrecorded setup held request now (Full bytes) None bytes refl refl posts answers)
 
 pub asked_recorded : WhatIsAskedIsRecorded
 asked_recorded found request now before after bytes old new later serves own app none =

@@ -19,36 +19,46 @@ use Rattle.sp_server.proofs.Histories.{draws_above}
 -- ---- none stands twice
 
 tail_differs : (text : List ℕ) (rest : List (List ℕ)) → AreDifferent (text ∷ rest) → AreDifferent rest
-tail_differs text rest different i j less within = different (suc i) (suc j) (omega (arith, less)) (omega (arith, within))
+tail_differs text rest different i j less within =
+    different (suc i) (suc j) (omega (arith, less)) (omega (arith, within))
 
-head_differs : (text : List ℕ) (rest : List (List ℕ)) → ((j : ℕ) → j < length rest → slice_index_or rest j [] ≢ text) → Each (λ t. t ≢ text) rest
+head_differs : (text : List ℕ) (rest : List (List ℕ)) → ((j : ℕ) → j < length rest → slice_index_or rest j [] ≢ text)
+    → Each (λ t. t ≢ text) rest
 head_differs text [] each = tt
-head_differs text (t ∷ rest) each = (each 0 (omega arith), head_differs text rest (λ j within. each (suc j) (omega (arith, within))))
+head_differs text (t ∷ rest) each =
+    (each 0 (omega arith), head_differs text rest (λ j within. each (suc j) (omega (arith, within))))
 
 others : (text : List ℕ) (rest : List (List ℕ)) → AreDifferent (text ∷ rest) → Each (λ t. t ≢ text) rest
-others text rest different = head_differs text rest (λ j within same. different 0 (suc j) (omega arith) (omega (arith, within)) (sym same))
+others text rest different =
+    head_differs text rest (λ j within same. different 0 (suc j) (omega arith) (omega (arith, within)) (sym same))
 
-fewer : (events : List Event) (records : List SpRecord) (base : List (List ℕ)) (P : List ℕ → Type 0) → Includes events records → Each P (requests_added events ++ base)
+fewer : (events : List Event) (records : List SpRecord) (base : List (List ℕ)) (P : List ℕ → Type 0)
+    → Includes events records → Each P (requests_added events ++ base)
     → Each P (flat_map request_opened records ++ base)
 fewer [] [] base P Nothing each = each
 fewer [] (x ∷ records) base P includes each = elim includes [ ]
-fewer (Adds (kinds.Opened r) ∷ past) (x ∷ records) base P (This includes) each = (each.0, fewer past records base P includes each.1)
+fewer (Adds (kinds.Opened r) ∷ past) (x ∷ records) base P (This includes) each =
+    (each.0, fewer past records base P includes each.1)
 fewer (Adds other ∷ past) (x ∷ records) base P (This includes) each = fewer past records base P includes each
 fewer (Adds (kinds.Opened r) ∷ past) records base P (Another includes) each = fewer past records base P includes each.1
 fewer (other ∷ past) records base P (Another includes) each = fewer past records base P includes each
 
-pub still_differ : (events : List Event) (records : List SpRecord) (base : List (List ℕ)) → Includes events records → AreDifferent (requests_added events ++ base)
+pub still_differ : (events : List Event) (records : List SpRecord) (base : List (List ℕ)) → Includes events records
+    → AreDifferent (requests_added events ++ base)
     → AreDifferent (flat_map request_opened records ++ base)
 still_differ [] [] base Nothing different = different
 still_differ [] (x ∷ records) base includes different = elim includes [ ]
 still_differ (Adds (kinds.Opened r) ∷ past) (x ∷ records) base (This includes) different =
     let rest = requests_added past ++ base in
-    one_more r.request (flat_map request_opened records ++ base) (fewer past records base (λ t. t ≢ r.request) includes (others r.request rest different))
+    one_more r.request (flat_map request_opened records ++ base)
+    (fewer past records base (λ t. t ≢ r.request) includes (others r.request rest different))
     (still_differ past records base includes (tail_differs r.request rest different))
-still_differ (Adds other ∷ past) (x ∷ records) base (This includes) different = still_differ past records base includes different
+still_differ (Adds other ∷ past) (x ∷ records) base (This includes) different =
+    still_differ past records base includes different
 still_differ (Adds (kinds.Opened r) ∷ past) records base (Another includes) different =
     still_differ past records base includes (tail_differs r.request (requests_added past ++ base) different)
-still_differ (other ∷ past) records base (Another includes) different = still_differ past records base includes different
+still_differ (other ∷ past) records base (Another includes) different =
+    still_differ past records base includes different
 
 -- ---- the law
 
@@ -62,5 +72,6 @@ kept_once law never_twice first last turns kept at tells run =
       all = kept_so Answers _ last turns is _
           (came_so request_rules OpenOnce (Contains (moments_of turns)) start
           (λ held events leads. never_twice start held events at.records leads) is.records);
-      once = still_differ witness.events is.records (requests_opened start.records) witness.includes (never_twice start found witness.events at.records witness.leads);
+      once = still_differ witness.events is.records (requests_opened start.records) witness.includes
+          (never_twice start found witness.events at.records witness.leads);
     }

@@ -111,7 +111,8 @@ opens_behind law setup found held request now b row behind over = record {
       (alike_behind request_rules found now AnswerAlike alike_self law held behind) over.opens;
 }
 
-module _ (not_refused : IsNotRefused) (one_login : IsOneLogin) (setup : Setup) (held : Held) (request : Request) (now : ℕ)
+module _ (not_refused : IsNotRefused) (one_login : IsOneLogin) (setup : Setup) (held : Held) (request : Request)
+    (now : ℕ)
     (answer : Answer) (b : Brought) (row : AskedRow) (over : OpensOver setup held request now b row) where
   -- what is recorded where the form opens a session is its record, and the session is given
   its_own : (adds : Option SpRecord) → Answers setup held request now answer adds
@@ -149,6 +150,7 @@ wherever not_refused one_login law found request now faults later answer old new
       held = one.held;
       over = one.over;
       gives =
-          given not_refused one_login old.setup one.held request now answer b row (opens one.held one.behind) one.answers;
+          given not_refused one_login old.setup one.held request now answer b row (opens one.held one.behind)
+          one.answers;
       added = one.added;
     })

@@ -16,5 +16,6 @@ kept_once_over law never_twice start starts are begun =
     record {
       all = kept_over_so request_rules Answers OpenOnce start starts
           (λ held events leads. never_twice start held events are leads) is;
-      once = still_differ came.events is.records (requests_opened start.records) came.includes (never_twice start found came.events are came.leads);
+      once = still_differ came.events is.records (requests_opened start.records) came.includes
+          (never_twice start found came.events are came.leads);
     }

@@ -3,10 +3,10 @@ use Rattle.request_ledger.specs.Laws.{AnswerAlike, CompactionsChangeNoAnswer}
 use Rattle.request_ledger.specs.Record.{request_rules}
 use Rattle.provider_node.proofs.Starving.{rows_as_before}
 use Rattle.provider_node.proofs.Told.{codes_add_nothing}
-use Rattle.sp_server.specs.Starving.{WhatIsVisibleStays}
+use Rattle.provider_node.specs.Starving.{RowsAnswerAsBefore}
 use Rattle.sp_server.specs.Step.{Answers}
 use Rattle.sp_server.proofs.Alike.{alike_self}
 use Rattle.sp_server.proofs.Told.{said}
 
-pub stays_visible : CompactionsChangeNoAnswer → WhatIsVisibleStays
+pub stays_visible : CompactionsChangeNoAnswer → RowsAnswerAsBefore request_rules Answers AnswerAlike
 stays_visible law = rows_as_before request_rules Answers AnswerAlike alike_self law (codes_add_nothing Answers said)

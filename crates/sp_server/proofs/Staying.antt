@@ -24,7 +24,8 @@ use Rattle.request_ledger.proofs.RowLaws.{rows_of-push}
 use Rattle.provider_node.specs.Histories.{CameFrom}
 use Rattle.provider_node.proofs.Sessions.{live_found}
 use Rattle.provider_node.proofs.Staying.{Stood, found_as_left, stay_in_a_service, stay_over_starts, stood}
-use Rattle.sp_server.specs.Staying.{IsAsLeft, SessionsStayInAService, SessionsStayOverStarts, WasOpened, WhatWasOpenedIsAsLeft}
+use Rattle.sp_server.specs.Staying.{IsAsLeft, WasOpened}
+use Rattle.provider_node.specs.Staying.{SessionsStayInAService, SessionsStayOverStarts, WhatWasOpenedIsAsLeft}
 use Rattle.sp_server.specs.Step.{Answers}
 use Rattle.sp_server.proofs.Histories.{draws_above}
 use Rattle.sp_server.proofs.StayingClosed.{opened_sessions}
@@ -129,14 +130,14 @@ module _ (rows_stay : RowsStay) (moments : List ℕ) (start held : Held) (record
 -- ---- the laws
 
 module _ (rows_stay : RowsStay) where
-  pub was_left : WhatWasOpenedIsAsLeft
+  pub was_left : WhatWasOpenedIsAsLeft request_rules WasOpened IsAsLeft
   was_left = found_as_left request_rules WasOpened IsAsLeft Answers (as_left rows_stay)
 
   module _ (law : ImagesHoldRecords) where
-    pub sessions_stay_in_a_service : SessionsStayInAService
+    pub sessions_stay_in_a_service : SessionsStayInAService request_rules WasOpened IsAsLeft Answers
     sessions_stay_in_a_service =
         stay_in_a_service request_rules WasOpened IsAsLeft Answers (as_left rows_stay) law draws_above
 
-    pub sessions_stay_over_starts : SessionsStayOverStarts
+    pub sessions_stay_over_starts : SessionsStayOverStarts request_rules WasOpened IsAsLeft Answers
     sessions_stay_over_starts =
         stay_over_starts request_rules WasOpened IsAsLeft Answers (as_left rows_stay) law draws_above

@@ -38,7 +38,9 @@ are_ascii (b ∷ path) h =
 
 pub target_is_text : (path : List ℕ) → is_target path ≡ true → is_xml_text path ≡ true
 target_is_text path h =
-    let all = (both_true (Rattle.std.specs.Prelude.nat_le (Rattle.std.specs.Prelude.length path) 256) (list_all is_path_byte path) h).1 in
+    let all =
+    (both_true (Rattle.std.specs.Prelude.nat_le (Rattle.std.specs.Prelude.length path) 256) (list_all is_path_byte path)
+    h).1 in
     (xml_tested path).1 (ascii_text path (are_ascii path all))
 
 -- the path of a request for a page of the application is one
@@ -61,11 +63,13 @@ goes request = checked request (service_at request.path)
 pub path_is_text : (request : Request) → route request ≡ To App → is_xml_text request.path ≡ true
 path_is_text request is =
     target_is_text request.path
-    (at_app request.path (goes request) (elsewhere (is_guarded request.path) (at_target request.path (goes request)) is))
+    (at_app request.path (goes request) (elsewhere (is_guarded request.path) (at_target request.path (goes request))
+    is))
 
 -- ---- the status of a request that is not served has a page
 
-chosen : (b : Bool) (one other : Route Service) → IsAnswered one → IsAnswered other → IsAnswered (if b then one else other)
+chosen : (b : Bool) (one other : Route Service) → IsAnswered one → IsAnswered other
+    → IsAnswered (if b then one else other)
 chosen true one other h k = h
 chosen false one other h k = k
 
@@ -77,7 +81,8 @@ target_answered path other h = tt
 checked_answered : (request : Request) (at : Option (Method × Service)) → IsAnswered (checked request at)
 checked_answered request None = refl
 checked_answered request (Some (method, service)) =
-    chosen (is_method method request.method) (if is_typed method request.content_type then To service else Refused 415) (Refused 405)
+    chosen (is_method method request.method) (if is_typed method request.content_type then To service else Refused 415)
+    (Refused 405)
     (chosen (is_typed method request.content_type) (To service) (Refused 415) tt refl) refl
 
 pub refused_answered : (request : Request) (status : ℕ) → route request ≡ Refused status → is_fixed status ≡ true

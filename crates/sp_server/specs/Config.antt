@@ -5,8 +5,8 @@ use Rattle.sp_rules.specs.declared.config.SpConfig.{SpConfig}
 use Rattle.sp_rules.specs.declared.config.TheConstants.{GREATEST_SKEW}
 use Rattle.sp_answers.specs.Answers.{HoldsTexts}
 
--- A config with which a provider can be started: its texts and the addresses of the identity provider hold characters that a document
--- may hold, and the difference of the clocks and the times of its keys are in order.
+-- A config with which a provider can be started: its texts and the addresses of the identity provider hold characters
+-- that a document may hold, and the difference of the clocks and the times of its keys are in order.
 pub record IsUsable (config : SpConfig) : Type 0 where
   pub texts : HoldsTexts config
   pub skew : config.skew ≤ GREATEST_SKEW

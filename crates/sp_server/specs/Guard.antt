@@ -1,4 +1,5 @@
--- What a guard answers. A proxy in front of an application asks at /auth and the path of each request who that request comes from.
+-- What a guard answers. A proxy in front of an application asks at /auth and the path of each request who that request
+-- comes from.
 use Rattle.std.specs.Prelude.{ℕ, ◌==◌, Bool, true, false, ◌&&◌, ◌||◌, not, List, [], ◌∷◌, codes, drop, nat_eq, Option, None, Some, if◌then◌else◌}
 use Rattle.std.specs.List.{slice_split, starts_with}
 use Rattle.std.specs.Str.{bytes_eq}
@@ -21,15 +22,16 @@ use Rattle.sp_server.specs.Routes.{is_app, is_target}
 abbrev pub path_asked : List ℕ → List ℕ
 path_asked path = if starts_with nat_eq path (codes "/auth") then drop 5 path else path
 
--- RFC 3986, 3.3: "A path consists of a sequence of path segments separated by a slash ("/") character"; they stand behind the slashes
+-- RFC 3986, 3.3: "A path consists of a sequence of path segments separated by a slash ("/") character"; they stand
+-- behind the slashes
 abbrev pub between_slashes : List ℕ → List (List ℕ)
 between_slashes text = slice_split (λ b. b == 47) text
 
 abbrev pub segments : List ℕ → List (List ℕ)
 segments path = drop 1 (between_slashes path)
 
--- RFC 3986, 3.3: "The path segments "." and "..", also known as dot-segments, are defined for relative reference within the path name
--- hierarchy"
+-- RFC 3986, 3.3: "The path segments "." and "..", also known as dot-segments, are defined for relative reference within
+-- the path name hierarchy"
 abbrev pub is_dot_segment : List ℕ → Bool
 is_dot_segment segment = bytes_eq segment (codes ".") || bytes_eq segment (codes "..")
 
@@ -39,8 +41,8 @@ are_plain [] = true
 are_plain (segment ∷ []) = not (is_dot_segment segment)
 are_plain (segment ∷ next ∷ others) = not (is_empty segment || is_dot_segment segment) && are_plain (next ∷ others)
 
--- A path that no proxy and no application reads as another one: of the form that a GET of /app and below asks for, without escapes, with
--- plain segments.
+-- A path that no proxy and no application reads as another one: of the form that a GET of /app and below asks for,
+-- without escapes, with plain segments.
 abbrev pub is_plain : List ℕ → Bool
 is_plain path = is_app path && is_target path && are_plain (segments path)
 
@@ -48,11 +50,14 @@ is_plain path = is_app path && is_target path && are_plain (segments path)
 
 -- a policy decides a plain path alone; any other is denied by `default`
 abbrev pub decide_plain : List Rule → List ℕ → OpenedRow → policies.Answer
-decide_plain rules path row = if is_plain path then policies.decide rules path row.name row.attributes else policies.answer_of None
+decide_plain rules path row =
+    if is_plain path then policies.decide rules path row.name row.attributes else policies.answer_of None
 
--- what a live session is answered: who it is of where the policy allows it or there is none, else the rule that denies it
+-- what a live session is answered: who it is of where the policy allows it or there is none, else the rule that denies
+-- it
 abbrev pub vouched_by : OpenedRow → policies.Answer → List ℕ
-vouched_by row decision = if decision.allowed then vouched_answer row.name row.attributes else denied_answer decision.rule
+vouched_by row decision =
+    if decision.allowed then vouched_answer row.name row.attributes else denied_answer decision.rule
 
 abbrev pub vouched_to : Option (List Rule) → List ℕ → OpenedRow → List ℕ
 vouched_to None path row = vouched_answer row.name row.attributes

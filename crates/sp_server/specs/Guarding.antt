@@ -1,5 +1,6 @@
--- What a guard tells: it answers 200 exactly where the session of the request's cookie lives at that moment and no policy denies it the
--- path; then it names that session's user and values. What it says depends on nothing but that row, and nothing is recorded.
+-- What a guard tells: it answers 200 exactly where the session of the request's cookie lives at that moment and no
+-- policy denies it the path; then it names that session's user and values. What it says depends on nothing but that
+-- row, and nothing is recorded.
 use Rattle.std.specs.Prelude.{◌≡◌, ◌⊎◌, ℕ, true, false, List, Contains, Option, None, Some, IfSome, Ok, IsTrue}
 use Rattle.access_policy.specs.declared.rule.Rule.{Rule}
 use Rattle.access_policy.specs.Decide as policies
@@ -25,8 +26,9 @@ use Rattle.sp_server.specs.Guard.{is_plain, path_asked}
 use Rattle.service_routes.specs.declared.route.Route.TheVariants.{To}
 use Rattle.sp_server.specs.declared.route.Service.TheVariants.{Guard}
 use Rattle.sp_server.specs.Routes.{route}
-use Rattle.provider_node.specs.Step.{IsWhole}
-use Rattle.sp_server.specs.Step.{Setup, Provider, Serves, Steps, session_for}
+use Rattle.provider_node.specs.Step.{IsWhole, Serves, Steps}
+use Rattle.sp_server.specs.Step.{Setup, Provider, session_for, Answers}
+use Rattle.request_ledger.specs.Record.{request_rules}
 
 -- A proxy asks a guard who a request comes from.
 pub record AsksGuard (setup : Setup) (request : Request) : Type 0 where
@@ -37,7 +39,8 @@ pub record AsksGuard (setup : Setup) (request : Request) : Type 0 where
 -- There is no policy, or it allows a session this path, which is plain.
 abbrev pub IsAllowed : Option (List Rule) → (path : List ℕ) → OpenedRow → Type 0
 IsAllowed None path row = Unit {0}
-IsAllowed (Some rules) path row = IsTrue (is_plain path) × ((policies.decide rules path row.name row.attributes).allowed ≡ true)
+IsAllowed (Some rules) path row =
+    IsTrue (is_plain path) × ((policies.decide rules path row.name row.attributes).allowed ≡ true)
 
 -- Over a ledger, at a moment, the request has the cookie of a session that lives, and that is allowed the path.
 pub record LetsIn (setup : Setup) (held : Held) (request : Request) (now : ℕ) (row : OpenedRow) : Type 0 where
@@ -50,8 +53,8 @@ pub record IsOfRecord (held : Held) (row : OpenedRow) : Type 0 where
   pub there : Contains held.records (kinds.Opened r)
   pub is : row ≡ opened_row false r
 
--- The answer of status 200 is for such a session, which a record of the ledger opened: it has just the two lines that name its user and its
--- values, as a client reads it.
+-- The answer of status 200 is for such a session, which a record of the ledger opened: it has just the two lines that
+-- name its user and its values, as a client reads it.
 pub record IsVouchedFor (setup : Setup) (held : Held) (request : Request) (now : ℕ) (bytes : List ℕ) : Type 0 where
   pub row : OpenedRow
   pub let_in : LetsIn setup held request now row
@@ -59,30 +62,36 @@ pub record IsVouchedFor (setup : Setup) (held : Held) (request : Request) (now :
   pub says : bytes ≡ vouched_answer row.name row.attributes
   pub read : IsReadAsVouched bytes row.name row.attributes
 
--- What is answered over a ledger: 200 where, and only where, a session is let in; 403 with a rule, or `default`, to any other session that
--- lives; 401 where none does.
+-- What is answered over a ledger: 200 where, and only where, a session is let in; 403 with a rule, or `default`, to any
+-- other session that lives; 401 where none does.
 pub record TellsExactly (setup : Setup) (held : Held) (request : Request) (now : ℕ) (answer : Answer) : Type 0 where
-  pub let_in : (row : OpenedRow) → LetsIn setup held request now row → answer ≡ Full (vouched_answer row.name row.attributes)
+  pub let_in : (row : OpenedRow) → LetsIn setup held request now row
+      → answer ≡ Full (vouched_answer row.name row.attributes)
   pub only : HasStatus 200 (answer_bytes answer) → IsVouchedFor setup held request now (answer_bytes answer)
-  pub denied : (row : OpenedRow) → session_for held now request ≡ Some row → ¬ (IsAllowed setup.policy (path_asked request.path) row)
+  pub denied : (row : OpenedRow) → session_for held now request ≡ Some row
+      → ¬ (IsAllowed setup.policy (path_asked request.path) row)
       → (rule : List ℕ) × (answer ≡ Full (denied_answer rule))
   pub nobody : session_for held now request ≡ None → answer ≡ Fixed 401
 
--- Over the ledger that a step finds a guard tells exactly this, want of memory aside, and the ledger is left as it was found.
+-- Over the ledger that a step finds a guard tells exactly this, want of memory aside, and the ledger is left as it was
+-- found.
 abbrev pub AGuardTellsExactly : Type 0
 AGuardTellsExactly =
-    (found : Held) (request : Request) (now faults later : ℕ) (answer : Answer) (old new : Provider) → AsksGuard old.setup request
-    → Serves found request now (Rose faults later) answer old new
+    (found : Held) (request : Request) (now faults later : ℕ) (answer : Answer) (old new : Provider)
+    → AsksGuard old.setup request
+    → Serves request_rules Answers found request now (Rose faults later) answer old new
     → ((answer ≡ Fixed NO_MEMORY) ⊎ TellsExactly old.setup found request now answer) × IsWhole old new found
 
 -- the ledger that a step finds: the provider's own, or, where that is broken, what its disk stands for
 abbrev pub Finds : Provider → Option DiskState → Held → Type 0
 Finds old disk found =
-    ((old.ledger.broken ≡ false) × (found ≡ old.ledger.held)) ⊎ ((old.ledger.broken ≡ true) × IfSome disk (λ d. taken (ledger_in (image_of d)) ≡ Ok found))
+    ((old.ledger.broken ≡ false) × (found ≡ old.ledger.held))
+    ⊎ ((old.ledger.broken ≡ true) × IfSome disk (λ d. taken (ledger_in (image_of d)) ≡ Ok found))
 
--- And wherever a request at /auth is answered with 200, with whatever setup and ledger, there is a guard, and it is for a session that is let
--- in over the ledger that the step finds.
-pub record IsVouchedAt (old : Provider) (disk : Option DiskState) (request : Request) (now : ℕ) (bytes : List ℕ) : Type 0 where
+-- And wherever a request at /auth is answered with 200, with whatever setup and ledger, there is a guard, and it is for
+-- a session that is let in over the ledger that the step finds.
+pub record IsVouchedAt (old : Provider) (disk : Option DiskState) (request : Request) (now : ℕ) (bytes : List ℕ) : Type
+    0 where
   pub asks : AsksGuard old.setup request
   pub found : Held
   pub finds : Finds old disk found
@@ -90,15 +99,20 @@ pub record IsVouchedAt (old : Provider) (disk : Option DiskState) (request : Req
 
 abbrev pub OnlyASessionIsVouchedFor : Type 0
 OnlyASessionIsVouchedFor =
-    (old new : Provider) (disk : Option DiskState) (request : Request) (now faults later : ℕ) (answer : Answer) → route request ≡ To Guard
-    → Steps old disk request now (Rose faults later) answer new → HasStatus 200 (answer_bytes answer) → IsVouchedAt old disk request now (answer_bytes answer)
+    (old new : Provider) (disk : Option DiskState) (request : Request) (now faults later : ℕ) (answer : Answer)
+    → route request ≡ To Guard
+    → Steps request_rules Answers old disk request now (Rose faults later) answer new
+    → HasStatus 200 (answer_bytes answer) → IsVouchedAt old disk request now (answer_bytes answer)
 
--- Two requests for one path, of which each finds its session in the same row, are answered alike by guards of one policy, whatever else is
--- in their ledgers.
+-- Two requests for one path, of which each finds its session in the same row, are answered alike by guards of one
+-- policy, whatever else is in their ledgers.
 abbrev pub EqualRowsAreVouchedForAlike : Type 0
 EqualRowsAreVouchedForAlike =
-    (found another : Held) (request next : Request) (now faults later moment before after : ℕ) (one second : Answer) (old new other newer : Provider) (row : OpenedRow)
-    → other.setup.policy ≡ old.setup.policy → AsksGuard old.setup request → AsksGuard other.setup next → path_asked next.path ≡ path_asked request.path
+    (found another : Held) (request next : Request) (now faults later moment before after : ℕ) (one second : Answer)
+    (old new other newer : Provider) (row : OpenedRow)
+    → other.setup.policy ≡ old.setup.policy → AsksGuard old.setup request → AsksGuard other.setup next
+    → path_asked next.path ≡ path_asked request.path
     → session_for found now request ≡ Some row → session_for another moment next ≡ Some row
-    → Serves found request now (Rose faults later) one old new → Serves another next moment (Rose before after) second other newer
+    → Serves request_rules Answers found request now (Rose faults later) one old new
+    → Serves request_rules Answers another next moment (Rose before after) second other newer
     → (one ≡ second) ⊎ ((one ≡ Fixed NO_MEMORY) ⊎ (second ≡ Fixed NO_MEMORY))

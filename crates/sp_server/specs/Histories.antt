@@ -1,32 +1,17 @@
 -- What became of a ledger over a service: what was acknowledged is kept, and no request opens two sessions.
-use Rattle.std.specs.Prelude.{List, ◌++◌, Contains, Option, IsSome}
+use Rattle.std.specs.Prelude.{List, ◌++◌, Contains, IsSome}
 use Rattle.std.specs.List.{flat_map}
 use Rattle.conn_table.specs.Table.{Table}
-use Rattle.serve_loop.specs.Worlds.{World, NodeStep}
-use Rattle.serve_loop.specs.Turns.{Asked, Turn, Run}
-use Rattle.ledger_records.specs.declared.sp_record.SpRecord.{SpRecord}
+use Rattle.serve_loop.specs.Worlds.{World}
+use Rattle.serve_loop.specs.Turns.{Turn, Run}
 use Rattle.request_ledger.specs.Ledger.{Held}
 use Rattle.request_ledger.specs.Record.{request_rules}
 use Rattle.request_ledger.specs.Runs.{AreDifferent, Event, request_opened, requests_of_run, requests_opened}
-use Rattle.provider_node.specs.Histories as any
-use Rattle.provider_node.specs.Histories.{AreKeptSo, HoldsWhatCameSo, moments_of}
+use Rattle.provider_node.specs.Histories.{AreKeptSo, HoldsWhatCameSo, moments_of, IsAtStart, IsProviders}
 use Rattle.sp_server.specs.Step.{Provider, Answers}
 
--- what an answer of a provider does, and what a crash may leave
-abbrev pub IsProviders : NodeStep Provider
-IsProviders = any.IsProviders request_rules Answers
-
--- the answer to a request stands for a record that is added with it, or for none; the records for which the answers of turns stand, the
--- latest first
-abbrev pub Stands : Asked Provider → Option SpRecord → Type 0
-Stands = any.Stands Answers
-
--- a provider whose ledger is whole, on its own disk
-abbrev pub IsAtStart : World Provider → Type 0
-IsAtStart = any.IsAtStart request_rules
-
--- No two of the sessions that were opened in a history or stood at its start are of one request, those that were let go,
--- and those whose answer was lost, included.
+-- No two of the sessions that were opened in a history or stood at its start are of one request, those that were let
+-- go, and those whose answer was lost, included.
 abbrev pub OpenOnce : Held → List Event → Type 0
 OpenOnce start events = AreDifferent (requests_of_run start events)
 
@@ -40,5 +25,6 @@ pub record AreKeptOnce (first last : World Provider) (turns : List (Turn Provide
 
 abbrev pub WhatIsAcknowledgedIsKeptOnce : Type 0
 WhatIsAcknowledgedIsKeptOnce =
-    (first last : World Provider) (turns : List (Turn Provider)) (kept : Table) → IsAtStart first → IsSome first.disk
-    → Run IsProviders first turns kept last → AreKeptOnce first last turns
+    (first last : World Provider) (turns : List (Turn Provider)) (kept : Table) → IsAtStart request_rules first
+    → IsSome first.disk
+    → Run (IsProviders request_rules Answers) first turns kept last → AreKeptOnce first last turns

@@ -12,5 +12,4 @@ pub mod Verdicts
 pub mod Logouts
 pub mod Recorded
 pub mod Starts
-pub mod Starving
 pub mod Staying

@@ -18,9 +18,11 @@ second_bytes [] = None
 second_bytes (key ∷ []) = None
 second_bytes (key ∷ other ∷ keys) = Some other.bytes
 
--- the identity provider at a moment: the first key that counts then is that of its messages; a second one may count beside it
+-- the identity provider at a moment: the first key that counts then is that of its messages; a second one may count
+-- beside it
 abbrev pub idp_at : SpConfig → ℕ → LogoutPeer
-idp_at config now = record { peer = config.idp; key_in = first_bytes config.key_in (usable config now); key_out = config.key_out }
+idp_at config now =
+    record { peer = config.idp; key_in = first_bytes config.key_in (usable config now); key_out = config.key_out }
 
 abbrev pub second_key : SpConfig → ℕ → Option (List ℕ)
 second_key config now = second_bytes (usable config now)
@@ -31,7 +33,9 @@ logout_address config = answers.logout_address config.base
 
 -- what the form that is posted there asks or replies of a logout, or what it is refused for
 abbrev pub IsObeyed : SpConfig → (now : ℕ) → (body : List ℕ) → Logout → Type 0
-IsObeyed config now body logout = IsAccepted (idp_at config now ∷ []) (second_key config now) (logout_address config) config.skew now body logout
+IsObeyed config now body logout =
+    IsAccepted (idp_at config now ∷ []) (second_key config now) (logout_address config) config.skew now body logout
 
 abbrev pub IsNotObeyed : SpConfig → (now : ℕ) → (body : List ℕ) → Verdict → Type 0
-IsNotObeyed config now body verdict = IsRefused (idp_at config now ∷ []) (second_key config now) (logout_address config) config.skew now body verdict
+IsNotObeyed config now body verdict =
+    IsRefused (idp_at config now ∷ []) (second_key config now) (logout_address config) config.skew now body verdict

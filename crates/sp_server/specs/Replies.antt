@@ -53,7 +53,8 @@ pub record OpensSession (setup : Setup) (held : Held) (request : Request) (now :
   pub recordable : CanBeRecorded accepted.session
 
 -- a user leaves the session of this token, which the identity provider knows by this name and these indexes
-pub record IsLeaving (setup : Setup) (held : Held) (request : Request) (now : ℕ) (token name : List ℕ) (indexes : List (List ℕ)) : Type 0 where
+pub record IsLeaving (setup : Setup) (held : Held) (request : Request) (now : ℕ) (token name : List ℕ)
+    (indexes : List (List ℕ)) : Type 0 where
   pub to : route request ≡ To ToLogout
   pub unexpired : is_expired setup.expiry now ≡ false
   pub row : OpenedRow
@@ -75,7 +76,8 @@ abbrev pub Wants : Setup → Held → Request → ℕ → Reply → Type 0
 Wants setup held request now (replies.Ask target) = IsAsking setup held request now target
 Wants setup held request now (replies.Open accepted) = OpensSession setup held request now accepted
 Wants setup held request now (replies.Leave token name indexes) = IsLeaving setup held request now token name indexes
-Wants setup held request now (replies.End asked relay) = IsPosted setup request now (logouts.Ask asked 0 relay) × IsText asked.id
+Wants setup held request now (replies.End asked relay) =
+    IsPosted setup request now (logouts.Ask asked 0 relay) × IsText asked.id
 Wants setup held request now (replies.Confirm response) = IsPosted setup request now (logouts.Reply response 0)
 
 -- the session of a row is left
@@ -92,7 +94,8 @@ Leaves row other = ⊥
 
 -- the reply to a posted message of a logout
 abbrev pub IsOfForm : SpConfig → (now : ℕ) → (body : List ℕ) → Reply → Type 0
-IsOfForm config now body (replies.End asked relay) = IsObeyed config now body (logouts.Ask asked 0 relay) × IsText asked.id
+IsOfForm config now body (replies.End asked relay) =
+    IsObeyed config now body (logouts.Ask asked 0 relay) × IsText asked.id
 IsOfForm config now body (replies.Confirm response) = IsObeyed config now body (logouts.Reply response 0)
 IsOfForm config now body other = ⊥
 
@@ -113,7 +116,8 @@ abbrev pub record_for : (key : List ℕ) → SpConfig → Held → (now : ℕ) �
 record_for key config held now (replies.Ask target) = asked key (next_number held) now target
 record_for key config held now (replies.Open accepted) = opened key (next_number held) now accepted.session
 record_for key config held now (replies.Leave token name indexes) = left key (next_number held) now token
-record_for key config held now (replies.End asked relay) = ended key (next_number held) now (ended_by config held now asked) asked.id
+record_for key config held now (replies.End asked relay) =
+    ended key (next_number held) now (ended_by config held now asked) asked.id
 record_for key config held now (replies.Confirm response) = confirmed now response.request
 
 -- the session of an accepted form can be recorded
@@ -127,7 +131,8 @@ pub record CanOpen (held : Held) (now : ℕ) (session : NewSession) : Type 0 whe
 abbrev pub CanDraft : Held → (now : ℕ) → Reply → Type 0
 CanDraft held now (replies.Ask target) = is_xml_text target ≡ true
 CanDraft held now (replies.Open accepted) = CanOpen held now accepted.session
-CanDraft held now (replies.Leave token name indexes) = IsSome (session_row (rows_of held.records).opened token now held.header.horizon)
+CanDraft held now (replies.Leave token name indexes) =
+    IsSome (session_row (rows_of held.records).opened token now held.header.horizon)
 CanDraft held now (replies.End asked relay) = is_xml_text asked.id ≡ true
 CanDraft held now (replies.Confirm response) = Unit {0}
 
@@ -160,12 +165,14 @@ pub record IsOpeningAnswer (accepted : Accepted) (r : SpRecord) (bytes : List �
   pub has : HasToken r token
   pub is : bytes ≡ opened_answer accepted.target token
 
-pub record IsLeavingAnswer (config : SpConfig) (r : SpRecord) (now : ℕ) (name : List ℕ) (indexes : List (List ℕ)) (bytes : List ℕ) : Type 0 where
+pub record IsLeavingAnswer (config : SpConfig) (r : SpRecord) (now : ℕ) (name : List ℕ) (indexes : List (List ℕ))
+    (bytes : List ℕ) : Type 0 where
   pub id : List ℕ
   pub has : HasId r id
   pub leaves : Leaving (idp_at config now) id config.entity now name indexes bytes
 
-pub record IsEndingAnswer (config : SpConfig) (r : SpRecord) (now : ℕ) (request : List ℕ) (relay : Option (List ℕ)) (bytes : List ℕ) : Type 0 where
+pub record IsEndingAnswer (config : SpConfig) (r : SpRecord) (now : ℕ) (request : List ℕ) (relay : Option (List ℕ))
+    (bytes : List ℕ) : Type 0 where
   pub id : List ℕ
   pub has : HasId r id
   pub ends : Ending (idp_at config now) id config.entity now request false relay bytes
@@ -182,7 +189,8 @@ IsAnswerTo config r now (replies.Confirm response) bytes = bytes ≡ end_answer 
 -- the record for which a reply stands; none where there is nothing to record
 abbrev pub stands_for : Setup → Held → (now : ℕ) → Reply → Option SpRecord
 stands_for setup held now reply =
-    if is_nothing setup.config held now reply then None else Some (record_for setup.config.id_key setup.config held now reply)
+    if is_nothing setup.config held now reply then None else Some
+    (record_for setup.config.id_key setup.config held now reply)
 
 abbrev pub sp_replies : ReplyRules Setup SpRecord Reply
 sp_replies = record {

@@ -47,8 +47,8 @@ at_target path (To SingleLogout) = To SingleLogout
 at_target path (To Guard) = To Guard
 at_target path (Refused status) = Refused status
 
--- A request goes to the service of its path. Or a proxy asks who a request comes from: what it is answered, and whether it is,
--- the guard says.
+-- A request goes to the service of its path. Or a proxy asks who a request comes from: what it is answered, and whether
+-- it is, the guard says.
 abbrev pub route : Request → Route Service
 route request =
     if is_guarded request.path then To Guard else at_target request.path (checked request (service_at request.path))

@@ -22,7 +22,8 @@ use Rattle.provider_node.specs.declared.codes.TheConstants.{NO_MEMORY}
 use Rattle.service_routes.specs.declared.route.Route.TheVariants.{To}
 use Rattle.sp_server.specs.declared.route.Service.TheVariants.{Consumer}
 use Rattle.sp_server.specs.Routes.{route}
-use Rattle.sp_server.specs.Step.{Setup, Provider, Answers, HasToken, Serves, is_expired, rows_seen}
+use Rattle.sp_server.specs.Step.{Setup, Provider, Answers, HasToken, is_expired, rows_seen}
+use Rattle.provider_node.specs.Step.{Serves}
 
 -- Over a ledger, at a moment, the form that a request posts opens a session: the login that it brings answers this
 -- asked row.
@@ -75,6 +76,7 @@ abbrev pub WhereverAFormOpens : Type 0
 WhereverAFormOpens =
     (found : Held) (request : Request) (now faults later : ℕ) (answer : Answer) (old new : Provider) (b : Brought)
     (row : AskedRow)
-    → Serves found request now (Rose faults later) answer old new → OpensOver old.setup found request now b row
+    → Serves request_rules Answers found request now (Rose faults later) answer old new
+    → OpensOver old.setup found request now b row
     → HasRoom old.setup found now b → ¬ (Rose faults later)
     → (answer ≡ Fixed NO_MEMORY) ⊎ IsOpened old.setup found request now b answer new.ledger.held

@@ -5,9 +5,6 @@ use Rattle.ledger_records.specs.declared.sp_record.Asked.{Asked as AskedRecord}
 use Rattle.ledger_records.specs.declared.sp_record.Opened.{Opened as OpenedRecord}
 use Rattle.ledger_records.specs.declared.sp_record.SpRecord.{SpRecord}
 use Rattle.ledger_records.specs.declared.sp_record.SpRecord.TheVariants as kinds
-use Rattle.serve_loop.specs.Turns.{Turn}
-use Rattle.serve_loop.specs.Worlds.{World}
-use Rattle.provider_node.specs.Staying as any
 use Rattle.provider_node.specs.Staying.{WasAdded}
 use Rattle.record_ledger.specs.Runs.{EndsBehind, added}
 use Rattle.request_ledger.specs.Ledger.{Held}
@@ -15,7 +12,6 @@ use Rattle.request_ledger.specs.Record.{request_rules}
 use Rattle.request_ledger.specs.RowsOf.{closed_if, closes, opened_row, opened_rows}
 use Rattle.request_ledger.specs.Runs.{Event, Leads}
 use Rattle.request_rows.specs.Rows.{is_spent, session_row}
-use Rattle.sp_server.specs.Step.{Provider, Answers}
 
 -- A session that was opened stands in a ledger which came from another one by events, as it was left: its record was
 -- added by one of them. Where it ends behind each of these moments it has its row, closed only where a record that was
@@ -39,21 +35,3 @@ pub record IsAsLeft (moments : List ℕ) (start : Held) (r : OpenedRecord) (held
 -- its record is among these
 abbrev pub WasOpened : List SpRecord → OpenedRecord → Type 0
 WasOpened records r = Contains records (kinds.Opened r)
-
--- So it is in each image that has in its history what was acknowledged, where each compaction was at one of these
--- moments: in those that a crash may leave behind a service, or since one of its points.
-abbrev pub WhatWasOpenedIsAsLeft : Type 0
-WhatWasOpenedIsAsLeft = any.WhatWasOpenedIsAsLeft request_rules WasOpened IsAsLeft
-
--- Of the sessions whose answers went out in a service: each is as it was left in every image that a crash may leave
--- behind it.
-abbrev pub SessionsStay : (first last : World Provider) (turns : List (Turn Provider)) → Type 0
-SessionsStay = any.SessionsStay request_rules WasOpened IsAsLeft Answers
-
-abbrev pub SessionsStayInAService : Type 0
-SessionsStayInAService = any.SessionsStayInAService request_rules WasOpened IsAsLeft Answers
-
--- And over several starts, of which each opens what a crash of the one before it may have left, each request of which
--- was asked at one of these moments, also one that a crash cut.
-abbrev pub SessionsStayOverStarts : Type 0
-SessionsStayOverStarts = any.SessionsStayOverStarts request_rules WasOpened IsAsLeft Answers

@@ -1,7 +1,6 @@
 -- What a service provider does at one request.
 use Rattle.std.specs.Prelude.{◌≡◌, ◌⊎◌, ℕ, nat_le, Bool, true, false, List, codes, Option, None, Some, if◌then◌else◌}
 use Rattle.std.specs.Option.{option_and_then, option_to_list}
-use Rattle.crash_disk.specs.Disk.{Image, DiskState}
 use Rattle.http_wire.specs.declared.answer.Answer.{Answer}
 use Rattle.http_wire.specs.declared.answer.Answer.TheVariants.{Fixed, Full}
 use Rattle.http_wire.specs.Requests.{Request}
@@ -21,7 +20,6 @@ use Rattle.request_rows.specs.declared.row.OpenedRow.{OpenedRow}
 use Rattle.request_rows.specs.Rows.{RowsView, session_row}
 use Rattle.request_ledger.specs.RowsOf.{SpRows, rows_of}
 use Rattle.request_ledger.specs.Ledger.{Held, next_number}
-use Rattle.request_ledger.specs.Record.{request_rules}
 use Rattle.request_ledger.specs.Draft.{drawn_id}
 use Rattle.request_ledger.specs.Drafts.{asked, opened, left, ended, confirmed, ending, is_empty, is_waiting_now}
 use Rattle.sp_rules.specs.declared.config.SpConfig.{SpConfig}
@@ -36,8 +34,8 @@ use Rattle.sp_server.specs.Routes.{route}
 use Rattle.sp_server.specs.Guard.{guard_answer}
 use Rattle.sp_server.specs.Peer.{idp_at, IsObeyed, IsNotObeyed}
 
--- what a provider is set up with: its config, the rules of its policy where it has one, the moment at which its registry of metadata
--- ends where it has one, and whether it has a guard
+-- what a provider is set up with: its config, the rules of its policy where it has one, the moment at which its
+-- registry of metadata ends where it has one, and whether it has a guard
 pub record Setup : Type 0 where
   pub config : SpConfig
   pub policy : Option (List Rule)
@@ -55,7 +53,8 @@ session_for held now request =
     option_and_then (λ token. session_row (rows_of held.records).opened token now held.header.horizon)
     (option_and_then (λ header. cookie_value header (codes "sp_sid")) request.cookie)
 
--- what a session is answered: the page of the user where the policy allows it or there is none, else the rule that denies it
+-- what a session is answered: the page of the user where the policy allows it or there is none, else the rule that
+-- denies it
 abbrev pub by_decision : OpenedRow → policies.Answer → List ℕ
 by_decision row decision = if decision.allowed then user_answer row.name row.attributes else denied_answer decision.rule
 
@@ -65,7 +64,14 @@ shown_to (Some rules) path row = by_decision row (policies.decide rules path row
 
 -- the rows as the verdict sees them
 abbrev pub rows_seen : SpRows → RowsView
-rows_seen rows = record { asked = rows.asked; opened = rows.opened; left = rows.left; spare = record { asked = 0; opened = 0; left = 0 } }
+rows_seen rows =
+    record {
+      asked = rows.asked;
+      opened = rows.opened;
+      left = rows.left;
+      spare =
+          record { asked = 0; opened = 0; left = 0 };
+    }
 
 -- the IDs of a record
 abbrev pub HasIds : SpRecord → List ℕ → List ℕ → Type 0
@@ -77,10 +83,11 @@ HasToken r token = drawn_id r 0 ≡ Some token
 abbrev pub HasId : SpRecord → List ℕ → Type 0
 HasId r id = drawn_id r 0 ≡ Some id
 
--- the tokens of the live sessions that a LogoutRequest of the identity provider ends (SAML Core, 3.7.3.1): those of its user with a
--- listed index, or all where none is listed
+-- the tokens of the live sessions that a LogoutRequest of the identity provider ends (SAML Core, 3.7.3.1): those of its
+-- user with a listed index, or all where none is listed
 abbrev pub ended_by : SpConfig → Held → (now : ℕ) → LogoutRequest → List (List ℕ)
-ended_by config held now asked = ending now held.header.horizon config.idp.entity asked.name asked.indexes (rows_of held.records).opened
+ended_by config held now asked =
+    ending now held.header.horizon config.idp.entity asked.name asked.indexes (rows_of held.records).opened
 
 -- whether a logout that began here with a request of this ID waits for its response
 abbrev pub is_awaited : Held → (now : ℕ) → (request : List ℕ) → Bool
@@ -91,61 +98,83 @@ abbrev pub left_record : SpConfig → Held → (now : ℕ) → (token : List ℕ
 left_record config held now token = left config.id_key (next_number held) now token
 
 abbrev pub ended_record : SpConfig → Held → (now : ℕ) → LogoutRequest → SpRecord
-ended_record config held now asked = ended config.id_key (next_number held) now (ended_by config held now asked) asked.id
+ended_record config held now asked =
+    ended config.id_key (next_number held) now (ended_by config held now asked) asked.id
 
--- What is answered to a request by this ledger at this moment where nothing fails, and the record that is added with it.
-pub data Answers (setup : Setup) (held : Held) (request : Request) (now : ℕ) (answer : Answer) (adds : Option SpRecord) : Type 0 where
+-- What is answered to a request by this ledger at this moment where nothing fails, and the record that is added with
+-- it.
+pub data Answers (setup : Setup) (held : Held) (request : Request) (now : ℕ) (answer : Answer)
+    (adds : Option SpRecord) : Type 0 where
   -- there is no such service
-  ByStatus : (status : ℕ) → route request ≡ Refused status → answer ≡ Fixed status → adds ≡ None → Answers setup held request now answer adds
+  ByStatus : (status : ℕ) → route request ≡ Refused status → answer ≡ Fixed status → adds ≡ None
+      → Answers setup held request now answer adds
   -- the metadata
-  ByMetadata : route request ≡ To Metadata → answer ≡ Full (metadata_answer setup.config) → adds ≡ None → Answers setup held request now answer adds
+  ByMetadata : route request ≡ To Metadata → answer ≡ Full (metadata_answer setup.config) → adds ≡ None
+      → Answers setup held request now answer adds
   -- a page for a live session
   BySession : (row : OpenedRow) → route request ≡ To App → session_for held now request ≡ Some row
-      → answer ≡ Full (shown_to setup.policy request.path row) → adds ≡ None → Answers setup held request now answer adds
+      → answer ≡ Full (shown_to setup.policy request.path row) → adds ≡ None
+      → Answers setup held request now answer adds
   -- without one a login is asked for, with the path as the target
-  ByAsking : (bytes : List ℕ) → route request ≡ To App → session_for held now request ≡ None → is_expired setup.expiry now ≡ false
+  ByAsking : (bytes : List ℕ) → route request ≡ To App → session_for held now request ≡ None
+      → is_expired setup.expiry now ≡ false
       → (id relay : List ℕ) → IsAskAnswer setup.config id relay now bytes
-      → adds ≡ Some (asked setup.config.id_key (next_number held) now request.path) → HasIds (asked setup.config.id_key (next_number held) now request.path) id relay
+      → adds ≡ Some (asked setup.config.id_key (next_number held) now request.path)
+      → HasIds (asked setup.config.id_key (next_number held) now request.path) id relay
       → answer ≡ Full bytes → Answers setup held request now answer adds
   -- a proxy asks the guard who a request comes from
-  ByGuard : route request ≡ To Guard → answer ≡ guard_answer setup.guard setup.policy request (session_for held now request) → adds ≡ None
+  ByGuard : route request ≡ To Guard → answer ≡ guard_answer setup.guard setup.policy request
+      (session_for held now request) → adds ≡ None
       → Answers setup held request now answer adds
   -- a posted form that opens a session
   ByOpening : (b : Brought) (row : AskedRow) → route request ≡ To Consumer → is_expired setup.expiry now ≡ false
       → Opens setup.config (rows_seen (rows_of held.records)) held.header.horizon now request.body b row
       → (token : List ℕ)
-      → adds ≡ Some (opened setup.config.id_key (next_number held) now (session_of setup.config now b.key.number b.login))
-      → HasToken (opened setup.config.id_key (next_number held) now (session_of setup.config now b.key.number b.login)) token
+      → adds ≡ Some (opened setup.config.id_key (next_number held) now
+      (session_of setup.config now b.key.number b.login))
+      → HasToken (opened setup.config.id_key (next_number held) now (session_of setup.config now b.key.number b.login))
+      token
       → answer ≡ Full (opened_answer row.target token) → Answers setup held request now answer adds
   -- a posted form that is refused
   ByVerdict : (verdict : Verdict) → route request ≡ To Consumer → is_expired setup.expiry now ≡ false
       → IsRefused setup.config (rows_seen (rows_of held.records)) held.header.horizon now request.body verdict
       → answer ≡ Fixed (number_of verdict) → adds ≡ None → Answers setup held request now answer adds
   -- the registry has ended: nothing is asked, no session is opened, and no logout is served
-  ByExpiry : (route request ≡ To Consumer) ⊎ (((route request ≡ To App) × (session_for held now request ≡ None)) ⊎ ((route request ≡ To Logout) ⊎ (route request ≡ To SingleLogout)))
-      → is_expired setup.expiry now ≡ true → answer ≡ Fixed (number_of RegistryExpired) → adds ≡ None → Answers setup held request now answer adds
+  ByExpiry : (route request ≡ To Consumer) ⊎ (((route request ≡ To App) × (session_for held now request ≡ None))
+      ⊎ ((route request ≡ To Logout) ⊎ (route request ≡ To SingleLogout)))
+      → is_expired setup.expiry now ≡ true → answer ≡ Fixed (number_of RegistryExpired) → adds ≡ None
+      → Answers setup held request now answer adds
   -- a user leaves a live session, and the identity provider is asked to end its own: SAML Profiles, 4.4.3.1
-  ByLeaving : (row : OpenedRow) (id bytes : List ℕ) → route request ≡ To Logout → is_expired setup.expiry now ≡ false → session_for held now request ≡ Some row
-      → adds ≡ Some (left_record setup.config held now row.token) → HasId (left_record setup.config held now row.token) id
+  ByLeaving : (row : OpenedRow) (id bytes : List ℕ) → route request ≡ To Logout → is_expired setup.expiry now ≡ false
+      → session_for held now request ≡ Some row
+      → adds ≡ Some (left_record setup.config held now row.token)
+      → HasId (left_record setup.config held now row.token) id
       → Leaving (idp_at setup.config now) id setup.config.entity now row.name (option_to_list row.index) bytes
       → answer ≡ Full bytes → Answers setup held request now answer adds
   -- there is no live session to leave
   ByNoSession : route request ≡ To Logout → is_expired setup.expiry now ≡ false → session_for held now request ≡ None
       → answer ≡ Fixed (number_of NoSuchSession) → adds ≡ None → Answers setup held request now answer adds
   -- a message of a logout that is refused
-  ByLogoutVerdict : (verdict : Verdict) → route request ≡ To SingleLogout → is_expired setup.expiry now ≡ false → IsNotObeyed setup.config now request.body verdict
+  ByLogoutVerdict : (verdict : Verdict) → route request ≡ To SingleLogout → is_expired setup.expiry now ≡ false
+      → IsNotObeyed setup.config now request.body verdict
       → answer ≡ Fixed (number_of verdict) → adds ≡ None → Answers setup held request now answer adds
-  -- the identity provider asks to end sessions: they end, and it is told so with its relay (SAML Core, 3.7.3.1; SAML Profiles, 4.4.3.4)
-  ByEnding : (asked : LogoutRequest) (relay : Option (List ℕ)) (id bytes : List ℕ) → route request ≡ To SingleLogout → is_expired setup.expiry now ≡ false
-      → IsObeyed setup.config now request.body (logouts.Ask asked 0 relay) → is_empty (ended_by setup.config held now asked) ≡ false
+  -- the identity provider asks to end sessions: they end, and it is told so with its relay (SAML Core, 3.7.3.1; SAML
+  -- Profiles, 4.4.3.4)
+  ByEnding : (asked : LogoutRequest) (relay : Option (List ℕ)) (id bytes : List ℕ) → route request ≡ To SingleLogout
+      → is_expired setup.expiry now ≡ false
+      → IsObeyed setup.config now request.body (logouts.Ask asked 0 relay)
+      → is_empty (ended_by setup.config held now asked) ≡ false
       → adds ≡ Some (ended_record setup.config held now asked) → HasId (ended_record setup.config held now asked) id
       → Ending (idp_at setup.config now) id setup.config.entity now asked.id false relay bytes
       → answer ≡ Full bytes → Answers setup held request now answer adds
   -- there is no such session to end
-  ByNothingToEnd : (asked : LogoutRequest) (relay : Option (List ℕ)) → route request ≡ To SingleLogout → is_expired setup.expiry now ≡ false
-      → IsObeyed setup.config now request.body (logouts.Ask asked 0 relay) → is_empty (ended_by setup.config held now asked) ≡ true
+  ByNothingToEnd : (asked : LogoutRequest) (relay : Option (List ℕ)) → route request ≡ To SingleLogout
+      → is_expired setup.expiry now ≡ false
+      → IsObeyed setup.config now request.body (logouts.Ask asked 0 relay)
+      → is_empty (ended_by setup.config held now asked) ≡ true
       → answer ≡ Fixed (number_of NoSuchSession) → adds ≡ None → Answers setup held request now answer adds
-  -- the identity provider replies to a logout that began here, and the user is shown how it ended: SAML Profiles, 4.4.3.5
+  -- the identity provider replies to a logout that began here, and the user is shown how it ended: SAML Profiles,
+  -- 4.4.3.5
   ByConfirming : (response : LogoutResponse) → route request ≡ To SingleLogout → is_expired setup.expiry now ≡ false
       → IsObeyed setup.config now request.body (logouts.Reply response 0) → is_awaited held now response.request ≡ true
       → adds ≡ Some (confirmed now response.request)
@@ -158,30 +187,3 @@ pub data Answers (setup : Setup) (held : Held) (request : Request) (now : ℕ) (
 -- A provider: what it is set up with, and its ledger. What it does with what it answers is said of each provider.
 abbrev pub Provider : Type 0
 Provider = any.Provider Setup SpRecord
-
--- What is done at a request over the ledger that it finds: the request and the moment; whether the disk's count of faults rose;
--- the answer; the provider before and after.
-abbrev pub Serves : (found : Held) → Request → (now : ℕ) → (Risen : Type 0) → Answer → (old new : Provider) → Type 0
-Serves = any.Serves request_rules Answers
-
--- The step of a provider at one request. A ledger that is broken is opened again first.
-abbrev pub Steps : (old : Provider) → Option DiskState → Request → (now : ℕ) → (Risen : Type 0) → Answer → (new : Provider) → Type 0
-Steps = any.Steps request_rules Answers
-
--- And in the same case which changing calls it makes on its disk, with what this tells behind it.
-abbrev pub StepsOnDisk : (old : Provider) → Option DiskState → Request → (now : ℕ) → (Risen : Type 0) → Answer
-    → (new : Provider)
-    → (later : Option DiskState) → Type 0
-StepsOnDisk = any.StepsOnDisk request_rules Answers
-
--- What a crash while a request is served over a ledger may leave.
-abbrev pub ServingLeaves : Setup → (found : Held) → Request → (now : ℕ) → Option DiskState → Image → Type 0
-ServingLeaves = any.ServingLeaves request_rules Answers
-
--- What a crash at a moment of a request may leave.
-abbrev pub StepLeaves : (old : Provider) → Option DiskState → Request → (now : ℕ) → Image → Type 0
-StepLeaves = any.StepLeaves request_rules Answers
-
--- the disk is the provider's own
-abbrev pub OwnsDisk : Provider → Option DiskState → Type 0
-OwnsDisk = any.OwnsDisk request_rules

@@ -21,8 +21,8 @@ impl SpRole {
     ///
     /// # Errors
     ///
-    /// `RegistryExpired` where the registry has ended; else the verdict on the form. `NoMemory` may come in place of any
-    /// other answer.
+    /// `RegistryExpired` where the registry has ended; else the verdict on the form. `NoMemory` may come in place of
+    /// any other answer.
     pub(crate) fn reply_form(
         &self,
         ledger: &Ledger,

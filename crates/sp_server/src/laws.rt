@@ -2,10 +2,15 @@
 ghost use Rattle.sp_server.specs.Guarding.{AGuardTellsExactly, EqualRowsAreVouchedForAlike, OnlyASessionIsVouchedFor};
 ghost use Rattle.sp_server.specs.Histories.{WhatIsAcknowledgedIsKeptOnce};
 ghost use Rattle.sp_server.specs.Logouts.{OnlyWhereAUserLeaves, OnlyWhereSessionsEnd, NothingElseCloses, WhereverAUserLeaves, WhereverSessionsEnd, AClosedSessionStaysClosed, SessionsStayClosedInAService};
-ghost use Rattle.sp_server.specs.Recorded.{WhatIsAnsweredIsRecorded, WhatIsAskedIsRecorded};
+ghost use Rattle.sp_server.specs.Recorded.{IsPosted, WhatIsAskedIsRecorded};
+ghost use Rattle.provider_node.specs.Recorded.{WhatIsAnsweredIsRecorded};
 ghost use Rattle.sp_server.specs.Sessions.{OnlyWhereAFormOpens, WhereverAFormOpens};
-ghost use Rattle.sp_server.specs.Staying.{SessionsStayInAService, SessionsStayOverStarts, WhatWasOpenedIsAsLeft};
-ghost use Rattle.sp_server.specs.Starving.{WhatIsVisibleStays};
+ghost use Rattle.sp_server.specs.Staying.{WasOpened, IsAsLeft};
+ghost use Rattle.provider_node.specs.Staying.{SessionsStayInAService, SessionsStayOverStarts, WhatWasOpenedIsAsLeft};
+ghost use Rattle.sp_server.specs.Step.{Answers};
+ghost use Rattle.request_ledger.specs.Record.{request_rules};
+ghost use Rattle.request_ledger.specs.Laws.{AnswerAlike};
+ghost use Rattle.provider_node.specs.Starving.{RowsAnswerAsBefore};
 ghost use Rattle.sp_server.specs.Starts.{SessionsStayClosedOverStarts, WhatIsAcknowledgedIsKeptOnceOverStarts};
 ghost use Rattle.sp_server.specs.Verdicts.{CompactionsChangeNoVerdict};
 
@@ -18,8 +23,9 @@ pub fn what_is_acknowledged_is_kept_once()
     request_ledger::laws::no_request_opens_twice_in_a_run();
 }
 
-/// Over each list of starts of a provider, each of which opens what a crash of the one before it may have left: what an answer
-/// acknowledged is in the history of every ledger that may be opened behind them, and no two sessions are of one request.
+/// Over each list of starts of a provider, each of which opens what a crash of the one before it may have left: what an
+/// answer acknowledged is in the history of every ledger that may be opened behind them, and no two sessions are of one
+/// request.
 pub fn what_is_acknowledged_is_kept_once_over_starts()
     ensures { WhatIsAcknowledgedIsKeptOnceOverStarts }
 {
@@ -45,8 +51,8 @@ pub fn a_session_opens_exactly()
     request_ledger::laws::compactions_change_no_answer();
 }
 
-/// A session is closed only where its user leaves it or the identity provider ends it, by nothing else, and wherever either does,
-/// where there is room, the disk does not fail and memory is found.
+/// A session is closed only where its user leaves it or the identity provider ends it, by nothing else, and wherever
+/// either does, where there is room, the disk does not fail and memory is found.
 pub fn a_session_is_closed_exactly()
     ensures only_left { OnlyWhereAUserLeaves }
     ensures only_ended { OnlyWhereSessionsEnd }
@@ -65,8 +71,8 @@ pub fn a_closed_session_stays_closed()
     request_ledger::laws::compactions_change_no_answer();
 }
 
-/// Over each list of events, moments, disk faults and openings: a session that is closed is live at no later request, and in no
-/// ledger that a crash may leave since.
+/// Over each list of events, moments, disk faults and openings: a session that is closed is live at no later request,
+/// and in no ledger that a crash may leave since.
 pub fn sessions_stay_closed_in_a_service()
     ensures { SessionsStayClosedInAService }
 {
@@ -74,10 +80,11 @@ pub fn sessions_stay_closed_in_a_service()
     a_closed_session_stays_closed();
 }
 
-/// Each form and each page that is answered to what is posted stands for one record, and so does each form that asks for a login;
-/// behind the step this is in every image that a crash may leave: no message is sent before its record is durable.
+/// Each form and each page that is answered to what is posted stands for one record, and so does each form that asks
+/// for a login; behind the step this is in every image that a crash may leave: no message is sent before its record is
+/// durable.
 pub fn what_is_answered_is_recorded()
-    ensures posted { WhatIsAnsweredIsRecorded }
+    ensures posted { WhatIsAnsweredIsRecorded request_rules Answers IsPosted }
     ensures asked { WhatIsAskedIsRecorded }
 {}
 
@@ -88,9 +95,9 @@ pub fn compactions_change_no_verdict()
     request_ledger::laws::compactions_change_no_answer();
 }
 
-/// A guard answers 200 exactly where the session of the request's cookie lives at that moment, and there is no policy or it allows the path,
-/// which is plain then; want of memory aside. It names that session's user and values, in two lines that hold nothing else, depends on
-/// nothing but the session's row, and records nothing.
+/// A guard answers 200 exactly where the session of the request's cookie lives at that moment, and there is no policy
+/// or it allows the path, which is plain then; want of memory aside. It names that session's user and values, in two
+/// lines that hold nothing else, depends on nothing but the session's row, and records nothing.
 pub fn a_guard_tells_exactly()
     ensures tells { AGuardTellsExactly }
     ensures only { OnlyASessionIsVouchedFor }
@@ -103,7 +110,7 @@ pub fn a_guard_tells_exactly()
 /// Where there was no memory for an answer and the ledger was not broken, all that may be asked of its rows at that
 /// moment is answered behind the request as before.
 pub fn what_is_visible_stays()
-    ensures { WhatIsVisibleStays }
+    ensures { RowsAnswerAsBefore request_rules Answers AnswerAlike }
 {
     request_ledger::laws::compactions_change_no_answer();
 }
@@ -113,7 +120,7 @@ pub fn what_is_visible_stays()
 /// only where a record that was added since closes it, and it is found live until then and until its end. A request
 /// stays spent while it could be answered.
 pub fn what_was_opened_is_as_left()
-    ensures { WhatWasOpenedIsAsLeft }
+    ensures { WhatWasOpenedIsAsLeft request_rules WasOpened IsAsLeft }
 {
     request_ledger::laws::sessions_stay();
 }
@@ -121,7 +128,7 @@ pub fn what_was_opened_is_as_left()
 /// Over each list of events, moments, disk faults and openings: each session whose answer went out is as it was left
 /// in every image that a crash may leave.
 pub fn sessions_stay_in_a_service()
-    ensures { SessionsStayInAService }
+    ensures { SessionsStayInAService request_rules WasOpened IsAsLeft Answers }
 {
     request_ledger::laws::images_hold_records();
     request_ledger::laws::sessions_stay();
@@ -129,7 +136,7 @@ pub fn sessions_stay_in_a_service()
 
 /// And over each list of starts, of which each opens what a crash of the one before it may have left.
 pub fn sessions_stay_over_starts()
-    ensures { SessionsStayOverStarts }
+    ensures { SessionsStayOverStarts request_rules WasOpened IsAsLeft Answers }
 {
     request_ledger::laws::images_hold_records();
     request_ledger::laws::sessions_stay();

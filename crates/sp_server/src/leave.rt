@@ -62,8 +62,8 @@ impl SpRole {
     ///
     /// # Errors
     ///
-    /// `RegistryExpired` where the registry has ended; `NoSuchSession` where the user has no live session. `NoMemory` may
-    /// come in place of any other answer.
+    /// `RegistryExpired` where the registry has ended; `NoSuchSession` where the user has no live session. `NoMemory`
+    /// may come in place of any other answer.
     pub(crate) fn reply_leave(
         &self,
         ledger: &Ledger,

@@ -87,7 +87,8 @@ impl Reply {
     ) -> Result<Option<Draft>, DraftFault>
         requires moment { now ≤ LAST }
         requires can { CanDraft ledger.old.held now self.now }
-        ensures drafts { DraftsSome ledger.old ledger.new (is_nothing config.now ledger.old.held now self.now) (record_for ledger.old.key config.now ledger.old.held now self.now) result }
+        ensures drafts { DraftsSome ledger.old ledger.new (is_nothing config.now ledger.old.held now self.now)
+            (record_for ledger.old.key config.now ledger.old.held now self.now) result }
         ensures same { SameLedger ledger.old ledger.new }
     {
         match self {

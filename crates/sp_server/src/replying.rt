@@ -1,5 +1,4 @@
 //! How a service provider replies: where a request goes, and how a reply is drafted and shown.
-ghost use Rattle.std.specs.Prelude.{◌≡◌, ◌≤◌, ℕ, List};
 
 use crate::reply::Reply;
 use crate::role::SpRole;

@@ -32,8 +32,8 @@ impl Model for SpRole {
 impl SpRole {
     /// A service provider with this config. `policy` decides on the pages of live sessions; without one each is
     /// allowed. `expiry` is the moment at which its registry of metadata ends, in milliseconds since
-    /// 1970-01-01T00:00:00Z: from then on nothing is asked, no session is opened, and no logout is served. With `guard` it
-    /// tells a proxy who a request comes from.
+    /// 1970-01-01T00:00:00Z: from then on nothing is asked, no session is opened, and no logout is served. With `guard`
+    /// it tells a proxy who a request comes from.
     pub fn new(
         alloc: Global,
         config: SpConfig,

@@ -58,8 +58,8 @@ impl SpRole {
     ///
     /// # Errors
     ///
-    /// `RegistryExpired` where the registry has ended; else the verdict on the message. `NoMemory` may come in place of any
-    /// other answer.
+    /// `RegistryExpired` where the registry has ended; else the verdict on the message. `NoMemory` may come in place of
+    /// any other answer.
     pub(crate) fn reply_logout(
         &self,
         ledger: &Ledger,

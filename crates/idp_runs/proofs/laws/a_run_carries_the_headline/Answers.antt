@@ -7,7 +7,6 @@ returns g c = λ disk.
       users = c.each_issue_has_a_password_or_a_session.ensures.answers;
       signed = c.each_signed_element_is_of_a_record.ensures;
       recorded = c.what_is_answered_is_recorded.ensures;
-      logouts = c.what_is_answered_to_a_logout_is_recorded.ensures;
       only = c.a_session_is_ended_exactly.ensures.answers;
       services = c.a_session_is_ended_exactly.ensures.services;
       wherever_left = c.a_session_is_ended_exactly.ensures.wherever_left;

@@ -5,4 +5,5 @@ use Rattle.idp_server.proofs.Histories.{draws_above}
 use Rattle.idp_server.proofs.laws.what_is_acknowledged_is_kept_over_starts.Goals as goal
 
 pub returns : goal.returns
-returns c = λ start starts are begun. kept_over idp_rules Answers c.images_hold_records.ensures draws_above start starts begun
+returns c = λ start starts are begun. kept_over idp_rules Answers c.images_hold_records.ensures draws_above start starts
+    begun

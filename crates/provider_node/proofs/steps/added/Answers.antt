@@ -12,8 +12,8 @@ use Rattle.provider_node.proofs.Calling.{carried_err, carried_ok, committing_lea
 use Rattle.provider_node.proofs.steps.added.Goals as goal
 
 -- what an error says
-erred : {T E : Type 0} (result : Result T E) (P : Type 0) (before after : ℕ) → is_err result ≡ true → OnErr result P
-    → CountsFaults result before after → P × Rose before after
+erred : {T E : Type 0} (result : Result T E) (P : Type 0) (before after : ℕ)
+    → is_err result ≡ true → OnErr result P → CountsFaults result before after → P × Rose before after
 erred (Ok x) P before after is err counts = cc
 erred (Err e) P before after is err counts = (err, counts.failed)
 
@@ -31,25 +31,18 @@ made {T = T} {E = E} (Ok x) plan told later is ends = carried_ok T E plan told l
 made (Err e) plan told later is ends = cc
 
 pub returns-then-is_err-clause-adds : goal.returns-then-is_err-clause-adds
-returns-then-is_err-clause-adds g c =
-    let is = sym c.is_err.ensures.value ∙ c.if-is_err.true in
-    let of = erred c.commit.result _ (g.D.Disk.shows c.args.disk.now).faults (g.D.Disk.shows c.commit.new.disk).faults is
-    c.commit.ensures.err c.commit.ensures.faults in
+returns-then-is_err-clause-adds g c = let is = sym c.is_err.ensures.value ∙ c.if-is_err.true in
+    let of = erred c.commit.result _ (g.D.Disk.shows c.args.disk.now).faults
+    (g.D.Disk.shows c.commit.new.disk).faults is c.commit.ensures.err c.commit.ensures.faults in
     Lost _ (record { bytes = c.in-Ok.bytes; shows = c.in-Ok.ensures; is = refl }) of.1 refl
-    (record { setup = refl; key = c.commit.ensures.key; is_broken = of.0.1 })
-    (begun c.commit.result _ (g.D.Disk.shows c.args.disk.now).told (g.D.Disk.shows c.commit.new.disk).told is
-    c.commit.ensures.calls.ends)
+    (record { setup = refl; key = c.commit.ensures.key; is_broken = of.0.1 }) (begun c.commit.result
+    _ (g.D.Disk.shows c.args.disk.now).told (g.D.Disk.shows c.commit.new.disk).told is c.commit.ensures.calls.ends)
 
 pub returns-then-is_err-clause-moments : goal.returns-then-is_err-clause-moments
 returns-then-is_err-clause-moments g c =
-    committing_leaves g.D.Disk.shows g.R.Rows.Standing.rules c.args.disk.now
-    c.commit.new.disk
-    c.args.draft (seen c.args.ledger.now).held c.commit.result
-    c.commit.ensures.moments c.commit.ensures.calls
+    committing_leaves g.D.Disk.shows g.R.Rows.Standing.rules c.args.disk.now c.commit.new.disk c.args.draft
+    (seen c.args.ledger.now).held c.commit.result c.commit.ensures.moments c.commit.ensures.calls
 
 pub returns-clause-moments : goal.returns-clause-moments
-returns-clause-moments g c =
-    committing_leaves g.D.Disk.shows g.R.Rows.Standing.rules c.args.disk.now
-    c.commit.new.disk
-    c.args.draft (seen c.args.ledger.now).held c.commit.result
-    c.commit.ensures.moments c.commit.ensures.calls
+returns-clause-moments g c = committing_leaves g.D.Disk.shows g.R.Rows.Standing.rules c.args.disk.now c.commit.new.disk
+    c.args.draft (seen c.args.ledger.now).held c.commit.result c.commit.ensures.moments c.commit.ensures.calls

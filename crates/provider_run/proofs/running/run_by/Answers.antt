@@ -8,8 +8,7 @@ use Rattle.provider_node.specs.Step.{StepLeaves}
 use Rattle.provider_run.proofs.running.run_by.Goals as goal
 
 pub returns-in-Ok-clause-runs : goal.returns-in-Ok-clause-runs
-returns-in-Ok-clause-runs g c =
-    let link = c.args.link.now in
+returns-in-Ok-clause-runs g c = let link = c.args.link.now in
     let disk = c.args.disk.now in
     let before = outside (g.D.Disk.shows disk) (g.L.Link.shows link) (g.C.Clock.to_come c.args.clock.now) in
     let starts = c.in-Ok.ensures in
@@ -17,38 +16,38 @@ returns-in-Ok-clause-runs g c =
       turns,
       λ told file set_up. goes told file before (record {
         set_up = subst (λ (s : g.row.R-Role.Denot). g.R.RunsProvider.sets_up told file s) (sym starts.setup) set_up;
-        started = record { key_is = starts.key ∙ ap g.R.Role.Role.key (sym starts.setup); whole = starts.whole; holds = starts.gives };
-        opens =
-            follows_ok g.D.Disk.shows (opening g.R.Role.Rows.Standing.rules) disk
-            c.start.new.disk _ starts.calls;
+        started = record {
+          key_is = starts.key ∙ ap g.R.Role.Role.key (sym starts.setup);
+          whole = starts.whole;
+          holds = starts.gives;
+        };
+        opens = follows_ok g.D.Disk.shows (opening g.R.Role.Rows.Standing.rules) disk c.start.new.disk _ starts.calls;
         own = starts.own;
         tells = g.met.D.Disk.tells_always c.start.new.disk ∙ sym (g.met.D.Disk.tells_always disk);
         reads = g.met.D.Disk.reads_an_image c.start.new.disk;
         same = refl;
       }),
       served g.D.Disk.shows (OpeningLeaves g.R.Role.Rows.Standing.rules)
-          (StepLeaves g.R.Role.Rows.Standing.rules g.R.Role.Role.answers) g.met.D.Disk.counts_now disk c.start.new.disk
-          c.listen_and_serve.new.disk turns
-          (opening_leaves g.D.Disk.shows g.R.Role.Rows.Standing.rules disk
-          c.start.new.disk _ starts.moments starts.calls) leaves,
+          (StepLeaves g.R.Role.Rows.Standing.rules g.R.Role.Role.answers) g.met.D.Disk.counts_now
+          disk c.start.new.disk c.listen_and_serve.new.disk turns (opening_leaves g.D.Disk.shows
+          g.R.Role.Rows.Standing.rules disk c.start.new.disk _ starts.moments starts.calls) leaves,
     )
 
 pub returns-in-Err-Foreign-clause-runs : goal.returns-in-Err-Foreign-clause-runs
-returns-in-Err-Foreign-clause-runs g c =
-    let why = rw c.in-Err-Foreign.field-0-is at c.in-Err-Foreign.ensures.gives in
+returns-in-Err-Foreign-clause-runs g c = let why = rw c.in-Err-Foreign.field-0-is at c.in-Err-Foreign.ensures.gives in
     rw c.in-Err-Foreign.field-0-is (
       [],
       λ told file set_up. NotOpened (record {
         setup = c.args.role;
         set_up = set_up;
         fails = why;
-        calls = follows_err g.D.Disk.shows (opening g.R.Role.Rows.Standing.rules) c.args.disk.now c.start.new.disk _
-            c.in-Err-Foreign.ensures.calls;
+        calls = follows_err g.D.Disk.shows
+            (opening g.R.Role.Rows.Standing.rules) c.args.disk.now c.start.new.disk _ c.in-Err-Foreign.ensures.calls;
       }) refl refl,
       opened g.D.Disk.shows (OpeningLeaves g.R.Role.Rows.Standing.rules)
           (StepLeaves g.R.Role.Rows.Standing.rules g.R.Role.Role.answers) c.args.disk.now c.start.new.disk []
-          (opening_leaves g.D.Disk.shows g.R.Role.Rows.Standing.rules c.args.disk.now
-          c.start.new.disk _ c.in-Err-Foreign.ensures.moments c.in-Err-Foreign.ensures.calls),
+          (opening_leaves g.D.Disk.shows g.R.Role.Rows.Standing.rules
+          c.args.disk.now c.start.new.disk _ c.in-Err-Foreign.ensures.moments c.in-Err-Foreign.ensures.calls),
     )
 
 pub returns-in-Err-DiskFault-clause-runs : goal.returns-in-Err-DiskFault-clause-runs
@@ -59,13 +58,13 @@ returns-in-Err-DiskFault-clause-runs g c =
         setup = c.args.role;
         set_up = set_up;
         fails = failed;
-        calls = follows_err g.D.Disk.shows (opening g.R.Role.Rows.Standing.rules) c.args.disk.now c.start.new.disk _
-            c.in-Err-DiskFault.ensures.calls;
+        calls = follows_err g.D.Disk.shows
+            (opening g.R.Role.Rows.Standing.rules) c.args.disk.now c.start.new.disk _ c.in-Err-DiskFault.ensures.calls;
       }) refl refl,
       opened g.D.Disk.shows (OpeningLeaves g.R.Role.Rows.Standing.rules)
           (StepLeaves g.R.Role.Rows.Standing.rules g.R.Role.Role.answers) c.args.disk.now c.start.new.disk []
-          (opening_leaves g.D.Disk.shows g.R.Role.Rows.Standing.rules c.args.disk.now
-          c.start.new.disk _ c.in-Err-DiskFault.ensures.moments c.in-Err-DiskFault.ensures.calls),
+          (opening_leaves g.D.Disk.shows g.R.Role.Rows.Standing.rules
+          c.args.disk.now c.start.new.disk _ c.in-Err-DiskFault.ensures.moments c.in-Err-DiskFault.ensures.calls),
     )
 
 pub returns-in-Err-NoMemory-clause-runs : goal.returns-in-Err-NoMemory-clause-runs
@@ -75,11 +74,11 @@ returns-in-Err-NoMemory-clause-runs g c = (
     setup = c.args.role;
     set_up = set_up;
     fails = tt;
-    calls = follows_err g.D.Disk.shows (opening g.R.Role.Rows.Standing.rules) c.args.disk.now c.start.new.disk _
-        c.in-Err-NoMemory.ensures.calls;
+    calls = follows_err g.D.Disk.shows
+        (opening g.R.Role.Rows.Standing.rules) c.args.disk.now c.start.new.disk _ c.in-Err-NoMemory.ensures.calls;
   }) refl refl,
   opened g.D.Disk.shows (OpeningLeaves g.R.Role.Rows.Standing.rules)
       (StepLeaves g.R.Role.Rows.Standing.rules g.R.Role.Role.answers) c.args.disk.now c.start.new.disk []
-      (opening_leaves g.D.Disk.shows g.R.Role.Rows.Standing.rules c.args.disk.now
-      c.start.new.disk _ c.in-Err-NoMemory.ensures.moments c.in-Err-NoMemory.ensures.calls),
+      (opening_leaves g.D.Disk.shows g.R.Role.Rows.Standing.rules
+      c.args.disk.now c.start.new.disk _ c.in-Err-NoMemory.ensures.moments c.in-Err-NoMemory.ensures.calls),
 )

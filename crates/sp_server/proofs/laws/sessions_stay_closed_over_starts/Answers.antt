@@ -6,4 +6,5 @@ use Rattle.sp_server.proofs.Histories.{draws_above}
 use Rattle.sp_server.proofs.laws.sessions_stay_closed_over_starts.Goals as goal
 
 pub returns : goal.returns
-returns c = closed_over request_rules Answers c.images_hold_records.ensures draws_above IsClosed IsOver c.a_closed_session_stays_closed.ensures
+returns c = closed_over request_rules Answers c.images_hold_records.ensures draws_above IsClosed IsOver
+    c.a_closed_session_stays_closed.ensures

@@ -10,6 +10,8 @@ returns c =
       token_is = c.in_ok-copy.ensures;
       name_is = name;
       indexes_are = c.in_ok-indexes_of.ensures.are;
-      name_text = subst IsText (sym c.in_ok-of.ensures) (text_of c.as_str-name.result.now (rw c.as_str-name.ensures c.requires.name));
+      name_text =
+          subst IsText (sym c.in_ok-of.ensures) (text_of c.as_str-name.result.now
+          (rw c.as_str-name.ensures c.requires.name));
       index_texts = c.in_ok-indexes_of.ensures.texts;
     }

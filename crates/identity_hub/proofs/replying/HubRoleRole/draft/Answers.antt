@@ -20,7 +20,8 @@ returns-clause-drafts c =
     record_there c.args.self.now old.held c.requires.wanted.0 c.args.now old.key c.args.reply.now c.requires.wanted.1 in
     subst (IsDrafted hub_rules old.held (CanCommit hub_rules hub_row_rules c.draft.new.ledger)
     (record_for c.args.self.now.upstream.id_key old.held c.args.now c.args.reply.now)) (sym c.of.ensures)
-    (hub_drafted c.args.self.now.upstream.id_key old c.draft.new.ledger c.args.now c.args.reply.now found.0 c.draft.result
+    (hub_drafted c.args.self.now.upstream.id_key old c.draft.new.ledger c.args.now c.args.reply.now found.0
+    c.draft.result
     c.requires.key c.draft.ensures.same found.1 c.draft.ensures.drafts)
 
 pub returns-clause-same : goal.returns-clause-same

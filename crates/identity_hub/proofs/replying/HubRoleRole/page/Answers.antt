@@ -14,5 +14,6 @@ page_of-requires-clause-shown c =
 
 pub returns : goal.returns
 returns c =
-    subst (λ (r : HubRecord). IfOk c.page_of.result (IsPage c.args.self.now c.args.reply.now r c.args.now)) c.entry.ensures
+    subst (λ (r : HubRecord). IfOk c.page_of.result (IsPage c.args.self.now c.args.reply.now r c.args.now))
+    c.entry.ensures
     c.page_of.ensures

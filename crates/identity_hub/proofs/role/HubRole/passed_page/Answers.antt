@@ -12,7 +12,8 @@ returns c =
     let config = c.self.inside.config in
     let setup_is : config ≡ c.args.self.now = c.self.view_is in
     let backed = c.backed-passed.result.now in
-    subst (λ (s : HubConfig). IfOk c.issued_answer.result (IsPassedPage s c.args.peer c.args.entry.now c.args.now)) setup_is
+    subst (λ (s : HubConfig). IfOk c.issued_answer.result (IsPassedPage s c.args.peer c.args.entry.now c.args.now))
+    setup_is
     (page_of config c.args.peer c.args.entry.now c.at.result.now backed c.as_slice.result.now c.in_ok-login.login
     c.as_str-2.result.now c.as_str-3.result.now _ c.args.now c.issued_answer.result
     (subst (λ (s : HubConfig). HasLogin s c.args.peer c.args.entry.now) (sym setup_is) c.requires.shown)

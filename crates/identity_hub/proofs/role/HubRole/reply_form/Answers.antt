@@ -27,9 +27,11 @@ returns-in_err-accepted c =
     λ verdict refused.
     subst (λ (s : HubConfig). IsRefused s.upstream (rows_seen (rows_of held.records)) held.header.horizon c.args.now
     request.body verdict) c.self.view_is
-    (subst (λ (h : Header). IsRefused config.upstream (rows_seen (rows_of held.records)) h.horizon c.args.now request.body
+    (subst (λ (h : Header). IsRefused config.upstream (rows_seen (rows_of held.records)) h.horizon c.args.now
+    request.body
     verdict) c.header-horizon.ensures
-    (c.like_rows_are_judged_alike.ensures.refuses config.upstream rows (rows_seen (rows_of held.records)) horizon c.args.now
+    (c.like_rows_are_judged_alike.ensures.refuses config.upstream rows (rows_seen (rows_of held.records)) horizon
+    c.args.now
     request.body verdict c.rows.ensures.asked c.rows.ensures.opened refused)) in
     rw (p.1, p.2)
     (judged_for (IsRefused config.upstream rows horizon c.args.now request.body)

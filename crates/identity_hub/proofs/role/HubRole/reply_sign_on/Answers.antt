@@ -24,7 +24,8 @@ returns-in_err-asked c =
     λ verdict refused.
     subst (λ (ps : List LogoutPeer). IsRefused ps (sign_on c.args.self.now) request.body verdict)
     (c.as_slice-peers.ensures ∙ ap (λ (s : HubConfig). s.peers) c.self.view_is)
-    (subst (λ (a : List ℕ). IsRefused peers a request.body verdict) (c.as_str.ensures ∙ c.in_ok-address.ensures) refused) in
+    (subst (λ (a : List ℕ). IsRefused peers a request.body verdict) (c.as_str.ensures ∙ c.in_ok-address.ensures)
+    refused) in
     rw (p.1, p.2)
     (judged_for (IsRefused peers address request.body)
     (λ verdict. Answers c.args.self.now c.args.ledger.now.held request c.args.now (Fixed (number_of verdict)) None)

@@ -10,4 +10,5 @@ use Rattle.idp_server.proofs.replying.IdpRoleRole.laws_hold.Goals as goal
 pub returns : goal.returns
 returns c =
     subst (λ (s : IdpConfig). AreReplies idp_replies idp_rules Answers s c.args.now) c.self.view_is
-    (idp_laws c.each_login_has_an_answer.ensures.issued c.each_login_has_an_answer.ensures.refused c.self.inside.config c.args.now c.requires c.self.invariant c.compactions_change_no_answer.ensures)
+    (idp_laws c.each_login_has_an_answer.ensures.issued c.each_login_has_an_answer.ensures.refused c.self.inside.config
+    c.args.now c.requires c.self.invariant c.compactions_change_no_answer.ensures)

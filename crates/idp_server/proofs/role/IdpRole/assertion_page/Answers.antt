@@ -15,10 +15,13 @@ returns c =
     let setup_is : config ≡ c.args.self.now = c.self.view_is in
     let issued = c.issued-issued.result.now in
     let cookie = option_map (λ (text : Bor (List ℕ)). text.now) c.args.cookie in
-    subst (λ (s : IdpConfig). IfOk c.issued_answer.result (λ bytes. IsAssertionPage s c.args.peer cookie c.args.entry.now c.args.now (Full bytes))) setup_is
-    (page_of config c.args.peer c.args.entry.now c.at.result.now issued c.as_slice.result.now c.in_ok-login.login c.as_str-2.result.now c.as_str-3.result.now
+    subst (λ (s : IdpConfig). IfOk c.issued_answer.result
+    (λ bytes. IsAssertionPage s c.args.peer cookie c.args.entry.now c.args.now (Full bytes))) setup_is
+    (page_of config c.args.peer c.args.entry.now c.at.result.now issued c.as_slice.result.now c.in_ok-login.login
+    c.as_str-2.result.now c.as_str-3.result.now
     _ cookie c.args.now c.issued_answer.result
-    (subst (λ (s : IdpConfig). HasAssertion s c.args.peer c.args.entry.now) (sym setup_is) c.requires.shown) c.issued-issued.ensures c.at.ensures
+    (subst (λ (s : IdpConfig). HasAssertion s c.args.peer c.args.entry.now) (sym setup_is) c.requires.shown)
+    c.issued-issued.ensures c.at.ensures
     (record {
       key_is = c.as_slice.ensures;
       login_is =

@@ -33,11 +33,15 @@ returns-in-Some c =
       asks = record { place = c.args.peer; there = there; obeyed = c.requires.obeyed };
       cookies_are = ap (λ (n : List ℕ). ending_by held c.args.now n c.args.asked) c.in_ok-name.ensures;
       some = asked_for_some setup held (Some asker) cookies by.asks;
-      asker_is = ap (λ (n : List ℕ). Some (record { peer = n; request = c.args.asked.id; relay = c.args.relay })) c.in_ok-name.ensures;
+      asker_is =
+          ap (λ (n : List ℕ). Some (record { peer = n; request = c.args.asked.id; relay = c.args.relay }))
+          c.in_ok-name.ensures;
     })) (ending_live held c.args.now name c.args.asked) (
-      subst IsText (sym c.in_ok-name.ensures) (all_at IsTextPeer setup.peers c.args.peer peer usable.peers there).entity,
+      subst IsText (sym c.in_ok-name.ensures) (all_at IsTextPeer setup.peers c.args.peer peer usable.peers
+          there).entity,
       c.what_an_obeyed_form_says.ensures.id _ _ _ _ _ _ c.args.asked c.args.peer c.args.relay c.requires.obeyed,
-    ) usable.peers (c.each_moment_is_told.ensures.assertion c.args.now c.args.now c.requires.moment c.requires.moment) by
+    ) usable.peers (c.each_moment_is_told.ensures.assertion c.args.now c.args.now c.requires.moment c.requires.moment)
+    by
 
 pub returns : goal.returns
 returns c =
@@ -51,9 +55,12 @@ returns c =
       peer = peer;
       there = subst (λ (s : IdpConfig). slice_get s.peers c.args.peer ≡ Some peer) c.self.view_is c.at.ensures;
       name_is = c.in_ok-name.ensures;
-      alone = ap (λ (n : List ℕ). asks_others setup held (Some (record { peer = n; request = c.args.asked.id; relay = c.args.relay }))
+      alone =
+          ap (λ (n : List ℕ). asks_others setup held (Some
+          (record { peer = n; request = c.args.asked.id; relay = c.args.relay }))
           (ending_by held c.args.now c.in_ok-name.name c.args.asked)) (sym c.in_ok-name.ensures) ∙ none;
-      id_text = c.what_an_obeyed_form_says.ensures.id _ _ _ _ _ _ c.args.asked c.args.peer c.args.relay c.requires.obeyed;
+      id_text =
+          c.what_an_obeyed_form_says.ensures.id _ _ _ _ _ _ c.args.asked c.args.peer c.args.relay c.requires.obeyed;
       peers = subst (λ (s : IdpConfig). AllByRecursion IsTextPeer s.peers) c.self.view_is c.self.invariant.peers;
       told = c.each_moment_is_told.ensures.one c.args.now c.requires.moment;
     }

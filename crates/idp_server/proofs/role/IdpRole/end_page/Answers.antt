@@ -9,7 +9,10 @@ pub returns : goal.returns
 returns c =
     let config = c.self.inside.config in
     let setup_is : config ≡ c.args.self.now = c.self.view_is in
-    subst (λ (s : IdpConfig). IfOk c.ending_answer.result (λ bytes. IsRoundEnd s c.args.message.now c.args.asker.now c.args.partial c.args.now bytes)) setup_is
-    (end_page_of config c.args.message.now c.args.asker.now c.in-Some.asker c.args.partial c.args.now c.in-Some-place_of.place c.at.result.now c.as_str.result.now c.as_str-2.result.now
-    c.as_str-3.result.now c.as_str-4.result.now _ c.ending_answer.result c.in-Some.is c.as_str.ensures c.as_str-2.ensures c.as_str-3.ensures c.as_str-4.ensures c.text_of.ensures
+    subst (λ (s : IdpConfig). IfOk c.ending_answer.result
+    (λ bytes. IsRoundEnd s c.args.message.now c.args.asker.now c.args.partial c.args.now bytes)) setup_is
+    (end_page_of config c.args.message.now c.args.asker.now c.in-Some.asker c.args.partial c.args.now
+    c.in-Some-place_of.place c.at.result.now c.as_str.result.now c.as_str-2.result.now
+    c.as_str-3.result.now c.as_str-4.result.now _ c.ending_answer.result c.in-Some.is c.as_str.ensures
+    c.as_str-2.ensures c.as_str-3.ensures c.as_str-4.ensures c.text_of.ensures
     (sym c.in-Some-place_of.ensures.place) c.at.ensures c.ending_answer.ensures)

@@ -12,22 +12,29 @@ pub returns-in_default : goal.returns-in_default
 returns-in_default c =
     let config = c.self.inside.config in
     let setup_is : config ≡ c.args.self.now = c.self.view_is in
-    subst (λ (s : IdpConfig). IfOk c.end_answer.result (λ bytes. IsLeavingPage s c.args.user.now c.args.index.now c.args.entry.now c.args.now (Full bytes))) setup_is
-    (left_page_of config c.args.user.now c.args.index.now c.args.entry.now c.args.now c.peer.result.now c.end_answer.result
-    (subst (λ (s : IdpConfig). HasRequest s c.args.user.now c.args.index.now c.args.entry.now) (sym setup_is) c.requires.shown) c.peer.ensures (sym c.in_default.ensures.place) c.end_answer.ensures)
+    subst (λ (s : IdpConfig). IfOk c.end_answer.result (λ bytes. IsLeavingPage s c.args.user.now c.args.index.now
+    c.args.entry.now c.args.now (Full bytes))) setup_is
+    (left_page_of config c.args.user.now c.args.index.now c.args.entry.now c.args.now c.peer.result.now
+    c.end_answer.result
+    (subst (λ (s : IdpConfig). HasRequest s c.args.user.now c.args.index.now c.args.entry.now) (sym setup_is)
+    c.requires.shown) c.peer.ensures (sym c.in_default.ensures.place) c.end_answer.ensures)
 
 pub leaving_answer-requires-clause-address : goal.leaving_answer-requires-clause-address
 leaving_answer-requires-clause-address c =
-    some_text c.at.result.now.peer.logout (all_at IsTextPeer c.self.inside.config.peers c.in-Some.place c.at.result.now c.self.invariant.peers c.at.ensures).logout
+    some_text c.at.result.now.peer.logout (all_at IsTextPeer c.self.inside.config.peers c.in-Some.place c.at.result.now
+    c.self.invariant.peers c.at.ensures).logout
 
 pub returns : goal.returns
 returns c =
     let config = c.self.inside.config in
     let setup_is : config ≡ c.args.self.now = c.self.view_is in
-    subst (λ (s : IdpConfig). IfOk c.leaving_answer.result (λ bytes. IsLeavingPage s c.args.user.now c.args.index.now c.args.entry.now c.args.now (Full bytes))) setup_is
-    (leaving_page_of config c.args.user.now c.args.index.now c.args.entry.now c.args.now c.in-Some.place c.at.result.now c.first_id.result.now c.peer.result.now c.as_str.result.now
+    subst (λ (s : IdpConfig). IfOk c.leaving_answer.result
+    (λ bytes. IsLeavingPage s c.args.user.now c.args.index.now c.args.entry.now c.args.now (Full bytes))) setup_is
+    (leaving_page_of config c.args.user.now c.args.index.now c.args.entry.now c.args.now c.in-Some.place c.at.result.now
+    c.first_id.result.now c.peer.result.now c.as_str.result.now
     c.as_str-2.result.now c.in_ok-indexes.indexes c.leaving_answer.result
-    (subst (λ (s : IdpConfig). HasRequest s c.args.user.now c.args.index.now c.args.entry.now) (sym setup_is) c.requires.shown)
+    (subst (λ (s : IdpConfig). HasRequest s c.args.user.now c.args.index.now c.args.entry.now) (sym setup_is)
+    c.requires.shown)
     (record {
       id_is = c.first_id.ensures;
       goes_is = c.peer.ensures;

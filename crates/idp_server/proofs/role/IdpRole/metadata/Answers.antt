@@ -7,4 +7,5 @@ use Rattle.idp_server.proofs.role.IdpRole.metadata.Goals as goal
 pub returns : goal.returns
 returns c =
     IfOk-weaker c.metadata_answer.result _ _
-    (λ bytes is. is ∙ (λ i. metadata_answer (c.as_str.ensures i) (c.as_str-2.ensures i)) ∙ ap (λ (s : IdpConfig). metadata_answer s.entity s.base) c.self.view_is) c.metadata_answer.ensures
+    (λ bytes is. is ∙ (λ i. metadata_answer (c.as_str.ensures i) (c.as_str-2.ensures i))
+    ∙ ap (λ (s : IdpConfig). metadata_answer s.entity s.base) c.self.view_is) c.metadata_answer.ensures

@@ -11,12 +11,15 @@ pub assertion_page-requires-in-Login-clause-cookie : goal.assertion_page-require
 assertion_page-requires-in-Login-clause-cookie c x is =
     let has = (rw c.in-Login.is at c.requires.shown).1 in
     let cookie : Bor (List ℕ) = c.second_id-cookie.result in
-    let drawn : has.cookie ≡ cookie.now = some_same has.cookie cookie.now (sym has.named ∙ sym c.second_id-cookie.ensures) in
+    let drawn : has.cookie ≡ cookie.now =
+    some_same has.cookie cookie.now (sym has.named ∙ sym c.second_id-cookie.ensures) in
     let same : cookie ≡ x = cc in
-    subst (λ (b : Bor (List ℕ)). IsTrue (is_one_line b.now)) same (subst (λ (id : List ℕ). is_one_line id ≡ true) drawn has.line)
+    subst (λ (b : Bor (List ℕ)). IsTrue (is_one_line b.now)) same
+    (subst (λ (id : List ℕ). is_one_line id ≡ true) drawn has.line)
 
 pub returns-in-Confirm : goal.returns-in-Confirm
 returns-in-Confirm c =
     let setup = c.args.self.now in
-    subst (λ (x : Reply). IfOk c.end_answer.result (λ bytes. IsPage setup x c.args.entry.now c.args.now (Full bytes))) (sym c.in-Confirm.is)
+    subst (λ (x : Reply). IfOk c.end_answer.result (λ bytes. IsPage setup x c.args.entry.now c.args.now (Full bytes)))
+    (sym c.in-Confirm.is)
     (end_shown c.in-Confirm.partial c.end_answer.result c.end_answer.ensures)

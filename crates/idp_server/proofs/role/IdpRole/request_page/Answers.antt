@@ -10,6 +10,9 @@ returns c =
     let config = c.self.inside.config in
     let setup_is : config ≡ c.args.self.now = c.self.view_is in
     let turn = c.args.turn.now in
-    subst (λ (s : IdpConfig). IfOk c.leaving_answer.result (λ bytes. IsRequestTo s turn.peer c.args.id.now turn.name turn.indexes c.args.now bytes)) setup_is
-    (request_page_of config turn c.args.id.now c.args.now c.in-Some.place c.at.result.now c.as_str.result.now c.as_str-2.result.now c.as_str-3.result.now c.leaving_answer.result
-    c.as_str.ensures c.as_str-2.ensures c.as_str-3.ensures (sym c.in-Some.ensures.place) c.at.ensures c.leaving_answer.ensures)
+    subst (λ (s : IdpConfig). IfOk c.leaving_answer.result
+    (λ bytes. IsRequestTo s turn.peer c.args.id.now turn.name turn.indexes c.args.now bytes)) setup_is
+    (request_page_of config turn c.args.id.now c.args.now c.in-Some.place c.at.result.now c.as_str.result.now
+    c.as_str-2.result.now c.as_str-3.result.now c.leaving_answer.result
+    c.as_str.ensures c.as_str-2.ensures c.as_str-3.ensures (sym c.in-Some.ensures.place) c.at.ensures
+    c.leaving_answer.ensures)

@@ -15,5 +15,6 @@ returns-in-Err-clause-refused c =
     let old = c.args.self.now in
     let request = request_view c.args.request.now in
     judged_for (IsRefused old.peers (sign_on old) request.body)
-    (λ (verdict : Verdict). Answers old c.args.ledger.now.held request c.args.now (Fixed (number_of verdict)) None) c.in-Err.judged
+    (λ (verdict : Verdict). Answers old c.args.ledger.now.held request c.args.now (Fixed (number_of verdict)) None)
+    c.in-Err.judged
     (λ verdict is. ByVerdict verdict c.requires.route is refl refl) c.in-Err.ensures.refused

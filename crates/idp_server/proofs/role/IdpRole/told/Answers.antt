@@ -6,12 +6,14 @@ use Rattle.idp_server.proofs.role.IdpRole.told.Goals as goal
 
 pub follows-requires-clause-counted : goal.follows-requires-clause-counted
 follows-requires-clause-counted c =
-    (found_texts c.args.ledger.now.held c.as_str.result.now c.as_str-2.result.now c.args.now c.in-Some.row.now c.holds_records.ensures (sym c.in-Some.ensures.found)).counted
+    (found_texts c.args.ledger.now.held c.as_str.result.now c.as_str-2.result.now c.args.now c.in-Some.row.now
+    c.holds_records.ensures (sym c.in-Some.ensures.found)).counted
 
 pub follows-requires-clause-turn : goal.follows-requires-clause-turn
 follows-requires-clause-turn c =
     let held = c.args.ledger.now.held in
-    (turn_is (rows_of held.records).rounds c.as_str.result.now c.as_str-2.result.now c.args.now held.header.horizon c.in-Some.row.now (sym c.in-Some.ensures.found)).within
+    (turn_is (rows_of held.records).rounds c.as_str.result.now c.as_str-2.result.now c.args.now held.header.horizon
+    c.in-Some.row.now (sym c.in-Some.ensures.found)).within
 
 pub returns : goal.returns
 returns c =
@@ -25,5 +27,6 @@ returns c =
       is = search rules;
       next_is = search rules;
       texts = round_stands c.what_is_recorded_may_stand.ensures.texts row
-          (found_texts held c.as_str.result.now c.as_str-2.result.now c.args.now row c.holds_records.ensures (sym c.in-Some.ensures.found));
+          (found_texts held c.as_str.result.now c.as_str-2.result.now c.args.now row c.holds_records.ensures
+          (sym c.in-Some.ensures.found));
     }

@@ -7,6 +7,7 @@ use Rattle.serve_loop.proofs.turns.Serving.refuse.Goals as goal
 
 pub returns-clause-lets_go : goal.returns-clause-lets_go
 returns-clause-lets_go g c = record {
-  sends = only_sends g.D.Disk.shows g.L.Link.shows g.C.Clock.to_come c.args.self.now c.send_page.new.self c.send_page.ensures.others.node c.send_page.ensures.others.disk c.send_page.ensures.others.clock c.args.conn (fixed c.args.code) c.send_page.ensures.sends;
+  sends = only_sends g.D.Disk.shows g.L.Link.shows g.C.Clock.to_come c.args.self.now
+      c.send_page.new.self c.send_page.ensures.others c.args.conn (fixed c.args.code) c.send_page.ensures.sends;
   gone = c.gone.ensures ∙ ap (λ (t : Table). map.remove t c.args.conn) c.send_page.ensures.conns;
 }

@@ -11,37 +11,46 @@ use Rattle.serve_loop.proofs.Outgoing.{only_sends}
 use Rattle.serve_loop.proofs.turns.Serving.start.Goals as goal
 
 pub started-requires : goal.started-requires
-started-requires g c =
-    let conn = c.args.conn in
+started-requires g c = let conn = c.args.conn in
     let old = c.args.self.now.conns.now in
-    ap (λ (t : Table). map.get t conn) c.gone.ensures ∙ map.get-remove nat_cmp_total old conn conn ∙ ap (λ b. cond b None (map.get old conn)) (tied conn conn refl)
+    ap (λ (t : Table). map.get t conn) c.gone.ensures
+    ∙ map.get-remove nat_cmp_total old conn conn ∙ ap (λ b. cond b None (map.get old conn)) (tied conn conn refl)
 
 pub returns-in-Taken-clause-does : goal.returns-in-Taken-clause-does
-returns-in-Taken-clause-does g c = (Taken c.args.conn, refl, (subst (λ (t : Table). IsStarted t c.args.conn start.Taken c.started.new.self) c.gone.ensures c.in-Taken.ensures, refl))
+returns-in-Taken-clause-does g c = (
+  Taken c.args.conn,
+  refl,
+  (
+    subst (λ (t : Table). IsStarted t c.args.conn start.Taken c.started.new.self) c.gone.ensures c.in-Taken.ensures,
+    refl,
+  ),
+)
 
 pub returns-in-TableFull-clause-does : goal.returns-in-TableFull-clause-does
-returns-in-TableFull-clause-does g c =
-    let started = subst (λ (t : Table). IsStarted t c.args.conn start.TableFull c.started.new.self) c.gone.ensures c.in-TableFull.ensures in (
-      Full c.args.conn,
+returns-in-TableFull-clause-does g c = let conn = c.args.conn in
+    let started = subst
+    (λ (t : Table). IsStarted t conn start.TableFull c.started.new.self) c.gone.ensures c.in-TableFull.ensures in (
+      Full conn,
       refl,
       (
-        subst (IsStarted (map.remove c.args.self.now.conns.now c.args.conn) c.args.conn start.TableFull) (sym c.send_page.ensures.conns) started,
-        only_sends g.D.Disk.shows g.L.Link.shows g.C.Clock.to_come c.args.self.now c.send_page.new.self
-            c.send_page.ensures.others.node c.send_page.ensures.others.disk c.send_page.ensures.others.clock
-            c.args.conn (fixed 503) c.send_page.ensures.sends,
+        subst (IsStarted (map.remove c.args.self.now.conns.now conn) conn start.TableFull)
+            (sym c.send_page.ensures.conns) started,
+        only_sends g.D.Disk.shows g.L.Link.shows g.C.Clock.to_come
+            _ c.send_page.new.self c.send_page.ensures.others conn (fixed 503) c.send_page.ensures.sends,
       ),
     )
 
 pub returns-in-NoMemory-clause-does : goal.returns-in-NoMemory-clause-does
 returns-in-NoMemory-clause-does g c =
-    let started = subst (λ (t : Table). IsStarted t c.args.conn start.NoMemory c.started.new.self) c.gone.ensures c.in-NoMemory.ensures in
+    let started = subst
+    (λ (t : Table). IsStarted t c.args.conn start.NoMemory c.started.new.self) c.gone.ensures c.in-NoMemory.ensures in
     let page = c.send_page-in-NoMemory in (
       StarvedStart c.args.conn,
       refl,
       (
-        subst (IsStarted (map.remove c.args.self.now.conns.now c.args.conn) c.args.conn start.NoMemory) (sym page.ensures.conns) started,
-        only_sends g.D.Disk.shows g.L.Link.shows g.C.Clock.to_come c.args.self.now page.new.self
-            page.ensures.others.node page.ensures.others.disk page.ensures.others.clock
-            c.args.conn (fixed 52) page.ensures.sends,
+        subst (IsStarted (map.remove c.args.self.now.conns.now c.args.conn) c.args.conn start.NoMemory)
+            (sym page.ensures.conns) started,
+        only_sends g.D.Disk.shows g.L.Link.shows g.C.Clock.to_come _ page.new.self page.ensures.others c.args.conn
+            (fixed 52) page.ensures.sends,
       ),
     )

@@ -24,9 +24,11 @@ returns-in_err-accepted c =
     → IsRefused c.args.self.now.config (rows_seen (rows_of held.records)) held.header.horizon c.args.now request.body
     verdict =
     λ verdict refused.
-    subst (λ (s : Setup). IsRefused s.config (rows_seen (rows_of held.records)) held.header.horizon c.args.now request.body
+    subst (λ (s : Setup). IsRefused s.config (rows_seen (rows_of held.records)) held.header.horizon c.args.now
+    request.body
     verdict) c.self.view_is
-    (subst (λ (h : Header). IsRefused config (rows_seen (rows_of held.records)) h.horizon c.args.now request.body verdict)
+    (subst (λ (h : Header). IsRefused config (rows_seen (rows_of held.records)) h.horizon c.args.now request.body
+    verdict)
     c.header-horizon.ensures
     (c.like_rows_are_judged_alike.ensures.refuses config rows (rows_seen (rows_of held.records)) horizon c.args.now
     request.body verdict (ap (λ (r : SpRows). r.asked) c.rows.ensures) (ap (λ (r : SpRows). r.opened) c.rows.ensures)
