@@ -12,14 +12,15 @@ ROOT = os.path.dirname(os.path.dirname(os.path.realpath(__file__)))
 
 # ---- what a file says
 
-NAME = r"[^\s(){}\[\];,:=.]+"
+NAME = r"(?:◌\S+◌|[^\s(){}\[\];,:=.]+)"
 HEAD = re.compile(r"^((?:abbrev |pub |unfoldable )*)(record |data )?(" + NAME + r")(?= )")
 IMPORT = re.compile(r"^\s*(?:ghost )?(pub )?use ([\w.]+?)(?:\.\{(.*)\}| as (\w+))?;?\s*$")
 WORD = re.compile(r'"(?:[^"\\]|\\.)*"|[(){}\[\];,]|[^\s(){}\[\];,"]+')
 OPENING, CLOSING = "([{", ")]}"
 IS_NAME = re.compile(r"^[^\W\d][\w'\-]*$")
 
-Definition = namedtuple("Definition", "key comment lines bound")  # key: crate, file, name; bound: the module around it
+# key: crate, file, name; bound: the modules around it, as one text; around: the lines of each, which others share
+Definition = namedtuple("Definition", "key comment lines bound around")
 
 
 def read(path):
@@ -71,9 +72,13 @@ class File:
         self.parse(read(path))
 
     def parse(self, lines):
-        comment, modules, current = [], [], None
+        comment, modules, current, header = [], [], None, None
         for number, line in enumerate(lines):
             text = line.strip()
+            if header is not None:  # the head of a module goes on to its `where`
+                header[1].append(text)
+                header = None if text.split(" ")[-1] == "where" else header
+                continue
             if not text:
                 comment = []
                 continue
@@ -91,14 +96,15 @@ class File:
             while modules and indent_of(line) <= modules[-1][0] and not text.startswith((")", "}")):
                 modules.pop()
             if text.startswith("module "):
-                modules.append((indent_of(line), text))
+                modules.append((indent_of(line), [text]))
                 comment, current = [], None
+                header = None if text.split(" ")[-1] == "where" else modules[-1]
                 continue
             base = modules[-1][0] + 2 if modules else 0
             if indent_of(line) == base:
                 head = HEAD.match(text)
                 if head and (head.group(2) or text[head.end():].startswith(" :")):
-                    current = self.begin(head, comment, " ".join(said for _, said in modules), base)
+                    current = self.begin(head, comment, [said for _, said in modules])
                     comment = []
             if current is None or text.startswith(("infix", "unfolding ")):
                 comment = []
@@ -107,9 +113,10 @@ class File:
             current.lines.extend([" " * (indent_of(line) - base) + said for said in inner] + [line[base:]])
             comment = []
 
-    def begin(self, head, comment, module, base):
+    def begin(self, head, comment, modules):
         name = head.group(3)
-        made = Definition((self.crate, self.name, name), list(comment), [], module)
+        bound = " ".join(line for said in modules for line in said)
+        made = Definition((self.crate, self.name, name), list(comment), [], bound, modules)
         self.definitions[name] = made
         if "◌" in name:
             for part in name.split("◌"):
@@ -232,7 +239,7 @@ def grouped(lines, level):
 
 def names_in(made, is_known):
     """All names that a definition uses."""
-    module = words_of(re.sub(r"^module _ |\bwhere$", "", made.bound)) if made.bound else []
+    module = words_of(re.sub(r"\bmodule _ |\bwhere\b", "", made.bound)) if made.bound else []
     outer = set(binders(module))
     found = uses(module, (), is_known) if module else []
     head = HEAD.match(made.lines[0])
