@@ -1,8 +1,8 @@
 -- The definitions at worked examples.
-use Rattle.std.specs.Prelude.{◌≡◌, ◌^◌, ◌-◌, [], ◌∷◌, ◌++◌, None, Some, codes, refl}
-use Rattle.std.specs.Str.{chars}
+use Rattle.std.specs.Prelude.{ℕ, ◌≡◌, ◌^◌, ◌-◌, List, [], ◌∷◌, ◌++◌, Option, None, Some, Ok, Err, if◌then◌else◌, codes, refl}
+use Rattle.std.specs.Str.{chars, bytes_eq}
 use lib.Utf8.{encode}
-use Rattle.text_lines.specs.Lines.{lines, said, Says, NoText}
+use Rattle.text_lines.specs.Lines.{lines, said, Says, NoText, with_lines}
 use Rattle.text_lines.specs.Words.{parts_of, words_of}
 use Rattle.text_lines.specs.Numbers.{number_of}
 
@@ -22,6 +22,16 @@ comments = refl
 no_text : (said (codes "a\n#" ++ 255 ∷ codes "\nb\n") ≡ Says 1 (codes "a") ∷ NoText 2 ∷ []) × (said (0 ∷ codes "\nb") ≡ NoText 1 ∷ [])
 unfolding chars encode
 no_text = (refl, refl)
+
+-- what comes of lines that are kept with their numbers, of which none may say `b`
+abbrev numbered : ℕ → List ℕ → List (ℕ × List ℕ) → Option (List (ℕ × List ℕ))
+numbered number line before = if bytes_eq line (codes "b") then None else Some (before ++ (number, line) ∷ [])
+
+-- all of them, in order; the first that is bad, be it that nothing comes of it or that it is no text
+one_by_one : (with_lines numbered [] (said (codes "a\n\nc\n")) ≡ Ok ((1, codes "a") ∷ (3, codes "c") ∷ []))
+    × (with_lines numbered [] (said (codes "a\n#\nb\nb\n")) ≡ Err 3) × (with_lines numbered [] (said (codes "a\n" ++ 0 ∷ [])) ≡ Err 2)
+unfolding chars encode
+one_by_one = (refl, refl, refl)
 
 -- one space separates two words, and no word is empty; a tab is a part of a word
 words : (words_of (codes "a b") ≡ Some (codes "a" ∷ codes "b" ∷ [])) × (words_of (codes "a  b") ≡ None) × (words_of (codes " a") ≡ None)

@@ -1,5 +1,5 @@
 -- Files that people write: texts of lines.
-use Rattle.std.specs.Prelude.{ℕ, suc, Bool, true, ◌&&◌, not, ◌==◌, List, [], ◌∷◌, if◌then◌else◌}
+use Rattle.std.specs.Prelude.{ℕ, suc, Bool, true, ◌&&◌, not, ◌==◌, List, [], ◌∷◌, Option, Result, Ok, Err, ok_or, if◌then◌else◌}
 use Rattle.std.specs.List.{list_all}
 use Rattle.std.specs.Str.{chars, encode_utf8_all, bytes_eq}
 use Rattle.xml_spec.specs.Ascii.{line_feed}
@@ -45,3 +45,16 @@ said_from number (line ∷ others) =
 -- what a text says; its first line has the number 1
 abbrev pub said : List ℕ → List Said
 said text = said_from 1 (lines text)
+
+-- what follows where there is no fault
+abbrev pub and_then : {X Y F : Type 0} → (X → Result Y F) → Result X F → Result Y F
+and_then f (Ok x) = f x
+and_then f (Err fault) = Err fault
+
+-- What comes of a beginning by all that is said behind it, one line after the other; or the number of the first line that is
+-- bad: it is no text, or nothing comes of it.
+abbrev pub with_lines : {X : Type 0} → (ℕ → List ℕ → X → Option X) → X → List Said → Result X ℕ
+with_lines with_line before [] = Ok before
+with_lines with_line before (NoText number ∷ others) = Err number
+with_lines with_line before (Says number line ∷ others) =
+    and_then (λ next. with_lines with_line next others) (ok_or (with_line number line before) number)
