@@ -2,7 +2,7 @@
 use Rattle.std.specs.Prelude.{ℕ, Bool, ◌==◌, ◌&&◌, nat_le, List, [], ◌∷◌, ◌++◌, length, fold, Option, None, Some, Result, Ok, Err, option_and_then, ok_or, if◌then◌else◌}
 use Rattle.std.specs.List.{flat_map, list_any}
 use Rattle.std.specs.Option.{option_to_list}
-use Rattle.text_lines.specs.Lines.{Said, Says, NoText, said}
+use Rattle.text_lines.specs.Lines.{Said, Says, NoText, said, with_lines}
 use Rattle.schedules.specs.declared.fault.ScheduleFault.{ScheduleFault}
 use Rattle.schedules.specs.declared.fault.ScheduleFault.TheVariants as faults
 use Rattle.schedules.specs.declared.schedule.TheConstants.{MAX_STEPS, MAX_AGENTS}
@@ -42,24 +42,13 @@ is_small steps = nat_le (length steps) MAX_STEPS && nat_le (length (agents steps
 abbrev pub with_step : List Step → Step → Option (List Step)
 with_step before step = if is_small (before ++ step ∷ []) then Some (before ++ step ∷ []) else None
 
--- the steps with what is said next, or the number of a bad line
-abbrev pub with_said : List Step → Said → Result (List Step) ℕ
-with_said before (Says number text) = ok_or (option_and_then (with_step before) (step_of text)) number
-with_said before (NoText number) = Err number
-
--- what follows where there is no fault
-abbrev pub and_then : {X Y F : Type 0} → (X → Result Y F) → Result X F → Result Y F
-and_then f (Ok x) = f x
-and_then f (Err fault) = Err fault
-
--- the steps with all that is said behind them, or the number of the first line that is bad
-abbrev pub steps_from : List Step → List Said → Result (List Step) ℕ
-steps_from before [] = Ok before
-steps_from before (next ∷ others) = and_then (λ steps. steps_from steps others) (with_said before next)
+-- the steps with the one that a line spells
+abbrev pub with_text : ℕ → List ℕ → List Step → Option (List Step)
+with_text number text before = option_and_then (with_step before) (step_of text)
 
 -- the steps of a text, or the number of the first line that is bad
 abbrev pub schedule : List ℕ → Result (List Step) ℕ
-schedule text = steps_from [] (said text)
+schedule text = with_lines with_text [] (said text)
 
 -- the number that a fault gives, none for want of memory
 abbrev pub fault_of : ScheduleFault → Option ℕ
@@ -71,7 +60,14 @@ abbrev pub number_said : Said → ℕ
 number_said (Says number text) = number
 number_said (NoText number) = number
 
--- ---- words by which the code keeps the agents
+-- ---- words by which the code reads
+
+-- the steps with what is said next, or the number of a bad line
+abbrev pub with_said : List Step → Said → Result (List Step) ℕ
+with_said before (Says number text) = ok_or (with_text number text before) number
+with_said before (NoText number) = Err number
+
+-- ---- words by which it keeps the agents
 
 -- one name, two or none
 abbrev pub names_of : Option ℕ × Option ℕ → List ℕ

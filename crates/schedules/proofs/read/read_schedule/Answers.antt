@@ -1,10 +1,11 @@
 use Rattle.std.proofs.Common.{subst, sym, arith}
-use Rattle.schedules.specs.Schedules.{steps_from}
+use Rattle.text_lines.specs.Lines.{with_lines}
+use Rattle.schedules.specs.Schedules.{with_text}
 use Rattle.schedules.proofs.Numbers.{AreSmall, small_numbers}
 use Rattle.schedules.proofs.read.read_schedule.Goals as goal
 
 pub loop-said-init : goal.loop-said-init
 loop-said-init c = record {
-  steps = λ i. steps_from (c.new-draft.ensures i) (c.new-lines.ensures i);
+  steps = λ i. with_lines with_text (c.new-draft.ensures i) (c.new-lines.ensures i);
   small = subst AreSmall (sym c.new-lines.ensures) (small_numbers c.args.text.now (omega (arith, c.requires)));
 }

@@ -1,12 +1,13 @@
 use Rattle.std.proofs.Common.{◌≡◌, length}
-use Rattle.schedules.specs.Schedules.{schedule, steps_from}
+use Rattle.text_lines.specs.Lines.{with_lines}
+use Rattle.schedules.specs.Schedules.{schedule, with_text}
 use Rattle.schedules.proofs.Numbers.{AreSmall}
 use Rattle.schedules.proofs.read.read_schedule.Given as goal
 
 -- what is read and what is still to be said make the schedule
 abbrev pub invariant-loop-said : goal.invariant-loop-said
 invariant-loop-said l = record {
-  steps : steps_from l.draft l.lines ≡ schedule l.text;
+  steps : with_lines with_text l.draft l.lines ≡ schedule l.text;
   small : AreSmall l.lines;
 }
 
