@@ -41,16 +41,14 @@ pub record HasOneSigned (setup : HubConfig) (r : Backed) (sent : Made) : Type 0 
   pub of_login : IsAssertionOf (login_of setup.upstream.entity r) assertion
   pub one : signed_elements (alone sent) ≡ signed peer.key_out assertion ∷ []
 
--- What an answer that stands for a record carries: a Response in which nothing is signed, where the user may not be
--- asked; a request upwards of the record, which is signed for the provider above; or a Response whose one signed
--- element is the Assertion of the record's login.
-pub data Carries (setup : HubConfig) (now : ℕ) (bytes : List ℕ) : HubRecord → Type 0 where
-  ARefusal : (r : HubRecord) (sent : Made) → Sends bytes sent → signed_elements (alone sent) ≡ []
-      → Carries setup now bytes r
-  ARequest : (r : Routed) → IsAskAnswer setup.upstream r.request r.relay now bytes
-      → Carries setup now bytes (kinds.Routed r)
-  ALogin : (r : Backed) (sent : Made) → Sends bytes sent → HasOneSigned setup r sent
-      → Carries setup now bytes (kinds.Backed r)
+module _ (setup : HubConfig) (now : ℕ) (bytes : List ℕ) where
+  -- What an answer that stands for a record carries: a Response in which nothing is signed, where the user may not be
+  -- asked; a request upwards of the record, which is signed for the provider above; or a Response whose one signed
+  -- element is the Assertion of the record's login.
+  pub data Carries : HubRecord → Type 0 where
+    ARefusal : (r : HubRecord) (sent : Made) → Sends bytes sent → signed_elements (alone sent) ≡ [] → Carries r
+    ARequest : (r : Routed) → IsAskAnswer setup.upstream r.request r.relay now bytes → Carries (kinds.Routed r)
+    ALogin : (r : Backed) (sent : Made) → Sends bytes sent → HasOneSigned setup r sent → Carries (kinds.Backed r)
 
 -- So for those below a hub signs nothing but the Assertions of its Backed records.
 abbrev pub EachSignedElementIsOfARecord : Type 0

@@ -97,44 +97,44 @@ IsAnswerFor setup peer r now bytes =
     IsIssuedAnswer Assertion peer.key_out (login_of setup.upstream.entity r) r.message r.consumer r.below_relay None now
     bytes
 
--- What is answered to a request by this ledger at this moment where nothing fails, and the record that is added with
--- it.
-pub data Answers (setup : HubConfig) (held : Held) (request : Request) (now : ℕ) (answer : Answer)
-    (adds : Option HubRecord) : Type 0 where
-  -- there is no such service
-  ByStatus : (status : ℕ) → route request ≡ Refused status → answer ≡ Fixed status → adds ≡ None
-      → Answers setup held request now answer adds
-  -- the metadata, as those below or the one above see the hub: without logout
-  ByMetadata : (role : Role) → route request ≡ To (Metadata role)
-      → answer ≡ Full (plain_metadata_answer role setup.upstream.entity setup.upstream.base) → adds ≡ None
-      → Answers setup held request now answer adds
-  -- a posted form that asks for no login
-  ByRefusal : (verdict : Verdict) → route request ≡ To SignOn
-      → requests.IsRefused setup.peers (sign_on setup) request.body verdict
-      → answer ≡ Fixed (number_of verdict) → adds ≡ None → Answers setup held request now answer adds
-  -- a login is asked for, and the user may not be asked: SAML Core, 3.4.1, IsPassive. The hub knows no user by itself.
-  BySpeaking : (asked : Asked) (peer : LogoutPeer) (message bytes : List ℕ) → AsksFor setup request asked peer
-      → asked.passive ≡ true → adds ≡ Some (spoken_for setup held now (below_of asked peer))
-      → first_id (spoken_for setup held now (below_of asked peer)) ≡ Some message
-      → IsNoPassiveAnswer setup.upstream.entity message asked.request asked.consumer asked.relay now bytes
-      → answer ≡ Full bytes → Answers setup held request now answer adds
-  -- else the provider above is asked: SAML Core, 3.4.1.5
-  ByAsking : (asked : Asked) (peer : LogoutPeer) (r : Routed) (bytes : List ℕ) → AsksFor setup request asked peer
-      → asked.passive ≡ false → routed_for setup held now (below_of asked peer) ≡ kinds.Routed r
-      → adds ≡ Some (kinds.Routed r) → IsAskAnswer setup.upstream r.request r.relay now bytes
-      → answer ≡ Full bytes → Answers setup held request now answer adds
-  -- a posted form that brings no login from above
-  ByVerdict : (verdict : Verdict) → route request ≡ To Consumer
-      → logins.IsRefused setup.upstream (rows_seen (rows_of held.records)) held.header.horizon now request.body verdict
-      → answer ≡ Fixed (number_of verdict) → adds ≡ None → Answers setup held request now answer adds
-  -- it brings one, and the provider below for which it was asked is not known any more
-  ByUnknownPeer : (b : Brought) (asked : AskedRow) → BringsLogin setup held request now b asked
-      → ((row : Route) (peer : LogoutPeer) → ¬ (IsFor setup held now b.login.request row peer))
-      → answer ≡ Fixed (number_of verdicts.UnknownIssuer) → adds ≡ None → Answers setup held request now answer adds
-  -- it brings one, and this is passed on
-  ByPassing : (b : Brought) (asked : AskedRow) (row : Route) (peer : LogoutPeer) (r : Backed) (bytes : List ℕ)
-      → BringsLogin setup held request now b asked → IsFor setup held now b.login.request row peer
-      → backed_for setup held now b row.below ≡ kinds.Backed r → adds ≡ Some (kinds.Backed r)
-      → IsAnswerFor setup peer r now bytes → answer ≡ Full bytes → Answers setup held request now answer adds
+module _ (setup : HubConfig) (held : Held) (request : Request) (now : ℕ) (answer : Answer)
+    (adds : Option HubRecord) where
+  -- What is answered to a request by this ledger at this moment where nothing fails, and the record that is added with
+  -- it.
+  pub data Answers : Type 0 where
+    -- there is no such service
+    ByStatus : (status : ℕ) → route request ≡ Refused status → answer ≡ Fixed status → adds ≡ None → Answers
+    -- the metadata, as those below or the one above see the hub: without logout
+    ByMetadata : (role : Role) → route request ≡ To (Metadata role)
+        → answer ≡ Full (plain_metadata_answer role setup.upstream.entity setup.upstream.base) → adds ≡ None → Answers
+    -- a posted form that asks for no login
+    ByRefusal : (verdict : Verdict) → route request ≡ To SignOn
+        → requests.IsRefused setup.peers (sign_on setup) request.body verdict → answer ≡ Fixed (number_of verdict)
+        → adds ≡ None → Answers
+    -- a login is asked for, and the user may not be asked: SAML Core, 3.4.1, IsPassive. The hub knows no user by
+    -- itself.
+    BySpeaking : (asked : Asked) (peer : LogoutPeer) (message bytes : List ℕ) → AsksFor setup request asked peer
+        → asked.passive ≡ true → adds ≡ Some (spoken_for setup held now (below_of asked peer))
+        → first_id (spoken_for setup held now (below_of asked peer)) ≡ Some message
+        → IsNoPassiveAnswer setup.upstream.entity message asked.request asked.consumer asked.relay now bytes
+        → answer ≡ Full bytes → Answers
+    -- else the provider above is asked: SAML Core, 3.4.1.5
+    ByAsking : (asked : Asked) (peer : LogoutPeer) (r : Routed) (bytes : List ℕ) → AsksFor setup request asked peer
+        → asked.passive ≡ false → routed_for setup held now (below_of asked peer) ≡ kinds.Routed r
+        → adds ≡ Some (kinds.Routed r) → IsAskAnswer setup.upstream r.request r.relay now bytes → answer ≡ Full bytes
+        → Answers
+    -- a posted form that brings no login from above
+    ByVerdict : (verdict : Verdict) → route request ≡ To Consumer
+        → logins.IsRefused setup.upstream (rows_seen (rows_of held.records)) held.header.horizon now request.body
+        verdict → answer ≡ Fixed (number_of verdict) → adds ≡ None → Answers
+    -- it brings one, and the provider below for which it was asked is not known any more
+    ByUnknownPeer : (b : Brought) (asked : AskedRow) → BringsLogin setup held request now b asked
+        → ((row : Route) (peer : LogoutPeer) → ¬ (IsFor setup held now b.login.request row peer))
+        → answer ≡ Fixed (number_of verdicts.UnknownIssuer) → adds ≡ None → Answers
+    -- it brings one, and this is passed on
+    ByPassing : (b : Brought) (asked : AskedRow) (row : Route) (peer : LogoutPeer) (r : Backed) (bytes : List ℕ)
+        → BringsLogin setup held request now b asked → IsFor setup held now b.login.request row peer
+        → backed_for setup held now b row.below ≡ kinds.Backed r → adds ≡ Some (kinds.Backed r)
+        → IsAnswerFor setup peer r now bytes → answer ≡ Full bytes → Answers
 
 -- ---- one request

@@ -32,6 +32,7 @@ use Rattle.idp_answers.specs.Answers.{IsNoPassiveAnswer}
 use Rattle.logout_answers.specs.Answers.{end_answer}
 use Rattle.protocol_messages.specs.declared.logout.LogoutRequest.{LogoutRequest}
 use Rattle.verdict_codes.specs.Codes.{number_of}
+use Rattle.provider_node.proofs.Drafting.{some_is}
 use Rattle.idp_server.specs.declared.reply.Reply.{Reply}
 use Rattle.idp_server.specs.declared.reply.Reply.TheVariants as replies
 use Rattle.idp_server.specs.Replies.{AsksAnew, AsksForAnEnd, AsksInSession, CanBeShown, HasAssertion, HasCookie, HasRefusal, HasRequest, HasResponse, IsIssuable, IsPage, IsTextAsk, IsTold, IsXmlReply, Leaves, LogsIn, Wants, found_record, is_nothing, record_for, refusal_of, turn_of}
@@ -49,12 +50,6 @@ use Rattle.idp_server.proofs.Telling.{asker_xml, asking_answers, asks_all_still,
 -- what an option holds
 the_one : {X : Type 0} (one other : X) (o : Option X) → o ≡ Some one → o ≡ Some other → one ≡ other
 the_one one other o a b = let c : Some one ≡ Some other = sym a ∙ b in cc
-
--- what there is to record
-some_is : (nothing : Bool) (own r : IdpRecord) → (if nothing then None else Some own) ≡ Some r → (nothing ≡ false)
-    × (own ≡ r)
-some_is true own r is = cc
-some_is false own r is = (refl, let same : own ≡ r = cc in same)
 
 not_so : (b : Bool) → not b ≡ false → b ≡ true
 not_so true is = refl

@@ -20,15 +20,14 @@ abbrev pub IsPeer : IdpConfig → List ℕ → LogoutPeer → Type 0
 IsPeer setup entity peer =
     (place : ℕ) × (place_of entity setup.peers ≡ Some place) × (slice_get setup.peers place ≡ Some peer)
 
--- A request to the provider of this name, to end the sessions with these indexes of the user of this name (4.4.3.1 and
--- 4.4.3.3). Where the provider is no peer any more, or has no address for logout, the user is told that the logout is
--- partial.
-pub data IsRequestTo (setup : IdpConfig) (entity id name : List ℕ) (indexes : List (List ℕ)) (now : ℕ)
-    (bytes : List ℕ) : Type 0 where
-  ToPeer : (peer : LogoutPeer) → IsPeer setup entity peer → Leaving peer id setup.entity now name indexes bytes
-      → IsRequestTo setup entity id name indexes now bytes
-  ToNone : place_of entity setup.peers ≡ None → bytes ≡ end_answer true
-      → IsRequestTo setup entity id name indexes now bytes
+module _ (setup : IdpConfig) (entity id name : List ℕ) (indexes : List (List ℕ)) (now : ℕ) (bytes : List ℕ) where
+  -- A request to the provider of this name, to end the sessions with these indexes of the user of this name (4.4.3.1
+  -- and 4.4.3.3). Where the provider is no peer any more, or has no address for logout, the user is told that the
+  -- logout is partial.
+  pub data IsRequestTo : Type 0 where
+    ToPeer : (peer : LogoutPeer) → IsPeer setup entity peer → Leaving peer id setup.entity now name indexes bytes
+        → IsRequestTo
+    ToNone : place_of entity setup.peers ≡ None → bytes ≡ end_answer true → IsRequestTo
 
 -- the answer to a user of this name who leaves the session with this index: a request to the peer of the record
 abbrev pub IsLeavingAnswer : IdpConfig → Left → (user index : List ℕ) → (now : ℕ) → (bytes : List ℕ) → Type 0
@@ -49,23 +48,20 @@ abbrev pub is_known : IdpConfig → Option Asker → Bool
 is_known setup None = false
 is_known setup (Some asker) = is_some (place_of asker.peer setup.peers)
 
--- The answer at the end of a round, of which each provider confirmed, or not: a response with this message to the one
--- that asked, with its relay (4.4.3.4); where none did, or it can't be told, the user is shown how the logout ended.
-pub data IsRoundEnd (setup : IdpConfig) (message : List ℕ) (asked : Option Asker) (partial : Bool) (now : ℕ)
-    (bytes : List ℕ) : Type 0 where
-  ToAsker : (asker : Asker) (peer : LogoutPeer) → asked ≡ Some asker → IsPeer setup asker.peer peer
-      → Ending peer message setup.entity now asker.request partial asker.relay bytes
-      → IsRoundEnd setup message asked partial now bytes
-  ToUser : is_known setup asked ≡ false → bytes ≡ end_answer partial → IsRoundEnd setup message asked partial now bytes
+module _ (setup : IdpConfig) (message : List ℕ) (asked : Option Asker) (partial : Bool) (now : ℕ) (bytes : List ℕ) where
+  -- The answer at the end of a round, of which each provider confirmed, or not: a response with this message to the one
+  -- that asked, with its relay (4.4.3.4); where none did, or it can't be told, the user is shown how the logout ended.
+  pub data IsRoundEnd : Type 0 where
+    ToAsker : (asker : Asker) (peer : LogoutPeer) → asked ≡ Some asker → IsPeer setup asker.peer peer
+        → Ending peer message setup.entity now asker.request partial asker.relay bytes → IsRoundEnd
+    ToUser : is_known setup asked ≡ false → bytes ≡ end_answer partial → IsRoundEnd
 
--- The answer to a provider that answered in a round, and confirmed or not: a request to the provider of the next turn
--- while one is left, then the end of the round.
-pub data IsToldAnswer (setup : IdpConfig) (row : RoundRow) (confirms : Bool) (r : Told) (now : ℕ)
-    (bytes : List ℕ) : Type 0 where
-  AsksNext : (place : ℕ) (turn : Turn) (id : List ℕ) → next_in row confirms ≡ Ask place
-      → slice_get row.turns place ≡ Some turn
-      → r.next ≡ Some id → IsRequestTo setup turn.peer id turn.name turn.indexes now bytes
-      → IsToldAnswer setup row confirms r now bytes
-  EndsRound : (partial : Bool) → next_in row confirms ≡ Done partial
-      → IsRoundEnd setup row.message row.asker partial now bytes
-      → IsToldAnswer setup row confirms r now bytes
+module _ (setup : IdpConfig) (row : RoundRow) (confirms : Bool) (r : Told) (now : ℕ) (bytes : List ℕ) where
+  -- The answer to a provider that answered in a round, and confirmed or not: a request to the provider of the next turn
+  -- while one is left, then the end of the round.
+  pub data IsToldAnswer : Type 0 where
+    AsksNext : (place : ℕ) (turn : Turn) (id : List ℕ) → next_in row confirms ≡ Ask place
+        → slice_get row.turns place ≡ Some turn → r.next ≡ Some id
+        → IsRequestTo setup turn.peer id turn.name turn.indexes now bytes → IsToldAnswer
+    EndsRound : (partial : Bool) → next_in row confirms ≡ Done partial
+        → IsRoundEnd setup row.message row.asker partial now bytes → IsToldAnswer

@@ -40,55 +40,49 @@ abbrev pub Waits : Held → Told → RoundRow → Type 0
 Waits held r row =
     (peer : List ℕ) × (turn_found (rows_of held.records).rounds r.request peer r.moment held.header.horizon ≡ Some row)
 
--- An element that is signed for a record, before it is signed, and the key: the Assertion of an Issued where the mode
--- signs it; the Response that carries this, where the mode signs that; the LogoutRequest of a Left for the user and the
--- index of the session that was left, which lived in the ledger under the record's cookie at its moment, and the
--- LogoutResponse of an Ended, where the peer has an address for logout; all with the key of what is sent to the
--- record's peer. A Round stands for the LogoutRequest to the provider of its first turn, and a Told, which answers the
--- round that waits for it, for the one to the provider of the next turn, or where none is left for the LogoutResponse
--- to the provider that asked for the logout; each where that provider is a peer with an address for logout, and with
--- the key of what is sent to it. No other record stands for a signed element: the Response of a Spoke is not signed.
-pub data IsSignedFor (setup : IdpConfig) (held : Held) : IdpRecord → (key : List ℕ) → Made → Type 0 where
-  AnAssertion : (r : Issued) (peer : LogoutPeer) (made : Made) → IsPeer setup r.peer peer
-      → signs_assertion setup.mode ≡ true
-      → IsAssertionOf (login_of setup.entity r) made → IsSignedFor setup held (kinds.Issued r) peer.key_out made
-  AResponse : (r : Issued) (peer : LogoutPeer) (assertion made : Made) → IsPeer setup r.peer peer
-      → signs_response setup.mode ≡ true
-      → IsAssertionOf (login_of setup.entity r) assertion
-      → IsMadeAt r.moment (response r.message setup.entity r.consumer r.request
-      (Some (signed_assertion setup.mode peer.key_out assertion))) made
-      → IsSignedFor setup held (kinds.Issued r) peer.key_out made
-  ARequest : (r : Left) (peer : LogoutPeer) (row : SessionRow) (address : List ℕ) (made : Made)
-      → IsPeer setup r.peer peer → peer.peer.logout ≡ Some address
-      → session_found (rows_of held.records).sessions r.cookie r.moment held.header.horizon ≡ Some row
-      → IsMadeFrom r.moment (request_end r.moment) (logout_request r.request setup.entity address row.user
-      (row.index ∷ [])) made
-      → IsSignedFor setup held (kinds.Left r) peer.key_out made
-  AReply : (r : Ended) (peer : LogoutPeer) (address : List ℕ) (made : Made) → IsPeer setup r.peer peer
-      → peer.peer.logout ≡ Some address
-      → IsMadeAt r.moment (logged_out r.message setup.entity address r.request
-      (if r.partial then failed partial_logout else succeeded)) made
-      → IsSignedFor setup held (kinds.Ended r) peer.key_out made
-  AFirstRequest : (r : Round) (turn : Turn) (peer : LogoutPeer) (address : List ℕ) (made : Made)
-      → slice_get r.turns 0 ≡ Some turn
-      → IsPeer setup turn.peer peer → peer.peer.logout ≡ Some address
-      → IsMadeFrom r.moment (request_end r.moment) (logout_request r.request setup.entity address turn.name
-      turn.indexes) made
-      → IsSignedFor setup held (kinds.Round r) peer.key_out made
-  ANextRequest : (r : Told) (row : RoundRow) (place : ℕ) (turn : Turn) (id : List ℕ) (peer : LogoutPeer)
-      (address : List ℕ) (made : Made)
-      → Waits held r row → next_in row r.confirmed ≡ Ask place → slice_get row.turns place ≡ Some turn
-      → r.next ≡ Some id
-      → IsPeer setup turn.peer peer → peer.peer.logout ≡ Some address
-      → IsMadeFrom r.moment (request_end r.moment) (logout_request id setup.entity address turn.name turn.indexes) made
-      → IsSignedFor setup held (kinds.Told r) peer.key_out made
-  ALastReply : (r : Told) (row : RoundRow) (partial : Bool) (asker : Asker) (peer : LogoutPeer) (address : List ℕ)
-      (made : Made)
-      → Waits held r row → next_in row r.confirmed ≡ Done partial → row.asker ≡ Some asker
-      → IsPeer setup asker.peer peer → peer.peer.logout ≡ Some address
-      → IsMadeAt r.moment (logged_out row.message setup.entity address asker.request
-      (if partial then failed partial_logout else succeeded)) made
-      → IsSignedFor setup held (kinds.Told r) peer.key_out made
+module _ (setup : IdpConfig) (held : Held) where
+  -- An element that is signed for a record, before it is signed, and the key: the Assertion of an Issued where the mode
+  -- signs it; the Response that carries this, where the mode signs that; the LogoutRequest of a Left for the user and
+  -- the index of the session that was left, which lived in the ledger under the record's cookie at its moment, and the
+  -- LogoutResponse of an Ended, where the peer has an address for logout; all with the key of what is sent to the
+  -- record's peer. A Round stands for the LogoutRequest to the provider of its first turn, and a Told, which answers
+  -- the round that waits for it, for the one to the provider of the next turn, or where none is left for the
+  -- LogoutResponse to the provider that asked for the logout; each where that provider is a peer with an address for
+  -- logout, and with the key of what is sent to it. No other record stands for a signed element: the Response of a
+  -- Spoke is not signed.
+  pub data IsSignedFor : IdpRecord → (key : List ℕ) → Made → Type 0 where
+    AnAssertion : (r : Issued) (peer : LogoutPeer) (made : Made) → IsPeer setup r.peer peer
+        → signs_assertion setup.mode ≡ true → IsAssertionOf (login_of setup.entity r) made
+        → IsSignedFor (kinds.Issued r) peer.key_out made
+    AResponse : (r : Issued) (peer : LogoutPeer) (assertion made : Made) → IsPeer setup r.peer peer
+        → signs_response setup.mode ≡ true → IsAssertionOf (login_of setup.entity r) assertion
+        → IsMadeAt r.moment (response r.message setup.entity r.consumer r.request
+        (Some (signed_assertion setup.mode peer.key_out assertion))) made
+        → IsSignedFor (kinds.Issued r) peer.key_out made
+    ARequest : (r : Left) (peer : LogoutPeer) (row : SessionRow) (address : List ℕ) (made : Made)
+        → IsPeer setup r.peer peer → peer.peer.logout ≡ Some address
+        → session_found (rows_of held.records).sessions r.cookie r.moment held.header.horizon ≡ Some row
+        → IsMadeFrom r.moment (request_end r.moment) (logout_request r.request setup.entity address row.user
+        (row.index ∷ [])) made → IsSignedFor (kinds.Left r) peer.key_out made
+    AReply : (r : Ended) (peer : LogoutPeer) (address : List ℕ) (made : Made) → IsPeer setup r.peer peer
+        → peer.peer.logout ≡ Some address
+        → IsMadeAt r.moment (logged_out r.message setup.entity address r.request
+        (if r.partial then failed partial_logout else succeeded)) made → IsSignedFor (kinds.Ended r) peer.key_out made
+    AFirstRequest : (r : Round) (turn : Turn) (peer : LogoutPeer) (address : List ℕ) (made : Made)
+        → slice_get r.turns 0 ≡ Some turn → IsPeer setup turn.peer peer → peer.peer.logout ≡ Some address
+        → IsMadeFrom r.moment (request_end r.moment) (logout_request r.request setup.entity address turn.name
+        turn.indexes) made → IsSignedFor (kinds.Round r) peer.key_out made
+    ANextRequest : (r : Told) (row : RoundRow) (place : ℕ) (turn : Turn) (id : List ℕ) (peer : LogoutPeer)
+        (address : List ℕ) (made : Made) → Waits held r row → next_in row r.confirmed ≡ Ask place
+        → slice_get row.turns place ≡ Some turn → r.next ≡ Some id → IsPeer setup turn.peer peer
+        → peer.peer.logout ≡ Some address
+        → IsMadeFrom r.moment (request_end r.moment) (logout_request id setup.entity address turn.name turn.indexes)
+        made → IsSignedFor (kinds.Told r) peer.key_out made
+    ALastReply : (r : Told) (row : RoundRow) (partial : Bool) (asker : Asker) (peer : LogoutPeer) (address : List ℕ)
+        (made : Made) → Waits held r row → next_in row r.confirmed ≡ Done partial → row.asker ≡ Some asker
+        → IsPeer setup asker.peer peer → peer.peer.logout ≡ Some address
+        → IsMadeAt r.moment (logged_out row.message setup.entity address asker.request
+        (if partial then failed partial_logout else succeeded)) made → IsSignedFor (kinds.Told r) peer.key_out made
 
 -- the element is one of these with its Signature
 pub record IsSignedOf (setup : IdpConfig) (held : Held) (r : IdpRecord) (element : Made) : Type 0 where
@@ -111,15 +105,16 @@ pub record SendsOn (bytes : List ℕ) (sent : Made) : Type 0 where
   pub relay : Option (List ℕ)
   pub is : bytes ≡ answer 200 None None (auto_form address field (written sent) relay)
 
--- what an answer that stands for a record over a ledger carries: the page where the user logs in, a Response or a
--- message of a logout whose signed elements are all of the record, or the page at the end of a logout
-pub data Carries (setup : IdpConfig) (held : Held) (r : IdpRecord) (bytes : List ℕ) : Type 0 where
-  AQuestion : (id : List ℕ) → bytes ≡ login_answer id → Carries setup held r bytes
-  AForm : (sent : Made) → Sends bytes sent → AllByRecursion (IsSignedOf setup held r) (signed_elements (alone sent))
-      → Carries setup held r bytes
-  ALogout : (sent : Made) → SendsOn bytes sent → AllByRecursion (IsSignedOf setup held r) (signed_elements (alone sent))
-      → Carries setup held r bytes
-  AnEnd : (partial : Bool) → bytes ≡ end_answer partial → Carries setup held r bytes
+module _ (setup : IdpConfig) (held : Held) (r : IdpRecord) (bytes : List ℕ) where
+  -- what an answer that stands for a record over a ledger carries: the page where the user logs in, a Response or a
+  -- message of a logout whose signed elements are all of the record, or the page at the end of a logout
+  pub data Carries : Type 0 where
+    AQuestion : (id : List ℕ) → bytes ≡ login_answer id → Carries
+    AForm : (sent : Made) → Sends bytes sent → AllByRecursion (IsSignedOf setup held r) (signed_elements (alone sent))
+        → Carries
+    ALogout : (sent : Made) → SendsOn bytes sent
+        → AllByRecursion (IsSignedOf setup held r) (signed_elements (alone sent)) → Carries
+    AnEnd : (partial : Bool) → bytes ≡ end_answer partial → Carries
 
 abbrev pub EachSignedElementIsOfARecord : Type 0
 EachSignedElementIsOfARecord =

@@ -144,128 +144,113 @@ abbrev pub IsAnswerFor : IdpConfig → LogoutPeer → Issued → (cookie : Optio
 IsAnswerFor setup peer r cookie now bytes =
     IsIssuedAnswer setup.mode peer.key_out (login_of setup.entity r) r.message r.consumer r.relay cookie now bytes
 
--- What is answered to a request by this ledger at this moment where nothing fails, and the record that is added with
--- it.
-pub data Answers (setup : IdpConfig) (held : Held) (request : Request) (now : ℕ) (answer : Answer)
-    (adds : Option IdpRecord) : Type 0 where
-  -- there is no such service
-  ByStatus : (status : ℕ) → route request ≡ Refused status → answer ≡ Fixed status → adds ≡ None
-      → Answers setup held request now answer adds
-  -- the metadata
-  ByMetadata : route request ≡ To Metadata → answer ≡ Full (metadata_answer setup.entity setup.base) → adds ≡ None
-      → Answers setup held request now answer adds
-  -- a posted form that asks for no login
-  ByVerdict : (verdict : Verdict) → route request ≡ To SignOn
-      → IsRefused setup.peers (sign_on setup) request.body verdict
-      → answer ≡ Fixed (number_of verdict) → adds ≡ None → Answers setup held request now answer adds
-  -- a login is asked for, and the user has a live session: an Assertion is issued in it
-  ByIssuing : (asked : Asked) (peer : LogoutPeer) (row : SessionRow) (r : Issued) (bytes : List ℕ)
-      → route request ≡ To SignOn
-      → IsAsked setup.peers (sign_on setup) request.body asked → slice_get setup.peers asked.peer ≡ Some peer
-      → session_used asked (session_for held now request) ≡ Some row
-      → issue setup.id_key (next_number held) now row (ask_of asked peer) ≡ kinds.Issued r
-      → adds ≡ Some (kinds.Issued r)
-      → IsAnswerFor setup peer r None now bytes → answer ≡ Full bytes → Answers setup held request now answer adds
-  -- there is none, and the user may not be asked: SAML Core, 3.4.1, IsPassive
-  ByPassive : (asked : Asked) (peer : LogoutPeer) (message bytes : List ℕ) → route request ≡ To SignOn
-      → IsAsked setup.peers (sign_on setup) request.body asked → slice_get setup.peers asked.peer ≡ Some peer
-      → session_used asked (session_for held now request) ≡ None → asked.passive ≡ true
-      → adds ≡ Some (spoke setup.id_key (next_number held) now (ask_of asked peer))
-      → first_id (spoke setup.id_key (next_number held) now (ask_of asked peer)) ≡ Some message
-      → IsNoPassiveAnswer setup.entity message asked.request asked.consumer asked.relay now bytes → answer ≡ Full bytes
-      → Answers setup held request now answer adds
-  -- there is none, and the user is asked for a password
-  ByAsking : (asked : Asked) (peer : LogoutPeer) (id : List ℕ) → route request ≡ To SignOn
-      → IsAsked setup.peers (sign_on setup) request.body asked → slice_get setup.peers asked.peer ≡ Some peer
-      → session_used asked (session_for held now request) ≡ None → asked.passive ≡ false
-      → adds ≡ Some (pending setup.id_key (next_number held) now (ask_of asked peer))
-      → first_id (pending setup.id_key (next_number held) now (ask_of asked peer)) ≡ Some id
-      → answer ≡ Full (login_answer id) → Answers setup held request now answer adds
-  -- what is posted is not the page of a login
-  ByFields : route request ≡ To Login → typed request.body ≡ None → answer ≡ Fixed (number_of verdicts.BadForm)
-      → adds ≡ None
-      → Answers setup held request now answer adds
-  -- no such login is pending, or its peer is not known any more
-  ByNoPending : (t : Typed) → route request ≡ To Login → typed request.body ≡ Some t
-      → ((row : PendingRow) (peer : LogoutPeer) → ¬ (IsPending setup held now t.pending row peer))
-      → answer ≡ Fixed (number_of verdicts.NoSuchPending) → adds ≡ None → Answers setup held request now answer adds
-  -- no user has this name and this password
-  ByPassword : (t : Typed) (row : PendingRow) (peer : LogoutPeer) → route request ≡ To Login
-      → typed request.body ≡ Some t
-      → IsPending setup held now t.pending row peer → checked setup.users t.user t.password ≡ None
-      → answer ≡ Fixed (number_of verdicts.LoginRefused) → adds ≡ None → Answers setup held request now answer adds
-  -- a user logs in: a session begins, and an Assertion is issued in it
-  ByLogin : (t : Typed) (row : PendingRow) (peer : LogoutPeer) (user : User) (r : Issued) (bytes : List ℕ)
-      → route request ≡ To Login
-      → typed request.body ≡ Some t → IsPending setup held now t.pending row peer
-      → checked setup.users t.user t.password ≡ Some user
-      → login setup.id_key (next_number held) now row user.name user.attributes ≡ kinds.Issued r
-      → adds ≡ Some (kinds.Issued r)
-      → IsAnswerFor setup peer r (Some r.cookie) now bytes → answer ≡ Full bytes
-      → Answers setup held request now answer adds
-  -- a user leaves who has no live session
-  ByNoSession : route request ≡ To Logout → session_for held now request ≡ None
-      → answer ≡ Fixed (number_of verdicts.NoSuchSession) → adds ≡ None
-      → Answers setup held request now answer adds
-  -- a user leaves, and the session ends: nobody else is asked, or only the peer to which its last Assertion went
-  ByLeaving : (row : SessionRow) (r : Left) (bytes : List ℕ) → route request ≡ To Logout
-      → session_for held now request ≡ Some row
-      → asks_others setup held None (row.cookie ∷ []) ≡ false
-      → left_by setup.id_key held now row.cookie ≡ kinds.Left r → adds ≡ Some (kinds.Left r)
-      → IsLeavingAnswer setup r row.user row.index now bytes
-      → answer ≡ Full bytes → Answers setup held request now answer adds
-  -- a user leaves, the session ends, and each provider that it was used for is asked
-  ByLeavingAll : (row : SessionRow) (r : Round) (bytes : List ℕ) → route request ≡ To Logout
-      → session_for held now request ≡ Some row
-      → asks_others setup held None (row.cookie ∷ []) ≡ true
-      → round_by setup held now None (row.cookie ∷ []) ≡ kinds.Round r → adds ≡ Some (kinds.Round r)
-      → AsksFirst setup r now bytes
-      → answer ≡ Full bytes → Answers setup held request now answer adds
-  -- a posted form neither asks nor replies anything of a logout
-  ByLogoutVerdict : (verdict : Verdict) → route request ≡ To SingleLogout → IsNotObeyed setup now request.body verdict
-      → answer ≡ Fixed (number_of verdict) → adds ≡ None → Answers setup held request now answer adds
-  -- a peer asks to end sessions, and there are none of these
-  ByNothingToEnd : (asked : LogoutRequest) (peer : LogoutPeer) (relay : Option (List ℕ))
-      → route request ≡ To SingleLogout
-      → AsksToEnd setup request now asked peer relay → is_empty (ending_by held now peer.peer.entity asked) ≡ true
-      → answer ≡ Fixed (number_of verdicts.NoSuchSession) → adds ≡ None → Answers setup held request now answer adds
-  -- there are, and they end, and nobody else is asked
-  ByEnding : (asked : LogoutRequest) (peer : LogoutPeer) (relay : Option (List ℕ)) (r : Ended) (bytes : List ℕ)
-      → route request ≡ To SingleLogout
-      → AsksToEnd setup request now asked peer relay → is_empty (ending_by held now peer.peer.entity asked) ≡ false
-      → asks_others setup held (Some (asker_of peer asked relay)) (ending_by held now peer.peer.entity asked) ≡ false
-      → ended_by setup.id_key held now peer.peer.entity asked ≡ kinds.Ended r → adds ≡ Some (kinds.Ended r)
-      → IsEndingAnswer setup peer r relay now bytes
-      → answer ≡ Full bytes → Answers setup held request now answer adds
-  -- there are, they end, and each other provider that they were used for is asked
-  ByEndingAll : (asked : LogoutRequest) (peer : LogoutPeer) (relay : Option (List ℕ)) (r : Round) (bytes : List ℕ)
-      → route request ≡ To SingleLogout → AsksToEnd setup request now asked peer relay
-      → is_empty (ending_by held now peer.peer.entity asked) ≡ false
-      → asks_others setup held (Some (asker_of peer asked relay)) (ending_by held now peer.peer.entity asked) ≡ true
-      → round_by setup held now (Some (asker_of peer asked relay))
-      (ending_by held now peer.peer.entity asked) ≡ kinds.Round r
-      → adds ≡ Some (kinds.Round r) → AsksFirst setup r now bytes → answer ≡ Full bytes
-      → Answers setup held request now answer adds
-  -- the provider replies whose turn it is in a round: the next one is asked, or the round ends
-  ByTold : (response : LogoutResponse) (peer : LogoutPeer) (row : RoundRow) (r : Told) (bytes : List ℕ)
-      → route request ≡ To SingleLogout
-      → RepliesTo setup request now response peer → round_waiting setup held now response.request
-      peer.peer.entity ≡ Some row
-      → told_by setup held now response.request (not (is_in_part response.outcome)) row ≡ kinds.Told r
-      → adds ≡ Some (kinds.Told r)
-      → IsToldAnswer setup row (not (is_in_part response.outcome)) r now bytes → answer ≡ Full bytes
-      → Answers setup held request now answer adds
-  -- a peer replies to a logout that does not wait for a reply
-  ByUnknownLogout : (response : LogoutResponse) (peer : LogoutPeer) → route request ≡ To SingleLogout
-      → RepliesTo setup request now response peer → round_waiting setup held now response.request
-      peer.peer.entity ≡ None
-      → is_awaited held now response.request ≡ false → answer ≡ Fixed (number_of verdicts.UnknownLogout) → adds ≡ None
-      → Answers setup held request now answer adds
-  -- it does, and the logout is over
-  ByConfirming : (response : LogoutResponse) (peer : LogoutPeer) → route request ≡ To SingleLogout
-      → RepliesTo setup request now response peer → round_waiting setup held now response.request
-      peer.peer.entity ≡ None
-      → is_awaited held now response.request ≡ true → adds ≡ Some (confirmed now response.request)
-      → answer ≡ Full (end_answer (is_in_part response.outcome)) → Answers setup held request now answer adds
+module _ (setup : IdpConfig) (held : Held) (request : Request) (now : ℕ) (answer : Answer)
+    (adds : Option IdpRecord) where
+  -- What is answered to a request by this ledger at this moment where nothing fails, and the record that is added with
+  -- it.
+  pub data Answers : Type 0 where
+    -- there is no such service
+    ByStatus : (status : ℕ) → route request ≡ Refused status → answer ≡ Fixed status → adds ≡ None → Answers
+    -- the metadata
+    ByMetadata : route request ≡ To Metadata → answer ≡ Full (metadata_answer setup.entity setup.base) → adds ≡ None
+        → Answers
+    -- a posted form that asks for no login
+    ByVerdict : (verdict : Verdict) → route request ≡ To SignOn
+        → IsRefused setup.peers (sign_on setup) request.body verdict → answer ≡ Fixed (number_of verdict) → adds ≡ None
+        → Answers
+    -- a login is asked for, and the user has a live session: an Assertion is issued in it
+    ByIssuing : (asked : Asked) (peer : LogoutPeer) (row : SessionRow) (r : Issued) (bytes : List ℕ)
+        → route request ≡ To SignOn → IsAsked setup.peers (sign_on setup) request.body asked
+        → slice_get setup.peers asked.peer ≡ Some peer → session_used asked (session_for held now request) ≡ Some row
+        → issue setup.id_key (next_number held) now row (ask_of asked peer) ≡ kinds.Issued r
+        → adds ≡ Some (kinds.Issued r) → IsAnswerFor setup peer r None now bytes → answer ≡ Full bytes → Answers
+    -- there is none, and the user may not be asked: SAML Core, 3.4.1, IsPassive
+    ByPassive : (asked : Asked) (peer : LogoutPeer) (message bytes : List ℕ) → route request ≡ To SignOn
+        → IsAsked setup.peers (sign_on setup) request.body asked → slice_get setup.peers asked.peer ≡ Some peer
+        → session_used asked (session_for held now request) ≡ None → asked.passive ≡ true
+        → adds ≡ Some (spoke setup.id_key (next_number held) now (ask_of asked peer))
+        → first_id (spoke setup.id_key (next_number held) now (ask_of asked peer)) ≡ Some message
+        → IsNoPassiveAnswer setup.entity message asked.request asked.consumer asked.relay now bytes
+        → answer ≡ Full bytes → Answers
+    -- there is none, and the user is asked for a password
+    ByAsking : (asked : Asked) (peer : LogoutPeer) (id : List ℕ) → route request ≡ To SignOn
+        → IsAsked setup.peers (sign_on setup) request.body asked → slice_get setup.peers asked.peer ≡ Some peer
+        → session_used asked (session_for held now request) ≡ None → asked.passive ≡ false
+        → adds ≡ Some (pending setup.id_key (next_number held) now (ask_of asked peer))
+        → first_id (pending setup.id_key (next_number held) now (ask_of asked peer)) ≡ Some id
+        → answer ≡ Full (login_answer id) → Answers
+    -- what is posted is not the page of a login
+    ByFields : route request ≡ To Login → typed request.body ≡ None → answer ≡ Fixed (number_of verdicts.BadForm)
+        → adds ≡ None → Answers
+    -- no such login is pending, or its peer is not known any more
+    ByNoPending : (t : Typed) → route request ≡ To Login → typed request.body ≡ Some t
+        → ((row : PendingRow) (peer : LogoutPeer) → ¬ (IsPending setup held now t.pending row peer))
+        → answer ≡ Fixed (number_of verdicts.NoSuchPending) → adds ≡ None → Answers
+    -- no user has this name and this password
+    ByPassword : (t : Typed) (row : PendingRow) (peer : LogoutPeer) → route request ≡ To Login
+        → typed request.body ≡ Some t → IsPending setup held now t.pending row peer
+        → checked setup.users t.user t.password ≡ None → answer ≡ Fixed (number_of verdicts.LoginRefused) → adds ≡ None
+        → Answers
+    -- a user logs in: a session begins, and an Assertion is issued in it
+    ByLogin : (t : Typed) (row : PendingRow) (peer : LogoutPeer) (user : User) (r : Issued) (bytes : List ℕ)
+        → route request ≡ To Login → typed request.body ≡ Some t → IsPending setup held now t.pending row peer
+        → checked setup.users t.user t.password ≡ Some user
+        → login setup.id_key (next_number held) now row user.name user.attributes ≡ kinds.Issued r
+        → adds ≡ Some (kinds.Issued r) → IsAnswerFor setup peer r (Some r.cookie) now bytes → answer ≡ Full bytes
+        → Answers
+    -- a user leaves who has no live session
+    ByNoSession : route request ≡ To Logout → session_for held now request ≡ None
+        → answer ≡ Fixed (number_of verdicts.NoSuchSession) → adds ≡ None → Answers
+    -- a user leaves, and the session ends: nobody else is asked, or only the peer to which its last Assertion went
+    ByLeaving : (row : SessionRow) (r : Left) (bytes : List ℕ) → route request ≡ To Logout
+        → session_for held now request ≡ Some row → asks_others setup held None (row.cookie ∷ []) ≡ false
+        → left_by setup.id_key held now row.cookie ≡ kinds.Left r → adds ≡ Some (kinds.Left r)
+        → IsLeavingAnswer setup r row.user row.index now bytes → answer ≡ Full bytes → Answers
+    -- a user leaves, the session ends, and each provider that it was used for is asked
+    ByLeavingAll : (row : SessionRow) (r : Round) (bytes : List ℕ) → route request ≡ To Logout
+        → session_for held now request ≡ Some row → asks_others setup held None (row.cookie ∷ []) ≡ true
+        → round_by setup held now None (row.cookie ∷ []) ≡ kinds.Round r → adds ≡ Some (kinds.Round r)
+        → AsksFirst setup r now bytes → answer ≡ Full bytes → Answers
+    -- a posted form neither asks nor replies anything of a logout
+    ByLogoutVerdict : (verdict : Verdict) → route request ≡ To SingleLogout → IsNotObeyed setup now request.body verdict
+        → answer ≡ Fixed (number_of verdict) → adds ≡ None → Answers
+    -- a peer asks to end sessions, and there are none of these
+    ByNothingToEnd : (asked : LogoutRequest) (peer : LogoutPeer) (relay : Option (List ℕ))
+        → route request ≡ To SingleLogout → AsksToEnd setup request now asked peer relay
+        → is_empty (ending_by held now peer.peer.entity asked) ≡ true
+        → answer ≡ Fixed (number_of verdicts.NoSuchSession) → adds ≡ None → Answers
+    -- there are, and they end, and nobody else is asked
+    ByEnding : (asked : LogoutRequest) (peer : LogoutPeer) (relay : Option (List ℕ)) (r : Ended) (bytes : List ℕ)
+        → route request ≡ To SingleLogout → AsksToEnd setup request now asked peer relay
+        → is_empty (ending_by held now peer.peer.entity asked) ≡ false
+        → asks_others setup held (Some (asker_of peer asked relay)) (ending_by held now peer.peer.entity asked) ≡ false
+        → ended_by setup.id_key held now peer.peer.entity asked ≡ kinds.Ended r → adds ≡ Some (kinds.Ended r)
+        → IsEndingAnswer setup peer r relay now bytes → answer ≡ Full bytes → Answers
+    -- there are, they end, and each other provider that they were used for is asked
+    ByEndingAll : (asked : LogoutRequest) (peer : LogoutPeer) (relay : Option (List ℕ)) (r : Round) (bytes : List ℕ)
+        → route request ≡ To SingleLogout → AsksToEnd setup request now asked peer relay
+        → is_empty (ending_by held now peer.peer.entity asked) ≡ false
+        → asks_others setup held (Some (asker_of peer asked relay)) (ending_by held now peer.peer.entity asked) ≡ true
+        → round_by setup held now (Some (asker_of peer asked relay)) (ending_by held now peer.peer.entity asked)
+        ≡ kinds.Round r → adds ≡ Some (kinds.Round r) → AsksFirst setup r now bytes → answer ≡ Full bytes → Answers
+    -- the provider replies whose turn it is in a round: the next one is asked, or the round ends
+    ByTold : (response : LogoutResponse) (peer : LogoutPeer) (row : RoundRow) (r : Told) (bytes : List ℕ)
+        → route request ≡ To SingleLogout → RepliesTo setup request now response peer
+        → round_waiting setup held now response.request peer.peer.entity ≡ Some row
+        → told_by setup held now response.request (not (is_in_part response.outcome)) row ≡ kinds.Told r
+        → adds ≡ Some (kinds.Told r) → IsToldAnswer setup row (not (is_in_part response.outcome)) r now bytes
+        → answer ≡ Full bytes → Answers
+    -- a peer replies to a logout that does not wait for a reply
+    ByUnknownLogout : (response : LogoutResponse) (peer : LogoutPeer) → route request ≡ To SingleLogout
+        → RepliesTo setup request now response peer
+        → round_waiting setup held now response.request peer.peer.entity ≡ None
+        → is_awaited held now response.request ≡ false → answer ≡ Fixed (number_of verdicts.UnknownLogout) → adds ≡ None
+        → Answers
+    -- it does, and the logout is over
+    ByConfirming : (response : LogoutResponse) (peer : LogoutPeer) → route request ≡ To SingleLogout
+        → RepliesTo setup request now response peer
+        → round_waiting setup held now response.request peer.peer.entity ≡ None
+        → is_awaited held now response.request ≡ true → adds ≡ Some (confirmed now response.request)
+        → answer ≡ Full (end_answer (is_in_part response.outcome)) → Answers
 
 -- ---- one request

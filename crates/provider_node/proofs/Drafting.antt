@@ -1,6 +1,6 @@
 -- What a draft call of a ledger says, in the words of a step.
 use Rattle.std.specs.Prelude.{Result, Ok, Err}
-use Rattle.std.proofs.Common.{◌≡◌, Bool, true, false, Option, None, Some, sym, subst, ap, ◌∙◌}
+use Rattle.std.proofs.Common.{◌≡◌, Bool, true, false, if◌then◌else◌, Option, None, Some, refl, sym, subst, ap, ◌∙◌}
 use Rattle.ledger_rules.specs.declared.fault.DraftFault.{DraftFault}
 use Rattle.ledger_rules.specs.declared.fault.DraftFault.TheVariants.{LedgerFull, JournalFull, NoMemory}
 use Rattle.record_ledger.specs.Rules.{RecordRules, RowRules}
@@ -9,6 +9,12 @@ use Rattle.record_ledger.specs.Drafts.{DraftsSome, IsCause, IsDraftOf, SameLedge
 use Rattle.provider_node.specs.Drafted.{drafted_of}
 use Rattle.provider_node.specs.Replies.{IsDrafted}
 use Rattle.provider_node.specs.Step.{HasPlace, seen}
+
+-- what there is to record, where there may be nothing
+pub some_is : {R : Type 0} (nothing : Bool) (own r : R) → (if nothing then None else Some own) ≡ Some r → (nothing ≡ false)
+    × (own ≡ r)
+some_is true own r is = cc
+some_is false own r is = (refl, let same : own ≡ r = cc in same)
 
 -- a step sees the same ledger
 pub seen_same : {R S : Type 0} (old new : OpenedLedger R S) → SameLedger old new → seen new ≡ seen old

@@ -15,7 +15,7 @@ use Rattle.sp_answers.specs.Answers.{opened_answer}
 use Rattle.sp_rules.specs.declared.accepted.Accepted.{Accepted}
 use Rattle.sp_rules.specs.Shown.{session_of}
 use Rattle.sp_server.specs.Replies.{IsOpeningAnswer, OpensSession}
-use Rattle.sp_server.specs.Step.{Setup, Answers, ByOpening, HasToken}
+use Rattle.sp_server.specs.Step.{Setup, Answers, ByOpening, HasId}
 use Rattle.sp_server.proofs.Alike.{opening_alike}
 
 -- the answer with the session that a form opens
@@ -30,7 +30,7 @@ opens_own setup held request now accepted bytes may page =
     (next_number held) now (session_of setup.config now b.key.number b.login) =
     ap (λ (s : NewSession). opened setup.config.id_key (next_number held) now s) may.opens.is.session in
     ByOpening b may.opens.asked may.to may.unexpired may.opens.opens page.token (ap Some r)
-    (subst (λ (x : SpRecord). HasToken x page.token) r page.has)
+    (subst (λ (x : SpRecord). HasId x page.token) r page.has)
     (ap Full (page.is ∙ ap (λ (t : List ℕ). opened_answer t page.token) may.opens.is.target))
 
 -- ---- its request was asked, and is not spent

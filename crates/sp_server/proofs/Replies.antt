@@ -35,7 +35,7 @@ use Rattle.saml_time.specs.Instant.{TellsInFull}
 use Rattle.verdict_codes.specs.Codes.{number_of}
 use Rattle.provider_node.specs.Drafted.{drafted_of}
 use Rattle.provider_node.specs.Replies.{AreReplies, IsDrafted, IsWanted}
-use Rattle.provider_node.proofs.Drafting.{drafted_some}
+use Rattle.provider_node.proofs.Drafting.{drafted_some, some_is}
 use Rattle.sp_server.specs.Replies.{CanDraft, IsAnswerTo, IsAnswerable, Wants, is_nothing, record_for, refusal_of, sp_replies, stands_for}
 use Rattle.provider_node.proofs.Sessions.{found_itself}
 use Rattle.sp_server.proofs.Alike.{alike, session_alike}
@@ -211,12 +211,6 @@ nothing_alike config anew old now (kinds.Confirm response) like = ap not (like.w
 nothing_alike config anew old now other like = refl
 
 -- ---- in the words of a step
-
--- what there is to record
-some_is : (nothing : Bool) (own r : SpRecord) → (if nothing then None else Some own) ≡ Some r → (nothing ≡ false)
-    × (own ≡ r)
-some_is true own r is = cc
-some_is false own r is = (refl, let same : own ≡ r = cc in same)
 
 none_is : (nothing : Bool) (own : SpRecord) → (if nothing then None else Some own) ≡ None → nothing ≡ true
 none_is true own is = refl

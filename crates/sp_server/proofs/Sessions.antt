@@ -20,8 +20,8 @@ use Rattle.sp_rules.specs.Opening.{Brought, Opens}
 use Rattle.sp_rules.specs.Verdict.{IsRefused}
 use Rattle.provider_node.proofs.Wanted.{IsAdded, IsBehind, alike_behind, comes_of_wanted}
 use Rattle.sp_server.specs.Step as steps
-use Rattle.sp_server.specs.Step.{Setup, Answers, rows_seen}
-use Rattle.sp_server.specs.Sessions.{OpensOver, GivesSession, IsOpened, OnlyWhereAFormOpens, WhereverAFormOpens, record_of}
+use Rattle.sp_server.specs.Step.{Setup, Answers, opened_record, rows_seen}
+use Rattle.sp_server.specs.Sessions.{OpensOver, GivesSession, IsOpened, OnlyWhereAFormOpens, WhereverAFormOpens}
 use Rattle.sp_server.proofs.Alike.{alike_self, opens_alike}
 use Rattle.sp_server.proofs.Told.{said}
 
@@ -41,14 +41,14 @@ IsOneLogin =
 
 pub only_where : OnlyWhereAFormOpens
 only_where setup held request now answer r (steps.ByOpening b row to unexpired opens token is has shown) =
-    let same : record_of setup held now b ≡ kinds.Opened r = cc in
+    let same : opened_record setup.config held now b ≡ kinds.Opened r = cc in
     record {
       brought = b;
       row = row;
       opens = record { posted = to; unexpired = unexpired; opens = opens };
       is = sym same;
       token = token;
-      has = subst (λ (x : SpRecord). steps.HasToken x token) same has;
+      has = subst (λ (x : SpRecord). steps.HasId x token) same has;
       answered = shown;
     }
 only_where setup held request now answer r other =
@@ -68,7 +68,7 @@ answered : IsNotRefused → (setup : Setup) (held : Held) (request : Request) (n
 answered not_refused setup held request now answer adds b row over
     (steps.ByOpening c asked to unexpired opens token is has shown) =
     record {
-      r = record_of setup held now c;
+      r = opened_record setup.config held now c;
       is = is;
       gives =
           record {
@@ -91,12 +91,13 @@ answered not_refused setup held request now answer adds b row over other =
 -- the record of a session that is given is that of the login which the form brings
 its_record : IsOneLogin → (setup : Setup) (found : Held) (request : Request) (now : ℕ) (b : Brought) (row : AskedRow)
     → OpensOver setup found request now b row
-    → (r : SpRecord) (answer : Answer) → GivesSession setup found request now r answer → r ≡ record_of setup found now b
+    → (r : SpRecord) (answer : Answer) → GivesSession setup found request now r answer
+    → r ≡ opened_record setup.config found now b
 its_record one_login setup found request now b row over r answer gives =
     let brought : gives.brought ≡ b =
     one_login setup.config (rows_seen (rows_of found.records)) found.header.horizon now request.body gives.brought b
     gives.row row gives.opens.opens over.opens in
-    gives.is ∙ ap (record_of setup found now) brought
+    gives.is ∙ ap (opened_record setup.config found now) brought
 
 -- behind a compaction at the moment the form opens the session as before
 opens_behind : CompactionsChangeNoAnswer
@@ -116,17 +117,18 @@ module _ (not_refused : IsNotRefused) (one_login : IsOneLogin) (setup : Setup) (
     (answer : Answer) (b : Brought) (row : AskedRow) (over : OpensOver setup held request now b row) where
   -- what is recorded where the form opens a session is its record, and the session is given
   its_own : (adds : Option SpRecord) → Answers setup held request now answer adds
-      → adds ≡ Some (record_of setup held now b)
+      → adds ≡ Some (opened_record setup.config held now b)
   its_own adds answers =
       let is = answered not_refused setup held request now answer adds b row over answers in
       is.is ∙ ap Some (its_record one_login setup held request now b row over is.r answer is.gives)
 
-  given : Answers setup held request now answer (Some (record_of setup held now b))
-      → GivesSession setup held request now (record_of setup held now b) answer
+  given : Answers setup held request now answer (Some (opened_record setup.config held now b))
+      → GivesSession setup held request now (opened_record setup.config held now b) answer
   given answers =
-      let is = answered not_refused setup held request now answer (Some (record_of setup held now b)) b row over answers
+      let is =
+      answered not_refused setup held request now answer (Some (opened_record setup.config held now b)) b row over answers
       in
-      let same : is.r ≡ record_of setup held now b = (let e = is.is in cc) in
+      let same : is.r ≡ opened_record setup.config held now b = (let e = is.is in cc) in
       subst (λ (x : SpRecord). GivesSession setup held request now x answer) same is.gives
 
 pub wherever : IsNotRefused → IsOneLogin → CompactionsChangeNoAnswer → WhereverAFormOpens
@@ -137,7 +139,7 @@ wherever not_refused one_login law found request now faults later answer old new
     (opens held behind) adds answers) room calm serves)
   where
     recorded : Held → SpRecord
-    recorded held = record_of old.setup held now b
+    recorded held = opened_record old.setup.config held now b
 
     opens : (held : Held) → IsBehind request_rules found now held → OpensOver old.setup held request now b row
     opens held behind = opens_behind law old.setup found held request now b row behind over

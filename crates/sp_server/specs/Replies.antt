@@ -34,7 +34,7 @@ use Rattle.service_routes.specs.declared.route.Route.TheVariants.{To}
 use Rattle.sp_server.specs.declared.route.Service.TheVariants.{App, Consumer, Logout as ToLogout, SingleLogout}
 use Rattle.sp_server.specs.Routes.{route}
 use Rattle.sp_server.specs.Peer.{idp_at, IsObeyed}
-use Rattle.sp_server.specs.Step.{Setup, Answers, HasId, HasIds, HasToken, ended_by, is_awaited, is_expired, rows_seen, session_for}
+use Rattle.sp_server.specs.Step.{Setup, Answers, HasId, HasIds, ended_by, is_awaited, is_expired, rows_seen, session_for}
 
 -- ---- what is wanted
 
@@ -162,7 +162,7 @@ pub record IsAskingAnswer (config : SpConfig) (r : SpRecord) (now : ℕ) (bytes 
 
 pub record IsOpeningAnswer (accepted : Accepted) (r : SpRecord) (bytes : List ℕ) : Type 0 where
   pub token : List ℕ
-  pub has : HasToken r token
+  pub has : HasId r token
   pub is : bytes ≡ opened_answer accepted.target token
 
 pub record IsLeavingAnswer (config : SpConfig) (r : SpRecord) (now : ℕ) (name : List ℕ) (indexes : List (List ℕ))

@@ -40,12 +40,7 @@ service_at path =
 -- 404 for a path of the application to which no user can be sent back
 abbrev pub at_target : List ℕ → Route Service → Route Service
 at_target path (To App) = if is_target path then To App else Refused 404
-at_target path (To Consumer) = To Consumer
-at_target path (To Metadata) = To Metadata
-at_target path (To Logout) = To Logout
-at_target path (To SingleLogout) = To SingleLogout
-at_target path (To Guard) = To Guard
-at_target path (Refused status) = Refused status
+at_target path other = other
 
 -- A request goes to the service of its path. Or a proxy asks who a request comes from: what it is answered, and whether
 -- it is, the guard says.

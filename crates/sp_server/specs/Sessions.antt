@@ -9,12 +9,10 @@ use Rattle.ledger_records.specs.declared.sp_record.SpRecord.{SpRecord}
 use Rattle.ledger_records.specs.declared.sp_record.SpRecord.TheVariants as kinds
 use Rattle.request_rows.specs.declared.row.AskedRow.{AskedRow}
 use Rattle.request_ledger.specs.RowsOf.{rows_of}
-use Rattle.request_ledger.specs.Ledger.{Held, next_number}
+use Rattle.request_ledger.specs.Ledger.{Held}
 use Rattle.record_ledger.specs.Ledger.{held_with}
 use Rattle.request_ledger.specs.Record.{request_rules}
-use Rattle.request_ledger.specs.Drafts.{opened}
 use Rattle.sp_rules.specs.Opening.{Brought, Opens}
-use Rattle.sp_rules.specs.Shown.{session_of}
 use Rattle.sp_answers.specs.Answers.{opened_answer}
 use Rattle.provider_node.specs.Room as any
 use Rattle.provider_node.specs.Room.{IsRecordedOver}
@@ -22,7 +20,7 @@ use Rattle.provider_node.specs.declared.codes.TheConstants.{NO_MEMORY}
 use Rattle.service_routes.specs.declared.route.Route.TheVariants.{To}
 use Rattle.sp_server.specs.declared.route.Service.TheVariants.{Consumer}
 use Rattle.sp_server.specs.Routes.{route}
-use Rattle.sp_server.specs.Step.{Setup, Provider, Answers, HasToken, is_expired, rows_seen}
+use Rattle.sp_server.specs.Step.{Setup, Provider, Answers, HasId, is_expired, opened_record, rows_seen}
 use Rattle.provider_node.specs.Step.{Serves}
 
 -- Over a ledger, at a moment, the form that a request posts opens a session: the login that it brings answers this
@@ -33,11 +31,6 @@ pub record OpensOver (setup : Setup) (held : Held) (request : Request) (now : �
   pub unexpired : is_expired setup.expiry now ≡ false
   pub opens : Opens setup.config (rows_seen (rows_of held.records)) held.header.horizon now request.body b row
 
--- the record of the session of a login
-abbrev pub record_of : Setup → Held → ℕ → Brought → SpRecord
-record_of setup held now b =
-    opened setup.config.id_key (next_number held) now (session_of setup.config now b.key.number b.login)
-
 -- This record and this answer give the session that the form opens: the user is sent to where the login began, with the
 -- session's token.
 pub record GivesSession (setup : Setup) (held : Held) (request : Request) (now : ℕ) (r : SpRecord) (answer : Answer) :
@@ -45,9 +38,9 @@ pub record GivesSession (setup : Setup) (held : Held) (request : Request) (now :
   pub brought : Brought
   pub row : AskedRow
   pub opens : OpensOver setup held request now brought row
-  pub is : r ≡ record_of setup held now brought
+  pub is : r ≡ opened_record setup.config held now brought
   pub token : List ℕ
-  pub has : HasToken r token
+  pub has : HasId r token
   pub answered : answer ≡ Full (opened_answer row.target token)
 
 -- A session is recorded only where the form opens it.
@@ -59,16 +52,16 @@ OnlyWhereAFormOpens =
 
 -- There is room for the session of a login, at once or behind one compaction.
 abbrev pub HasRoom : Setup → (found : Held) → (now : ℕ) → Brought → Type 0
-HasRoom setup found now b = any.HasRoom request_rules found now (λ held. record_of setup held now b)
+HasRoom setup found now b = any.HasRoom request_rules found now (λ held. opened_record setup.config held now b)
 
 -- The session of a login is recorded behind the records of the ledger that was found, or, where there was no place
 -- behind these, of what one compaction made of it; and it is given.
 pub record IsOpened (setup : Setup) (found : Held) (request : Request) (now : ℕ) (b : Brought) (answer : Answer)
     (new : Held) : Type 0 where
   pub held : Held
-  pub over : IsRecordedOver request_rules found now (λ other. record_of setup other now b) held
-  pub gives : GivesSession setup held request now (record_of setup held now b) answer
-  pub added : new ≡ held_with (record_of setup held now b) held
+  pub over : IsRecordedOver request_rules found now (λ other. opened_record setup.config other now b) held
+  pub gives : GivesSession setup held request now (opened_record setup.config held now b) answer
+  pub added : new ≡ held_with (opened_record setup.config held now b) held
 
 -- And wherever one does, there is room for it and the disk does not fail, the session is recorded and given; or there
 -- was no memory.

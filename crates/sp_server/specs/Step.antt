@@ -64,21 +64,16 @@ shown_to (Some rules) path row = by_decision row (policies.decide rules path row
 
 -- the rows as the verdict sees them
 abbrev pub rows_seen : SpRows → RowsView
-rows_seen rows =
-    record {
-      asked = rows.asked;
-      opened = rows.opened;
-      left = rows.left;
-      spare =
-          record { asked = 0; opened = 0; left = 0 };
-    }
+rows_seen rows = record {
+  asked = rows.asked;
+  opened = rows.opened;
+  left = rows.left;
+  spare = record { asked = 0; opened = 0; left = 0 };
+}
 
 -- the IDs of a record
 abbrev pub HasIds : SpRecord → List ℕ → List ℕ → Type 0
 HasIds r first second = (drawn_id r 0 ≡ Some first) × (drawn_id r 1 ≡ Some second)
-
-abbrev pub HasToken : SpRecord → List ℕ → Type 0
-HasToken r token = drawn_id r 0 ≡ Some token
 
 abbrev pub HasId : SpRecord → List ℕ → Type 0
 HasId r id = drawn_id r 0 ≡ Some id
@@ -93,7 +88,14 @@ ended_by config held now asked =
 abbrev pub is_awaited : Held → (now : ℕ) → (request : List ℕ) → Bool
 is_awaited held now request = is_waiting_now (rows_of held.records).left request now held.header.horizon
 
--- the records of a logout: a user leaves a session; sessions end for the identity provider; it replied
+-- the records that are added: a login is asked for; a form opens a session; a user leaves one; sessions end for the
+-- identity provider
+abbrev pub asked_record : SpConfig → Held → (now : ℕ) → (path : List ℕ) → SpRecord
+asked_record config held now path = asked config.id_key (next_number held) now path
+
+abbrev pub opened_record : SpConfig → Held → (now : ℕ) → Brought → SpRecord
+opened_record config held now b = opened config.id_key (next_number held) now (session_of config now b.key.number b.login)
+
 abbrev pub left_record : SpConfig → Held → (now : ℕ) → (token : List ℕ) → SpRecord
 left_record config held now token = left config.id_key (next_number held) now token
 
@@ -101,88 +103,75 @@ abbrev pub ended_record : SpConfig → Held → (now : ℕ) → LogoutRequest �
 ended_record config held now asked =
     ended config.id_key (next_number held) now (ended_by config held now asked) asked.id
 
--- What is answered to a request by this ledger at this moment where nothing fails, and the record that is added with
--- it.
-pub data Answers (setup : Setup) (held : Held) (request : Request) (now : ℕ) (answer : Answer)
-    (adds : Option SpRecord) : Type 0 where
-  -- there is no such service
-  ByStatus : (status : ℕ) → route request ≡ Refused status → answer ≡ Fixed status → adds ≡ None
-      → Answers setup held request now answer adds
-  -- the metadata
-  ByMetadata : route request ≡ To Metadata → answer ≡ Full (metadata_answer setup.config) → adds ≡ None
-      → Answers setup held request now answer adds
-  -- a page for a live session
-  BySession : (row : OpenedRow) → route request ≡ To App → session_for held now request ≡ Some row
-      → answer ≡ Full (shown_to setup.policy request.path row) → adds ≡ None
-      → Answers setup held request now answer adds
-  -- without one a login is asked for, with the path as the target
-  ByAsking : (bytes : List ℕ) → route request ≡ To App → session_for held now request ≡ None
-      → is_expired setup.expiry now ≡ false
-      → (id relay : List ℕ) → IsAskAnswer setup.config id relay now bytes
-      → adds ≡ Some (asked setup.config.id_key (next_number held) now request.path)
-      → HasIds (asked setup.config.id_key (next_number held) now request.path) id relay
-      → answer ≡ Full bytes → Answers setup held request now answer adds
-  -- a proxy asks the guard who a request comes from
-  ByGuard : route request ≡ To Guard → answer ≡ guard_answer setup.guard setup.policy request
-      (session_for held now request) → adds ≡ None
-      → Answers setup held request now answer adds
-  -- a posted form that opens a session
-  ByOpening : (b : Brought) (row : AskedRow) → route request ≡ To Consumer → is_expired setup.expiry now ≡ false
-      → Opens setup.config (rows_seen (rows_of held.records)) held.header.horizon now request.body b row
-      → (token : List ℕ)
-      → adds ≡ Some (opened setup.config.id_key (next_number held) now
-      (session_of setup.config now b.key.number b.login))
-      → HasToken (opened setup.config.id_key (next_number held) now (session_of setup.config now b.key.number b.login))
-      token
-      → answer ≡ Full (opened_answer row.target token) → Answers setup held request now answer adds
-  -- a posted form that is refused
-  ByVerdict : (verdict : Verdict) → route request ≡ To Consumer → is_expired setup.expiry now ≡ false
-      → IsRefused setup.config (rows_seen (rows_of held.records)) held.header.horizon now request.body verdict
-      → answer ≡ Fixed (number_of verdict) → adds ≡ None → Answers setup held request now answer adds
-  -- the registry has ended: nothing is asked, no session is opened, and no logout is served
-  ByExpiry : (route request ≡ To Consumer) ⊎ (((route request ≡ To App) × (session_for held now request ≡ None))
-      ⊎ ((route request ≡ To Logout) ⊎ (route request ≡ To SingleLogout)))
-      → is_expired setup.expiry now ≡ true → answer ≡ Fixed (number_of RegistryExpired) → adds ≡ None
-      → Answers setup held request now answer adds
-  -- a user leaves a live session, and the identity provider is asked to end its own: SAML Profiles, 4.4.3.1
-  ByLeaving : (row : OpenedRow) (id bytes : List ℕ) → route request ≡ To Logout → is_expired setup.expiry now ≡ false
-      → session_for held now request ≡ Some row
-      → adds ≡ Some (left_record setup.config held now row.token)
-      → HasId (left_record setup.config held now row.token) id
-      → Leaving (idp_at setup.config now) id setup.config.entity now row.name (option_to_list row.index) bytes
-      → answer ≡ Full bytes → Answers setup held request now answer adds
-  -- there is no live session to leave
-  ByNoSession : route request ≡ To Logout → is_expired setup.expiry now ≡ false → session_for held now request ≡ None
-      → answer ≡ Fixed (number_of NoSuchSession) → adds ≡ None → Answers setup held request now answer adds
-  -- a message of a logout that is refused
-  ByLogoutVerdict : (verdict : Verdict) → route request ≡ To SingleLogout → is_expired setup.expiry now ≡ false
-      → IsNotObeyed setup.config now request.body verdict
-      → answer ≡ Fixed (number_of verdict) → adds ≡ None → Answers setup held request now answer adds
-  -- the identity provider asks to end sessions: they end, and it is told so with its relay (SAML Core, 3.7.3.1; SAML
-  -- Profiles, 4.4.3.4)
-  ByEnding : (asked : LogoutRequest) (relay : Option (List ℕ)) (id bytes : List ℕ) → route request ≡ To SingleLogout
-      → is_expired setup.expiry now ≡ false
-      → IsObeyed setup.config now request.body (logouts.Ask asked 0 relay)
-      → is_empty (ended_by setup.config held now asked) ≡ false
-      → adds ≡ Some (ended_record setup.config held now asked) → HasId (ended_record setup.config held now asked) id
-      → Ending (idp_at setup.config now) id setup.config.entity now asked.id false relay bytes
-      → answer ≡ Full bytes → Answers setup held request now answer adds
-  -- there is no such session to end
-  ByNothingToEnd : (asked : LogoutRequest) (relay : Option (List ℕ)) → route request ≡ To SingleLogout
-      → is_expired setup.expiry now ≡ false
-      → IsObeyed setup.config now request.body (logouts.Ask asked 0 relay)
-      → is_empty (ended_by setup.config held now asked) ≡ true
-      → answer ≡ Fixed (number_of NoSuchSession) → adds ≡ None → Answers setup held request now answer adds
-  -- the identity provider replies to a logout that began here, and the user is shown how it ended: SAML Profiles,
-  -- 4.4.3.5
-  ByConfirming : (response : LogoutResponse) → route request ≡ To SingleLogout → is_expired setup.expiry now ≡ false
-      → IsObeyed setup.config now request.body (logouts.Reply response 0) → is_awaited held now response.request ≡ true
-      → adds ≡ Some (confirmed now response.request)
-      → answer ≡ Full (end_answer (is_in_part response.outcome)) → Answers setup held request now answer adds
-  -- no such logout waits for a response
-  ByUnknownLogout : (response : LogoutResponse) → route request ≡ To SingleLogout → is_expired setup.expiry now ≡ false
-      → IsObeyed setup.config now request.body (logouts.Reply response 0) → is_awaited held now response.request ≡ false
-      → answer ≡ Fixed (number_of UnknownLogout) → adds ≡ None → Answers setup held request now answer adds
+module _ (setup : Setup) (held : Held) (request : Request) (now : ℕ) (answer : Answer)
+    (adds : Option SpRecord) where
+  -- What is answered to a request by this ledger at this moment where nothing fails, and the record that is added with
+  -- it.
+  pub data Answers : Type 0 where
+    -- there is no such service
+    ByStatus : (status : ℕ) → route request ≡ Refused status → answer ≡ Fixed status → adds ≡ None → Answers
+    -- the metadata
+    ByMetadata : route request ≡ To Metadata → answer ≡ Full (metadata_answer setup.config) → adds ≡ None → Answers
+    -- a page for a live session
+    BySession : (row : OpenedRow) → route request ≡ To App → session_for held now request ≡ Some row
+        → answer ≡ Full (shown_to setup.policy request.path row) → adds ≡ None → Answers
+    -- without one a login is asked for, with the path as the target
+    ByAsking : (bytes : List ℕ) → route request ≡ To App → session_for held now request ≡ None
+        → is_expired setup.expiry now ≡ false → (id relay : List ℕ) → IsAskAnswer setup.config id relay now bytes
+        → adds ≡ Some (asked_record setup.config held now request.path)
+        → HasIds (asked_record setup.config held now request.path) id relay → answer ≡ Full bytes → Answers
+    -- a proxy asks the guard who a request comes from
+    ByGuard : route request ≡ To Guard
+        → answer ≡ guard_answer setup.guard setup.policy request (session_for held now request) → adds ≡ None → Answers
+    -- a posted form that opens a session
+    ByOpening : (b : Brought) (row : AskedRow) → route request ≡ To Consumer → is_expired setup.expiry now ≡ false
+        → Opens setup.config (rows_seen (rows_of held.records)) held.header.horizon now request.body b row
+        → (token : List ℕ) → adds ≡ Some (opened_record setup.config held now b)
+        → HasId (opened_record setup.config held now b) token → answer ≡ Full (opened_answer row.target token) → Answers
+    -- a posted form that is refused
+    ByVerdict : (verdict : Verdict) → route request ≡ To Consumer → is_expired setup.expiry now ≡ false
+        → IsRefused setup.config (rows_seen (rows_of held.records)) held.header.horizon now request.body verdict
+        → answer ≡ Fixed (number_of verdict) → adds ≡ None → Answers
+    -- the registry has ended: nothing is asked, no session is opened, and no logout is served
+    ByExpiry : (route request ≡ To Consumer) ⊎ (((route request ≡ To App) × (session_for held now request ≡ None))
+        ⊎ ((route request ≡ To Logout) ⊎ (route request ≡ To SingleLogout)))
+        → is_expired setup.expiry now ≡ true → answer ≡ Fixed (number_of RegistryExpired) → adds ≡ None → Answers
+    -- a user leaves a live session, and the identity provider is asked to end its own: SAML Profiles, 4.4.3.1
+    ByLeaving : (row : OpenedRow) (id bytes : List ℕ) → route request ≡ To Logout → is_expired setup.expiry now ≡ false
+        → session_for held now request ≡ Some row → adds ≡ Some (left_record setup.config held now row.token)
+        → HasId (left_record setup.config held now row.token) id
+        → Leaving (idp_at setup.config now) id setup.config.entity now row.name (option_to_list row.index) bytes
+        → answer ≡ Full bytes → Answers
+    -- there is no live session to leave
+    ByNoSession : route request ≡ To Logout → is_expired setup.expiry now ≡ false → session_for held now request ≡ None
+        → answer ≡ Fixed (number_of NoSuchSession) → adds ≡ None → Answers
+    -- a message of a logout that is refused
+    ByLogoutVerdict : (verdict : Verdict) → route request ≡ To SingleLogout → is_expired setup.expiry now ≡ false
+        → IsNotObeyed setup.config now request.body verdict → answer ≡ Fixed (number_of verdict) → adds ≡ None → Answers
+    -- the identity provider asks to end sessions: they end, and it is told so with its relay (SAML Core, 3.7.3.1; SAML
+    -- Profiles, 4.4.3.4)
+    ByEnding : (asked : LogoutRequest) (relay : Option (List ℕ)) (id bytes : List ℕ) → route request ≡ To SingleLogout
+        → is_expired setup.expiry now ≡ false → IsObeyed setup.config now request.body (logouts.Ask asked 0 relay)
+        → is_empty (ended_by setup.config held now asked) ≡ false
+        → adds ≡ Some (ended_record setup.config held now asked) → HasId (ended_record setup.config held now asked) id
+        → Ending (idp_at setup.config now) id setup.config.entity now asked.id false relay bytes → answer ≡ Full bytes
+        → Answers
+    -- there is no such session to end
+    ByNothingToEnd : (asked : LogoutRequest) (relay : Option (List ℕ)) → route request ≡ To SingleLogout
+        → is_expired setup.expiry now ≡ false → IsObeyed setup.config now request.body (logouts.Ask asked 0 relay)
+        → is_empty (ended_by setup.config held now asked) ≡ true → answer ≡ Fixed (number_of NoSuchSession)
+        → adds ≡ None → Answers
+    -- the identity provider replies to a logout that began here, and the user is shown how it ended: SAML Profiles,
+    -- 4.4.3.5
+    ByConfirming : (response : LogoutResponse) → route request ≡ To SingleLogout → is_expired setup.expiry now ≡ false
+        → IsObeyed setup.config now request.body (logouts.Reply response 0)
+        → is_awaited held now response.request ≡ true → adds ≡ Some (confirmed now response.request)
+        → answer ≡ Full (end_answer (is_in_part response.outcome)) → Answers
+    -- no such logout waits for a response
+    ByUnknownLogout : (response : LogoutResponse) → route request ≡ To SingleLogout
+        → is_expired setup.expiry now ≡ false → IsObeyed setup.config now request.body (logouts.Reply response 0)
+        → is_awaited held now response.request ≡ false → answer ≡ Fixed (number_of UnknownLogout) → adds ≡ None
+        → Answers
 
 -- A provider: what it is set up with, and its ledger. What it does with what it answers is said of each provider.
 abbrev pub Provider : Type 0
