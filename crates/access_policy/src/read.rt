@@ -1,9 +1,10 @@
 // A policy is read.
 
-ghost use Rattle.std.specs.Prelude.{◌≡◌, ◌<◌, ◌≤◌, ◌^◌, length};
+ghost use Rattle.std.specs.Prelude.{◌≡◌, ◌<◌, ◌≤◌, ◌^◌, [], ◌∷◌, ◌++◌, length};
 ghost use Rattle.owned_values.specs.Gives.{Gives};
+ghost use Rattle.text_lines.specs.Lines.{with_lines};
 ghost use Rattle.text_lines.specs.Views.{said_view};
-ghost use Rattle.access_policy.specs.Rules.{policy, rule_behind, fault_of, number_said};
+ghost use Rattle.access_policy.specs.Rules.{policy, with_rule, fault_of, number_said};
 
 use crate::draft::Draft;
 use crate::fault::PolicyFault;
@@ -23,7 +24,7 @@ pub const MAX_POLICY_LENGTH: usize = 262_144;
 /// `Line`, exactly where it is no text, is no rule, has the name of a rule before it, or is one rule too many.
 fn next_rule(alloc: Global, draft: &Draft, said: Said<'_>) -> Result<Rule, PolicyFault>
     requires { number_said (said_view said) < 2 ^ 32 }
-    ensures { Gives (λ rule. rule) fault_of result (rule_behind draft.now (said_view said.entry)) }
+    ensures { Gives (λ rule. draft.now ++ rule ∷ []) fault_of result (with_lines with_rule draft.now (said_view said.entry ∷ [])) }
 {
     match said {
         Said::Line { number, text } => match rule_of(alloc, text)? {

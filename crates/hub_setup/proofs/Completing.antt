@@ -9,9 +9,11 @@ use Rattle.saml_outside.specs.Files.{File}
 use Rattle.saml_tree.proofs.Lists.{all_push}
 use Rattle.metadata.specs.declared.peer.Role.TheVariants.{Sp}
 use Rattle.provider_config.specs.Config.{AreInOrder}
+use Rattle.provider_config.specs.Config as configs_above
 use Rattle.provider_config.specs.HubConfig as configs
-use Rattle.provider_config.specs.HubConfig.{is_peer_file, above_files, has_files, upstream}
+use Rattle.provider_config.specs.HubViews.{is_peer_file, above_files, has_files}
 use Rattle.provider_config.specs.Shared.{◌>>=◌}
+use Rattle.provider_config.specs.declared.config.SpFile.{SpFile}
 use Rattle.provider_config.specs.declared.hub_config.HubFile.{HubFile}
 use Rattle.provider_config.specs.declared.hub_config.HubFile.TheVariants as named
 use Rattle.provider_config.specs.declared.idp_config.TheConstants.{MAX_PEERS}
@@ -54,11 +56,18 @@ none_above : (upstream : Option SpConfig) (make : SpConfig → HubConfig) → (u
 none_above None make e = refl
 none_above (Some u) make e = absurd (cc)
 
-pub is_set_up : (told : Option (List File)) (lines : configs.HubConfig) (loaded : Loaded) → IsTrue (has_files lines.files) →
-    AreLoaded told lines.files nothing loaded → config_of lines loaded ≡ None → ⊥
-is_set_up told lines loaded whole all none =
-    sp_completing.is_set_up told (upstream lines) loaded.above (and_parts _ _ whole).0 (above_loaded told lines.files nothing loaded all)
-    (none_above (sp.config_of (upstream lines) loaded.above) _ none)
+-- what the files towards the provider above add is what those of its own config do
+loaded_above : (told : Option (List File)) (lines : configs.HubConfig) (loaded : Loaded) → above_files lines.files ≡ lines.above.files →
+    AreLoaded told lines.files nothing loaded → sp.AreLoaded told lines.above.files sp.nothing loaded.above
+loaded_above told lines loaded same all =
+    subst (λ (files : List SpFile). sp.AreLoaded told files sp.nothing loaded.above) same (above_loaded told lines.files nothing loaded all)
+
+pub is_set_up : (told : Option (List File)) (lines : configs.HubConfig) (loaded : Loaded) → above_files lines.files ≡ lines.above.files →
+    IsTrue (has_files lines.files) → AreLoaded told lines.files nothing loaded → config_of lines loaded ≡ None → ⊥
+is_set_up told lines loaded same whole all none =
+    sp_completing.is_set_up told lines.above loaded.above
+    (subst (λ (files : List SpFile). IsTrue (configs_above.has_files files)) same (and_parts _ _ whole).0) (loaded_above told lines loaded same all)
+    (none_above (sp.config_of lines.above loaded.above) _ none)
 
 -- ---- the peers
 
@@ -120,15 +129,16 @@ made_from (Some u) peers config e =
     let is : with_peers peers u ≡ config = cc in
     (ap (λ (c : HubConfig). Some c.upstream) is, ap (λ (c : HubConfig). c.peers) is)
 
-pub usable : (told : Option (List File)) (lines : configs.HubConfig) (config : HubConfig) → AreWritable → FromListed → IsSetUpBy told lines config →
-    IsText lines.entity → IsText lines.base → IsText lines.listen → lines.skew ≤ MILLIS * MOST_SKEW → IfSome lines.next_in AreInOrder →
-    count_by is_peer_file lines.files ≤ MAX_PEERS → IsUsable config
-usable told lines config law from h entity base listen skew times few =
+pub usable : (told : Option (List File)) (lines : configs.HubConfig) (config : HubConfig) → above_files lines.files ≡ lines.above.files →
+    AreWritable → FromListed → IsSetUpBy told lines config →
+    IsText lines.above.entity → IsText lines.above.base → IsText lines.above.listen → lines.above.skew ≤ MILLIS * MOST_SKEW →
+    IfSome lines.above.next_in AreInOrder → count_by is_peer_file lines.files ≤ MAX_PEERS → IsUsable config
+usable told lines config same law from h entity base listen skew times few =
     let loaded = h.loaded in
-    let made = made_from (sp.config_of (upstream lines) loaded.above) loaded.peers config h.is in
-    let above = above_loaded told lines.files nothing loaded h.all in
-    let texts = config_texts told (upstream lines) loaded.above config.upstream law from above made.0 entity base listen in
-    let within = config_bounds (upstream lines) loaded.above config.upstream made.0 skew times in
+    let made = made_from (sp.config_of lines.above loaded.above) loaded.peers config h.is in
+    let above = loaded_above told lines loaded same h.all in
+    let texts = config_texts told lines.above loaded.above config.upstream law from above made.0 entity base listen in
+    let within = config_bounds lines.above loaded.above config.upstream made.0 skew times in
     let sound = sound_loaded told lines.files nothing loaded law h.all (record { peers = tt; apart = λ none. refl }) in
     let count = count_loaded told lines.files nothing loaded h.all in
     record {

@@ -58,7 +58,7 @@ IsFirstBad told (named ∷ others) before file line =
 -- file that is needed was not read. A good config names each of them.
 abbrev pub config_of : configs.HubConfig → Loaded → Option HubConfig
 config_of lines loaded = do
-  upstream ← sp.config_of (configs.upstream lines) loaded.above
+  upstream ← sp.config_of lines.above loaded.above
   Some (record { upstream = upstream; peers = loaded.peers })
 
 -- the files that these lines name are there, no two peers have one name, and they set a hub up so

@@ -1,7 +1,7 @@
 // A hub is set up.
 
 ghost use Rattle.std.specs.Prelude.{◌≡◌, ◌≤◌, [], IfOk, IfErr, IsTrue};
-ghost use Rattle.provider_config.specs.HubConfig.{config_view, has_files, upstream};
+ghost use Rattle.provider_config.specs.HubViews.{config_view, has_files};
 ghost use Rattle.provider_config.specs.Config as sp;
 ghost use Rattle.sp_setup.specs.Faults.{IsFaultOf};
 ghost use Rattle.identity_hub.specs.Config.{IsUsable};
@@ -16,7 +16,7 @@ use std::alloc::Global;
 
 /// What the lines say as a service provider's config, whose files were read before.
 fn upstream_of(alloc: Global, lines: HubLines) -> SpLines
-    ensures { sp.config_view result ≡ record (upstream (config_view lines)) { files = [] } }
+    ensures { sp.config_view result ≡ record (config_view lines).above { files = [] } }
 {
     SpLines {
         entity: lines.entity,

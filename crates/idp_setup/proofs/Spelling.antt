@@ -12,13 +12,13 @@ use Rattle.xml_spec.specs.Characters.{is_char, IsText}
 use Rattle.xml_spec.proofs.Tests.{and_true, both_true}
 use Rattle.saml_tree.proofs.Lists.{all_push}
 use Rattle.owned_values.specs.declared.attributes.Attribute.{Attribute}
-use Rattle.text_lines.specs.Lines.{Said, Says, NoText, is_text, is_passed_over, lines, said_from, said}
+use Rattle.text_lines.specs.Lines.{Said, Says, NoText, is_text, is_passed_over, lines, said_from, said, and_then, with_lines}
 use Rattle.text_lines.specs.Words.{Parts, parts_of, with_first, words_of}
 use Rattle.text_lines.proofs.Texts.{tested_text}
 use Rattle.provider_config.specs.Shared.{AreTexts, SaysText}
 use Rattle.provider_config.proofs.TextWords.{words_are_texts}
 use Rattle.user_store.specs.Line.{line_of, attribute_of, user_of, rounds_of, bytes_of, value_of}
-use Rattle.user_store.specs.Store.{has_user, with_attribute, with_user, with_line, and_then, users_from, users}
+use Rattle.user_store.specs.Store.{has_user, with_attribute, with_user, with_line, with_text, users}
 use Rattle.user_store.specs.declared.user.User.{User}
 use Rattle.user_store.specs.declared.users.TheConstants.{MAX_USERS}
 use Rattle.idp_rules.specs.Config.{IsTextAttribute, IsTextUser}
@@ -121,7 +121,7 @@ with_attribute_is attribute (user ∷ next ∷ others) texts is =
 -- A LINE
 
 -- a line of a file of users, which has no name outside of its crate
-abbrev TakenBy : {X Y Z : Type 0} → (X → Option Y → Z) → Type 0
+abbrev TakenBy : {X Y Z : Type 0} → (X → Y → Z) → Type 0
 TakenBy {X} {Y} f = Y
 
 abbrev Line : Type 0
@@ -129,7 +129,7 @@ Line = TakenBy with_line
 
 -- with what it says users that hold texts still do
 abbrev IsTextLine : Line → Type 0
-IsTextLine line = (before : List User) → AreTextUsers before → IfSome (with_line before (Some line)) AreTextUsers
+IsTextLine line = (before : List User) → AreTextUsers before → IfSome (with_line before line) AreTextUsers
 
 user_is : (words : List (List ℕ)) → AreTexts words → IfSome (user_of words) IsTextLine
 user_is (key ∷ name ∷ rounds ∷ salt ∷ value ∷ []) texts =
@@ -159,7 +159,8 @@ line_is text is =
 
 -- WHAT IS SAID
 
-with_line_is : (before : List User) (line : Option Line) → AreTextUsers before → IfSome line IsTextLine → IfSome (with_line before line) AreTextUsers
+with_line_is : (before : List User) (line : Option Line) → AreTextUsers before → IfSome line IsTextLine →
+    IfSome (option_and_then (with_line before) line) AreTextUsers
 with_line_is before None texts is = tt
 with_line_is before (Some line) texts is = is before texts
 
@@ -175,17 +176,17 @@ all_said number (line ∷ others) = which (is_text line) refl (is_passed_over li
 
 -- what follows where the line was good
 next_users : (next : Option (List User)) (number : ℕ) (others : List Said) (found : List User) → IfSome next AreTextUsers →
-    ((before : List User) → AreTextUsers before → users_from before others ≡ Ok found → AreTextUsers found) →
-    and_then (λ before. users_from before others) (ok_or next number) ≡ Ok found → AreTextUsers found
+    ((before : List User) → AreTextUsers before → with_lines with_text before others ≡ Ok found → AreTextUsers found) →
+    and_then (λ before. with_lines with_text before others) (ok_or next number) ≡ Ok found → AreTextUsers found
 next_users None number others found texts later e = absurd (cc)
 next_users (Some before) number others found texts later e = later before texts e
 
-users_behind : (before : List User) (says : List Said) (found : List User) → AreTextUsers before → AllByRecursion SaysText says → users_from before says ≡ Ok found →
-    AreTextUsers found
+users_behind : (before : List User) (says : List Said) (found : List User) → AreTextUsers before → AllByRecursion SaysText says →
+    with_lines with_text before says ≡ Ok found → AreTextUsers found
 users_behind before [] found texts said e = let same : before ≡ found = cc in subst AreTextUsers same texts
 users_behind before (NoText number ∷ others) found texts said e = absurd (cc)
 users_behind before (Says number text ∷ others) found texts said e =
-    next_users (with_line before (line_of text)) number others found (with_line_is before (line_of text) texts (line_is text said.0))
+    next_users (with_text number text before) number others found (with_line_is before (line_of text) texts (line_is text said.0))
     (λ next are. users_behind next others found are said.1) e
 
 pub users_are_texts : (text : List ℕ) (found : List User) → users text ≡ Ok found → AllByRecursion IsTextUser found

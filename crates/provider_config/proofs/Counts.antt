@@ -1,12 +1,12 @@
 -- No row of a config takes less than a byte of its text.
 use Rattle.std.proofs.Common.{◌≡◌, ℕ, suc, ◌+◌, ◌≤◌, Bool, true, false, cond, not, List, [], ◌∷◌, Option, None, Some, Result, Ok, Err, length, length-append, IfOk, arith, sym, subst}
 use Rattle.std.specs.List.{filter_map, cons_option}
-use Rattle.text_lines.specs.Lines.{Said, Says, NoText, lines, said_from, said, is_text, is_passed_over}
+use Rattle.text_lines.specs.Lines.{Said, Says, NoText, lines, said_from, said, is_text, is_passed_over, with_lines}
 use Rattle.provider_config.specs.declared.line.Purpose.{Purpose}
 use Rattle.provider_config.specs.declared.line.SpLine.{SpLine}
 use Rattle.provider_config.specs.Config.{Config, asked, opened, doubles, config_of, sp_config}
 use Rattle.provider_config.specs.Line.{spelled}
-use Rattle.provider_config.specs.Shared.{lines_from}
+use Rattle.provider_config.specs.Shared.{with_line}
 use Rattle.provider_config.proofs.Running.{made_of}
 use Rattle.provider_config.proofs.Sharing.{kept, of_lines}
 use Rattle.provider_config.proofs.Numbers.{few_lines}
@@ -31,11 +31,11 @@ filtered_are_few f (x ∷ xs) = which (f x) (filtered_are_few f xs)
     which (Some y) few = omega arith
 
 -- no more lines of a config than things said
-lines_are_few : (purpose : Purpose) (says : List Said) → IfOk (lines_from (λ _. spelled purpose) doubles [] says) (λ ls. length ls ≤ length says)
+lines_are_few : (purpose : Purpose) (says : List Said) → IfOk (with_lines (with_line (λ _. spelled purpose) doubles) [] says) (λ ls. length ls ≤ length says)
 lines_are_few purpose says =
-    of_none (lines_from (λ _. spelled purpose) doubles [] says)
+    of_none (with_lines (with_line (λ _. spelled purpose) doubles) [] says)
     (kept (λ _. spelled purpose) doubles (λ ls rest. length ls + length rest ≤ length says)
-    (λ before line next others new h. let more = length-append before (line ∷ []) in omega (arith, h, more)) [] says (omega arith))
+    (λ before line next others by new h. let more = length-append before (line ∷ []) in omega (arith, h, more)) [] says (omega arith))
   where
     of_none : (r : Result (List SpLine) ℕ) → IfOk r (λ ls. length ls + length {A = Said} [] ≤ length says) → IfOk r (λ ls. length ls ≤ length says)
     of_none (Ok ls) h = omega (arith, h)
@@ -46,7 +46,7 @@ pub rows_are_few : (purpose : Purpose) (text : List ℕ) (config : Config) → s
     (length config.asked ≤ length text) × (length config.opened ≤ length text)
 rows_are_few purpose text config e =
     let (ls, h, whole) =
-    of_lines config_of (λ ls. length ls ≤ length (said text)) (lines_from (λ _. spelled purpose) doubles [] (said text)) config (lines_are_few purpose (said text)) e in
+    of_lines config_of (λ ls. length ls ≤ length (said text)) (with_lines (with_line (λ _. spelled purpose) doubles) [] (said text)) config (lines_are_few purpose (said text)) e in
     let is = made_of ls config whole in
     let a = said_are_few 1 (lines text) in
     let b = few_lines text in (

@@ -1,55 +1,34 @@
 -- A hub's config names each file that is needed, and few peers.
 use Rattle.std.proofs.Common.{◌≡◌, ℕ, ◌≤◌, Bool, true, false, ◌&&◌, cond, List, [], ◌∷◌, ◌++◌, Option, None, Some, Ok, IfOk, refl, sym, ap, ◌∙◌, arith}
 use Rattle.std.specs.Prelude.{count_by, option_and_then}
-use Rattle.std.specs.List.{cons_option, filter_map, list_any}
-use Rattle.std.specs.Option.{option_map}
+use Rattle.std.specs.List.{filter_map, list_any}
 use Rattle.std.proofs.lemmas.Bool.Decides.{nat_tests}
 use Rattle.std.proofs.lemmas.List.Sums.{sum_by_push}
-use Rattle.text_lines.specs.Lines.{said}
-use Rattle.provider_config.specs.declared.config.SpFile.{SpFile}
+use Rattle.text_lines.specs.Lines.{said, with_lines}
 use Rattle.provider_config.specs.declared.hub_config.HubFile.{HubFile}
-use Rattle.provider_config.specs.declared.hub_config.HubFile.TheVariants as files
 use Rattle.provider_config.specs.declared.hub_line.HubLine.{HubLine}
 use Rattle.provider_config.specs.declared.hub_line.HubLine.TheVariants.{Above, Peer}
 use Rattle.provider_config.specs.declared.idp_config.TheConstants.{MAX_PEERS}
 use Rattle.provider_config.specs.Config as sp
-use Rattle.provider_config.specs.HubConfig.{HubConfig, is_peer, above, is_beyond, file, is_peer_file, above_files, has_peer, has_files, config_of, hub_config}
+use Rattle.provider_config.specs.HubConfig.{HubConfig, is_peer, above, is_beyond, file, config_of, hub_config}
 use Rattle.provider_config.specs.HubLine.{spelled}
-use Rattle.provider_config.specs.Shared.{lines_from}
-use Rattle.provider_config.proofs.HubRunning.{peer_key}
+use Rattle.provider_config.specs.HubViews.{is_peer_file, above_files, has_peer, has_files}
+use Rattle.provider_config.specs.Shared.{with_line}
+use Rattle.provider_config.proofs.HubRunning.{peer_key, above_files_are}
 use Rattle.provider_config.proofs.Sharing.{any_filtered, count_filtered, kept, of_lines}
 use Rattle.provider_config.proofs.Running as running
 
 -- what a config is made of
 made_of : (lines : List HubLine) (config : HubConfig) → config_of lines ≡ Some config →
-    (a : sp.Config) × (sp.config_of (above lines) ≡ Some a) × (list_any is_peer lines ≡ true) × (config.files ≡ filter_map file lines)
+    (sp.config_of (above lines) ≡ Some config.above) × (list_any is_peer lines ≡ true) × (config.files ≡ filter_map file lines)
 made_of lines config e = which (sp.config_of (above lines)) (list_any is_peer lines) e
   where
     which : (o : Option sp.Config) (t : Bool) →
-        option_and_then (λ (a : sp.Config). cond t (Some (record {
-          entity = a.entity;
-          base = a.base;
-          listen = a.listen;
-          skew = a.skew;
-          files = filter_map file lines;
-          next_in = a.next_in;
-        })) None) o ≡ Some config → (a : sp.Config) × (o ≡ Some a) × (t ≡ true) × (config.files ≡ filter_map file lines)
+        option_and_then (λ (a : sp.Config). cond t (Some (record { above = a; files = filter_map file lines })) None) o ≡ Some config →
+        (o ≡ Some config.above) × (t ≡ true) × (config.files ≡ filter_map file lines)
     which None t e = absurd (cc)
     which (Some a) false e = absurd (cc)
-    which (Some a) true e = (a, refl, refl, cc)
-
--- ---- the files of a service provider's config
-
-one_more : (o : Option SpFile) (named : List HubFile) (others : List SpFile) → above_files named ≡ others →
-    above_files (cons_option (option_map files.Above o) named) ≡ cons_option o others
-one_more None named others e = e
-one_more (Some first) named others e = ap (λ (rest : List SpFile). first ∷ rest) e
-
--- the files that a service provider's config names too are those of its lines
-above_files_are : (lines : List HubLine) → above_files (filter_map file lines) ≡ filter_map sp.file (above lines)
-above_files_are [] = refl
-above_files_are (Above line ∷ lines) = one_more (sp.file line) (filter_map file lines) (filter_map sp.file (above lines)) (above_files_are lines)
-above_files_are (Peer names ∷ lines) = above_files_are lines
+    which (Some a) true e = (cc, refl, cc)
 
 -- ---- the number of peers
 
@@ -61,18 +40,18 @@ still_few before (Peer names) h e =
     let more = sum_by_push (λ (l : HubLine). cond (is_peer l) 1 0) before (Peer names) in
     grind (arith, nat_tests, e, more)
 
-few_lines : (text : List ℕ) → IfOk (lines_from spelled is_beyond [] (said text)) (λ lines. count_by is_peer lines ≤ MAX_PEERS)
+few_lines : (text : List ℕ) → IfOk (with_lines (with_line spelled is_beyond) [] (said text)) (λ lines. count_by is_peer lines ≤ MAX_PEERS)
 few_lines text =
-    kept spelled is_beyond (λ lines _. count_by is_peer lines ≤ MAX_PEERS) (λ before line next others new h. still_few before line h new) [] (said text) (omega arith)
+    kept spelled is_beyond (λ lines _. count_by is_peer lines ≤ MAX_PEERS) (λ before line next others by new h. still_few before line h new) [] (said text) (omega arith)
 
 -- ---- a config
 
 pub all_named : (text : List ℕ) (config : HubConfig) → hub_config text ≡ Ok config → has_files config.files ≡ true
 all_named text config e =
     let (lines, few, whole) =
-    of_lines config_of (λ lines. count_by is_peer lines ≤ MAX_PEERS) (lines_from spelled is_beyond [] (said text)) config (few_lines text) e in
-    let (a, made, peer, is) = made_of lines config whole in
-    let upper = running.made_of (above lines) a made in
+    of_lines config_of (λ lines. count_by is_peer lines ≤ MAX_PEERS) (with_lines (with_line spelled is_beyond) [] (said text)) config (few_lines text) e in
+    let (made, peer, is) = made_of lines config whole in
+    let upper = running.made_of (above lines) config.above made in
     let sp_files : sp.has_files (above_files (filter_map file lines)) ≡ true =
     ap sp.has_files (above_files_are lines ∙ sym upper.files) ∙ upper.named in
     let peers : has_peer (filter_map file lines) ≡ true = any_filtered file is_peer_file is_peer peer_key lines ∙ peer in
@@ -81,7 +60,7 @@ all_named text config e =
 pub few_named : (text : List ℕ) (config : HubConfig) → hub_config text ≡ Ok config → count_by is_peer_file config.files ≤ MAX_PEERS
 few_named text config e =
     let (lines, few, whole) =
-    of_lines config_of (λ lines. count_by is_peer lines ≤ MAX_PEERS) (lines_from spelled is_beyond [] (said text)) config (few_lines text) e in
-    let (a, made, peer, is) = made_of lines config whole in
+    of_lines config_of (λ lines. count_by is_peer lines ≤ MAX_PEERS) (with_lines (with_line spelled is_beyond) [] (said text)) config (few_lines text) e in
+    let (made, peer, is) = made_of lines config whole in
     let same = count_filtered file is_peer_file is_peer peer_key lines in
     omega (arith, few, same, ap (λ (named : List HubFile). count_by is_peer_file named) is)

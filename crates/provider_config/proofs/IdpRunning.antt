@@ -6,7 +6,7 @@ use Rattle.std.proofs.lemmas.List.Sums.{sum_by_push}
 use Rattle.std.specs.Option.{option_map_or}
 use Rattle.std.specs.List.{filter_map, list_any, list_all}
 use Rattle.std.specs.Str.{bytes_eq}
-use Rattle.text_lines.specs.Lines.{Said, Says, NoText, said}
+use Rattle.text_lines.specs.Lines.{Said, Says, NoText, said, and_then, with_lines}
 use Rattle.provider_config.specs.declared.idp_config.IdpFile.{IdpFile}
 use Rattle.provider_config.specs.declared.idp_config.SignMode.TheVariants as modes
 use Rattle.provider_config.specs.declared.idp_config.TheConstants.{MAX_PEERS}
@@ -15,7 +15,7 @@ use Rattle.provider_config.specs.declared.idp_line.IdpLine.TheVariants.{Entity, 
 use Rattle.provider_config.specs.IdpLine.{key_of, line_of, spelled}
 use Rattle.provider_config.specs.IdpConfig.{IdpConfig, entity, base, listen, skew, sign, file, is_users, is_id_key, is_peer_file, has_files, is_peer, is_beyond, config_of, idp_config}
 use Rattle.provider_config.specs.IdpDrafts.{is_fanout, found, complete, taken, stands, unless_found, next_line, config_from}
-use Rattle.provider_config.specs.Shared.{and_then, the, has_key, lines_from, ◌>>=◌}
+use Rattle.provider_config.specs.Shared.{the, has_key, with_line, config_in, ◌>>=◌}
 use Rattle.provider_config.proofs.Sharing.{the-push, any-push, filter_map-push, is_some-the, any_filtered, count_filtered, fresh, line_behind, from_next, kept, of_lines}
 
 found-push : (lines : List IdpLine) (line : IdpLine) → found (lines ++ line ∷ []) ≡ taken line (found lines)
@@ -150,8 +150,8 @@ still_few before line h e = omega (arith, h, sum_by_push (λ (l : IdpLine). cond
 pub few_named : (text : List ℕ) (config : IdpConfig) → idp_config text ≡ Ok config → count_by is_peer_file config.files ≤ MAX_PEERS
 few_named text config e =
     let (lines, few, whole) =
-    of_lines config_of (λ lines. count_by is_peer lines ≤ MAX_PEERS) (lines_from spelled is_beyond [] (said text)) config
-    (kept spelled is_beyond (λ lines _. count_by is_peer lines ≤ MAX_PEERS) (λ before line next others new h. still_few before line h new) [] (said text) (omega arith)) e in
+    of_lines config_of (λ lines. count_by is_peer lines ≤ MAX_PEERS) (with_lines (with_line spelled is_beyond) [] (said text)) config
+    (kept spelled is_beyond (λ lines _. count_by is_peer lines ≤ MAX_PEERS) (λ before line next others by new h. still_few before line h new) [] (said text) (omega arith)) e in
     let same = count_filtered file is_peer_file is_peer peer_key lines in
     omega (arith, few, same, ap (λ (named : List IdpFile). count_by is_peer_file named) (files_of lines config whole))
 
@@ -170,14 +170,14 @@ abbrev result_of : List IdpLine → Result IdpConfig ℕ
 result_of lines = ok_or (complete (found lines)) 0
 
 by_line : (before : List IdpLine) (others : List Said) →
-    ((lines : List IdpLine) → config_from (found lines) others ≡ and_then result_of (lines_from spelled is_beyond lines others)) → (next : Result IdpLine ℕ) →
+    ((lines : List IdpLine) → config_from (found lines) others ≡ and_then result_of (with_lines (with_line spelled is_beyond) lines others)) → (next : Result IdpLine ℕ) →
     and_then (λ line. config_from (taken line (found before)) others) next
-    ≡ and_then result_of (and_then (λ line. lines_from spelled is_beyond (before ++ line ∷ []) others) next)
+    ≡ and_then result_of (and_then (λ line. with_lines (with_line spelled is_beyond) (before ++ line ∷ []) others) next)
 by_line before others rest (Err number) = refl
 by_line before others rest (Ok line) =
     ap (λ f. config_from f others) (sym (found-push before line)) ∙ rest (before ++ line ∷ [])
 
-config_from-found : (rest : List Said) (before : List IdpLine) → config_from (found before) rest ≡ and_then result_of (lines_from spelled is_beyond before rest)
+config_from-found : (rest : List Said) (before : List IdpLine) → config_from (found before) rest ≡ and_then result_of (with_lines (with_line spelled is_beyond) before rest)
 config_from-found [] before = refl
 config_from-found (next ∷ others) before =
     ap (and_then (λ line. config_from (taken line (found before)) others)) (next_line-is before next)
@@ -188,4 +188,4 @@ config_from-found (next ∷ others) before =
 pub at_first : (text : List ℕ) → config_from (found []) (said text) ≡ idp_config text
 at_first text =
     config_from-found (said text) []
-    ∙ ap (λ (make : List IdpLine → Option IdpConfig). and_then (λ lines. ok_or (make lines) 0) (lines_from spelled is_beyond [] (said text))) (λ i lines. complete-found lines i)
+    ∙ ap (λ (make : List IdpLine → Option IdpConfig). config_in spelled is_beyond make text) (λ i lines. complete-found lines i)

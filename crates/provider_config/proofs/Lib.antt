@@ -1,6 +1,7 @@
 pub mod Counts
 pub mod HubNaming
 pub mod HubRunning
+pub mod HubServing
 pub mod IdpRunning
 pub mod Numbers
 pub mod Roles

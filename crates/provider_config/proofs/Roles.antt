@@ -1,7 +1,7 @@
 -- No two files of a config have one role.
 use Rattle.std.proofs.Common.{◌≡◌, ℕ, Bool, true, false, ◌||◌, List, [], ◌∷◌, ◌++◌, Option, None, Some, IfSome, Ok, refl, sym, ◌∙◌, subst}
 use Rattle.std.specs.List.{filter_map}
-use Rattle.text_lines.specs.Lines.{said}
+use Rattle.text_lines.specs.Lines.{said, with_lines}
 use Rattle.provider_config.specs.declared.config.FileRole.{FileRole}
 use Rattle.provider_config.specs.declared.config.FileRole.TheVariants as roles
 use Rattle.provider_config.specs.declared.config.SpFile.{SpFile}
@@ -9,7 +9,7 @@ use Rattle.provider_config.specs.declared.line.Purpose.{Purpose}
 use Rattle.provider_config.specs.declared.line.SpLine.{SpLine}
 use Rattle.provider_config.specs.Line.{spelled}
 use Rattle.provider_config.specs.Config.{Config, file, same_role, role_of, has_file, AreOfDifferentRoles, doubles, config_of, sp_config}
-use Rattle.provider_config.specs.Shared.{lines_from, pushed}
+use Rattle.provider_config.specs.Shared.{with_line, pushed}
 use Rattle.provider_config.proofs.Running.{named_before, made_of}
 use Rattle.provider_config.proofs.Sharing.{filter_map-push, kept, of_lines}
 
@@ -73,6 +73,6 @@ line_more before line h new =
 pub different_roles : (purpose : Purpose) (text : List ℕ) (config : Config) → sp_config purpose text ≡ Ok config → AreOfDifferentRoles config.files
 different_roles purpose text config e =
     let (lines, h, whole) =
-    of_lines config_of AreDifferentIn (lines_from (λ _. spelled purpose) doubles [] (said text)) config
-    (kept (λ _. spelled purpose) doubles (λ lines _. AreDifferentIn lines) (λ before line next others new h. line_more before line h new) [] (said text) tt) e in
+    of_lines config_of AreDifferentIn (with_lines (with_line (λ _. spelled purpose) doubles) [] (said text)) config
+    (kept (λ _. spelled purpose) doubles (λ lines _. AreDifferentIn lines) (λ before line next others by new h. line_more before line h new) [] (said text) tt) e in
     subst AreOfDifferentRoles (sym (made_of lines config whole).files) h

@@ -4,7 +4,7 @@ use Rattle.std.specs.Prelude.{option_and_then}
 use Rattle.std.specs.List.{filter_map, list_any, list_all}
 use Rattle.std.specs.Option.{option_map_or}
 use Rattle.std.specs.Str.{bytes_eq}
-use Rattle.text_lines.specs.Lines.{Said, Says, NoText, said}
+use Rattle.text_lines.specs.Lines.{Said, Says, NoText, said, and_then, with_lines}
 use Rattle.provider_config.specs.declared.config.FileRole.{FileRole}
 use Rattle.provider_config.specs.declared.config.FileRole.TheVariants as roles
 use Rattle.provider_config.specs.declared.config.SpFile.{SpFile}
@@ -13,7 +13,7 @@ use Rattle.provider_config.specs.declared.line.SpLine.{SpLine}
 use Rattle.provider_config.specs.declared.line.SpLine.TheVariants.{Entity, Base, Listen, Idp, KeyIn, KeyOut, IdKey, Skew, NextIn, Policy, Registry, Guard, Asked, Opened}
 use Rattle.provider_config.specs.Line.{key_of, line_of, spelled}
 use Rattle.provider_config.specs.Config.{Config, entity, base, listen, skew, times, file, asked, opened, same_role, role_of, has_file, has_files, doubles, config_of, sp_config}
-use Rattle.provider_config.specs.Shared.{and_then, the, has_key, lines_from, ◌>>=◌}
+use Rattle.provider_config.specs.Shared.{the, has_key, with_line, config_in, ◌>>=◌}
 use Rattle.provider_config.proofs.Sharing.{the-push, filter_map-push, any-push, is_some-the, any_filtered, fresh, line_behind, from_next}
 use Rattle.provider_config.specs.Drafts.{is_guard, found, complete, taken, stands, unless_found, next_line, config_from}
 
@@ -155,6 +155,7 @@ complete-found lines = λ i. the entity lines >>= λ entity. the base lines >>= 
 -- what a config has of its lines
 pub record IsMadeOf (lines : List SpLine) (config : Config) : Type 0 where
   pub files : config.files ≡ filter_map file lines
+  pub guard : config.guard ≡ list_any is_guard lines
   pub asked : config.asked ≡ filter_map asked lines
   pub opened : config.opened ≡ filter_map opened lines
   pub named : has_files config.files ≡ true
@@ -179,7 +180,7 @@ made_of lines config e = which (the entity lines) (the base lines) (the listen l
         IsMadeOf lines config
     which (Some a) (Some b) (Some c) (Some d) true is e =
         let files : config.files ≡ filter_map file lines = cc in
-        record { files = files; asked = cc; opened = cc; named = ap has_files files ∙ is }
+        record { files = files; guard = cc; asked = cc; opened = cc; named = ap has_files files ∙ is }
     which (Some a) (Some b) (Some c) (Some d) false is e = absurd (cc)
     which None b c d t is e = absurd (cc)
     which (Some a) None c d t is e = absurd (cc)
@@ -201,15 +202,15 @@ abbrev result_of : List SpLine → Result Config ℕ
 result_of lines = ok_or (complete (found lines)) 0
 
 by_line : (purpose : Purpose) (before : List SpLine) (others : List Said) →
-    ((lines : List SpLine) → config_from purpose (found lines) others ≡ and_then result_of (lines_from (λ _. spelled purpose) doubles lines others)) → (next : Result SpLine ℕ) →
+    ((lines : List SpLine) → config_from purpose (found lines) others ≡ and_then result_of (with_lines (with_line (λ _. spelled purpose) doubles) lines others)) → (next : Result SpLine ℕ) →
     and_then (λ line. config_from purpose (taken line (found before)) others) next
-    ≡ and_then result_of (and_then (λ line. lines_from (λ _. spelled purpose) doubles (before ++ line ∷ []) others) next)
+    ≡ and_then result_of (and_then (λ line. with_lines (with_line (λ _. spelled purpose) doubles) (before ++ line ∷ []) others) next)
 by_line purpose before others rest (Err number) = refl
 by_line purpose before others rest (Ok line) =
     ap (λ f. config_from purpose f others) (sym (found-push before line)) ∙ rest (before ++ line ∷ [])
 
 config_from-found : (purpose : Purpose) (rest : List Said) (before : List SpLine) →
-    config_from purpose (found before) rest ≡ and_then result_of (lines_from (λ _. spelled purpose) doubles before rest)
+    config_from purpose (found before) rest ≡ and_then result_of (with_lines (with_line (λ _. spelled purpose) doubles) before rest)
 config_from-found purpose [] before = refl
 config_from-found purpose (next ∷ others) before =
     ap (and_then (λ line. config_from purpose (taken line (found before)) others)) (next_line-is purpose before next)
@@ -220,4 +221,4 @@ config_from-found purpose (next ∷ others) before =
 pub at_first : (purpose : Purpose) (text : List ℕ) → config_from purpose (found []) (said text) ≡ sp_config purpose text
 at_first purpose text =
     config_from-found purpose (said text) []
-    ∙ ap (λ (make : List SpLine → Option Config). and_then (λ lines. ok_or (make lines) 0) (lines_from (λ _. spelled purpose) doubles [] (said text))) (λ i lines. complete-found lines i)
+    ∙ ap (λ (make : List SpLine → Option Config). config_in (λ _. spelled purpose) doubles make text) (λ i lines. complete-found lines i)

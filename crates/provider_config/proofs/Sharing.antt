@@ -3,24 +3,24 @@ use Rattle.std.proofs.Common.{◌≡◌, ℕ, ◌+◌, Bool, true, false, ◌||�
 use Rattle.std.specs.Prelude.{option_and_then}
 use Rattle.text_lines.specs.Words.{words_of}
 use Rattle.std.specs.List.{filter_map, cons_option, list_any}
-use Rattle.std.specs.Option.{option_map_or}
+use Rattle.std.specs.Option.{option_map_or, option_or}
 use Rattle.std.proofs.lemmas.List.Sums.{sum_by-cons}
-use Rattle.text_lines.specs.Lines.{Said, Says, NoText}
-use Rattle.provider_config.specs.Shared.{and_then, or_else, the, lines_from, pushed}
+use Rattle.text_lines.specs.Lines.{Said, Says, NoText, and_then, with_lines}
+use Rattle.provider_config.specs.Shared.{the, with_line, pushed, ◌>>=◌}
 
-or_else_assoc : {X : Type 0} (a b c : Option X) → or_else (or_else a b) c ≡ or_else a (or_else b c)
-or_else_assoc None b c = refl
-or_else_assoc (Some x) b c = refl
+or_assoc : {X : Type 0} (a b c : Option X) → option_or (option_or a b) c ≡ option_or a (option_or b c)
+or_assoc None b c = refl
+or_assoc (Some x) b c = refl
 
-or_else_none : {X : Type 0} (a : Option X) → or_else None a ≡ or_else a None
-or_else_none None = refl
-or_else_none (Some x) = refl
+or_none : {X : Type 0} (a : Option X) → option_or None a ≡ option_or a None
+or_none None = refl
+or_none (Some x) = refl
 
 pub the-push : {Line X : Type 0} (says : Line → Option X) (lines : List Line) (line : Line) →
-    the says (lines ++ line ∷ []) ≡ or_else (says line) (the says lines)
-the-push says [] line = or_else_none (says line)
+    the says (lines ++ line ∷ []) ≡ option_or (says line) (the says lines)
+the-push says [] line = or_none (says line)
 the-push says (first ∷ lines) line =
-    ap (λ o. or_else o (says first)) (the-push says lines line) ∙ or_else_assoc (says line) (the says lines) (says first)
+    ap (λ o. option_or o (says first)) (the-push says lines line) ∙ or_assoc (says line) (the says lines) (says first)
 
 cons_pushed : {X : Type 0} (o last : Option X) (xs : List X) → cons_option o (pushed xs last) ≡ pushed (cons_option o xs) last
 cons_pushed None last xs = refl
@@ -37,7 +37,7 @@ filter_map-push says [] line = one_pushed (says line)
 filter_map-push says (first ∷ lines) line =
     ap (cons_option (says first)) (filter_map-push says lines line) ∙ cons_pushed (says first) (says line) (filter_map says lines)
 
-some_either : {X : Type 0} (a b : Option X) → is_some (or_else a b) ≡ is_some b || is_some a
+some_either : {X : Type 0} (a b : Option X) → is_some (option_or a b) ≡ is_some b || is_some a
 some_either None None = refl
 some_either None (Some y) = refl
 some_either (Some x) None = refl
@@ -93,45 +93,71 @@ line_behind spelled is_beyond before (Says number text) = ok_or (fresh is_beyond
 line_behind spelled is_beyond before (NoText number) = Err number
 
 pub from_next : {L : Type 0} (spelled : ℕ → List (List ℕ) → Option L) (is_beyond : L → List L → Bool) (before : List L) (next : Said) (others : List Said) →
-    lines_from spelled is_beyond before (next ∷ others)
-    ≡ and_then (λ line. lines_from spelled is_beyond (before ++ line ∷ []) others) (line_behind spelled is_beyond before next)
+    with_lines (with_line spelled is_beyond) before (next ∷ others)
+    ≡ and_then (λ line. with_lines (with_line spelled is_beyond) (before ++ line ∷ []) others) (line_behind spelled is_beyond before next)
 from_next spelled is_beyond before (NoText number) others = refl
-from_next {L} spelled is_beyond before (Says number text) others = which (option_and_then (spelled number) (words_of text))
+from_next {L} spelled is_beyond before (Says number text) others = of_words (words_of text)
   where
     by_test : (line : L) (b : Bool) →
-        cond b (Err number) (lines_from spelled is_beyond (before ++ line ∷ []) others)
-        ≡ and_then (λ line. lines_from spelled is_beyond (before ++ line ∷ []) others) (ok_or (cond b None (Some line)) number)
+        and_then (λ lines. with_lines (with_line spelled is_beyond) lines others) (ok_or (cond b None (Some (before ++ line ∷ []))) number)
+        ≡ and_then (λ line. with_lines (with_line spelled is_beyond) (before ++ line ∷ []) others) (ok_or (cond b None (Some line)) number)
     by_test line true = refl
     by_test line false = refl
 
-    which : (o : Option L) →
-        and_then (λ line. cond (is_beyond line before) (Err number) (lines_from spelled is_beyond (before ++ line ∷ []) others)) (ok_or o number)
-        ≡ and_then (λ line. lines_from spelled is_beyond (before ++ line ∷ []) others) (ok_or (fresh is_beyond before o) number)
-    which None = refl
-    which (Some line) = by_test line (is_beyond line before)
+    of_line : (o : Option L) →
+        and_then (λ lines. with_lines (with_line spelled is_beyond) lines others)
+        (ok_or (o >>= λ line. cond (is_beyond line before) None (Some (before ++ line ∷ []))) number)
+        ≡ and_then (λ line. with_lines (with_line spelled is_beyond) (before ++ line ∷ []) others) (ok_or (fresh is_beyond before o) number)
+    of_line None = refl
+    of_line (Some line) = by_test line (is_beyond line before)
+
+    of_words : (o : Option (List (List ℕ))) →
+        and_then (λ lines. with_lines (with_line spelled is_beyond) lines others)
+        (ok_or (o >>= λ words. spelled number words >>= λ line. cond (is_beyond line before) None (Some (before ++ line ∷ []))) number)
+        ≡ and_then (λ line. with_lines (with_line spelled is_beyond) (before ++ line ∷ []) others)
+        (ok_or (fresh is_beyond before (option_and_then (spelled number) o)) number)
+    of_words None = refl
+    of_words (Some words) = of_line (spelled number words)
+
+-- words spell this line
+abbrev pub IsSpelled : {L : Type 0} → (ℕ → List (List ℕ) → Option L) → L → Type 0
+IsSpelled spelled line = (number : ℕ) × (words : List (List ℕ)) × (spelled number words ≡ Some line)
 
 -- what holds of lines and of what is still to be said, and still does with a line that may stand, holds of all lines
 pub kept : {L : Type 0} (spelled : ℕ → List (List ℕ) → Option L) (is_beyond : L → List L → Bool) (P : List L → List Said → Type 0) →
-    ((before : List L) (line : L) (next : Said) (others : List Said) → is_beyond line before ≡ false → P before (next ∷ others) →
+    ((before : List L) (line : L) (next : Said) (others : List Said) → IsSpelled spelled line → is_beyond line before ≡ false → P before (next ∷ others) →
     P (before ++ line ∷ []) others) →
-    (before : List L) (says : List Said) → P before says → IfOk (lines_from spelled is_beyond before says) (λ lines. P lines [])
+    (before : List L) (says : List Said) → P before says → IfOk (with_lines (with_line spelled is_beyond) before says) (λ lines. P lines [])
 kept spelled is_beyond P step before [] h = h
 kept spelled is_beyond P step before (NoText number ∷ others) h = tt
 kept {L} spelled is_beyond P step before (Says number text ∷ others) h =
-    which (option_and_then (spelled number) (words_of text))
-    (λ line new. kept spelled is_beyond P step (before ++ line ∷ []) others (step before line (Says number text) others new h))
+    of_words (words_of text)
+    (λ line by new. kept spelled is_beyond P step (before ++ line ∷ []) others (step before line (Says number text) others by new h))
   where
-    by_test : (line : L) (b : Bool) → (b ≡ false → IfOk (lines_from spelled is_beyond (before ++ line ∷ []) others) (λ lines. P lines [])) →
-        IfOk (cond b (Err number) (lines_from spelled is_beyond (before ++ line ∷ []) others)) (λ lines. P lines [])
+    by_test : (line : L) (b : Bool) →
+        (b ≡ false → IfOk (with_lines (with_line spelled is_beyond) (before ++ line ∷ []) others) (λ lines. P lines [])) →
+        IfOk (and_then (λ lines. with_lines (with_line spelled is_beyond) lines others) (ok_or (cond b None (Some (before ++ line ∷ []))) number))
+        (λ lines. P lines [])
     by_test line true rest = tt
     by_test line false rest = rest refl
 
-    which : (o : Option L) →
-        ((line : L) → is_beyond line before ≡ false → IfOk (lines_from spelled is_beyond (before ++ line ∷ []) others) (λ lines. P lines [])) →
-        IfOk (and_then (λ line. cond (is_beyond line before) (Err number) (lines_from spelled is_beyond (before ++ line ∷ []) others)) (ok_or o number))
+    of_line : (words : List (List ℕ)) (o : Option L) → spelled number words ≡ o →
+        ((line : L) → IsSpelled spelled line → is_beyond line before ≡ false →
+        IfOk (with_lines (with_line spelled is_beyond) (before ++ line ∷ []) others) (λ lines. P lines [])) →
+        IfOk (and_then (λ lines. with_lines (with_line spelled is_beyond) lines others)
+        (ok_or (o >>= λ line. cond (is_beyond line before) None (Some (before ++ line ∷ []))) number))
         (λ lines. P lines [])
-    which None rest = tt
-    which (Some line) rest = by_test line (is_beyond line before) (rest line)
+    of_line words None is rest = tt
+    of_line words (Some line) is rest = by_test line (is_beyond line before) (rest line (number, words, is))
+
+    of_words : (o : Option (List (List ℕ))) →
+        ((line : L) → IsSpelled spelled line → is_beyond line before ≡ false →
+        IfOk (with_lines (with_line spelled is_beyond) (before ++ line ∷ []) others) (λ lines. P lines [])) →
+        IfOk (and_then (λ lines. with_lines (with_line spelled is_beyond) lines others)
+        (ok_or (o >>= λ words. spelled number words >>= λ line. cond (is_beyond line before) None (Some (before ++ line ∷ []))) number))
+        (λ lines. P lines [])
+    of_words None rest = tt
+    of_words (Some words) rest = of_line words (spelled number words) refl rest
 
 -- the lines of which a config is made
 pub of_lines : {L C : Type 0} (config_of : List L → Option C) (P : List L → Type 0) (r : Result (List L) ℕ) (config : C) → IfOk r P →

@@ -1,8 +1,7 @@
 -- The lines of a config: which of them make one, and what it says.
-use Rattle.std.specs.Prelude.{◌≡◌, ℕ, ◌≤◌, ◌*◌, Bool, true, false, ◌&&◌, List, [], ◌∷◌, codes, Option, None, Some, Result, ok_or, if◌then◌else◌}
+use Rattle.std.specs.Prelude.{◌≡◌, ℕ, ◌≤◌, ◌*◌, Bool, true, false, ◌&&◌, List, [], ◌∷◌, codes, Option, None, Some, Result, if◌then◌else◌}
 use Rattle.std.specs.List.{filter_map, list_any, list_all}
 use Rattle.xml_spec.specs.Characters.{IsText}
-use Rattle.text_lines.specs.Lines.{said}
 use Rattle.provider_config.specs.declared.config.FileRole.{FileRole}
 use Rattle.provider_config.specs.declared.config.FileRole.TheVariants as roles
 use Rattle.provider_config.specs.declared.config.Times.{Times}
@@ -16,7 +15,7 @@ use Rattle.provider_config.specs.declared.line.Purpose.{Purpose}
 use Rattle.provider_config.specs.declared.line.SpLine.{SpLine}
 use Rattle.provider_config.specs.declared.line.SpLine.TheVariants.{Entity, Base, Listen, Idp, KeyIn, KeyOut, IdKey, Skew, NextIn, Policy, Registry, Asked, Opened}
 use Rattle.provider_config.specs.Line.{key_of, spelled}
-use Rattle.provider_config.specs.Shared.{and_then, the, has_key, lines_from, ◌>>=◌}
+use Rattle.provider_config.specs.Shared.{the, has_key, config_in, ◌>>=◌}
 
 -- ---- the lines of a text
 
@@ -117,10 +116,9 @@ config_of lines = do
         opened = filter_map opened lines;
       }) else None
 
--- the config of a text, or the number of the first line that is bad; 0 where no line is bad and a key is missing
+-- the config of a service provider's text, for this purpose
 abbrev pub sp_config : Purpose → List ℕ → Result Config ℕ
-sp_config purpose text =
-    and_then (λ lines. ok_or (config_of lines) 0) (lines_from (λ _. spelled purpose) doubles [] (said text))
+sp_config purpose text = config_in (λ number. spelled purpose) doubles config_of text
 
 -- ---- the files of a config
 

@@ -1,7 +1,8 @@
 -- Words by which the code keeps the definitions: what is found so far, and what one more line adds.
 use Rattle.std.specs.Prelude.{ℕ, Bool, true, false, ◌||◌, List, [], ◌∷◌, Option, None, Some, Result, Err, ok_or, is_some, if◌then◌else◌}
 use Rattle.std.specs.List.{filter_map, list_any}
-use Rattle.text_lines.specs.Lines.{Said, Says, NoText}
+use Rattle.std.specs.Option.{option_or}
+use Rattle.text_lines.specs.Lines.{Said, Says, NoText, and_then}
 use Rattle.provider_config.specs.declared.config.FileRole.TheVariants as roles
 use Rattle.provider_config.specs.declared.line.Purpose.{Purpose}
 use Rattle.provider_config.specs.declared.line.SpLine.{SpLine}
@@ -12,7 +13,7 @@ use Rattle.provider_config.specs.declared.config.OpenedLine.{OpenedLine}
 use Rattle.provider_config.specs.declared.config.SpFile.{SpFile}
 use Rattle.provider_config.specs.declared.config.Times.{Times}
 use Rattle.provider_config.specs.Config.{Config, entity, base, listen, skew, times, file, asked, opened, has_file, has_files}
-use Rattle.provider_config.specs.Shared.{and_then, or_else, pushed, the, ◌>>=◌}
+use Rattle.provider_config.specs.Shared.{pushed, the, ◌>>=◌}
 
 -- ---- what is found so far
 
@@ -59,12 +60,12 @@ complete found = do
 abbrev pub taken : SpLine → Found → Found
 taken line found =
     record {
-      entity = or_else (entity line) found.entity;
-      base = or_else (base line) found.base;
-      listen = or_else (listen line) found.listen;
-      skew = or_else (skew line) found.skew;
+      entity = option_or (entity line) found.entity;
+      base = option_or (base line) found.base;
+      listen = option_or (listen line) found.listen;
+      skew = option_or (skew line) found.skew;
       files = pushed found.files (file line);
-      next_in = or_else (times line) found.next_in;
+      next_in = option_or (times line) found.next_in;
       guard = is_guard line || found.guard;
       asked = pushed found.asked (asked line);
       opened = pushed found.opened (opened line);

@@ -1,20 +1,16 @@
 -- The lines of a hub's config: which of them make one, and what it says.
-use Rattle.std.specs.Prelude.{ℕ, Bool, true, false, ◌&&◌, nat_le, List, [], count_by, Option, None, Some, Result, ok_or, if◌then◌else◌}
+use Rattle.std.specs.Prelude.{ℕ, Bool, true, false, nat_le, List, count_by, Option, None, Some, Result, if◌then◌else◌}
 use Rattle.std.specs.List.{filter_map, list_any}
 use Rattle.std.specs.Option.{option_map}
-use Rattle.text_lines.specs.Lines.{said}
-use Rattle.provider_config.specs.declared.config.SpFile.{SpFile}
-use Rattle.provider_config.specs.declared.config.Times.{Times}
 use Rattle.provider_config.specs.declared.hub_config.HubFile.{HubFile}
 use Rattle.provider_config.specs.declared.hub_config.HubFile.TheVariants as files
-use Rattle.provider_config.specs.declared.hub_config.HubLines.{HubLines}
 use Rattle.provider_config.specs.declared.hub_line.HubLine.{HubLine}
 use Rattle.provider_config.specs.declared.hub_line.HubLine.TheVariants.{Above, Peer}
 use Rattle.provider_config.specs.declared.idp_config.TheConstants.{MAX_PEERS}
 use Rattle.provider_config.specs.declared.line.SpLine.{SpLine}
 use Rattle.provider_config.specs.Config as sp
 use Rattle.provider_config.specs.HubLine.{spelled}
-use Rattle.provider_config.specs.Shared.{and_then, lines_from, ◌>>=◌}
+use Rattle.provider_config.specs.Shared.{config_in, ◌>>=◌}
 
 -- ---- the lines of a text
 
@@ -48,76 +44,17 @@ file (Peer names) = Some (files.Peer names)
 
 -- ---- a config
 
--- the name and the places, the files in the order of their lines, and when a second key of the provider above counts
+-- what the lines say that a service provider's config has too, and the files of all lines in their order
 pub record HubConfig : Type 0 where
-  pub entity : List ℕ
-  pub base : List ℕ
-  pub listen : List ℕ
-  pub skew : ℕ
+  pub above : sp.Config
   pub files : List HubFile
-  pub next_in : Option Times
 
 -- the config of these lines; none where a key of a service provider's config is missing, or a peer
 abbrev pub config_of : List HubLine → Option HubConfig
 config_of lines = do
   one ← sp.config_of (above lines)
-  if list_any is_peer lines then Some (record {
-    entity = one.entity;
-    base = one.base;
-    listen = one.listen;
-    skew = one.skew;
-    files = filter_map file lines;
-    next_in = one.next_in;
-  }) else None
+  if list_any is_peer lines then Some (record { above = one; files = filter_map file lines }) else None
 
--- the config of a text, or the number of the first line that is bad; 0 where no line is bad and a key is missing
+-- the config of a hub's text
 abbrev pub hub_config : List ℕ → Result HubConfig ℕ
-hub_config text = and_then (λ lines. ok_or (config_of lines) 0) (lines_from spelled is_beyond [] (said text))
-
-abbrev pub sp_file : HubFile → Option SpFile
-sp_file (files.Above named) = Some named
-sp_file (files.Peer names) = None
-
--- those of the files that a service provider's config names too
-abbrev pub above_files : List HubFile → List SpFile
-above_files named = filter_map sp_file named
-
--- what it says as a service provider's config
-abbrev pub upstream : HubConfig → sp.Config
-upstream config = record {
-  entity = config.entity;
-  base = config.base;
-  listen = config.listen;
-  skew = config.skew;
-  files = above_files config.files;
-  next_in = config.next_in;
-  guard = false;
-  asked = [];
-  opened = [];
-}
-
--- ---- the files of a config
-
-abbrev pub is_peer_file : HubFile → Bool
-is_peer_file (files.Above named) = false
-is_peer_file (files.Peer names) = true
-
-abbrev pub has_peer : List HubFile → Bool
-has_peer named = list_any is_peer_file named
-
--- the files that each config names
-abbrev pub has_files : List HubFile → Bool
-has_files named = sp.has_files (above_files named) && has_peer named
-
--- ---- how contracts see what is read
-
-abbrev pub config_view : HubLines → HubConfig
-config_view lines =
-    record {
-      entity = lines.entity;
-      base = lines.base;
-      listen = lines.listen;
-      skew = lines.skew;
-      files = lines.files.items;
-      next_in = lines.next_in;
-    }
+hub_config text = config_in spelled is_beyond config_of text

@@ -1,15 +1,17 @@
 -- Words by which the code keeps the definitions: what is found so far, and what one more line adds.
-use Rattle.std.specs.Prelude.{ℕ, Bool, nat_le, List, [], ◌∷◌, count_by, Option, None, Some, Result, Err, ok_or, if◌then◌else◌}
+use Rattle.std.specs.Prelude.{ℕ, Bool, false, nat_le, List, [], ◌∷◌, count_by, Option, None, Some, Result, Err, ok_or, if◌then◌else◌}
 use Rattle.std.specs.List.{filter_map}
-use Rattle.text_lines.specs.Lines.{Said, Says, NoText}
+use Rattle.text_lines.specs.Lines.{Said, Says, NoText, and_then}
 use Rattle.provider_config.specs.declared.hub_line.HubLine.{HubLine}
 use Rattle.provider_config.specs.declared.hub_line.HubLine.TheVariants.{Above, Peer}
 use Rattle.provider_config.specs.declared.idp_config.TheConstants.{MAX_PEERS}
+use Rattle.provider_config.specs.Config.{Config}
 use Rattle.provider_config.specs.Drafts as sp
 use Rattle.provider_config.specs.declared.hub_config.HubFile.{HubFile}
-use Rattle.provider_config.specs.HubConfig.{HubConfig, above, file, is_peer_file, has_peer}
+use Rattle.provider_config.specs.HubConfig.{HubConfig, above, file}
 use Rattle.provider_config.specs.HubLine.{line_of}
-use Rattle.provider_config.specs.Shared.{and_then, pushed, ◌>>=◌}
+use Rattle.provider_config.specs.HubViews.{above_files, is_peer_file, has_peer}
+use Rattle.provider_config.specs.Shared.{pushed, ◌>>=◌}
 
 -- ---- what is found so far
 
@@ -21,18 +23,18 @@ pub record Found : Type 0 where
 abbrev pub found : List HubLine → Found
 found lines = record { above = sp.found (above lines); files = filter_map file lines }
 
+-- of these files, and of what else a service provider's config says, but for a guard and rows, which no line of a hub's says
+abbrev pub made_with : List HubFile → Config → HubConfig
+made_with files one = record {
+  above = record one { files = above_files files; guard = false; asked = []; opened = [] };
+  files = files;
+}
+
 -- the config of what is found; none where a key of a service provider's config is missing, or a peer
 abbrev pub complete : Found → Option HubConfig
 complete found = do
-  above ← sp.complete found.above
-  if has_peer found.files then Some (record {
-    entity = above.entity;
-    base = above.base;
-    listen = above.listen;
-    skew = above.skew;
-    files = found.files;
-    next_in = above.next_in;
-  }) else None
+  one ← sp.complete found.above
+  if has_peer found.files then Some (made_with found.files one) else None
 
 -- what is found with one more line
 abbrev pub taken : HubLine → Found → Found

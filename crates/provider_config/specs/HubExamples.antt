@@ -1,11 +1,11 @@
 -- The definitions of a hub's config at worked examples.
-use Rattle.std.specs.Prelude.{◌≡◌, ℕ, List, [], ◌∷◌, ◌++◌, None, Some, Ok, Err, codes, refl}
+use Rattle.std.specs.Prelude.{◌≡◌, ℕ, false, List, [], ◌∷◌, ◌++◌, map, None, Some, Ok, Err, codes, refl}
 use Rattle.std.specs.Str.{chars}
 use lib.Utf8.{encode}
 use Rattle.provider_config.specs.declared.config.FileRole.{FileRole}
 use Rattle.provider_config.specs.declared.config.FileRole.TheVariants as roles
+use Rattle.provider_config.specs.declared.config.SpFile.{SpFile}
 use Rattle.provider_config.specs.declared.config.SpFile.TheVariants as names
-use Rattle.provider_config.specs.declared.hub_config.HubFile.{HubFile}
 use Rattle.provider_config.specs.declared.hub_config.HubFile.TheVariants as files
 use Rattle.provider_config.specs.declared.hub_line.HubLine.TheVariants.{Above, Peer}
 use Rattle.provider_config.specs.declared.line.SpLine.TheVariants.{KeyIn}
@@ -28,20 +28,31 @@ most : List ℕ
 most = codes "id_key d\nkey_out o\nidp m\nskew 1\nlisten l\nbase b\nentity e\nkey_in i\n"
 
 -- a file of a line that a service provider's config has too
-one : FileRole → List ℕ → HubFile
-one role name = files.Above (names.One (record { role = role; name = name }))
+one : FileRole → List ℕ → SpFile
+one role name = names.One (record { role = role; name = name })
+
+-- those of these lines, and of one more
+above_files : List SpFile
+above_files =
+    one roles.IdKey (codes "d") ∷ one roles.KeyOut (codes "o") ∷ one roles.Idp (codes "m") ∷ one roles.KeyIn (codes "i")
+    ∷ one roles.NextIn (codes "k") ∷ []
 
 a_config : hub_config (codes "peer n x y\n" ++ most ++ codes "next_in k 2 5\n") ≡ Ok (record {
-  entity = codes "e";
-  base = codes "b";
-  listen = codes "l";
-  skew = 1000;
+  above = record {
+    entity = codes "e";
+    base = codes "b";
+    listen = codes "l";
+    skew = 1000;
+    files = above_files;
+    next_in = Some (record { from = 2; until = 5 });
+    guard = false;
+    asked = [];
+    opened = [];
+  };
   files = files.Peer (record { line = 1; metadata = codes "n"; key_in = codes "x"; key_out = codes "y" })
-      ∷ one roles.IdKey (codes "d") ∷ one roles.KeyOut (codes "o") ∷ one roles.Idp (codes "m") ∷ one roles.KeyIn (codes "i")
-      ∷ one roles.NextIn (codes "k") ∷ [];
-  next_in = Some (record { from = 2; until = 5 });
+      ∷ map files.Above above_files;
 })
-unfolding chars encode most one
+unfolding chars encode most one above_files
 a_config = refl
 
 -- without a peer a key is missing, and without a key of a service provider too; a key stands once

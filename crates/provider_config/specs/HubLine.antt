@@ -1,5 +1,6 @@
 -- One line of a hub's config: a line of a service provider's config, or the line of a peer.
 use Rattle.std.specs.Prelude.{ℕ, List, Option, None, Some, option_and_then}
+use Rattle.std.specs.Option.{option_or}
 use Rattle.text_lines.specs.Words.{words_of}
 use Rattle.provider_config.specs.declared.hub_line.HubLine.{HubLine}
 use Rattle.provider_config.specs.declared.hub_line.HubLine.TheVariants.{Above, Peer}
@@ -10,7 +11,6 @@ use Rattle.provider_config.specs.declared.line.SpLine.{SpLine}
 use Rattle.provider_config.specs.declared.line.SpLine.TheVariants.{Policy, Registry, Guard}
 use Rattle.provider_config.specs.IdpLine as idp
 use Rattle.provider_config.specs.Line as sp
-use Rattle.provider_config.specs.Shared.{or_else}
 
 -- Which lines of a service provider's config are a hub's: a hub has no pages, so no policy and no guard, and it has the identity
 -- provider above from metadata, not from a registry.
@@ -27,7 +27,7 @@ below line = None
 
 -- the line of these words, which has this number: `peer METADATA KEYIN KEYOUT`, or a line of a service provider that serves
 abbrev pub spelled : ℕ → List (List ℕ) → Option HubLine
-spelled number words = or_else (option_and_then below (idp.spelled number words)) (option_and_then above (sp.spelled Serve words))
+spelled number words = option_or (option_and_then below (idp.spelled number words)) (option_and_then above (sp.spelled Serve words))
 
 -- the line that a text spells, which has this number
 abbrev pub line_of : ℕ → List ℕ → Option HubLine

@@ -1,8 +1,7 @@
 -- The lines of an identity provider's config: which of them make one, and what it says.
-use Rattle.std.specs.Prelude.{ℕ, ◌≤◌, ◌*◌, Bool, true, false, ◌&&◌, nat_le, List, [], ◌∷◌, codes, count_by, Option, None, Some, unwrap_or, Result, ok_or, if◌then◌else◌}
+use Rattle.std.specs.Prelude.{ℕ, ◌≤◌, ◌*◌, Bool, true, false, ◌&&◌, nat_le, List, [], ◌∷◌, codes, count_by, Option, None, Some, unwrap_or, Result, if◌then◌else◌}
 use Rattle.std.specs.List.{filter_map, list_any, list_all}
 use Rattle.xml_spec.specs.Characters.{IsText}
-use Rattle.text_lines.specs.Lines.{said}
 use Rattle.provider_config.specs.declared.idp_config.IdpFile.{IdpFile}
 use Rattle.provider_config.specs.declared.idp_config.IdpFile.TheVariants as files
 use Rattle.provider_config.specs.declared.idp_config.IdpLines.{IdpLines}
@@ -13,7 +12,7 @@ use Rattle.provider_config.specs.declared.idp_line.IdpLine.{IdpLine}
 use Rattle.provider_config.specs.declared.idp_line.IdpLine.TheVariants.{Entity, Base, Listen, Users, IdKey, Skew, Sign, Peer}
 use Rattle.provider_config.specs.declared.line.TheConstants.{MILLIS, MOST_SKEW}
 use Rattle.provider_config.specs.IdpLine.{key_of, spelled}
-use Rattle.provider_config.specs.Shared.{and_then, the, has_key, lines_from, ◌>>=◌}
+use Rattle.provider_config.specs.Shared.{the, has_key, config_in, ◌>>=◌}
 
 -- ---- the lines of a text
 
@@ -91,9 +90,9 @@ config_of lines = do
     fanout = has_key key_of lines (codes "fanout");
   }) else None
 
--- the config of a text, or the number of the first line that is bad; 0 where no line is bad and a key is missing
+-- the config of an identity provider's text
 abbrev pub idp_config : List ℕ → Result IdpConfig ℕ
-idp_config text = and_then (λ lines. ok_or (config_of lines) 0) (lines_from spelled is_beyond [] (said text))
+idp_config text = config_in spelled is_beyond config_of text
 
 -- ---- the files of a config
 

@@ -1,7 +1,8 @@
 -- Words by which the code keeps the definitions: what is found so far, and what one more line adds.
 use Rattle.std.specs.Prelude.{ℕ, Bool, true, false, ◌||◌, unwrap_or, nat_le, List, [], ◌∷◌, count_by, Option, None, Some, Result, Err, ok_or, is_some, if◌then◌else◌}
 use Rattle.std.specs.List.{filter_map, list_any}
-use Rattle.text_lines.specs.Lines.{Said, Says, NoText}
+use Rattle.std.specs.Option.{option_or}
+use Rattle.text_lines.specs.Lines.{Said, Says, NoText, and_then}
 use Rattle.provider_config.specs.declared.idp_config.TheConstants.{MAX_PEERS}
 use Rattle.provider_config.specs.declared.idp_line.IdpLine.{IdpLine}
 use Rattle.provider_config.specs.declared.idp_line.IdpLine.TheVariants.{Entity, Base, Listen, Users, IdKey, Skew, Sign, Fanout, Peer}
@@ -10,7 +11,7 @@ use Rattle.provider_config.specs.declared.idp_config.IdpFile.{IdpFile}
 use Rattle.provider_config.specs.declared.idp_config.SignMode.{SignMode}
 use Rattle.provider_config.specs.declared.idp_config.SignMode.TheVariants as modes
 use Rattle.provider_config.specs.IdpConfig.{IdpConfig, entity, base, listen, skew, sign, file, has_users, has_id_key, is_peer_file, has_files}
-use Rattle.provider_config.specs.Shared.{and_then, or_else, pushed, the, ◌>>=◌}
+use Rattle.provider_config.specs.Shared.{pushed, the, ◌>>=◌}
 
 -- ---- what is found so far
 
@@ -61,11 +62,11 @@ complete found = do
 abbrev pub taken : IdpLine → Found → Found
 taken line found =
     record {
-      entity = or_else (entity line) found.entity;
-      base = or_else (base line) found.base;
-      listen = or_else (listen line) found.listen;
-      skew = or_else (skew line) found.skew;
-      sign = or_else (sign line) found.sign;
+      entity = option_or (entity line) found.entity;
+      base = option_or (base line) found.base;
+      listen = option_or (listen line) found.listen;
+      skew = option_or (skew line) found.skew;
+      sign = option_or (sign line) found.sign;
       fanout = is_fanout line || found.fanout;
       files = pushed found.files (file line);
     }

@@ -5,6 +5,7 @@ pub mod HubConfig
 pub mod HubDrafts
 pub mod HubExamples
 pub mod HubLine
+pub mod HubViews
 pub mod IdpConfig
 pub mod IdpDrafts
 pub mod IdpExamples

@@ -4,8 +4,9 @@ ghost use Rattle.std.specs.Prelude.{◌≡◌, ◌≤◌, ◌*◌, [], IfSome, O
 ghost use Rattle.std.specs.Option.{option_map};
 ghost use Rattle.xml_spec.specs.Characters.{IsText};
 ghost use Rattle.provider_config.specs.Config as sp;
-ghost use Rattle.provider_config.specs.HubConfig as spec;
+ghost use Rattle.provider_config.specs.HubConfig.{IsSound};
 ghost use Rattle.provider_config.specs.HubDrafts as drafts;
+ghost use Rattle.provider_config.specs.HubViews as views;
 
 use crate::draft::Draft;
 use crate::hub_config::{HubFile, HubLines};
@@ -19,7 +20,7 @@ use std::marker::Model;
 impl HubFile {
     /// Whether it is of a peer.
     fn is_peer(&self) -> bool
-        ensures { result ≡ spec.is_peer_file self.now }
+        ensures { result ≡ views.is_peer_file self.now }
     {
         matches!(self, HubFile::Peer(_))
     }
@@ -27,14 +28,14 @@ impl HubFile {
 
 /// Whether a peer is named.
 fn has_peer(files: &[HubFile]) -> bool
-    ensures { result ≡ spec.has_peer files.now }
+    ensures { result ≡ views.has_peer files.now }
 {
     files.iter().any(|file| file.is_peer())
 }
 
 /// How many peers are named.
 fn peer_count(files: &[HubFile]) -> usize
-    ensures { result ≡ count_by spec.is_peer_file files.now }
+    ensures { result ≡ count_by views.is_peer_file files.now }
 {
     files.iter().filter(|file| file.is_peer()).count()
 }
@@ -79,7 +80,7 @@ impl HubDraft {
 
     /// The line is found too.
     pub(crate) fn take(&mut self, line: HubLine) -> Result<(), NoMemory>
-        requires { spec.IsSound line }
+        requires { IsSound line }
         ensures { OnOk result (self.new ≡ drafts.taken line self.old) }
     {
         match line {
@@ -96,7 +97,7 @@ impl HubDraft {
 
     /// The lines of the config; none where a key is missing.
     pub(crate) fn complete(self) -> Option<HubLines>
-        ensures value { option_map spec.config_view result ≡ drafts.complete self }
+        ensures value { option_map views.config_view result ≡ drafts.complete self }
         ensures skew { IfSome result (λ lines. lines.skew ≤ MILLIS * MOST_SKEW) }
         ensures times { IfSome result (λ lines. IfSome lines.next_in sp.AreInOrder) }
         ensures texts { IfSome result (λ lines. IsText lines.entity × IsText lines.base × IsText lines.listen) }

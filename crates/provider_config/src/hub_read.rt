@@ -5,8 +5,9 @@ ghost use Rattle.owned_values.specs.Gives.{Gives};
 ghost use Rattle.xml_spec.specs.Characters.{IsText};
 ghost use Rattle.text_lines.specs.Views.{said_view};
 ghost use Rattle.provider_config.specs.Config.{AreInOrder};
-ghost use Rattle.provider_config.specs.HubConfig.{hub_config, config_view, IsSound, has_files, is_peer_file};
+ghost use Rattle.provider_config.specs.HubConfig.{hub_config, IsSound};
 ghost use Rattle.provider_config.specs.HubDrafts.{next_line};
+ghost use Rattle.provider_config.specs.HubViews.{config_view, has_files, is_peer_file};
 ghost use Rattle.provider_config.specs.Shared.{SaysText, fault_of, number_said};
 
 use crate::config::MAX_CONFIG_LENGTH;

@@ -1,11 +1,11 @@
 -- The users of a text, and their passwords.
-use Rattle.std.specs.Prelude.{ℕ, Bool, ◌&&◌, ◌||◌, nat_le, List, [], ◌∷◌, ◌++◌, length, find, Option, None, Some, Result, Ok, Err, ok_or, if◌then◌else◌}
+use Rattle.std.specs.Prelude.{ℕ, Bool, ◌&&◌, ◌||◌, nat_le, List, [], ◌∷◌, ◌++◌, length, find, Option, None, Some, Result, option_and_then, if◌then◌else◌}
 use Rattle.std.specs.List.{list_any}
 use Rattle.std.specs.Option.{option_map}
 use Rattle.std.specs.Str.{bytes_eq}
 use Rattle.hmac_sha256.specs.Pbkdf2.{pbkdf2}
 use Rattle.owned_values.specs.declared.attributes.Attribute.{Attribute}
-use Rattle.text_lines.specs.Lines.{Said, Says, NoText, said}
+use Rattle.text_lines.specs.Lines.{Said, Says, NoText, said, with_lines}
 use Rattle.user_store.specs.declared.fault.UserFault.{UserFault}
 use Rattle.user_store.specs.declared.fault.UserFault.TheVariants as faults
 use Rattle.user_store.specs.declared.line.UserLine.{UserLine}
@@ -45,29 +45,17 @@ with_user user before =
     if nat_le MAX_USERS (length before) || has_user before user.name then None else Some (before ++ user ∷ [])
 
 -- the users with what a line says; none where it is bad
-abbrev pub with_line : List User → Option UserLine → Option (List User)
-with_line before None = None
-with_line before (Some (lines.User user)) = with_user user before
-with_line before (Some (lines.Attribute name value)) = with_attribute (record { name = name; values = value ∷ [] }) before
+abbrev pub with_line : List User → UserLine → Option (List User)
+with_line before (lines.User user) = with_user user before
+with_line before (lines.Attribute name value) = with_attribute (record { name = name; values = value ∷ [] }) before
 
--- the users with what is said next, or the number of a bad line
-abbrev pub users_with : List User → Said → Result (List User) ℕ
-users_with before (Says number text) = ok_or (with_line before (line_of text)) number
-users_with before (NoText number) = Err number
-
--- what follows where there is no fault
-abbrev pub and_then : {X Y F : Type 0} → (X → Result Y F) → Result X F → Result Y F
-and_then f (Ok x) = f x
-and_then f (Err fault) = Err fault
-
--- the users with all that is said behind them, or the number of the first line that is bad
-abbrev pub users_from : List User → List Said → Result (List User) ℕ
-users_from before [] = Ok before
-users_from before (next ∷ others) = and_then (λ users. users_from users others) (users_with before next)
+-- the users with what the text of a line says
+abbrev pub with_text : (number : ℕ) → (text : List ℕ) → List User → Option (List User)
+with_text number text before = option_and_then (with_line before) (line_of text)
 
 -- the users of a text, or the number of the first line that is bad
 abbrev pub users : List ℕ → Result (List User) ℕ
-users text = users_from [] (said text)
+users text = with_lines with_text [] (said text)
 
 -- the number that a fault gives, none for want of memory
 abbrev pub fault_of : UserFault → Option ℕ

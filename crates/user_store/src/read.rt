@@ -1,9 +1,10 @@
 // Users are read.
 
-ghost use Rattle.std.specs.Prelude.{◌≡◌, ◌<◌, ◌≤◌, ◌^◌, length};
+ghost use Rattle.std.specs.Prelude.{◌≡◌, ◌<◌, ◌≤◌, ◌^◌, [], ◌∷◌, length};
 ghost use Rattle.owned_values.specs.Gives.{Gives};
+ghost use Rattle.text_lines.specs.Lines.{with_lines};
 ghost use Rattle.text_lines.specs.Views.{said_view};
-ghost use Rattle.user_store.specs.Store.{users, users_with, fault_of, number_said};
+ghost use Rattle.user_store.specs.Store.{users, with_text, fault_of, number_said};
 
 use crate::fault::UserFault;
 use crate::line::line_of;
@@ -22,7 +23,7 @@ pub const MAX_USERS_LENGTH: usize = 4_194_304;
 /// is one user too many.
 fn users_with(alloc: Global, users: Users, said: Said<'_>) -> Result<Users, UserFault>
     requires { number_said (said_view said) < 2 ^ 32 }
-    ensures { Gives (λ users. users) fault_of result (users_with users (said_view said.entry)) }
+    ensures { Gives (λ users. users) fault_of result (with_lines with_text users (said_view said.entry ∷ [])) }
 {
     match said {
         Said::Line { number, text } => {

@@ -1,6 +1,6 @@
 // The users, by their names.
 
-ghost use Rattle.std.specs.Prelude.{◌≡◌, ◌≤◌, [], IfOk, Some};
+ghost use Rattle.std.specs.Prelude.{◌≡◌, ◌≤◌, [], IfOk};
 ghost use Rattle.std.specs.Option.{option_copied};
 ghost use Rattle.user_store.specs.Line.{HasRounds};
 ghost use Rattle.user_store.specs.Store as spec;
@@ -86,7 +86,7 @@ impl Users {
     /// These users, with what a line says; none where it is bad.
     pub(crate) fn with_line(self, alloc: Global, line: UserLine) -> Result<Option<Users>, NoMemory>
         requires { HasRounds line }
-        ensures { IfOk result (λ users. users ≡ spec.with_line self (Some line)) }
+        ensures { IfOk result (λ users. users ≡ spec.with_line self line) }
     {
         match line {
             UserLine::User(user) => self.with_user(alloc, user),

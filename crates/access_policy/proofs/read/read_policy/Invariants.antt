@@ -1,12 +1,13 @@
 use Rattle.std.proofs.Common.{◌≡◌, length}
-use Rattle.access_policy.specs.Rules.{policy, rules_from}
+use Rattle.access_policy.proofs.OneByOne.{one_by_one}
+use Rattle.access_policy.specs.Rules.{policy, with_rule}
 use Rattle.access_policy.proofs.Numbers.{AreSmall}
 use Rattle.access_policy.proofs.read.read_policy.Given as goal
 
 -- what is read and what is still to be said make the policy
 abbrev pub invariant-loop-said : goal.invariant-loop-said
 invariant-loop-said l = record {
-  rules : rules_from l.draft l.lines ≡ policy l.text;
+  rules : one_by_one with_rule l.draft l.lines ≡ policy l.text;
   small : AreSmall l.lines;
 }
 

@@ -1,7 +1,7 @@
 use Rattle.std.proofs.Common.{ℕ, List, Err, refl, ap, sym, ◌∙◌, subst}
 use Rattle.saml_outside.specs.Files.{Reads}
 use Rattle.saml_outside.specs.declared.reading.FileRead.TheVariants as reads
-use Rattle.provider_config.specs.HubConfig.{config_view}
+use Rattle.provider_config.specs.HubViews.{config_view}
 use Rattle.provider_config.specs.declared.config.TheConstants.{MAX_CONFIG_LENGTH}
 use Rattle.sp_setup.specs.Faults.{IsFaultOf}
 use Rattle.sp_setup.proofs.Telling.{if_ok_map, if_err_map, told, wider}
@@ -17,7 +17,7 @@ returns-in-Ok-clause-usable g c =
     let said = c.in-Ok.ensures in
     let (entity, base, listen) = said.texts in
     if_ok_map (IsSetUpBy held lines) IsUsable c.set_up_by.result
-    (λ config h. usable held lines config c.a_spelled_tree_is_writable.ensures c.a_peer_is_read_from_a_listed_descriptor.ensures h entity base listen
+    (λ config h. usable held lines config refl c.a_spelled_tree_is_writable.ensures c.a_peer_is_read_from_a_listed_descriptor.ensures h entity base listen
     said.skew said.times said.few) c.set_up_by.ensures.ok
 
 pub returns-in-Ok-clause-err : goal.returns-in-Ok-clause-err

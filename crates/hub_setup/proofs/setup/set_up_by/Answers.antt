@@ -1,5 +1,5 @@
-use Rattle.std.proofs.Common.{◌≡◌, Some, sym, ◌∙◌, ap}
-use Rattle.provider_config.specs.HubConfig.{config_view}
+use Rattle.std.proofs.Common.{◌≡◌, Some, refl, sym, ◌∙◌, ap}
+use Rattle.provider_config.specs.HubViews.{config_view}
 use Rattle.hub_setup.specs.Setup.{IsBadNamed, by_name}
 use Rattle.hub_setup.proofs.Completing.{is_set_up}
 use Rattle.sp_setup.proofs.Telling.{told}
@@ -16,5 +16,5 @@ returns-in-Some-clause-err g c =
 
 pub unreachable-requires : goal.unreachable-requires
 unreachable-requires g c =
-    is_set_up (g.F.Files.holds c.args.files.now) (config_view c.args.lines) c.in_ok-loaded.loaded c.requires
+    is_set_up (g.F.Files.holds c.args.files.now) (config_view c.args.lines) c.in_ok-loaded.loaded refl c.requires
     (rw c.deref.ensures.value at c.in_ok-loaded.ensures.ok) (sym c.config_of.ensures ∙ c.in-None.is)

@@ -1,6 +1,7 @@
 use Rattle.std.proofs.Common.{◌≡◌, ℕ, Ok, Some, ok_or, subst, sym, ap, ◌∙◌, arith}
-use Rattle.provider_config.specs.HubConfig.{hub_config, config_view}
+use Rattle.provider_config.specs.HubConfig.{hub_config}
 use Rattle.provider_config.specs.HubDrafts.{complete, config_from}
+use Rattle.provider_config.specs.HubViews.{config_view}
 use Rattle.provider_config.proofs.HubNaming.{all_named, few_named}
 use Rattle.provider_config.proofs.HubRunning.{at_first}
 use Rattle.provider_config.proofs.Numbers.{AreSmall, small_numbers}

@@ -1,10 +1,12 @@
-use Rattle.std.proofs.Common.{subst, sym, arith}
-use Rattle.user_store.specs.Store.{users_from}
+use Rattle.std.proofs.Common.{[], subst, sym, ◌∙◌, arith}
+use Rattle.text_lines.specs.Lines.{said}
+use Rattle.user_store.proofs.OneByOne.{one_by_one, all_said}
+use Rattle.user_store.specs.Store.{with_text}
 use Rattle.user_store.proofs.Numbers.{AreSmall, small_numbers}
 use Rattle.user_store.proofs.read.read_users.Goals as goal
 
 pub loop-said-init : goal.loop-said-init
 loop-said-init c = record {
-  said = λ i. users_from (c.new-users.ensures i) (c.new-lines.ensures i);
+  said = (λ i. one_by_one with_text (c.new-users.ensures i) (c.new-lines.ensures i)) ∙ all_said with_text [] (said c.args.text.now);
   small = subst AreSmall (sym c.new-lines.ensures) (small_numbers c.args.text.now (omega (arith, c.requires)));
 }
