@@ -15,11 +15,11 @@ use Rattle.schedules.specs.declared.step.Step.{Step}
 use Rattle.schedule_replay.specs.declared.fault.ReplayFault.{ReplayFault}
 use Rattle.schedule_replay.specs.declared.fault.ReplayFault.TheVariants.{NoMemory}
 use Rattle.schedule_replay.specs.declared.tally.Tally.{Tally}
-use Rattle.schedule_replay.specs.Asked.{ran_by}
-use Rattle.schedule_replay.specs.Runs.{Ends}
+use Rattle.schedule_replay.specs.Deployments.{Deployment}
+use Rattle.schedule_replay.specs.Runs.{Ends, Ran}
 use Rattle.replay_starts.specs.Replayed.{AReplayIsStarts}
 use Rattle.both_providers.specs.Together.{TheHeadlineHoldsOfBoth}
-use Rattle.replay_runs.specs.Runs.{AreStarted, Begun, Both, Carries, Goes, NotBegun, are_left, empty_image, first_of, idp_rules_of, sp_rules}
+use Rattle.replay_runs.specs.Runs.{Begun, Carries, Goes, IsBeginning, NotBegun, empty_image, idp_rules_of, sp_rules}
 
 -- what two empty files are opened as
 opens_empty : {R : Type 0} (rules : RecordRules R) → taken (ledger_in rules empty_image) ≡ Ok empty_ledger
@@ -45,19 +45,18 @@ module _ (headline : TheHeadlineHoldsOfBoth) where
       ([], [], NotBegun starved refl refl same, headline empty_ledger [] empty_ledger [] tt tt tt)
 
   pub begun : AReplayIsStarts request_rules sp.Answers idp_rules idp.Answers → ImagesHoldRecords request_rules
-      → ImagesHoldRecords idp_rules → (steps : List Step) (quiet : Bool) (both left : Both)
-      (result : Result Tally ReplayFault) (before after : Option (List ℕ)) → AreStarted both
-      → Ends sp_rules idp_rules_of steps quiet (first_of both) result (are_left left) before after
+      → ImagesHoldRecords idp_rules → (steps : List Step) (quiet : Bool) (first : Deployment sp.Provider idp.Provider)
+      (result : Result Tally ReplayFault) (before after : Option (List ℕ)) → IsBeginning first
+      → (ran : Ran sp_rules idp_rules_of steps first) → Ends sp_rules idp_rules_of ran quiet result before after
       → Went steps quiet result before after
-  begun law sp_hold idp_hold steps quiet both left result before after started ends =
-      let ran = ran_by sp_rules idp_rules_of steps quiet (first_of both) result (are_left left) before after ends in
-      let (sp_starts, idp_starts, are) = law sp_hold idp_hold steps (first_of both) empty_image empty_image
-      (record { opened = started.sp.opened; whole = started.sp.whole; own = started.sp.own })
-      (record { opened = started.idp.opened; whole = started.idp.whole; own = started.idp.own }) ran in (
+  begun law sp_hold idp_hold steps quiet first result before after begins ran ends =
+      let (sp_starts, idp_starts, at_sp, at_idp) = law sp_hold idp_hold steps first empty_image empty_image
+      (record { opened = begins.sp.opened; whole = begins.sp.whole; own = begins.sp.own })
+      (record { opened = begins.idp.opened; whole = begins.idp.whole; own = begins.idp.own }) ran in (
         sp_starts,
         idp_starts,
-        Begun both left started ends are,
+        Begun first begins ran ends at_sp at_idp,
         headline empty_ledger sp_starts empty_ledger idp_starts tt
-            (from_empty request_rules sp.Answers both.sp.ledger.held sp_starts started.sp.opened are.sp.are)
-            (from_empty idp_rules idp.Answers both.idp.ledger.held idp_starts started.idp.opened are.idp.are),
+            (from_empty request_rules sp.Answers first.sp.node.ledger.held sp_starts begins.sp.opened at_sp.are)
+            (from_empty idp_rules idp.Answers first.idp.node.ledger.held idp_starts begins.idp.opened at_idp.are),
       )

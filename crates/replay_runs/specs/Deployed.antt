@@ -46,13 +46,10 @@ peers =
     ∷ []
 
 -- The users alice and bob, each with the value that PBKDF2 gives for `password` and the salt `salt` in one round, and three attributes.
-abbrev pub line : List ℕ → List ℕ
-line text = text ++ codes "\n"
-
 abbrev pub user_lines : List ℕ → List ℕ
 user_lines name =
-    line (codes "user " ++ name ++ codes " 1 73616c74 120fb6cffcf8b32c43e7225256c4f837a86548c92ccc35480805987cb70be17b")
-    ++ line (codes "attr mail " ++ name ++ codes "@example.org") ++ line (codes "attr group staff") ++ line (codes "attr role reader")
+    codes "user " ++ name ++ codes " 1 73616c74 120fb6cffcf8b32c43e7225256c4f837a86548c92ccc35480805987cb70be17b\n"
+    ++ codes "attr mail " ++ name ++ codes "@example.org\nattr group staff\nattr role reader\n"
 
 abbrev pub users_text : List ℕ
 users_text = user_lines (codes "alice") ++ user_lines (codes "bob")

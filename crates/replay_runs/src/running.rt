@@ -11,7 +11,8 @@ ghost use Rattle.replay_runs.specs.Deployed.{service_provider, IsIdpConfig};
 ghost use Rattle.provider_node.specs.Starts.{Start};
 ghost use Rattle.idp_server.specs.Step as idp;
 ghost use Rattle.sp_server.specs.Step as sp;
-ghost use Rattle.replay_runs.specs.Runs.{AreStarted, Carries, Goes, IsStarted};
+ghost use Rattle.schedule_replay.specs.Runs.{alone, beginning};
+ghost use Rattle.replay_runs.specs.Runs.{Carries, Goes, IsBeginning, IsStarted};
 
 use crate::deployed::{identity_provider, service_provider};
 use crash_disk::MemDisk;
@@ -36,7 +37,7 @@ fn without_faults(disk: &mut MemDisk)
 fn start_sp(alloc: Global, disk: &mut MemDisk) -> Result<SpNode, NoMemory>
     requires { disk.old ≡ record { start = record { zero = []; one = [] }; log = []; failing = 0; stopping = 0; pick = 0; stopped = false; starved = false; faults = 0 } }
     ensures setup { IfOk result (λ node. node.setup ≡ service_provider) }
-    ensures started { IfOk result (λ node. IsStarted request_rules node disk.new) }
+    ensures started { IfOk result (λ node. IsStarted request_rules (alone node disk.new)) }
     ensures own { IfOk result (λ node. OwnsDisk request_rules node (Some (state_of disk.new))) }
 {
     let role = service_provider(alloc)?;
@@ -51,7 +52,7 @@ fn start_sp(alloc: Global, disk: &mut MemDisk) -> Result<SpNode, NoMemory>
 fn start_idp(alloc: Global, disk: &mut MemDisk) -> Result<IdpNode, NoMemory>
     requires { disk.old ≡ record { start = record { zero = []; one = [] }; log = []; failing = 0; stopping = 0; pick = 0; stopped = false; starved = false; faults = 0 } }
     ensures setup { IfOk result (λ node. IsIdpConfig node.setup) }
-    ensures started { IfOk result (λ node. IsStarted idp_rules node disk.new) }
+    ensures started { IfOk result (λ node. IsStarted idp_rules (alone node disk.new)) }
     ensures own { IfOk result (λ node. OwnsDisk idp_rules node (Some (state_of disk.new))) }
 {
     let role = identity_provider(alloc)?;
@@ -70,7 +71,7 @@ fn start_both(
 ) -> Result<(SpNode, IdpNode), NoMemory>
     requires sp_empty { sp_disk.old ≡ record { start = record { zero = []; one = [] }; log = []; failing = 0; stopping = 0; pick = 0; stopped = false; starved = false; faults = 0 } }
     requires idp_empty { idp_disk.old ≡ record { start = record { zero = []; one = [] }; log = []; failing = 0; stopping = 0; pick = 0; stopped = false; starved = false; faults = 0 } }
-    ensures started { IfOk result (λ (sp, idp). AreStarted (record { sp = sp; sp_disk = sp_disk.new; idp = idp; idp_disk = idp_disk.new })) }
+    ensures started { IfOk result (λ (sp, idp). IsBeginning (beginning (alone sp sp_disk.new) (alone idp idp_disk.new))) }
     ensures sp_own { IfOk result (λ (sp, idp). OwnsDisk request_rules sp (Some (state_of sp_disk.new))) }
     ensures idp_own { IfOk result (λ (sp, idp). OwnsDisk idp_rules idp (Some (state_of idp_disk.new))) }
 {

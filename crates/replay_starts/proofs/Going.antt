@@ -24,7 +24,7 @@ use Rattle.provider_node.specs.Starts.{AreStarts, Behind, Cut, InCompaction, Lef
 use Rattle.provider_node.specs.Step.{AnswersBy, OwnsDisk, Provider}
 use Rattle.provider_node.specs.Node.{CompactionLeaves}
 use Rattle.provider_node.proofs.Serving.{settled}
-use Rattle.schedule_replay.specs.Hosts.{Brings, Comes, CompactionEnds, Compacts, Ends, Host, Outcome, Recovers, RestartEnds, Restarts, Sent, Serves, Silent, Stopped, resumed, told}
+use Rattle.schedule_replay.specs.Hosts.{Compacts, Host, Known, Outcome, Recovers, Restarts, Serves, Takes, resumed, told}
 use Rattle.replay_starts.specs.Providers.{IsStartedFrom, provider_rules}
 use Rattle.replay_starts.proofs.Standing.{compaction_stands, opened_stays, opening_stands, step_stands, whole_stands}
 use Rattle.replay_starts.proofs.Worlds.{does_unclocked, still}
@@ -347,9 +347,9 @@ module _ {Setup R : Type 0} (rules : RecordRules R) (Answers : AnswersBy Setup R
     restarted before after (Ok u) kept asked r s =
         let held = after.node.ledger.held in
         opens_next s.starts asked (told before) after s.are s.requests refl (reads_an_image before.disk)
-        (left_behind (still before) kept asked s) r.does.gives r.does.whole r.owns
-        (whole_stands rules (told after) after.node.ledger r.does.whole r.owns
-        (opened_stays (ledger_in rules (image_of (state_of before.disk))) held r.does.gives))
+        (left_behind (still before) kept asked s) r.done.gives r.done.whole r.owns
+        (whole_stands rules (told after) after.node.ledger r.done.whole r.owns
+        (opened_stays (ledger_in rules (image_of (state_of before.disk))) held r.done.gives))
     restarted before after (Err fault) kept asked r s =
         let opening = λ (image : Image) (left : Leaves (told after) image). (r.leaves.each image
         (left_since_now after.disk _ image r.leaves.later left)).stands in
@@ -362,7 +362,7 @@ module _ {Setup R : Type 0} (rules : RecordRules R) (Answers : AnswersBy Setup R
           },
           s.are,
         )
-        (append-nil (asked_over s.starts) ∙ s.requests) opening r.does.fails.1 r.owns
+        (append-nil (asked_over s.starts) ∙ s.requests) opening r.done.fails.1 r.owns
         (λ image left. opening_stands rules (told before) s.stands image refl (opening image left))
 
     pub compacted : (now : ℕ) (before after : Host P) (result : Result (Unit {0}) OpenFault) (kept : Table)
@@ -401,47 +401,36 @@ module _ {Setup R : Type 0} (rules : RecordRules R) (Answers : AnswersBy Setup R
     recovered : (behind after : Host P) (kept : Table) (asked : List (Asked P))
         → Recovers (provider_rules rules Answers) behind after → SoFar (still behind) kept asked
         → SoFar (still after) finite.empty asked
-    recovered behind after kept asked r s = restarted (resumed behind) after r.result kept asked r.restarts s
+    recovered behind after kept asked r s = restarted (resumed behind) after r.0 kept asked r.1 s
 
     abbrev Kept : Host P → List (Asked P) → Type 0
     Kept host asked = SoFar (still host) host.kept asked
 
-    came : (turn : Turn P) (behind after : Host P) (outcome : Outcome) (asked : List (Asked P))
-        → Comes (provider_rules rules Answers) turn behind outcome after → Kept behind asked → Kept after asked
-    came turn behind after Silent asked comes s = subst (λ (h : Host P). Kept h asked) (sym comes.2) s
-    came turn behind after (Sent path bytes) asked comes s = subst (λ (h : Host P). Kept h asked) (sym comes.2) s
-    came turn behind after Stopped asked comes s =
-        subst (λ (t : Table). SoFar (still after) t asked) (sym comes.1.restarts.gone)
-        (recovered behind after behind.kept asked comes.1 s)
+    -- a piece came
+    pub taken_so : (clock conn : ℕ) (piece : List ℕ) (before after : Host P) (outcome : Outcome) (asked : List (Asked P))
+        → (takes : Takes (provider_rules rules Answers) clock conn piece before outcome after) → Kept before asked
+        → Kept after (asked ++ asked_by takes.turn)
+    taken_so clock conn piece before after outcome asked takes s = served clock takes.turn before after asked takes.serves s
 
-    pub brought : (clock conn : ℕ) (piece : List ℕ) (before after : Host P) (outcome : Outcome) (asked : List (Asked P))
-        → (brings : Brings (provider_rules rules Answers) clock conn piece before outcome after) → Kept before asked
-        → Kept after (asked ++ asked_by brings.turn)
-    brought clock conn piece before after outcome asked brings s =
-        came brings.turn brings.behind after outcome (asked ++ asked_by brings.turn) brings.comes
-        (served clock brings.turn before brings.behind asked brings.serves s)
+    -- and the disk stopped
+    pub stopped_so : (behind after : Host P) (asked : List (Asked P)) → Recovers (provider_rules rules Answers) behind after
+        → Kept behind asked → Kept after asked
+    stopped_so behind after asked r s =
+        subst (λ (t : Table). SoFar (still after) t asked) (sym r.1.kept) (recovered behind after behind.kept asked r s)
 
-    ended : (behind after : Host P) (result : Result (Unit {0}) OpenFault)
-        (shown : Option (Result (Unit {0}) OpenFault)) (asked : List (Asked P))
-        → Ends (provider_rules rules Answers) behind result shown after → SoFar (still behind) finite.empty asked
-        → SoFar (still after) finite.empty asked
-    ended behind after result None asked ends s = recovered behind after finite.empty asked ends.1 s
-    ended behind after result (Some shown) asked ends s =
-        subst (λ (h : Host P). SoFar (still h) finite.empty asked) (sym ends.3) s
+    -- a call that a schedule asks for, of which this is known
+    abbrev pub LetsGo : (Host P → Result (Unit {0}) OpenFault → Host P → Type 0) → Type 0
+    LetsGo call =
+        (before after : Host P) (result : Result (Unit {0}) OpenFault) (kept : Table) (asked : List (Asked P))
+        → call before result after → SoFar (still before) kept asked → SoFar (still after) finite.empty asked
 
-    pub restart_ended : (before after : Host P) (shown : Option (Result (Unit {0}) OpenFault)) (kept : Table)
-        (asked : List (Asked P)) → RestartEnds (provider_rules rules Answers) before shown after
+    pub known_so : (call : Host P → Result (Unit {0}) OpenFault → Host P → Type 0) → LetsGo call
+        → (before after : Host P) (known : Option (Result (Unit {0}) OpenFault)) (kept : Table) (asked : List (Asked P))
+        → Known (provider_rules rules Answers) call known before after
         → SoFar (still before) kept asked → SoFar (still after) finite.empty asked
-    restart_ended before after shown kept asked r s =
-        ended r.behind after r.result shown asked r.ends (restarted before r.behind r.result kept asked r.restarts s)
-
-    pub compaction_ended : (now : ℕ) (before after : Host P) (shown : Option (Result (Unit {0}) OpenFault))
-        (kept : Table) (asked : List (Asked P))
-        → CompactionEnds (provider_rules rules Answers) now before shown after
-        → SoFar (still before) kept asked → SoFar (still after) finite.empty asked
-    compaction_ended now before after shown kept asked r s =
-        ended r.behind after r.result shown asked r.ends
-        (compacted now before r.behind r.result kept asked r.compacts s)
+    known_so call goes before after (Some result) kept asked is s = goes before after result kept asked is.0 s
+    known_so call goes before after None kept asked is s =
+        recovered is.1 after finite.empty asked is.4 (goes before is.1 is.0 kept asked is.2 s)
 
 -- ---- at first
 

@@ -1,12 +1,14 @@
 -- The starts of two providers in a replay, step by step.
-use Rattle.std.specs.Prelude.{ℕ, ◌*◌, zero, suc, Option, None, Some}
+use Rattle.std.specs.Prelude.{ℕ, ◌*◌, zero, suc, codes, Option, None, Some, Result}
 use Rattle.std.specs.FinMap as finite
 use Rattle.std.proofs.Common.{◌≡◌, List, [], ◌∷◌, ◌++◌, refl, sym, ap, subst, ◌∙◌, append_assoc}
 use Rattle.std.proofs.lemmas.List.{append-nil}
+use Rattle.crash_disk.specs.Memory.{DiskInMemory}
+use Rattle.gate_journal.specs.declared.fault.OpenFault.{OpenFault}
 use Rattle.conn_table.specs.Table.{Table}
 use Rattle.post_agent.specs.declared.site.Site.{Site}
 use Rattle.post_agent.specs.declared.site.Site.TheVariants.{Sp, Idp}
-use Rattle.serve_loop.specs.Turns.{Asked, Taken}
+use Rattle.serve_loop.specs.Turns.{Asked, Taken, asked_by}
 use Rattle.record_ledger.specs.Laws.{ImagesHoldRecords}
 use Rattle.record_ledger.specs.Ledger.{Held}
 use Rattle.record_ledger.specs.Rules.{RecordRules}
@@ -14,13 +16,14 @@ use Rattle.provider_node.specs.Step.{AnswersBy, Provider}
 use Rattle.schedules.specs.declared.step.Step.{Step}
 use Rattle.schedules.specs.declared.step.Step.TheVariants as steps
 use Rattle.schedule_replay.specs.declared.sending.Sending.{Sending}
-use Rattle.schedule_replay.specs.Asked.{BothAsked, asked_arriving, asked_doing, asked_exchanging, asked_if_any, asked_in_rounds, asked_on, asked_replaying, none_asked, then_asked}
-use Rattle.schedule_replay.specs.Deployments.{Arrives, ArrivesIfAny, CompactsAt, Deployment, Exchanges, Hears, OnSite, RestartsAt, Rounds, Starts, bytes_of, piece_at, shows, unconnected}
-use Rattle.schedule_replay.specs.Hosts.{Brings, CompactionEnds, Host, Outcome, RestartEnds, Rules, Sent, Serves, Silent, Stopped}
+use Rattle.schedule_replay.specs.Asked.{BothAsked, asked_doing, asked_exchanging, asked_if_any, asked_in_rounds, asked_on, asked_replaying, none_asked, then_asked}
+use Rattle.schedule_replay.specs.Counting.{restarted as count}
+use Rattle.schedule_replay.specs.Deployments.{Arrives, ArrivesIfAny, Deployment, Exchanges, Hears, Obeys, OnSite, Rounds, Starts, bytes_of, piece_at, shows, unconnected}
+use Rattle.schedule_replay.specs.Hosts.{Brings, Compacts, Host, Known, Outcome, Restarts, Rules, Sent, Serves, Silent}
 use Rattle.schedule_replay.specs.Steps.{Does, Replays, Requests, RequestsTwo, armed, saying_none}
 use Rattle.replay_starts.specs.Providers.{provider_rules}
 use Rattle.replay_starts.specs.Replayed.{AReplayIsStarts}
-use Rattle.replay_starts.proofs.Going.{SoFar, asked_as, begun, brought, compaction_ended, left_behind, restart_ended, served, unconnected_at}
+use Rattle.replay_starts.proofs.Going.{LetsGo, SoFar, asked_as, begun, compacted, known_so, left_behind, restarted, served, stopped_so, taken_so, unconnected_at}
 use Rattle.replay_starts.proofs.Worlds.{still}
 
 -- ---- lists of requests
@@ -40,13 +43,13 @@ module _ {S P : Type 0} where
   silent_none number None world = (refl, refl)
   silent_none number (Some request) world = (refl, refl)
 
-  heard : (number : ℕ) (sending : Sending) (outcome : Outcome) (before after : Deployment S P)
-      → Hears number sending outcome before after → (after.sp ≡ before.sp) × (after.idp ≡ before.idp)
-  heard number sending Silent before after same =
+  heard : (number : ℕ) (sending : Sending) (known : Option Outcome) (before after : Deployment S P)
+      → Hears number sending known before after → (after.sp ≡ before.sp) × (after.idp ≡ before.idp)
+  heard number sending None before after same =
       (ap (λ (w : Deployment S P). w.sp) same, ap (λ (w : Deployment S P). w.idp) same)
-  heard number sending (Sent path bytes) before after (seen, comes, same) =
+  heard number sending (Some Silent) before after same =
       (ap (λ (w : Deployment S P). w.sp) same, ap (λ (w : Deployment S P). w.idp) same)
-  heard number sending Stopped before after same =
+  heard number sending (Some (Sent path bytes)) before after (seen, comes, same) =
       (ap (λ (w : Deployment S P). w.sp) same, ap (λ (w : Deployment S P). w.idp) same)
 
   shown_same : (number : ℕ) (site : Site) (words : Option (List ℕ)) (world : Deployment S P)
@@ -112,39 +115,62 @@ module _ {S A P B : Type 0} (sp_rules : RecordRules A) (SpAnswers : AnswersBy S 
 
   -- ---- a piece
 
-  brought_on : (site : Site) (clock conn : ℕ) (piece : List ℕ) (outcome : Outcome) (before after : World)
+  -- a node to which nothing was done
+  sp_same : (before after : World) (asked : Requested) → after.sp ≡ before.sp → SpSoFar before.sp before.sp.kept asked.sp
+      → SpSoFar after.sp after.sp.kept (asked.sp ++ [])
+  sp_same before after asked same s =
+      subst (λ (h : Host (Provider S A)). SpSoFar h h.kept (asked.sp ++ [])) (sym same)
+      (asked_as sp_rules SpAnswers sp_start (still before.sp) before.sp.kept asked.sp (asked.sp ++ [])
+      (sym (append-nil asked.sp)) s)
+
+  idp_same : (before after : World) (asked : Requested) → after.idp ≡ before.idp
+      → IdpSoFar before.idp before.idp.kept asked.idp → IdpSoFar after.idp after.idp.kept (asked.idp ++ [])
+  idp_same before after asked same s =
+      subst (λ (h : Host (Provider P B)). IdpSoFar h h.kept (asked.idp ++ [])) (sym same)
+      (asked_as idp_rules IdpAnswers idp_start (still before.idp) before.idp.kept asked.idp (asked.idp ++ [])
+      (sym (append-nil asked.idp)) s)
+
+  brought_on : (site : Site) (clock conn : ℕ) (piece : List ℕ) (known : Option Outcome) (before after : World)
       (asked : Requested)
-      → (brings : OnSite site (λ old new. Brings sp clock conn piece old outcome new)
-      (λ old new. Brings idp clock conn piece old outcome new) before after)
+      → (brings : OnSite sp idp site (λ _ node. Brings node clock conn piece known) before after)
       → Connected before asked
-      → Connected after (then_asked asked (asked_on sp idp site clock conn piece outcome before after brings))
-  brought_on Sp clock conn piece outcome before after asked brings c = record {
+      → Connected after (then_asked asked (asked_on sp idp site clock conn piece known before after brings))
+  brought_on Sp clock conn piece (Some outcome) before after asked brings c = record {
     at_sp =
-        brought sp_rules SpAnswers sp_start sp_hold clock conn piece before.sp after.sp outcome asked.sp brings.0
+        taken_so sp_rules SpAnswers sp_start sp_hold clock conn piece before.sp after.sp outcome asked.sp brings.0.0
         c.at_sp;
-    at_idp =
-        subst (λ (h : Host (Provider P B)). IdpSoFar h h.kept (asked.idp ++ []))
-        (sym (ap (λ (w : World). w.idp) brings.1))
-        (asked_as idp_rules IdpAnswers idp_start (still before.idp) before.idp.kept asked.idp (asked.idp ++ [])
-        (sym (append-nil asked.idp)) c.at_idp);
+    at_idp = idp_same before after asked (ap (λ (w : World). w.idp) brings.1) c.at_idp;
   }
-  brought_on Idp clock conn piece outcome before after asked brings c = record {
+  brought_on Sp clock conn piece None before after asked brings c = record {
     at_sp =
-        subst (λ (h : Host (Provider S A)). SpSoFar h h.kept (asked.sp ++ []))
-        (sym (ap (λ (w : World). w.sp) brings.1))
-        (asked_as sp_rules SpAnswers sp_start (still before.sp) before.sp.kept asked.sp (asked.sp ++ [])
-        (sym (append-nil asked.sp)) c.at_sp);
+        stopped_so sp_rules SpAnswers sp_start sp_hold brings.0.1 after.sp (asked.sp ++ asked_by brings.0.2.turn) brings.0.4
+        (taken_so sp_rules SpAnswers sp_start sp_hold clock conn piece before.sp brings.0.1 brings.0.0 asked.sp brings.0.2
+        c.at_sp);
+    at_idp = idp_same before after asked (ap (λ (w : World). w.idp) brings.1) c.at_idp;
+  }
+  brought_on Idp clock conn piece (Some outcome) before after asked brings c = record {
+    at_sp = sp_same before after asked (ap (λ (w : World). w.sp) brings.1) c.at_sp;
     at_idp =
-        brought idp_rules IdpAnswers idp_start idp_hold clock conn piece before.idp after.idp outcome asked.idp
-        brings.0 c.at_idp;
+        taken_so idp_rules IdpAnswers idp_start idp_hold clock conn piece before.idp after.idp outcome asked.idp
+        brings.0.0 c.at_idp;
+  }
+  brought_on Idp clock conn piece None before after asked brings c = record {
+    at_sp = sp_same before after asked (ap (λ (w : World). w.sp) brings.1) c.at_sp;
+    at_idp =
+        stopped_so idp_rules IdpAnswers idp_start idp_hold brings.0.1 after.idp (asked.idp ++ asked_by brings.0.2.turn)
+        brings.0.4
+        (taken_so idp_rules IdpAnswers idp_start idp_hold clock conn piece before.idp brings.0.1 brings.0.0 asked.idp
+        brings.0.2 c.at_idp);
   }
 
   arrived : (number : ℕ) (sending : Sending) (piece : List ℕ) (before after : World) (asked : Requested)
       → (arrives : Arrives sp idp number sending piece before after) → Connected before asked
-      → Connected after (then_asked asked (asked_arriving sp idp number sending piece before after arrives))
+      → Connected after
+      (then_asked asked
+      (asked_on sp idp sending.request.site before.clock sending.conn piece arrives.known before arrives.behind arrives.brings))
   arrived number sending piece before after asked arrives c =
-      moved arrives.behind after _ (heard number sending arrives.outcome arrives.behind after arrives.hears)
-      (brought_on sending.request.site before.clock sending.conn piece arrives.outcome before arrives.behind asked
+      moved arrives.behind after _ (heard number sending arrives.known arrives.behind after arrives.hears)
+      (brought_on sending.request.site before.clock sending.conn piece arrives.known before arrives.behind asked
       arrives.brings c)
 
   still_same : (before after : World) (asked : Requested) → after ≡ before → Connected before asked
@@ -182,8 +208,7 @@ module _ {S A P B : Type 0} (sp_rules : RecordRules A) (SpAnswers : AnswersBy S 
       subst (Connected after) (joined (then_asked asked were) by_one by_other ∙ joined asked were _) now
 
   started_on : (site : Site) (conn clock : ℕ) (before after : World) (asked : Requested)
-      → OnSite site (λ old new. Serves sp clock (Taken conn) old new)
-      (λ old new. Serves idp clock (Taken conn) old new) before after
+      → OnSite sp idp site (λ _ node. Serves node clock (Taken conn)) before after
       → Connected before asked → Connected after asked
   started_on Sp conn clock before after asked serves c = record {
     at_sp =
@@ -241,78 +266,57 @@ module _ {S A P B : Type 0} (sp_rules : RecordRules A) (SpAnswers : AnswersBy S 
 
   -- ---- restarts and compactions
 
-  restart_on : (site : Site) (shown : _) (before after : World) (asked : Requested)
-      → OnSite site (λ old new. RestartEnds sp old shown new) (λ old new. RestartEnds idp old shown new) before after
+  obeyed : (number : ℕ) (site : Site) (word : List ℕ)
+      (call : (N : Type 0) → Rules N → Host N → Result (Unit {0}) OpenFault → Host N → Type 0) (before after : World)
+      (asked : Requested) → LetsGo sp_rules SpAnswers sp_start sp_hold (call (Provider S A) sp)
+      → LetsGo idp_rules IdpAnswers idp_start idp_hold (call (Provider P B) idp)
+      → Obeys sp idp number site word call before after → Loose before asked → Loose after asked
+  obeyed number site word call before after asked sp_goes idp_goes o c =
+      subst (λ (w : World). Loose w asked) (sym o.shown)
+      (slid o.behind _ asked (shown_same number site _ _) (on site o.known o.behind o.ends))
+    where
+      on : (at : Site) (known : Option (Result (Unit {0}) OpenFault)) (behind : World)
+          → OnSite sp idp at (λ N node. Known node (call N node) known) before behind → Loose behind asked
+      on Sp known behind ends = record {
+        sp_kept = finite.empty;
+        idp_kept = c.idp_kept;
+        at_sp =
+            known_so sp_rules SpAnswers sp_start sp_hold (call (Provider S A) sp) sp_goes before.sp behind.sp known c.sp_kept
+            asked.sp ends.0 c.at_sp;
+        at_idp =
+            subst (λ (h : Host (Provider P B)). IdpSoFar h c.idp_kept asked.idp)
+            (sym (ap (λ (w : World). w.idp) ends.1)) c.at_idp;
+      }
+      on Idp known behind ends = record {
+        sp_kept = c.sp_kept;
+        idp_kept = finite.empty;
+        at_sp =
+            subst (λ (h : Host (Provider S A)). SpSoFar h c.sp_kept asked.sp) (sym (ap (λ (w : World). w.sp) ends.1))
+            c.at_sp;
+        at_idp =
+            known_so idp_rules IdpAnswers idp_start idp_hold (call (Provider P B) idp) idp_goes before.idp behind.idp known
+            c.idp_kept asked.idp ends.0 c.at_idp;
+      }
+
+  compacted_at : (number : ℕ) (site : Site) (now : ℕ) (before after : World) (asked : Requested)
+      → Obeys sp idp number site (codes "compact") (λ _ node. Compacts node now) before after
       → Loose before asked → Loose after asked
-  restart_on Sp shown before after asked ends c = record {
-    sp_kept = finite.empty;
-    idp_kept = c.idp_kept;
-    at_sp =
-        restart_ended sp_rules SpAnswers sp_start sp_hold before.sp after.sp shown c.sp_kept asked.sp ends.0 c.at_sp;
-    at_idp =
-        subst (λ (h : Host (Provider P B)). IdpSoFar h c.idp_kept asked.idp) (sym (ap (λ (w : World). w.idp) ends.1))
-        c.at_idp;
-  }
-  restart_on Idp shown before after asked ends c = record {
-    sp_kept = c.sp_kept;
-    idp_kept = finite.empty;
-    at_sp =
-        subst (λ (h : Host (Provider S A)). SpSoFar h c.sp_kept asked.sp) (sym (ap (λ (w : World). w.sp) ends.1))
-        c.at_sp;
-    at_idp =
-        restart_ended idp_rules IdpAnswers idp_start idp_hold before.idp after.idp shown c.idp_kept asked.idp ends.0
-        c.at_idp;
-  }
-
-  restarted_at : (number : ℕ) (site : Site) (before after : World) (asked : Requested)
-      → RestartsAt sp idp number site before after → Loose before asked → Loose after asked
-  restarted_at number site before after asked r c =
-      subst (λ (w : World). Loose w asked) (sym r.shows)
-      (slid r.behind _ asked (shown_same number site _ _) (restart_on site r.shown before r.behind asked r.ends c))
-
-  compaction_on : (site : Site) (now : ℕ) (shown : _) (before after : World) (asked : Requested)
-      → OnSite site (λ old new. CompactionEnds sp now old shown new) (λ old new. CompactionEnds idp now old shown new)
-      before after
-      → Loose before asked → Loose after asked
-  compaction_on Sp now shown before after asked ends c = record {
-    sp_kept = finite.empty;
-    idp_kept = c.idp_kept;
-    at_sp =
-        compaction_ended sp_rules SpAnswers sp_start sp_hold now before.sp after.sp shown c.sp_kept asked.sp ends.0
-        c.at_sp;
-    at_idp =
-        subst (λ (h : Host (Provider P B)). IdpSoFar h c.idp_kept asked.idp) (sym (ap (λ (w : World). w.idp) ends.1))
-        c.at_idp;
-  }
-  compaction_on Idp now shown before after asked ends c = record {
-    sp_kept = c.sp_kept;
-    idp_kept = finite.empty;
-    at_sp =
-        subst (λ (h : Host (Provider S A)). SpSoFar h c.sp_kept asked.sp) (sym (ap (λ (w : World). w.sp) ends.1))
-        c.at_sp;
-    at_idp =
-        compaction_ended idp_rules IdpAnswers idp_start idp_hold now before.idp after.idp shown c.idp_kept asked.idp
-        ends.0 c.at_idp;
-  }
-
-  compacted_at : (number : ℕ) (site : Site) (before after : World) (asked : Requested)
-      → CompactsAt sp idp number site before after → Loose before asked → Loose after asked
-  compacted_at number site before after asked r c =
-      subst (λ (w : World). Loose w asked) (sym r.shows)
-      (slid r.behind _ asked (shown_same number site _ _) (compaction_on site _ r.shown before r.behind asked r.ends c))
+  compacted_at number site now before after asked o c =
+      obeyed number site (codes "compact") (λ _ node. Compacts node now) before after asked
+      (compacted sp_rules SpAnswers sp_start sp_hold now) (compacted idp_rules IdpAnswers idp_start idp_hold now) o c
 
   -- a disk that is to fail or to stop is as it was
-  armed_at : (number : ℕ) (site : Site) (arm : Host (Provider S A) → Host (Provider S A))
-      (other : Host (Provider P B) → Host (Provider P B)) (before : World) (asked : Requested)
-      → (still (arm before.sp) ≡ still before.sp) → (still (other before.idp) ≡ still before.idp)
-      → Loose before asked → Loose (armed number site arm other before) asked
-  armed_at number Sp arm other before asked same_sp same_idp c = record {
+  armed_at : (number : ℕ) (site : Site) (set : DiskInMemory → DiskInMemory) (before : World) (asked : Requested)
+      → (still (record before.sp { disk = set before.sp.disk }) ≡ still before.sp)
+      → (still (record before.idp { disk = set before.idp.disk }) ≡ still before.idp)
+      → Loose before asked → Loose (armed number site set before) asked
+  armed_at number Sp set before asked same_sp same_idp c = record {
     sp_kept = c.sp_kept;
     idp_kept = c.idp_kept;
     at_sp = subst (λ w. SoFar sp_rules SpAnswers sp_start w c.sp_kept asked.sp) (sym same_sp) c.at_sp;
     at_idp = c.at_idp;
   }
-  armed_at number Idp arm other before asked same_sp same_idp c = record {
+  armed_at number Idp set before asked same_sp same_idp c = record {
     sp_kept = c.sp_kept;
     idp_kept = c.idp_kept;
     at_sp = c.at_sp;
@@ -346,15 +350,19 @@ module _ {S A P B : Type 0} (sp_rules : RecordRules A) (SpAnswers : AnswersBy S 
   step_done number (steps.Fresh agent) before after asked does c =
       same_nodes before after _ asked does.1 (refl, refl) c
   step_done number (steps.Restart site) before after asked does c =
-      unasked after asked (restarted_at number site before after asked does c)
+      let counted = record before { tally = count before.tally } in
+      unasked after asked
+      (obeyed number site (codes "restart") (λ _ node. Restarts node) counted after asked
+      (restarted sp_rules SpAnswers sp_start sp_hold) (restarted idp_rules IdpAnswers idp_start idp_hold) does
+      (slid before counted asked (refl, refl) c))
   step_done number (steps.Crash site call pick) before after asked does c =
       unasked after asked
-      (subst (λ (w : World). Loose w asked) (sym does) (armed_at number site _ _ before asked refl refl c))
+      (subst (λ (w : World). Loose w asked) (sym does) (armed_at number site _ before asked refl refl c))
   step_done number (steps.Fail site call) before after asked does c =
       unasked after asked
-      (subst (λ (w : World). Loose w asked) (sym does) (armed_at number site _ _ before asked refl refl c))
+      (subst (λ (w : World). Loose w asked) (sym does) (armed_at number site _ before asked refl refl c))
   step_done number (steps.Compact site) before after asked does c =
-      unasked after asked (compacted_at number site before after asked does c)
+      unasked after asked (compacted_at number site _ before after asked does c)
 
   replayed : (done : ℕ) (all : List Step) (first : World) (text : List ℕ) (now : World)
       → (replays : Replays sp idp done all first text now) → Loose first none_asked
@@ -386,15 +394,13 @@ module _ {S A P B : Type 0} (sp_rules : RecordRules A) (SpAnswers : AnswersBy S 
         done.at_sp.starts,
         done.at_idp.starts,
         record {
-          sp = record {
-            are = done.at_sp.are;
-            requests = done.at_sp.requests;
-            left = left_behind sp_rules SpAnswers sp_start (still ran.last.sp) done.sp_kept _ done.at_sp;
-          };
-          idp = record {
-            are = done.at_idp.are;
-            requests = done.at_idp.requests;
-            left = left_behind idp_rules IdpAnswers idp_start (still ran.last.idp) done.idp_kept _ done.at_idp;
-          };
+          are = done.at_sp.are;
+          requests = done.at_sp.requests;
+          left = left_behind sp_rules SpAnswers sp_start (still ran.last.sp) done.sp_kept _ done.at_sp;
+        },
+        record {
+          are = done.at_idp.are;
+          requests = done.at_idp.requests;
+          left = left_behind idp_rules IdpAnswers idp_start (still ran.last.idp) done.idp_kept _ done.at_idp;
         },
       )

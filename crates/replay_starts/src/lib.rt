@@ -9,7 +9,7 @@
 //! # What is proved
 //!
 //! `laws::a_replay_is_starts`: of each run of a schedule over two providers that were started there are two lists of
-//! starts, from the ledgers on that were opened at first (`AreStartsOfBoth`). Each start opens what is left behind the
+//! starts, from the ledgers on that were opened at first (`AreStartsOf`). Each start opens what is left behind the
 //! ones before it: by a request that was cut or answered, by a restart that failed, inside a compaction or behind it.
 //! In them each provider was asked the requests that the agents' bytes completed, in order, each at its moment and in
 //! its state, with its answer, and no other; and the disks that the run leaves hold nothing but what is left behind them.

@@ -1,9 +1,10 @@
 -- What is answered, and how a run ends with it.
-use Rattle.std.proofs.Common.{◌≡◌, ◌≢◌, ℕ, ◌⊎◌, List, [], ◌∷◌, ◌++◌, Option, Some, Result, Ok, Err, IfOk, MatchOption, codes, append_assoc, inl, inr, refl, sym, subst}
+use Rattle.std.specs.Prelude.{if◌then◌else◌}
+use Rattle.std.proofs.Common.{◌≡◌, ◌≢◌, ℕ, ◌⊎◌, Bool, true, false, List, [], ◌∷◌, ◌++◌, Option, Some, Result, Ok, Err, IfOk, MatchOption, codes, append_assoc, inl, inr, refl, sym, subst}
 use Rattle.saml_outside.specs.Files.{File, IsUnread}
 use Rattle.saml_commands.specs.declared.status.Status.{Status}
 use Rattle.saml_commands.specs.declared.status.Status.TheVariants as statuses
-use Rattle.saml_commands.specs.Answers.{Answer, Printed, Refused, BadFile, Foreign, Usage, status_of, IsYes}
+use Rattle.saml_commands.specs.Answers.{Answer, Printed, Refused, BadFile, Foreign, Usage, status_of}
 use Rattle.saml_outside.specs.Files.{Reads}
 use Rattle.saml_outside.specs.declared.reading.FileRead.TheVariants as reads
 use Rattle.xml_spec.specs.Tree.{Nodes}
@@ -31,9 +32,15 @@ pub foreign_line_is : (number digits : List ℕ) →
     codes "foreign " ++ (number ++ (32 ∷ (digits ++ 10 ∷ []))) ≡ codes "foreign " ++ number ++ codes " " ++ digits ++ codes "\n"
 foreign_line_is number digits = simp append_assoc
 
-pub served_line_is : (digits why : List ℕ) →
-    codes "served " ++ (digits ++ (32 ∷ (why ++ 10 ∷ []))) ≡ codes "served " ++ digits ++ codes " " ++ why ++ codes "\n"
-served_line_is digits why = simp append_assoc
+-- why serving ended
+abbrev pub why_ended : Bool → List ℕ
+why_ended stopped = if stopped then codes "stopped" else codes "budget"
+
+pub served_line_is : (digits : List ℕ) (stopped : Bool) →
+    codes "served " ++ (digits ++ (32 ∷ (why_ended stopped ++ 10 ∷ [])))
+    ≡ codes "served " ++ digits ++ (if stopped then codes " stopped\n" else codes " budget\n")
+served_line_is digits true = simp append_assoc
+served_line_is digits false = simp append_assoc
 
 part : (P Q : Answer → Type 0) (old new : Option (List ℕ)) → ((answer : Answer) → P answer → Q answer) → PrintsPart P old new → PrintsPart Q old new
 part P Q old new f h = (h.0, h.1, f h.0 h.2, h.3)
@@ -57,6 +64,18 @@ weaker P Q old new statuses.ForeignJournal f h = (h.0, f h.0 h.1, h.2, h.3)
 pub with_answer : (P : Answer → Type 0) (old new : Option (List ℕ)) (status : Status) (answer : Answer) → P answer →
     EndsWith (λ a. a ≡ answer) old new status → EndsWith P old new status
 with_answer P old new status answer is h = weaker (λ a. a ≡ answer) P old new status (λ a e. subst P (sym e) is) h
+
+-- the definition says yes
+abbrev pub IsYes : Answer → Type 0
+IsYes (Printed text) = Unit {0}
+IsYes answer = ⊥
+
+pub done_yes : (answer : Answer) → status_of answer ≡ statuses.Done → IsYes answer
+done_yes (Printed text) e = tt
+done_yes (Refused verdict) e = cc
+done_yes (BadFile file line) e = cc
+done_yes (Foreign file place) e = cc
+done_yes Usage e = cc
 
 only_done : (status : Status) (answer : Answer) → IsYes answer → status ≡ status_of answer → (status ≡ statuses.Done) ⊎ (status ≡ statuses.NoMemory)
 only_done status (Printed text) agrees e = inl e
@@ -88,14 +107,13 @@ answered words told ran command e answer h =
 -- a file that is absent or too long can't be used
 pub unread_bad : (meaning : List ℕ → Answer → Type 0) (told : Option (List File)) (file : List ℕ) (limit : ℕ) → IsUnread told file limit →
     OfFile meaning told file limit (BadFile file 0)
-unread_bad meaning told file limit (inl r) = (reads.Absent, [], r, refl)
-unread_bad meaning told file limit (inr r) = (reads.TooLong, [], r, refl)
+unread_bad meaning told file limit unread = inr (unread, refl)
 
 pub read_whole : (meaning : List ℕ → Answer → Type 0) (told : Option (List File)) (file : List ℕ) (limit : ℕ) (bytes : List ℕ) →
     Reads told file limit reads.Whole bytes → (answer : Answer) → meaning bytes answer → OfFile meaning told file limit answer
-read_whole meaning told file limit bytes r answer h = (reads.Whole, bytes, r, h)
+read_whole meaning told file limit bytes r answer h = inl (bytes, r, h)
 
 -- bytes that are refused
-pub refused_document : (meaning : Nodes → Answer → Type 0) (bytes : List ℕ) (fault : TreeFault) → IsRefused bytes fault →
-    (answer : Answer) → IsVerdictOf (of_document fault) answer → OfDocument meaning bytes answer
-refused_document meaning bytes fault r answer h = inr (fault, h.0, r, h.1, h.2)
+pub refused_document : (meaning : Nodes → ℕ → Answer → Type 0) (id : Option (List ℕ)) (bytes : List ℕ) (fault : TreeFault) → IsRefused bytes fault →
+    (answer : Answer) → IsVerdictOf (of_document fault) answer → OfDocument meaning id bytes answer
+refused_document meaning id bytes fault r answer h = inr (fault, h.0, r, h.1, h.2)

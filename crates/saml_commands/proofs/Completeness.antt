@@ -2,8 +2,6 @@
 use Rattle.std.proofs.Common.{◌≡◌, ℕ, List, Option, Some, None, MatchOption, MatchResult, Result, Ok, Err, arith, inl, inr, sym, subst}
 use Rattle.xml_spec.specs.Tree.{Nodes}
 use Rattle.saml_outside.specs.Files.{File}
-use Rattle.saml_outside.specs.declared.reading.FileRead.{FileRead}
-use Rattle.saml_outside.specs.declared.reading.FileRead.TheVariants as reads
 use Rattle.schedules.specs.declared.read.TheConstants.{MAX_SCHEDULE_LENGTH}
 use Rattle.verdict_codes.specs.declared.codes.Verdict.{Verdict}
 use Rattle.request_rows.specs.Rows.{RowsView}
@@ -22,24 +20,23 @@ use Rattle.sp_rules.specs.Opening.{Brought, Opens}
 use Rattle.sp_rules.specs.Verdict.{IsRefused}
 use Rattle.sp_setup.specs.Setup.{Setup, IsSetUp, IsBadSetUp}
 use Rattle.saml_commands.specs.declared.limits.TheConstants.{GREATEST_BODY}
-use Rattle.saml_commands.specs.Answers.{Answer, BadFile, Usage, IsYes}
-use Rattle.saml_commands.specs.Canon.{OfForm, OfCanonDocument, OfCanon}
+use Rattle.saml_commands.specs.Answers.{Answer, BadFile, Usage}
+use Rattle.saml_commands.specs.Canon.{OfCanon}
 use Rattle.saml_commands.specs.Check.{rows_of, OfJudged, OfCheck}
-use Rattle.saml_commands.specs.Vouch.{OfVouching, OfVouchedDocument, OfVouch}
+use Rattle.saml_commands.specs.Documents.{OfDocument}
+use Rattle.saml_commands.specs.Vouch.{OfVouching, OfVouch}
 use Rattle.schedules.specs.Schedules.{schedule}
 use Rattle.schedules.specs.declared.step.Step.{Step}
-use Rattle.saml_commands.specs.Reading.{OfFile, OfRead}
+use Rattle.saml_commands.specs.Reading.{OfFile}
 use Rattle.saml_commands.specs.Replay.{OfSchedule}
 use Rattle.saml_commands.specs.Running.{Command, Canon, Vouch, Check, Serve, Replay, Make, command_of, OfCommand, Answers, Accepts, Records}
 use Rattle.saml_commands.specs.Serving.{Unserved}
 use Rattle.saml_commands.proofs.RecordAnswers.{records_alone}
-use Rattle.saml_commands.proofs.Alone.{SaysYesAlone, not_refused_too, not_bad_too, document_alone, element_alone, file_alone}
+use Rattle.saml_commands.proofs.Alone.{SaysYesAlone, not_refused_too, not_bad_too, document_alone, file_alone}
+use Rattle.saml_commands.proofs.Answering.{IsYes, done_yes}
 
-form_alone : (tree : Nodes) (node : ℕ) → SaysYesAlone (OfForm tree node)
-form_alone tree node a b agrees p q = subst IsYes (sym q) tt
-
-canon_alone : (id : Option (List ℕ)) (bytes : List ℕ) → SaysYesAlone (OfCanon id bytes)
-canon_alone id bytes = document_alone (OfCanonDocument id) bytes (λ tree. element_alone (OfForm tree) tree id (form_alone tree))
+canon_alone : (tree : Nodes) (node : ℕ) → SaysYesAlone (OfCanon tree node)
+canon_alone tree node a b agrees p q = subst IsYes (sym q) tt
 
 -- an element that is vouched for is not refused
 vouched_not_unvouched : (key : List ℕ) (tree : Nodes) (node : ℕ) (parts : Parts) (fault : SigFault) (verdict : Verdict) → Vouches key tree node parts →
@@ -62,7 +59,7 @@ vouch_alone : (id key_file bytes key : List ℕ) → SaysYesAlone (OfVouch id ke
 vouch_alone id key_file bytes key a b agrees (inl p) q = absurd (not_bad_too a key_file 0 agrees p.1)
 vouch_alone id key_file bytes key a b agrees (inr p) (inl q) = let long = p.0 in let short = q.0 in absurd (omega arith)
 vouch_alone id key_file bytes key a b agrees (inr p) (inr q) =
-    document_alone (OfVouchedDocument id key) bytes (λ tree. element_alone (OfVouching key tree) tree (Some id) (vouching_alone key tree)) a b agrees p.1 q.1
+    document_alone (OfVouching key) (Some id) bytes (vouching_alone key) a b agrees p.1 q.1
 
 -- the laws that it takes: a form that opens a session is refused for nothing, and told files set a provider up in one way or in none
 pub record Laws : Type 0 where
@@ -102,21 +99,16 @@ schedule_alone file bytes a b agrees = which (schedule bytes)
 
 -- nor is a file
 pub never_yes : (file : List ℕ) (told : Option (List File)) (answer : Answer) → IsYes answer → OfFile (OfSchedule file) told file MAX_SCHEDULE_LENGTH answer → ⊥
-never_yes file told answer agrees p = at p.0 p.1 p.3
+never_yes file told answer agrees (inl p) = which (schedule p.0) p.2
   where
     which : (r : Result (List Step) ℕ) → MatchResult r (λ steps. ⊥) (λ line. answer ≡ BadFile file line) → ⊥
     which (Ok steps) m = m
     which (Err line) m = not_bad_too answer file line agrees m
-
-    at : (read : FileRead) (bytes : List ℕ) → OfRead (OfSchedule file) file read bytes answer → ⊥
-    at reads.Whole bytes m = which (schedule bytes) m
-    at reads.Absent bytes m = not_bad_too answer file 0 agrees m
-    at reads.TooLong bytes m = not_bad_too answer file 0 agrees m
-    at reads.Failed bytes m = m
-    at reads.NoMemory bytes m = m
+never_yes file told answer agrees (inr p) = not_bad_too answer file 0 agrees p.1
 
 command_alone : Laws → (files : List File) (command : Command) → SaysYesAlone (OfCommand (Some files) Unserved command)
-command_alone laws files (Canon file id) = file_alone (OfCanon id) files file _ (canon_alone id)
+command_alone laws files (Canon file id) =
+    file_alone (OfDocument OfCanon id) files file _ (λ bytes. document_alone OfCanon id bytes canon_alone)
 command_alone laws files (Vouch file id key_file) =
     file_alone (λ bytes. OfFile (OfVouch id key_file bytes) (Some files) key_file _) files file _
     (λ bytes. file_alone (OfVouch id key_file bytes) files key_file _ (vouch_alone id key_file bytes))
@@ -137,4 +129,4 @@ words_alone laws files words a b agrees = which (command_of words)
 -- words and files that are accepted are answered with yes alone
 pub accepted_yes : Laws → (words : List (List ℕ)) (told : Option (List File)) → Accepts words told → (answer : Answer) → Answers words told Unserved answer → IsYes answer
 accepted_yes laws words told h answer a =
-    words_alone laws h.files words h.answer answer h.yes h.answered (subst (λ o. Answers words o Unserved answer) h.tells a)
+    words_alone laws h.files words h.answer answer (done_yes h.answer h.done) h.answered (subst (λ o. Answers words o Unserved answer) h.tells a)

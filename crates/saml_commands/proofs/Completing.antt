@@ -2,7 +2,6 @@
 use Rattle.std.specs.Prelude.{MatchResult}
 use Rattle.std.proofs.Common.{◌≡◌, ℕ, ◌⊎◌, List, Option, Some, Result, Ok, Err, refl, ap, ◌∙◌, subst, inl, inr}
 use Rattle.saml_outside.specs.Files.{File, bytes_of, Reads}
-use Rattle.saml_outside.specs.declared.reading.FileRead.{FileRead}
 use Rattle.saml_outside.specs.declared.reading.FileRead.TheVariants as reads
 use Rattle.schedules.specs.Schedules.{schedule}
 use Rattle.schedules.specs.declared.read.TheConstants.{MAX_SCHEDULE_LENGTH}
@@ -13,11 +12,11 @@ use Rattle.schedule_replay.specs.declared.tally.Tally.{Tally}
 use Rattle.saml_commands.specs.declared.status.Status.{Status}
 use Rattle.saml_commands.specs.declared.status.Status.TheVariants as statuses
 use Rattle.saml_commands.specs.Answers.{Answer, BadFile}
-use Rattle.saml_commands.specs.Reading.{OfFile, OfRead}
+use Rattle.saml_commands.specs.Reading.{OfFile}
 use Rattle.saml_commands.specs.Replay.{DidReplayFile, IsSchedule, OfSchedule, status_of_replay}
 use Rattle.saml_commands.specs.Running.{EndsAfter, EndsWith}
 use Rattle.saml_commands.specs.Serving.{Ran, Unserved, RanProvider, RanReplay}
-use Rattle.saml_commands.proofs.Alone.{some_is_one, none_is_not_some, too_long}
+use Rattle.saml_commands.proofs.Alone.{read_not_unread, some_is_one}
 
 -- the run was done, or there was no memory
 abbrev IsDone : Status → Type 0
@@ -27,16 +26,10 @@ module _ (files : List File) (file bytes : List ℕ) (steps : List Step) (held :
     (is : schedule bytes ≡ Ok steps) where
   -- a schedule is not answered
   unanswered : (answer : Answer) → OfFile (OfSchedule file) (Some files) file MAX_SCHEDULE_LENGTH answer → ⊥
-  unanswered answer p = at p.0 p.1 p.2 p.3
-    where
-      at : (read : FileRead) (into : List ℕ) → Reads (Some files) file MAX_SCHEDULE_LENGTH read into → OfRead (OfSchedule file) file read into answer → ⊥
-      at reads.Whole into s m =
-          let same : into ≡ bytes = some_is_one into bytes (bytes_of files file) s.1 held.1 in
-          subst (λ (r : Result (List Step) ℕ). MatchResult r (λ steps. ⊥) (λ line. answer ≡ BadFile file line)) (ap schedule same ∙ is) m
-      at reads.Absent into s m = none_is_not_some bytes (bytes_of files file) held.1 s.1
-      at reads.TooLong into s m = too_long (bytes_of files file) bytes MAX_SCHEDULE_LENGTH held.1 held.0 s.1
-      at reads.Failed into s m = m
-      at reads.NoMemory into s m = m
+  unanswered answer (inl p) =
+      let same : p.0 ≡ bytes = some_is_one p.0 bytes (bytes_of files file) p.1.1 held.1 in
+      subst (λ (r : Result (List Step) ℕ). MatchResult r (λ steps. ⊥) (λ line. answer ≡ BadFile file line)) (ap schedule same ∙ is) p.2
+  unanswered answer (inr p) = read_not_unread files file MAX_SCHEDULE_LENGTH bytes held p.0
 
   -- so nothing else ends it but a fault or want of memory
   ends : (old new : Option (List ℕ)) (status : Status) → EndsWith (OfFile (OfSchedule file) (Some files) file MAX_SCHEDULE_LENGTH) old new status

@@ -7,10 +7,10 @@ use Rattle.provider_run.specs.declared.ended.Ended.TheVariants as ends
 use Rattle.provider_run.specs.Runs.{Outside, IsServed}
 use Rattle.saml_commands.specs.declared.status.Status.{Status}
 use Rattle.saml_commands.specs.declared.status.Status.TheVariants as statuses
-use Rattle.saml_commands.specs.Answers.{Answer, Printed, Refused, BadFile, Foreign, Usage, status_of, IsYes}
+use Rattle.saml_commands.specs.Answers.{Answer, Printed, Refused, BadFile, Foreign, Usage, status_of}
 use Rattle.saml_commands.specs.Running.{Command, Canon, Vouch, Check, Serve, Replay, Make, command_of, Does, DoesCommand, Carries, CommandCarries, OfCommand, Answers, Prints, EndsWith, EndsAfter, DoesServe, Accepts, AcceptsServing, IsRunnableBy, Records}
 use Rattle.saml_commands.specs.Serving.{Ran, Unserved, RanProvider, RanReplay, answer_of}
-use Rattle.saml_commands.proofs.Answering.{weaker, answered, settled}
+use Rattle.saml_commands.proofs.Answering.{IsYes, weaker, answered, done_yes, settled}
 use Rattle.saml_commands.proofs.Completeness.{Laws, accepted_yes, never_yes}
 
 -- ---- what is answered names no fault of the disk or the link
@@ -102,7 +102,7 @@ accepted_idle words told (Records role) e h = tt
 accepted_idle words told (Serve role config events) e h =
     subst (λ (o : Option Command). MatchOption o (h.answer ≡ Usage) (λ c. OfCommand (Some h.files) Unserved c h.answer)) e h.answered
 accepted_idle words told (Replay file) e h =
-    never_yes file (Some h.files) h.answer h.yes
+    never_yes file (Some h.files) h.answer (done_yes h.answer h.done)
     (subst (λ (o : Option Command). MatchOption o (h.answer ≡ Usage) (λ c. OfCommand (Some h.files) Unserved c h.answer)) e h.answered)
 accepted_idle words told (Make logins start) e h =
     subst (λ (o : Option Command). MatchOption o (h.answer ≡ Usage) (λ c. OfCommand (Some h.files) Unserved c h.answer)) e h.answered

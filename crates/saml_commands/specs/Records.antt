@@ -1,7 +1,6 @@
 -- What `records ROLE` answers: a line for each record of the journal in the folder.
 use Rattle.std.specs.Prelude.{◌≡◌, ℕ, ◌⊎◌, Bool, true, false, List, [], Option, None, Some, Result, Ok, Err, codes, if◌then◌else◌}
 use Rattle.saml_outside.specs.Files.{File, Reads}
-use Rattle.saml_outside.specs.declared.reading.FileRead.{FileRead}
 use Rattle.saml_outside.specs.declared.reading.FileRead.TheVariants as reads
 use Rattle.crash_disk.specs.declared.file_no.FileNo.TheVariants.{Zero}
 use Rattle.gate_journal.specs.Format.{Committed, Fault, file_of, joined}
@@ -18,24 +17,13 @@ use Rattle.saml_commands.specs.declared.command.Role.TheVariants as roles
 use Rattle.saml_commands.specs.declared.limits.TheConstants.{GREATEST_JOURNAL}
 use Rattle.saml_commands.specs.Answers.{Answer, Printed, Foreign}
 
--- the two files of the journal
-abbrev pub journal_0 : List ℕ
-journal_0 = codes "journal.0"
-
-abbrev pub journal_1 : List ℕ
-journal_1 = codes "journal.1"
-
--- What was read of a file of the journal is answered with what that file holds: an absent one counts as an empty one, and one
--- that is too long is wrong at the place of the greatest length, whatever its bytes are.
-abbrev pub OfTaken : (Result (Option Committed) ℕ → Answer → Type 0) → FileRead → List ℕ → Answer → Type 0
-OfTaken meaning reads.Whole bytes answer = meaning (file_of bytes) answer
-OfTaken meaning reads.Absent bytes answer = meaning (file_of []) answer
-OfTaken meaning reads.TooLong bytes answer = meaning (Err GREATEST_JOURNAL) answer
-OfTaken meaning read bytes answer = ⊥
-
+-- A file of the journal is answered with what it holds: an absent one counts as an empty one, and one that is too long is
+-- wrong at the place of the greatest length, whatever its bytes are.
 abbrev pub OfJournalFile : (Result (Option Committed) ℕ → Answer → Type 0) → Option (List File) → List ℕ → Answer → Type 0
 OfJournalFile meaning told name answer =
-    (read : FileRead) × (bytes : List ℕ) × Reads told name GREATEST_JOURNAL read bytes × OfTaken meaning read bytes answer
+    ((bytes : List ℕ) × Reads told name GREATEST_JOURNAL reads.Whole bytes × meaning (file_of bytes) answer)
+    ⊎ (Reads told name GREATEST_JOURNAL reads.Absent [] × meaning (file_of []) answer)
+    ⊎ (Reads told name GREATEST_JOURNAL reads.TooLong [] × meaning (Err GREATEST_JOURNAL) answer)
 
 module _ {R : Type 0} (rules : RecordRules R) (line : R → List ℕ) where
   -- What the files stand for: nothing is printed where they hold no journal yet, a line for each record where they hold a
@@ -50,11 +38,11 @@ module _ {R : Type 0} (rules : RecordRules R) (line : R → List ℕ) where
 
   -- File 0 is looked at first, and file 1 where file 0 is not wrong by itself.
   abbrev pub OfFirst : Option (List File) → Result (Option Committed) ℕ → Answer → Type 0
-  OfFirst told (Ok zero) answer = OfJournalFile (OfBoth zero) told journal_1 answer
+  OfFirst told (Ok zero) answer = OfJournalFile (OfBoth zero) told (codes "journal.1") answer
   OfFirst told (Err place) answer = answer ≡ Foreign Zero place
 
   abbrev pub OfLedger : Option (List File) → Answer → Type 0
-  OfLedger told answer = OfJournalFile (OfFirst told) told journal_0 answer
+  OfLedger told answer = OfJournalFile (OfFirst told) told (codes "journal.0") answer
 
 -- whose records are asked for
 abbrev pub OfRecords : Role → Option (List File) → Answer → Type 0

@@ -19,9 +19,10 @@ use Rattle.replay_runs.specs.Runs as replay
 use Rattle.replay_runs.specs.Runs.{Goes}
 use Rattle.saml_commands.specs.declared.status.Status.{Status}
 use Rattle.saml_commands.specs.declared.status.Status.TheVariants as statuses
-use Rattle.saml_commands.specs.Answers.{Answer, Refused, Usage, status_of, text_of, IsYes}
+use Rattle.saml_commands.specs.Answers.{Answer, Refused, Usage, status_of, text_of}
 use Rattle.saml_commands.specs.Canon.{OfCanon}
 use Rattle.saml_commands.specs.Check.{OfCheck}
+use Rattle.saml_commands.specs.Documents.{OfDocument}
 use Rattle.saml_commands.specs.Reading.{OfFile}
 use Rattle.saml_commands.specs.Serving.{HeadlineAs, IsRunnableAs, OfRun, Ran, RanProvider, RanReplay, RunsAs, Unserved, status_of_fault}
 use Rattle.saml_commands.specs.Replay.{IsSchedule, OfSchedule, status_of_replay}
@@ -43,17 +44,9 @@ pub data Command : Type 0 where
   Replay : (file : List ℕ) → Command
   Make : (logins start : ℕ) → Command
 
--- `check CONFIG BODYFILE NOW`, where NOW is a moment in milliseconds
-abbrev pub check_at : List ℕ → List ℕ → Option ℕ → Option Command
-check_at config body now = option_map (λ moment. Check config body moment) now
-
--- EVENTS is a number from 1 on
-abbrev pub events_of : Option ℕ → Option ℕ
-events_of number = option_and_then (λ count. if nat_le 1 count then Some count else None) number
-
--- N is a number from 1 on
-abbrev pub make_of : Option ℕ → Option ℕ → Option Command
-make_of logins start = option_and_then (λ n. option_map (λ from. Make n from) start) (events_of logins)
+-- the number from 1 on, up to this greatest one, that a word says
+abbrev pub positive : ℕ → List ℕ → Option ℕ
+positive most word = option_and_then (λ number. if nat_le 1 number then Some number else None) (number_of most word)
 
 -- the role that a word says
 abbrev pub role_of : List ℕ → Option Role
@@ -62,34 +55,26 @@ role_of word =
     else if bytes_eq word (codes "idp") then Some roles.Idp
     else if bytes_eq word (codes "hub") then Some roles.Hub else None
 
--- `sp CONFIG EVENTS`, `idp CONFIG EVENTS` and `hub CONFIG EVENTS`
-abbrev pub serve_of : Option Role → List ℕ → Option ℕ → Option Command
-serve_of role config number =
-    option_and_then (λ role. option_map (λ events. Serve role config events) (events_of number)) role
-
--- `records ROLE`
-abbrev pub records_of : Option Role → Option Command
-records_of role = option_map Records role
-
 -- one word behind the name of a command
 abbrev pub of_one : List ℕ → List ℕ → Option Command
 of_one word first =
     if bytes_eq word (codes "canon") then Some (Canon first None)
-    else if bytes_eq word (codes "records") then records_of (role_of first)
+    else if bytes_eq word (codes "records") then option_map Records (role_of first)
     else if bytes_eq word (codes "replay") then Some (Replay first) else None
 
 -- two words behind the name of a command
 abbrev pub of_two : List ℕ → List ℕ → List ℕ → Option Command
 of_two word first second =
     if bytes_eq word (codes "canon") then Some (Canon first (Some second))
-    else if bytes_eq word (codes "make") then make_of (number_of MOST_LOGINS first) (number_of MOST_START second)
-    else serve_of (role_of word) first (number_of MOST_EVENTS second)
+    else if bytes_eq word (codes "make") then
+    option_and_then (λ logins. option_map (Make logins) (number_of MOST_START second)) (positive MOST_LOGINS first)
+    else option_and_then (λ role. option_map (Serve role first) (positive MOST_EVENTS second)) (role_of word)
 
 -- three words behind the name of a command
 abbrev pub of_three : List ℕ → List ℕ → List ℕ → List ℕ → Option Command
 of_three word first second third =
     if bytes_eq word (codes "vouch") then Some (Vouch first second third)
-    else if bytes_eq word (codes "check") then check_at first second (number_of LAST third) else None
+    else if bytes_eq word (codes "check") then option_map (Check first second) (number_of LAST third) else None
 
 -- the command of the words `canon FILE`, `canon FILE ID`, `vouch FILE ID KEYFILE`, `check CONFIG BODYFILE NOW`, `records ROLE`,
 -- `sp CONFIG EVENTS`, `idp CONFIG EVENTS`, `hub CONFIG EVENTS`, `replay SCHEDULE` and `make N START`
@@ -138,7 +123,7 @@ Carries left words told before ran after = MatchOption (command_of words) (Unit 
 
 -- what a command is answered with: the files are read in the order in which they are named
 abbrev pub OfCommand : Option (List File) → Ran → Command → Answer → Type 0
-OfCommand told ran (Canon file id) answer = OfFile (OfCanon id) told file MAX_DOCUMENT_LENGTH answer
+OfCommand told ran (Canon file id) answer = OfFile (OfDocument OfCanon id) told file MAX_DOCUMENT_LENGTH answer
 OfCommand told ran (Vouch file id key_file) answer =
     OfFile (λ bytes. OfFile (OfVouch id key_file bytes) told key_file GREATEST_KEY) told file MAX_DOCUMENT_LENGTH answer
 OfCommand told ran (Check config body now) answer = OfCheck told config body now answer
@@ -186,13 +171,13 @@ abbrev pub DoesServe : Option Command → Type 0
 DoesServe (Some (Serve role config events)) = Unit {0}
 DoesServe other = ⊥
 
--- the files tell, and by what they tell the definition says yes
+-- the files tell, and what they tell is answered as in a run that is done
 pub record Accepts (words : List (List ℕ)) (told : Option (List File)) : Type 0 where
   pub files : List File
   pub tells : told ≡ Some files
   pub answer : Answer
   pub answered : Answers words (Some files) Unserved answer
-  pub yes : IsYes answer
+  pub done : status_of answer ≡ statuses.Done
 
 abbrev pub IsRunnableBy : Option (List File) → Option DiskState → Command → Type 0
 IsRunnableBy told disk (Serve role config events) = IsRunnableAs role told config disk

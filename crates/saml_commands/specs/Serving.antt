@@ -1,5 +1,5 @@
 -- What `sp CONFIG EVENTS`, `idp CONFIG EVENTS` and `hub CONFIG EVENTS` do, and what they are answered with.
-use Rattle.std.specs.Prelude.{◌≡◌, ℕ, Bool, true, false, List, ◌++◌, Option, Result, Ok, Err, codes}
+use Rattle.std.specs.Prelude.{◌≡◌, ℕ, Bool, List, ◌++◌, Option, Result, Ok, codes, if◌then◌else◌}
 use Rattle.std.specs.Fmt.{decimal}
 use Rattle.serve_loop.specs.declared.served.Served.{Served}
 use Rattle.serve_loop.specs.Turns.{Turn}
@@ -77,18 +77,14 @@ pub data Ran : Type 0 where
 
 -- What a crash at a moment of that may leave of the disk: what it might leave before, or what one inside the run of the provider may.
 abbrev pub RanLeaves : Option DiskState → Ran → Image → Type 0
-RanLeaves disk Unserved image = Leaves disk image
 RanLeaves disk (RanProvider role turns result) image = RunLeavesAs role disk turns image
-RanLeaves disk (RanReplay steps quiet sp_starts idp_starts result) image = Leaves disk image
+RanLeaves disk ran image = Leaves disk image
 
--- why serving ended: the link gave Stop, or the budget was used up
-abbrev pub why_ended : Bool → List ℕ
-why_ended true = codes "stopped"
-why_ended false = codes "budget"
-
--- what is printed of it, with the number of events that were taken
+-- what is printed where serving ended: the number of events that were taken, and why, that the link gave Stop or that the
+-- budget was used up
 abbrev pub served_line : Served → List ℕ
-served_line served = codes "served " ++ decimal served.events ++ codes " " ++ why_ended served.stopped ++ codes "\n"
+served_line served =
+    codes "served " ++ decimal served.events ++ (if served.stopped then codes " stopped\n" else codes " budget\n")
 
 -- what a run that came to an end is answered with
 abbrev pub answer_of : Ended → Answer
@@ -98,10 +94,8 @@ answer_of (ends.Served served) = Printed (served_line served)
 
 -- a run that ended early is answered with nothing
 abbrev pub OfRun : Ran → Answer → Type 0
-OfRun Unserved answer = ⊥
 OfRun (RanProvider role turns (Ok ended)) answer = answer ≡ answer_of ended
-OfRun (RanProvider role turns (Err fault)) answer = ⊥
-OfRun (RanReplay steps quiet sp_starts idp_starts result) answer = ⊥
+OfRun ran answer = ⊥
 
 -- the status of such a run
 abbrev pub status_of_fault : RunFault → Status

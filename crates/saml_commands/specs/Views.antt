@@ -1,13 +1,10 @@
--- How the definitions see a command and an answer.
+-- How the definitions see a command.
 use Rattle.std.specs.Prelude.{◌≤◌}
 use Rattle.std.specs.Option.{option_map}
 use Rattle.schedules.specs.declared.make.TheConstants.{MOST_LOGINS}
 use Rattle.saml_commands.specs.declared.limits.TheConstants.{MOST_START}
 use Rattle.saml_time.specs.declared.TheConstants.{LAST}
-use Rattle.saml_commands.specs.Answers as answers
 use Rattle.saml_commands.specs.Running as running
-use Rattle.saml_commands.specs.declared.answer.Answer.{Answer}
-use Rattle.saml_commands.specs.declared.answer.Answer.TheVariants as kinds
 use Rattle.saml_commands.specs.declared.command.Command.{Command}
 use Rattle.saml_commands.specs.declared.command.Command.TheVariants as commands
 
@@ -19,13 +16,6 @@ command_view (commands.Records role) = running.Records role
 command_view (commands.Serve role config events) = running.Serve role config.now events
 command_view (commands.Replay file) = running.Replay file.now
 command_view (commands.Make logins start) = running.Make logins start
-
-abbrev pub answer_view : Answer → answers.Answer
-answer_view (kinds.Printed text) = answers.Printed text
-answer_view (kinds.Refused verdict) = answers.Refused verdict
-answer_view (kinds.BadFile file line) = answers.BadFile file line
-answer_view (kinds.Foreign file place) = answers.Foreign file place
-answer_view kinds.Usage = answers.Usage
 
 -- a moment that a command names has a written form, and the numbers of a schedule that is made are within their bounds
 abbrev pub HasMoment : Command → Type 0

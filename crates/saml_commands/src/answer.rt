@@ -4,7 +4,6 @@ ghost use Rattle.std.specs.Prelude.{◌≡◌, ◌≢◌, ◌≤◌, IfOk};
 ghost use Rattle.saml_outside.specs.Counts.{Rose};
 ghost use Rattle.saml_commands.specs.Answers.{BadFile, Foreign, file_number, text_of, status_of};
 ghost use Rattle.saml_commands.specs.Running.{EndsWith, Prints};
-ghost use Rattle.saml_commands.specs.Views.{answer_view};
 
 use crate::status::Status;
 use crash_disk::FileNo;
@@ -29,7 +28,7 @@ pub(crate) enum Answer {
 impl Answer {
     /// That this line of a file, or with 0 the whole file, can't be used.
     pub(crate) fn bad_file(alloc: Global, file: &str, line: u64) -> Result<Answer, NoMemory>
-        ensures { IfOk result (λ answer. answer_view answer ≡ BadFile file.now line) }
+        ensures { IfOk result (λ answer. answer ≡ BadFile file.now line) }
     {
         let file = Text::of(alloc, file)?;
         Ok(Answer::BadFile { file, line })
@@ -37,7 +36,7 @@ impl Answer {
 
     /// All that is printed.
     fn text(&self, alloc: Global) -> Result<Blob, NoMemory>
-        ensures { IfOk result (λ text. text ≡ text_of (answer_view self.now)) }
+        ensures { IfOk result (λ text. text ≡ text_of self.now) }
     {
         match self {
             Answer::Printed(text) => text.copy(),
@@ -50,7 +49,7 @@ impl Answer {
 
     /// How the run ends.
     fn status(&self) -> Status
-        ensures { result ≡ status_of (answer_view self.now) }
+        ensures { result ≡ status_of self.now }
     {
         match self {
             Answer::Printed(_) => Status::Done,
@@ -63,7 +62,7 @@ impl Answer {
 
     /// Prints the answer, and says how the run ends.
     pub(crate) fn print<K: Sink>(&self, alloc: Global, out: &mut K) -> Status
-        ensures ends { EndsWith (λ answer. answer ≡ answer_view self.now) (K.taken out.old) (K.taken out.new) result }
+        ensures ends { EndsWith (λ answer. answer ≡ self.now) (K.taken out.old) (K.taken out.new) result }
         ensures no_read_fault { result ≢ Status.ReadFault }
         ensures write_fault { result ≡ Status.WriteFault → Rose (K.faults_of out.old) (K.faults_of out.new) }
         ensures never_falls { K.faults_of out.old ≤ K.faults_of out.new }
@@ -80,7 +79,7 @@ impl Answer {
 
 /// The line of a refusal.
 fn refusal(alloc: Global, verdict: Verdict) -> Result<Blob, NoMemory>
-    ensures { IfOk result (λ text. text ≡ text_of (answer_view (Answer.Refused verdict))) }
+    ensures { IfOk result (λ text. text ≡ text_of (Answer.Refused verdict)) }
 {
     let number = verdict.number();
     let name = verdict.name();

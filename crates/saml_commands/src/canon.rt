@@ -4,8 +4,8 @@ ghost use Rattle.std.specs.Prelude.{◌≡◌, ◌≢◌, ◌≤◌, [], false, 
 ghost use Rattle.std.specs.Option.{option_map};
 ghost use Rattle.saml_tree.specs.Elements.{IsElement};
 ghost use Rattle.saml_outside.specs.Counts.{Rose};
-ghost use Rattle.saml_commands.specs.Canon.{OfForm, OfCanonDocument, OfCanon};
-ghost use Rattle.saml_commands.specs.Documents.{element_of};
+ghost use Rattle.saml_commands.specs.Canon.{OfCanon};
+ghost use Rattle.saml_commands.specs.Documents.{OfDocument, OfElement, element_of};
 ghost use Rattle.saml_commands.specs.Running.{EndsWith, IsVerdictOf};
 ghost use Rattle.xml_spec.specs.declared.TheConstants.{MAX_DOCUMENT_LENGTH};
 
@@ -53,7 +53,7 @@ fn put_whole<K: Sink>(
     requires none { place.old.kept.now.items ≡ [] }
     requires whole { place.old.failed ≡ false }
     ensures same_reference { place.new.out.ghost_name ≡ place.old.out.ghost_name }
-    ensures ends { EndsWith (OfForm doc.now.tree node.0) (K.taken place.old.out.now) (K.taken place.new.out.now) result }
+    ensures ends { EndsWith (OfCanon doc.now.tree node.0) (K.taken place.old.out.now) (K.taken place.new.out.now) result }
     ensures no_read_fault { result ≢ Status.ReadFault }
     ensures write_fault { result ≡ Status.WriteFault → Rose (K.faults_of place.old.out.now) (K.faults_of place.new.out.now) }
     ensures never_falls { K.faults_of place.old.out.now ≤ K.faults_of place.new.out.now }
@@ -72,7 +72,7 @@ fn put_whole<K: Sink>(
 /// Prints the canonical form of an element, piece by piece. Where memory runs out, a part of it may have been printed.
 fn put_form<K: Sink>(alloc: Global, doc: &Doc<'_>, node: NodeNo, out: &mut K) -> Status
     requires { IsElement doc.now.tree node.0 }
-    ensures ends { EndsWith (OfForm doc.now.tree node.0) (K.taken out.old) (K.taken out.new) result }
+    ensures ends { EndsWith (OfCanon doc.now.tree node.0) (K.taken out.old) (K.taken out.new) result }
     ensures no_read_fault { result ≢ Status.ReadFault }
     ensures write_fault { result ≡ Status.WriteFault → Rose (K.faults_of out.old) (K.faults_of out.new) }
     ensures never_falls { K.faults_of out.old ≤ K.faults_of out.new }
@@ -84,7 +84,7 @@ fn put_form<K: Sink>(alloc: Global, doc: &Doc<'_>, node: NodeNo, out: &mut K) ->
 
 /// What `canon` prints of a document.
 fn canon_document<K: Sink>(alloc: Global, doc: &Doc<'_>, id: Option<&str>, out: &mut K) -> Status
-    ensures ends { EndsWith (OfCanonDocument (option_map (λ text. text.now) id.entry) doc.now.tree) (K.taken out.old) (K.taken out.new) result }
+    ensures ends { EndsWith (OfElement OfCanon (option_map (λ text. text.now) id.entry) doc.now.tree) (K.taken out.old) (K.taken out.new) result }
     ensures no_read_fault { result ≢ Status.ReadFault }
     ensures write_fault { result ≡ Status.WriteFault → Rose (K.faults_of out.old) (K.faults_of out.new) }
     ensures never_falls { K.faults_of out.old ≤ K.faults_of out.new }
@@ -98,7 +98,7 @@ fn canon_document<K: Sink>(alloc: Global, doc: &Doc<'_>, id: Option<&str>, out: 
 /// What `canon` prints for the bytes of a file, where it asks for the element with this ID, or the root.
 pub(crate) fn canon<K: Sink>(alloc: Global, bytes: &[u8], id: Option<&str>, out: &mut K) -> Status
     requires { length bytes.now ≤ MAX_DOCUMENT_LENGTH }
-    ensures ends { EndsWith (OfCanon (option_map (λ text. text.now) id.entry) bytes.now) (K.taken out.old) (K.taken out.new) result }
+    ensures ends { EndsWith (OfDocument OfCanon (option_map (λ text. text.now) id.entry) bytes.now) (K.taken out.old) (K.taken out.new) result }
     ensures no_read_fault { result ≢ Status.ReadFault }
     ensures write_fault { result ≡ Status.WriteFault → Rose (K.faults_of out.old) (K.faults_of out.new) }
     ensures never_falls { K.faults_of out.old ≤ K.faults_of out.new }

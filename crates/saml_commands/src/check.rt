@@ -3,7 +3,6 @@
 ghost use Rattle.std.specs.Prelude.{◌≡◌, ◌≤◌, ◌<◌, ◌++◌, length, map, IfOk, IfSome, OnOk};
 ghost use Rattle.saml_commands.specs.Check.{attribute_line, attribute_lines, session_lines, asked_row_of, opened_row_of, rows_of, OfJudged};
 ghost use Rattle.sp_setup.specs.Views.{IsWithinBounds};
-ghost use Rattle.saml_commands.specs.Views.{answer_view};
 
 use crate::answer::Answer;
 use record_lines::put_escaped;
@@ -107,7 +106,7 @@ fn verdict_on(
     requires now { now ≤ LAST }
     requires skew { config.now.skew ≤ GREATEST_SKEW }
     requires times { IfSome config.now.next_in (λ next. next.from ≤ next.until) }
-    ensures { IfOk result (λ answer. OfJudged rows.now config.now now body.now (answer_view answer)) }
+    ensures { IfOk result (λ answer. OfJudged rows.now config.now now body.now answer) }
 {
     match judge(alloc, config, rows, 0, now, body) {
         Ok(accepted) => Ok(Answer::Printed(session_lines(alloc, &accepted.session)?)),
@@ -120,7 +119,7 @@ fn verdict_on(
 pub(crate) fn check(alloc: Global, setup: SetUp, now: u64, body: &[u8]) -> Result<Answer, NoMemory>
     requires now { now ≤ LAST }
     requires bounds { IsWithinBounds setup }
-    ensures { IfOk result (λ answer. OfJudged (rows_of setup.asked.items setup.opened.items) setup.config now body.now (answer_view answer)) }
+    ensures { IfOk result (λ answer. OfJudged (rows_of setup.asked.items setup.opened.items) setup.config now body.now answer) }
 {
     let rows = rows_of(alloc, setup.asked, setup.opened)?;
     verdict_on(alloc, &setup.config, &rows, now, body)

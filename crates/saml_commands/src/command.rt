@@ -1,9 +1,9 @@
 // The commands, and the words that ask for them.
 
 ghost use Rattle.std.specs.Prelude.{◌≡◌, ◌≤◌, IfSome};
-ghost use Rattle.std.specs.Option.{option_map};
+ghost use Rattle.std.specs.Option.{option_map, option_and_then};
 ghost use Rattle.text_lines.specs.Numbers.{number_of};
-ghost use Rattle.saml_commands.specs.Running.{check_at, events_of, serve_of, make_of, of_one, of_two, of_three, command_of, role_of, records_of};
+ghost use Rattle.saml_commands.specs.Running.{Check, Make, Records, Serve, of_one, of_two, of_three, command_of, positive, role_of};
 ghost use Rattle.saml_commands.specs.Views.{command_view, HasMoment};
 
 use crate::limits::{MOST_EVENTS, MOST_START};
@@ -67,7 +67,7 @@ pub(crate) enum Command<'w> {
 
 /// What `check CONFIG BODYFILE NOW` asks for, where NOW is a moment.
 fn check_at<'w>(config: &'w str, body: &'w str, now: &str) -> Option<Command<'w>>
-    ensures command { option_map command_view result ≡ check_at config.entry.now body.entry.now (number_of LAST now.now) }
+    ensures command { option_map command_view result ≡ option_map (Check config.entry.now body.entry.now) (number_of LAST now.now) }
     ensures moment { IfSome result HasMoment }
 {
     let now = number_of(now, LAST)?;
@@ -76,7 +76,7 @@ fn check_at<'w>(config: &'w str, body: &'w str, now: &str) -> Option<Command<'w>
 
 /// The number of events that a word says, from 1 on.
 fn events_of(word: &str) -> Option<u64>
-    ensures { result ≡ events_of (number_of MOST_EVENTS word.now) }
+    ensures { result ≡ positive MOST_EVENTS word.now }
 {
     let events = number_of(word, MOST_EVENTS)?;
     if events == 0 {
@@ -87,7 +87,7 @@ fn events_of(word: &str) -> Option<u64>
 
 /// The number of logins that a word says, from 1 on.
 fn logins_of(word: &str) -> Option<u64>
-    ensures value { result ≡ events_of (number_of MOST_LOGINS word.now) }
+    ensures value { result ≡ positive MOST_LOGINS word.now }
     ensures some { IfSome result (λ logins. 1 ≤ logins) }
     ensures few { IfSome result (λ logins. logins ≤ MOST_LOGINS) }
 {
@@ -109,7 +109,8 @@ fn start_of(word: &str) -> Option<u64>
 
 /// What `make N START` asks for.
 fn make_of<'w>(logins: &str, start: &str) -> Option<Command<'w>>
-    ensures command { option_map command_view result ≡ make_of (number_of MOST_LOGINS logins.now) (number_of MOST_START start.now) }
+    ensures command { option_map command_view result
+        ≡ option_and_then (λ count. option_map (Make count) (number_of MOST_START start.now)) (positive MOST_LOGINS logins.now) }
     ensures moment { IfSome result HasMoment }
 {
     let logins = logins_of(logins)?;
@@ -134,7 +135,8 @@ fn role_of(word: &str) -> Option<Role>
 
 /// What `ROLE CONFIG EVENTS` asks for.
 fn serve_of<'w>(word: &str, config: &'w str, events: &str) -> Option<Command<'w>>
-    ensures command { option_map command_view result ≡ serve_of (role_of word.now) config.entry.now (number_of MOST_EVENTS events.now) }
+    ensures command { option_map command_view result
+        ≡ option_and_then (λ role. option_map (Serve role config.entry.now) (positive MOST_EVENTS events.now)) (role_of word.now) }
     ensures moment { IfSome result HasMoment }
 {
     let role = role_of(word)?;
@@ -148,7 +150,7 @@ fn serve_of<'w>(word: &str, config: &'w str, events: &str) -> Option<Command<'w>
 
 /// What `records ROLE` asks for.
 fn records_of<'w>(word: &str) -> Option<Command<'w>>
-    ensures command { option_map command_view result ≡ records_of (role_of word.now) }
+    ensures command { option_map command_view result ≡ option_map Records (role_of word.now) }
     ensures moment { IfSome result HasMoment }
 {
     let role = role_of(word)?;

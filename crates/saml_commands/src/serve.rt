@@ -1,12 +1,11 @@
 // What `sp`, `idp` and `hub` do and print.
 
-ghost use Rattle.std.specs.Prelude.{◌≡◌, ◌≢◌, ◌≤◌, ◌⊎◌, ℕ, List, Option, Result, Err, IfOk};
+ghost use Rattle.std.specs.Prelude.{◌≡◌, ◌≢◌, ◌≤◌, ◌⊎◌, ℕ, List, Option, Result, Err, IfOk, codes, if◌then◌else◌};
 ghost use Rattle.crash_disk.specs.Moments.{LeavesOnly};
 ghost use Rattle.saml_outside.specs.Counts.{Rose};
 ghost use Rattle.provider_run.specs.Runs.{IsServed, outside};
 ghost use Rattle.saml_commands.specs.Running.{Serve, DoesCommand, CommandCarries, OfCommand, EndsWith, EndsAfter};
-ghost use Rattle.saml_commands.specs.Serving.{HeadlineAs, IsRunnableAs, Ran, RanLeaves, RunLeavesAs, RunsAs, TurnsOf, why_ended, served_line, answer_of, status_of_fault};
-ghost use Rattle.saml_commands.specs.Views.{answer_view};
+ghost use Rattle.saml_commands.specs.Serving.{HeadlineAs, IsRunnableAs, Ran, RanLeaves, RunLeavesAs, RunsAs, TurnsOf, served_line, answer_of, status_of_fault};
 
 use crate::answer::Answer;
 use crate::command::Role;
@@ -23,7 +22,7 @@ use std::alloc::Global;
 
 /// Why serving ended.
 fn why_ended(stopped: bool) -> &'static str
-    ensures { result.now ≡ why_ended stopped }
+    ensures { result.now ≡ (if stopped then codes "stopped" else codes "budget") }
 {
     if stopped { "stopped" } else { "budget" }
 }
@@ -40,7 +39,7 @@ fn served_line(alloc: Global, served: Served) -> Result<Blob, NoMemory>
 
 /// What a run that came to an end is answered with.
 fn answer_of(alloc: Global, ended: Ended) -> Result<Answer, NoMemory>
-    ensures { IfOk result (λ answer. answer_view answer ≡ answer_of ended) }
+    ensures { IfOk result (λ answer. answer ≡ answer_of ended) }
 {
     match ended {
         Ended::BadFile { file, line } => Ok(Answer::BadFile { file, line }),

@@ -15,7 +15,7 @@ ghost use Rattle.saml_commands.specs.Reading.{OfFile};
 ghost use Rattle.saml_commands.specs.Running.{Canon, Vouch, Check, command_of, Does, DoesCommand, Carries, CommandCarries, OfCommand, Answers, EndsWith, EndsAfter, Accepts, AcceptsServing, DoesServe, IsRunnableBy};
 ghost use Rattle.saml_commands.specs.Serving.{Ran, RanLeaves, Unserved};
 ghost use Rattle.saml_commands.specs.Answers.{BadFile};
-ghost use Rattle.saml_commands.specs.Views.{answer_view, command_view, HasMoment};
+ghost use Rattle.saml_commands.specs.Views.{command_view, HasMoment};
 
 use crate::answer::Answer;
 use crate::canon::canon;
@@ -93,7 +93,7 @@ fn answer_with_key<F: Files>(
     key_file: &str,
 ) -> Result<Answer, ReadStop>
     requires { length bytes.now ≤ MAX_DOCUMENT_LENGTH }
-    ensures ok { IfOk result (λ answer. OfFile (OfVouch id.now key_file.now bytes.now) (F.holds files.old) key_file.now GREATEST_KEY (answer_view answer)) }
+    ensures ok { IfOk result (λ answer. OfFile (OfVouch id.now key_file.now bytes.now) (F.holds files.old) key_file.now GREATEST_KEY answer) }
     ensures same { F.holds files.new ≡ F.holds files.old }
     ensures err { result ≡ Err ReadStop.ReadFault → Rose (F.faults_of files.old) (F.faults_of files.new) }
     ensures never_falls { F.faults_of files.old ≤ F.faults_of files.new }
@@ -112,7 +112,7 @@ fn answer_vouch<F: Files>(
     id: &str,
     key_file: &str,
 ) -> Result<Answer, ReadStop>
-    ensures ok { IfOk result (λ answer. OfCommand (F.holds files.old) Unserved (Vouch file.now id.now key_file.now) (answer_view answer)) }
+    ensures ok { IfOk result (λ answer. OfCommand (F.holds files.old) Unserved (Vouch file.now id.now key_file.now) answer) }
     ensures same { F.holds files.new ≡ F.holds files.old }
     ensures err { result ≡ Err ReadStop.ReadFault → Rose (F.faults_of files.old) (F.faults_of files.new) }
     ensures never_falls { F.faults_of files.old ≤ F.faults_of files.new }
@@ -155,7 +155,7 @@ fn answer_form<F: Files>(
 ) -> Result<Answer, ReadStop>
     requires now { now ≤ LAST }
     requires bounds { IsWithinBounds setup }
-    ensures ok { IfOk result (λ answer. OfFile (OfJudged (rows_of setup.asked.items setup.opened.items) setup.config now) (F.holds files.old) body.now GREATEST_BODY (answer_view answer)) }
+    ensures ok { IfOk result (λ answer. OfFile (OfJudged (rows_of setup.asked.items setup.opened.items) setup.config now) (F.holds files.old) body.now GREATEST_BODY answer) }
     ensures same { F.holds files.new ≡ F.holds files.old }
     ensures err { result ≡ Err ReadStop.ReadFault → Rose (F.faults_of files.old) (F.faults_of files.new) }
     ensures never_falls { F.faults_of files.old ≤ F.faults_of files.new }
@@ -175,7 +175,7 @@ fn answer_check<F: Files>(
     now: u64,
 ) -> Result<Answer, ReadStop>
     requires { now ≤ LAST }
-    ensures ok { IfOk result (λ answer. OfCommand (F.holds files.old) Unserved (Check config.now body.now now) (answer_view answer)) }
+    ensures ok { IfOk result (λ answer. OfCommand (F.holds files.old) Unserved (Check config.now body.now now) answer) }
     ensures same { F.holds files.new ≡ F.holds files.old }
     ensures err { result ≡ Err ReadStop.ReadFault → Rose (F.faults_of files.old) (F.faults_of files.new) }
     ensures never_falls { F.faults_of files.old ≤ F.faults_of files.new }

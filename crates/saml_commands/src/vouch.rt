@@ -1,10 +1,10 @@
 // What `vouch` answers for the bytes of a file and a key.
 
-ghost use Rattle.std.specs.Prelude.{◌≡◌, ◌≤◌, length, IfOk};
+ghost use Rattle.std.specs.Prelude.{◌≡◌, ◌≤◌, length, IfOk, Some};
 ghost use Rattle.xml_spec.specs.declared.TheConstants.{MAX_DOCUMENT_LENGTH};
 ghost use Rattle.saml_commands.specs.Running.{IsVerdictOf};
-ghost use Rattle.saml_commands.specs.Views.{answer_view};
-ghost use Rattle.saml_commands.specs.Vouch.{OfVouchedDocument, OfVouch};
+ghost use Rattle.saml_commands.specs.Documents.{OfElement};
+ghost use Rattle.saml_commands.specs.Vouch.{OfVouching, OfVouch};
 
 use crate::answer::Answer;
 use crate::canon::element_of;
@@ -17,7 +17,7 @@ use std::alloc::Global;
 
 /// The refusal with this verdict; where there is none, memory ran out.
 fn refused(verdict: Option<Verdict>) -> Result<Answer, NoMemory>
-    ensures { IfOk result (λ answer. IsVerdictOf verdict (answer_view answer)) }
+    ensures { IfOk result (λ answer. IsVerdictOf verdict answer) }
 {
     match verdict {
         Some(verdict) => Ok(Answer::Refused(verdict)),
@@ -27,7 +27,7 @@ fn refused(verdict: Option<Verdict>) -> Result<Answer, NoMemory>
 
 /// Whether the element of a document with this ID is vouched for with the key.
 fn vouch_document(alloc: Global, doc: &Doc<'_>, id: &str, key: &[u8]) -> Result<Answer, NoMemory>
-    ensures { IfOk result (λ answer. OfVouchedDocument id.now key.now doc.now.tree (answer_view answer)) }
+    ensures { IfOk result (λ answer. OfElement (OfVouching key.now) (Some id.now) doc.now.tree answer) }
 {
     let Some(node) = element_of(doc, Some(id)) else {
         return Ok(Answer::Refused(Verdict::BadReference));
@@ -47,7 +47,7 @@ pub(crate) fn vouch(
     key: &[u8],
 ) -> Result<Answer, NoMemory>
     requires { length bytes.now ≤ MAX_DOCUMENT_LENGTH }
-    ensures { IfOk result (λ answer. OfVouch id.now key_file.now bytes.now key.now (answer_view answer)) }
+    ensures { IfOk result (λ answer. OfVouch id.now key_file.now bytes.now key.now answer) }
 {
     if key.len() < LEAST_KEY {
         return Answer::bad_file(alloc, key_file, 0);

@@ -1,8 +1,13 @@
 -- What became of a call that ended well.
 use Rattle.std.specs.Prelude.{Result, Ok, Err, OnOk}
-use Rattle.std.proofs.Common.{◌∙◌}
+use Rattle.std.proofs.Common.{◌∙◌, ap}
+use Rattle.post_agent.specs.declared.site.Site.{Site}
+use Rattle.post_agent.specs.declared.site.Site.TheVariants.{Sp, Idp}
 use Rattle.schedule_replay.specs.declared.host.HeldHost.{HeldHost}
 use Rattle.schedule_replay.specs.declared.stage.Stage.{Stage}
+use Rattle.schedule_replay.specs.declared.tally.Tally.{Tally}
+use Rattle.schedule_replay.specs.Deployments.{Deployment, OnSite}
+use Rattle.schedule_replay.specs.Hosts.{Host, Rules}
 use Rattle.schedule_replay.specs.Views.{SameHost, SameStage}
 
 pub where_ok : {T E A B : Type 0} (result : Result T E) → OnOk result A → (A → B) → OnOk result B
@@ -18,3 +23,10 @@ same_stage old mid new first second = record {
   sp = same_host old.sp mid.sp new.sp first.sp second.sp;
   idp = same_host old.idp mid.idp new.idp first.idp second.idp;
 }
+
+-- what is done at one node is done there too where more was counted before
+pub counted_on : {S P : Type 0} (sp : Rules S) (idp : Rules P) (site : Site) (does : (N : Type 0) → Rules N → Host N → Host N → Type 0)
+    (more : Tally → Tally) (before behind : Deployment S P) → OnSite sp idp site does before behind
+    → OnSite sp idp site does (record before { tally = more before.tally }) (record behind { tally = more behind.tally })
+counted_on sp idp Sp does more before behind (did, is) = (did, ap (λ (w : Deployment _ _). record w { tally = more w.tally }) is)
+counted_on sp idp Idp does more before behind (did, is) = (did, ap (λ (w : Deployment _ _). record w { tally = more w.tally }) is)

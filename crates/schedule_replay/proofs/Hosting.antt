@@ -1,5 +1,5 @@
 -- What becomes of a node at a piece.
-use Rattle.std.specs.Prelude.{◌≡◌, ℕ, false, List, Option, None, Some}
+use Rattle.std.specs.Prelude.{◌≡◌, ℕ, List}
 use Rattle.std.proofs.Common.{refl, ap, ◌∙◌, arith}
 use Rattle.crash_disk.specs.InMemory.{shown_in_memory}
 use Rattle.crash_disk.specs.Memory.{DiskInMemory}
@@ -9,15 +9,7 @@ use Rattle.serve_loop.specs.Serving.{MightLeave}
 use Rattle.serve_loop.specs.Turns.{Turn}
 use Rattle.serve_loop.specs.Worlds.{NodeLeaves, OnlySends, Whole}
 use Rattle.serve_loop.proofs.Leaving.{untouched}
-use Rattle.schedule_replay.specs.declared.host.Reply.{Reply}
-use Rattle.schedule_replay.specs.Hosts.{Host, Rules, Comes, Leaving, outcome_of, told, world_of}
-use Rattle.schedule_replay.specs.Views.{outcome_view}
-
--- a disk that did not stop lets an answer out
-pub comes_still : {N : Type 0} (rules : Rules N) (turn : Turn N) (behind : Host N) (reply : Option Reply) →
-    behind.disk.stopped ≡ false → outcome_view reply ≡ outcome_of turn → Comes rules turn behind (outcome_view reply) behind
-comes_still rules turn behind None still is = (still, is, refl)
-comes_still rules turn behind (Some reply) still is = (still, is, refl)
+use Rattle.schedule_replay.specs.Hosts.{Host, Leaving, told, world_of}
 
 -- a node and a disk that are as they were are in the world that was
 pub same_world : {N : Type 0} (now : ℕ) (old new : Host N) → new.node ≡ old.node → new.disk ≡ old.disk → world_of now new ≡ world_of now old

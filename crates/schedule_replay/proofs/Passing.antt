@@ -10,9 +10,10 @@ use Rattle.serve_loop.specs.Turns.{Turn, Taken}
 use Rattle.post_agent.specs.declared.site.Site.{Site}
 use Rattle.post_agent.specs.declared.site.Site.TheVariants.{Sp, Idp}
 use Rattle.schedule_replay.specs.declared.sending.Sending.{Sending}
-use Rattle.schedule_replay.specs.Deployments.{Deployment, OnSite, Hears, Arrives, ArrivesIfAny, Rounds, Starts, Exchanges, RestartsAt, CompactsAt, bytes_of, piece_at, shows, unconnected}
+use Rattle.schedule_replay.specs.Counting.{restarted}
+use Rattle.schedule_replay.specs.Deployments.{Deployment, OnSite, Hears, Arrives, ArrivesIfAny, Rounds, Starts, Exchanges, Obeys, bytes_of, piece_at, shows, unconnected}
 use Rattle.schedule_replay.specs.Faults.{faults_in, stops_taken}
-use Rattle.schedule_replay.specs.Hosts.{Host, Rules, Outcome, Silent, Sent, Stopped, Brings, Comes, CompactionEnds, Ends, Recovers, RestartEnds, Serves, resumed}
+use Rattle.schedule_replay.specs.Hosts.{Host, Rules, Outcome, Silent, Sent, Brings, Compacts, Known, Recovers, Restarts, Serves, Takes, resumed}
 use Rattle.schedule_replay.specs.Lines.{result_words}
 use Rattle.schedule_replay.proofs.Calling.{made_called}
 use Rattle.schedule_replay.proofs.Going.{Goes, Went, goes_nowhere, goes_then, still_runs, went_again, went_on}
@@ -71,12 +72,7 @@ CallsFailWhereSet =
     (m : DiskInMemory) (calls : List Call) → (after_calls calls m).starved ≡ false → (after_calls calls m).stopped ≡ false
     → faults_in (after_calls calls m) ≤ faults_in m
 
--- how often a disk stopped in what came of a piece, or of a call
-abbrev pub stops_at : Outcome → ℕ
-stops_at Silent = 0
-stops_at (Sent path bytes) = 0
-stops_at Stopped = 1
-
+-- how often a disk stopped in an event of which this is known
 abbrev pub stops_behind : {A : Type 0} → Option A → ℕ
 stops_behind None = 1
 stops_behind (Some shown) = 0
@@ -101,38 +97,35 @@ module _ (only : CallsFailWhereSet) where
 
     recovers : (before behind after : Host N) → IsMadeByCalls (Some before.disk) (Some behind.disk) → before.disk.stopped ≡ false
         → behind.disk.stopped ≡ true → Recovers rules behind after → Went 1 before.disk after.disk
-    recovers before behind after made ran stopped again =
-        let later : IsMadeByCalls (Some (resumed behind).disk) (Some after.disk) = again.restarts.leaves.calls in
+    recovers before behind after made ran stopped (result, again) =
+        let later : IsMadeByCalls (Some (resumed behind).disk) (Some after.disk) = again.leaves.calls in
         went_again before.disk behind.disk (resumed behind).disk after.disk ran stopped refl (made_called before.disk behind.disk made)
         (made_called (resumed behind).disk after.disk later)
 
-    comes : (turn : Turn N) (before behind : Host N) (outcome : Outcome) (after : Host N) → IsMadeByCalls (Some before.disk) (Some behind.disk)
-        → before.disk.stopped ≡ false → Comes rules turn behind outcome after → Went (stops_at outcome) before.disk after.disk
-    comes turn before behind Silent after made ran (runs, is, same) =
-        subst (λ (h : Host N). Went 0 before.disk h.disk) (sym same) (goes_on before.disk behind.disk made ran runs)
-    comes turn before behind (Sent path bytes) after made ran (runs, is, same) =
-        subst (λ (h : Host N). Went 0 before.disk h.disk) (sym same) (goes_on before.disk behind.disk made ran runs)
-    comes turn before behind Stopped after made ran (stopped, again) = recovers before behind after made ran stopped again
+    -- an event in which calls made the one disk of the other
+    event_known : {A : Type 0} (event : Host N → A → Host N → Type 0) (known : Option A) (before after : Host N)
+        → ((old : Host N) (result : A) (new : Host N) → event old result new → IsMadeByCalls (Some old.disk) (Some new.disk))
+        → Known rules event known before after → before.disk.stopped ≡ false → Went (stops_behind known) before.disk after.disk
+    event_known event (Some result) before after made (is, runs) ran =
+        goes_on before.disk after.disk (made before result after is) ran runs
+    event_known event None before after made (result, behind, is, stopped, again) ran =
+        recovers before behind after (made before result behind is) ran stopped again
 
-    brings : (now conn : ℕ) (piece : List ℕ) (outcome : Outcome) (before after : Host N) → Brings rules now conn piece before outcome after
-        → before.disk.stopped ≡ false → Went (stops_at outcome) before.disk after.disk
-    brings now conn piece outcome before after brought ran =
-        comes brought.turn before brought.behind outcome after brought.serves.leaves.calls ran brought.comes
+    brings : (now conn : ℕ) (piece : List ℕ) (known : Option Outcome) (before after : Host N) → Brings rules now conn piece known before after
+        → before.disk.stopped ≡ false → Went (stops_behind known) before.disk after.disk
+    brings now conn piece known before after brought ran =
+        event_known (Takes rules now conn piece) known before after (λ old outcome new takes. takes.serves.leaves.calls) brought ran
 
-    ends : (result : Result (Unit {0}) OpenFault) (shown : Option (Result (Unit {0}) OpenFault)) (before behind after : Host N)
-        → IsMadeByCalls (Some before.disk) (Some behind.disk) → before.disk.stopped ≡ false → Ends rules behind result shown after
-        → Went (stops_behind shown) before.disk after.disk
-    ends result None before behind after made ran (stopped, again) = recovers before behind after made ran stopped again
-    ends result (Some shown) before behind after made ran (runs, is, memory, same) =
-        subst (λ (h : Host N). Went 0 before.disk h.disk) (sym same) (goes_on before.disk behind.disk made ran runs)
+    restart_known : (known : Option (Result (Unit {0}) OpenFault)) (before after : Host N) → Known rules (Restarts rules) known before after
+        → before.disk.stopped ≡ false → Went (stops_behind known) before.disk after.disk
+    restart_known known before after is ran =
+        event_known (Restarts rules) known before after (λ old result new restarts. restarts.leaves.calls) is ran
 
-    restart_ends : (shown : Option (Result (Unit {0}) OpenFault)) (before after : Host N) → RestartEnds rules before shown after
-        → before.disk.stopped ≡ false → Went (stops_behind shown) before.disk after.disk
-    restart_ends shown before after e ran = ends e.result shown before e.behind after e.restarts.leaves.calls ran e.ends
-
-    compaction_ends : (now : ℕ) (shown : Option (Result (Unit {0}) OpenFault)) (before after : Host N) → CompactionEnds rules now before shown after
-        → before.disk.stopped ≡ false → Went (stops_behind shown) before.disk after.disk
-    compaction_ends now shown before after e ran = ends e.result shown before e.behind after e.compacts.leaves.calls ran e.ends
+    compaction_known : (now : ℕ) (known : Option (Result (Unit {0}) OpenFault)) (before after : Host N)
+        → Known rules (Compacts rules now) known before after → before.disk.stopped ≡ false
+        → Went (stops_behind known) before.disk after.disk
+    compaction_known now known before after is ran =
+        event_known (Compacts rules now) known before after (λ old result new compacts. compacts.leaves.calls) is ran
 
 -- ---- in a deployment
 
@@ -165,12 +158,12 @@ tells_of stops asked restarts old mid new few moves tells = record {
       omega arith;
 }
 
-module _ {S P : Type 0} where
-  on_site : (stops : ℕ) (site : Site) (sp_does : Host S → Host S → Type 0) (idp_does : Host P → Host P → Type 0) (before after : Deployment S P)
-      → ((old new : Host S) → sp_does old new → old.disk.stopped ≡ false → Went stops old.disk new.disk)
-      → ((old new : Host P) → idp_does old new → old.disk.stopped ≡ false → Went stops old.disk new.disk)
-      → OnSite site sp_does idp_does before after → Moves stops (counts_of before) (counts_of after)
-  on_site stops Sp sp_does idp_does before after sp_goes idp_goes (does, is) =
+module _ {S P : Type 0} (sp : Rules S) (idp : Rules P) where
+  on_site : (stops : ℕ) (site : Site) (does : (N : Type 0) → Rules N → Host N → Host N → Type 0) (before after : Deployment S P)
+      → ((old new : Host S) → does S sp old new → old.disk.stopped ≡ false → Went stops old.disk new.disk)
+      → ((old new : Host P) → does P idp old new → old.disk.stopped ≡ false → Went stops old.disk new.disk)
+      → OnSite sp idp site does before after → Moves stops (counts_of before) (counts_of after)
+  on_site stops Sp all before after sp_goes idp_goes (does, is) =
       let same : after.idp.disk ≡ before.idp.disk = ap (λ (w : Deployment S P). w.idp.disk) is in
       record {
         sp = λ ran. (sp_goes before.sp after.sp does ran).goes;
@@ -181,7 +174,7 @@ module _ {S P : Type 0} where
             omega arith;
         restarts = ap (λ (w : Deployment S P). w.tally.restarts) is;
       }
-  on_site stops Idp sp_does idp_does before after sp_goes idp_goes (does, is) =
+  on_site stops Idp all before after sp_goes idp_goes (does, is) =
       let same : after.sp.disk ≡ before.sp.disk = ap (λ (w : Deployment S P). w.sp.disk) is in
       record {
         sp = λ ran. subst (Goes 0 0 before.sp.disk) (sym same) (goes_nowhere before.sp.disk ran);
@@ -193,17 +186,19 @@ module _ {S P : Type 0} where
         restarts = ap (λ (w : Deployment S P). w.tally.restarts) is;
       }
 
+module _ {S P : Type 0} where
   -- a deployment of which the same is counted
   as_counted : (restarts : ℕ) (before after made : Deployment S P) → after ≡ made → Tells restarts (counts_of before) (counts_of made)
       → Tells restarts (counts_of before) (counts_of after)
   as_counted restarts before after made is tells = subst (λ (w : Deployment S P). Tells restarts (counts_of before) (counts_of w)) (sym is) tells
 
-  hears : (number : ℕ) (sending : Sending) (outcome : Outcome) (before after : Deployment S P) → Hears number sending outcome before after
-      → Tells (stops_at outcome) (counts_of before) (counts_of after)
-  hears number sending Silent before after is = as_counted 0 before after _ is (record { sp = refl; idp = refl; counted = omega arith })
-  hears number sending (Sent path bytes) before after (seen, comes, is) =
+  hears : (number : ℕ) (sending : Sending) (known : Option Outcome) (before after : Deployment S P) → Hears number sending known before after
+      → Tells (stops_behind known) (counts_of before) (counts_of after)
+  hears number sending None before after is = as_counted 1 before after _ is (record { sp = refl; idp = refl; counted = omega arith })
+  hears number sending (Some Silent) before after is =
       as_counted 0 before after _ is (record { sp = refl; idp = refl; counted = omega arith })
-  hears number sending Stopped before after is = as_counted 1 before after _ is (record { sp = refl; idp = refl; counted = omega arith })
+  hears number sending (Some (Sent path bytes)) before after (seen, comes, is) =
+      as_counted 0 before after _ is (record { sp = refl; idp = refl; counted = omega arith })
 
   shown_all : (number : ℕ) (site : Site) (words : List ℕ) (shown : Option (Result (Unit {0}) OpenFault)) (before after : Deployment S P)
       → after ≡ shows number site (option_map (result_words words) shown) before → Tells (stops_behind shown) (counts_of before) (counts_of after)
@@ -215,13 +210,13 @@ module _ (only : CallsFailWhereSet) {S P : Type 0} (sp : Rules S) (idp : Rules P
   arrives : (number : ℕ) (sending : Sending) (piece : List ℕ) (before after : Deployment S P) → Arrives sp idp number sending piece before after
       → Passes0 (counts_of before) (counts_of after)
   arrives number sending piece before after a =
-      let moves : Moves (stops_at a.outcome) (counts_of before) (counts_of a.behind) =
-      on_site (stops_at a.outcome) sending.request.site _ _ before a.behind
-      (λ old new does ran. brings only sp before.clock sending.conn piece a.outcome old new does ran)
-      (λ old new does ran. brings only idp before.clock sending.conn piece a.outcome old new does ran) a.brings
+      let moves : Moves (stops_behind a.known) (counts_of before) (counts_of a.behind) =
+      on_site sp idp (stops_behind a.known) sending.request.site (λ _ node. Brings node before.clock sending.conn piece a.known) before a.behind
+      (λ old new does ran. brings only sp before.clock sending.conn piece a.known old new does ran)
+      (λ old new does ran. brings only idp before.clock sending.conn piece a.known old new does ran) a.brings
       in
-      tells_of (stops_at a.outcome) 0 (stops_at a.outcome) (counts_of before) (counts_of a.behind) (counts_of after) (omega arith) moves
-      (hears number sending a.outcome a.behind after a.hears)
+      tells_of (stops_behind a.known) 0 (stops_behind a.known) (counts_of before) (counts_of a.behind) (counts_of after) (omega arith) moves
+      (hears number sending a.known a.behind after a.hears)
 
   same : (before after : Deployment S P) → after ≡ before → Passes0 (counts_of before) (counts_of after)
   same before after is = subst (λ (w : Deployment S P). Passes0 (counts_of before) (counts_of w)) (sym is) (passes_not (counts_of before))
@@ -247,7 +242,8 @@ module _ (only : CallsFailWhereSet) {S P : Type 0} (sp : Rules S) (idp : Rules P
   starts None before after is = same before after is
   starts (Some sending) before after does =
       let moves : Moves 0 (counts_of before) (counts_of after) =
-      on_site 0 sending.request.site _ _ before after (λ old new serves ran. serves_start only sp before.clock sending.conn old new serves ran)
+      on_site sp idp 0 sending.request.site (λ _ node. Serves node before.clock (Taken sending.conn)) before after
+      (λ old new serves ran. serves_start only sp before.clock sending.conn old new serves ran)
       (λ old new serves ran. serves_start only idp before.clock sending.conn old new serves ran) does
       in
       tells_of 0 0 0 (counts_of before) (counts_of after) (counts_of after) (omega arith) moves
@@ -260,24 +256,43 @@ module _ (only : CallsFailWhereSet) {S P : Type 0} (sp : Rules S) (idp : Rules P
       (passes_both (counts_of e.one) (counts_of e.both) (counts_of after) (starts second e.one e.both e.starts_other)
       (in_rounds number size first second e.rounds e.both after e.arrive))
 
-  pub restarts_at : (number : ℕ) (site : Site) (before after : Deployment S P) → RestartsAt sp idp number site before after
-      → Passes 1 none none (counts_of before) (counts_of after)
-  restarts_at number site before after r =
-      let moves : Moves (stops_behind r.shown) (counts_of before) (counts_of r.behind) =
-      on_site (stops_behind r.shown) site _ _ before r.behind (λ old new does ran. restart_ends only sp r.shown old new does ran)
-      (λ old new does ran. restart_ends only idp r.shown old new does ran) r.ends
+  -- a call that a schedule asks for
+  obeys : (number : ℕ) (site : Site) (word : List ℕ) (call : (N : Type 0) → Rules N → Host N → Result (Unit {0}) OpenFault → Host N → Type 0)
+      (before after : Deployment S P)
+      → ((known : Option (Result (Unit {0}) OpenFault)) (old new : Host S) → Known sp (call S sp) known old new → old.disk.stopped ≡ false
+      → Went (stops_behind known) old.disk new.disk)
+      → ((known : Option (Result (Unit {0}) OpenFault)) (old new : Host P) → Known idp (call P idp) known old new → old.disk.stopped ≡ false
+      → Went (stops_behind known) old.disk new.disk)
+      → Obeys sp idp number site word call before after → Passes0 (counts_of before) (counts_of after)
+  obeys number site word call before after sp_goes idp_goes o =
+      let moves : Moves (stops_behind o.known) (counts_of before) (counts_of o.behind) =
+      on_site sp idp (stops_behind o.known) site (λ N node. Known node (call N node) o.known) before o.behind (sp_goes o.known) (idp_goes o.known)
+      o.ends
       in
-      let tells = shown_all number site (codes "restart") r.shown _ after r.shows in
-      tells_of (stops_behind r.shown) 1 (stops_behind r.shown + 1) (counts_of before) (counts_of r.behind) (counts_of after) (omega arith) moves
-      (record { sp = tells.sp; idp = tells.idp; counted = let t = tells.counted in omega arith })
+      tells_of (stops_behind o.known) 0 (stops_behind o.known) (counts_of before) (counts_of o.behind) (counts_of after) (omega arith) moves
+      (shown_all number site word o.known o.behind after o.shown)
 
-  pub compacts_at : (number : ℕ) (site : Site) (before after : Deployment S P) → CompactsAt sp idp number site before after
+  -- a restart that is counted
+  counts_restart : (world : Deployment S P) → Passes 1 none none (counts_of world) (counts_of (record world { tally = restarted world.tally }))
+  counts_restart world = record {
+    sp = λ ran. goes_nowhere world.sp.disk ran;
+    idp = λ ran. goes_nowhere world.idp.disk ran;
+    restarts = λ ran other. omega arith;
+  }
+
+  pub restarts_at : (number : ℕ) (site : Site) (before after : Deployment S P)
+      → Obeys sp idp number site (codes "restart") (λ _ node. Restarts node) (record before { tally = restarted before.tally }) after
+      → Passes 1 none none (counts_of before) (counts_of after)
+  restarts_at number site before after o =
+      let counted = record before { tally = restarted before.tally } in
+      passes_then 1 0 none none none none (counts_of before) (counts_of counted) (counts_of after) (counts_restart before)
+      (obeys number site (codes "restart") (λ _ node. Restarts node) counted after (λ known old new is ran. restart_known only sp known old new is ran)
+      (λ known old new is ran. restart_known only idp known old new is ran) o)
+
+  pub compacts_at : (number : ℕ) (site : Site) (before after : Deployment S P)
+      → Obeys sp idp number site (codes "compact") (λ _ node. Compacts node (min before.clock LAST)) before after
       → Passes0 (counts_of before) (counts_of after)
-  compacts_at number site before after c =
-      let moves : Moves (stops_behind c.shown) (counts_of before) (counts_of c.behind) =
-      on_site (stops_behind c.shown) site _ _ before c.behind
-      (λ old new does ran. compaction_ends only sp (min before.clock LAST) c.shown old new does ran)
-      (λ old new does ran. compaction_ends only idp (min before.clock LAST) c.shown old new does ran) c.ends
-      in
-      tells_of (stops_behind c.shown) 0 (stops_behind c.shown) (counts_of before) (counts_of c.behind) (counts_of after) (omega arith) moves
-      (shown_all number site (codes "compact") c.shown c.behind after c.shows)
+  compacts_at number site before after o =
+      obeys number site (codes "compact") (λ _ node. Compacts node (min before.clock LAST)) before after
+      (λ known old new is ran. compaction_known only sp (min before.clock LAST) known old new is ran)
+      (λ known old new is ran. compaction_known only idp (min before.clock LAST) known old new is ran) o

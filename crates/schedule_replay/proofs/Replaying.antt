@@ -1,5 +1,5 @@
 -- The steps that were done so far, and what was printed of them.
-use Rattle.std.specs.Prelude.{◌≡◌, ℕ, suc, ◌+◌, Bool, true, false, List, [], ◌++◌, length, take, slice_get, Option, None, Some, Result, Ok}
+use Rattle.std.specs.Prelude.{◌≡◌, ◌≢◌, ℕ, suc, ◌+◌, Bool, true, false, List, [], ◌++◌, length, take, slice_get, Option, None, Some, Result}
 use Rattle.std.proofs.Common.{refl, inl, Err, sym, ap, ◌∙◌, subst, arith, append_assoc}
 use Rattle.std.proofs.Math.Seq.{take-append-add}
 use Rattle.std.proofs.lemmas.List.{append-nil}
@@ -14,7 +14,7 @@ use Rattle.schedule_replay.specs.declared.tally.Tally.{Tally}
 use Rattle.schedule_replay.specs.Counting.{nothing_counted}
 use Rattle.schedule_replay.specs.Deployments.{Deployment}
 use Rattle.schedule_replay.specs.Hosts.{Host, Rules}
-use Rattle.schedule_replay.specs.Runs.{Ends, alone, beginning, shown}
+use Rattle.schedule_replay.specs.Runs.{Ends, Ran, alone, beginning, shown}
 use Rattle.schedule_replay.specs.Steps.{Does, Replays, is_starved}
 use Rattle.schedule_replay.specs.Views.{HasNodes}
 
@@ -69,17 +69,31 @@ module _ {S P : Type 0} (sp : Rules S) (idp : Rules P) where
 
   -- ---- how it ended
 
+  -- It ended so, and left a deployment that has this where it did not end for want of memory.
+  abbrev pub Ended : (steps : List Step) (quiet : Bool) → Deployment S P → (Deployment S P → Type 0) → Result Tally ReplayFault
+      → Option (List ℕ) → Option (List ℕ) → Type 0
+  Ended steps quiet first left result before after =
+      (ran : Ran sp idp steps first) × Ends sp idp ran quiet result before after × (result ≢ Err NoMemory → left ran.last)
+
   -- What is known where the steps ended early, and why.
   pub ends_early : (steps : List Step) (quiet : Bool) (first now : Deployment S P) (fault : ReplayFault) (before after : Option (List ℕ)) →
       (fault ≡ WriteFault → (done : ℕ) × (text : List ℕ) × (last : Deployment S P) × (n : ℕ) × Replays sp idp done steps first text last
       × HasNodes last now × (after ≡ then_bytes before (take n (shown quiet text)))) →
       (fault ≡ NoMemory → (done : ℕ) × (text : List ℕ) × (last : Deployment S P) × Replays sp idp done steps first text last
       × (after ≡ then_bytes before (shown quiet text))) →
-      Ends sp idp steps quiet first (Err fault) (λ last. HasNodes last now) before after
+      Ended steps quiet first (λ last. HasNodes last now) (Err fault) before after
   ends_early steps quiet first now WriteFault before after written starved =
       let w = written refl in
-      (w.0, w.1, w.2, w.3, w.4, w.5, inl w.6)
-  ends_early steps quiet first now NoMemory before after written starved = starved refl
+      (record { done = w.0; text = w.1; last = w.2; replays = w.4 }, (w.3, inl w.6), λ fed. w.5)
+  ends_early steps quiet first now NoMemory before after written starved =
+      let s = starved refl in
+      (record { done = s.0; text = s.1; last = s.2; replays = s.3 }, s.4, λ fed. absurd (fed refl))
+
+  -- a run that leaves a deployment that has P leaves one that has Q, where each that has P has Q
+  pub ends_so : (steps : List Step) (quiet : Bool) (first : Deployment S P) (left then : Deployment S P → Type 0)
+      (result : Result Tally ReplayFault) (before after : Option (List ℕ)) → ((last : Deployment S P) → left last → then last) →
+      Ended steps quiet first left result before after → Ended steps quiet first then result before after
+  ends_so steps quiet first left then result before after so e = (e.0, e.1, λ fed. so e.0.last (e.2 fed))
 
 -- the last line behind the others, or a part of it
 pub printed_last : (first before after : Option (List ℕ)) (text line last : List ℕ) →
@@ -93,14 +107,6 @@ printed_none true None = refl
 printed_none false None = refl
 printed_none true (Some front) = ap (λ (all : List ℕ). Some all) (sym (append-nil front))
 printed_none false (Some front) = ap (λ (all : List ℕ). Some all) (sym (append-nil front))
-
--- a run that leaves a deployment that has P leaves one that has Q, where each that has P has Q
-pub ends_so : {S P : Type 0} (sp : Rules S) (idp : Rules P) (steps : List Step) (quiet : Bool) (first : Deployment S P) (result : Result Tally ReplayFault)
-    (left then : Deployment S P → Type 0) (before after : Option (List ℕ)) → ((last : Deployment S P) → left last → then last) →
-    Ends sp idp steps quiet first result left before after → Ends sp idp steps quiet first result then before after
-ends_so sp idp steps quiet first (Ok tally) left then before after so e = (e.0, e.1, e.2, e.3, so e.1 e.4, e.5)
-ends_so sp idp steps quiet first (Err WriteFault) left then before after so e = (e.0, e.1, e.2, e.3, e.4, so e.2 e.5, e.6)
-ends_so sp idp steps quiet first (Err NoMemory) left then before after so e = e
 
 -- a deployment whose parts are those at the beginning
 pub is_beginning : {S P : Type 0} (world : Deployment S P) (sp : S) (sp_disk : DiskInMemory) (idp : P) (idp_disk : DiskInMemory) →

@@ -12,7 +12,7 @@ use Rattle.schedules.specs.declared.step.Step.TheVariants as steps
 use Rattle.schedule_replay.specs.declared.sending.Sending.{Sending}
 use Rattle.schedule_replay.specs.Deployments.{Deployment}
 use Rattle.schedule_replay.specs.Faults.{DisksRunOn, FailuresAreSet, FaultsAreSetOrOfStops, IsRunning, RestartsAreAskedOrSet, StopsAreSet, asks_restart, disk_of, failures_set, faults_in, is_node, restarts_asked, sets_failure, sets_stop, stops_set}
-use Rattle.schedule_replay.specs.Hosts.{Rules, failing, stopping}
+use Rattle.schedule_replay.specs.Hosts.{Rules}
 use Rattle.schedule_replay.specs.Steps.{Does, Replays, armed, is_starved, pick_number, saying_none}
 use Rattle.schedule_replay.proofs.Calling.{flag}
 use Rattle.schedule_replay.proofs.Going.{Goes, goes_failing, goes_faults, goes_nowhere, goes_stopping}
@@ -44,7 +44,7 @@ passes_as a b f s g t old new asked more most passes = record {
 module _ {S P : Type 0} where
   arms_failing : (number call : ℕ) (node : Site) (before : Deployment S P)
       → Passes 0 (λ site. flag (is_node site node)) none (counts_of before)
-      (counts_of (armed number node (λ host. failing call host) (λ host. failing call host) before))
+      (counts_of (armed number node (λ disk. record disk { failing = call }) before))
   arms_failing number call Sp before = record {
     sp = λ ran. goes_failing call before.sp.disk ran;
     idp = λ ran. goes_nowhere before.idp.disk ran;
@@ -58,7 +58,7 @@ module _ {S P : Type 0} where
 
   arms_stopping : (number call pick : ℕ) (node : Site) (before : Deployment S P)
       → Passes 0 none (λ site. flag (is_node site node)) (counts_of before)
-      (counts_of (armed number node (λ host. stopping call pick host) (λ host. stopping call pick host) before))
+      (counts_of (armed number node (λ disk. record disk { stopping = call; pick = pick }) before))
   arms_stopping number call pick Sp before = record {
     sp = λ ran. goes_stopping call pick before.sp.disk ran;
     idp = λ ran. goes_nowhere before.idp.disk ran;

@@ -1,18 +1,15 @@
 -- The requests that two nodes were asked in a run of a schedule, in order: each that an agent's bytes completed, with its moment, the
 -- node as it came, and what the node answered, and no other. Where a disk stopped in it, what was answered was not sent.
-use Rattle.std.specs.Prelude.{ℕ, ◌*◌, zero, suc, Bool, List, [], ◌∷◌, ◌++◌, Option, Some, Result, Ok, Err}
+use Rattle.std.specs.Prelude.{ℕ, ◌*◌, zero, suc, List, [], ◌∷◌, ◌++◌, Option, None, Some}
 use Rattle.post_agent.specs.declared.site.Site.{Site}
 use Rattle.post_agent.specs.declared.site.Site.TheVariants.{Sp, Idp}
 use Rattle.serve_loop.specs.Turns.{Asked, asked_by}
 use Rattle.schedules.specs.declared.step.Step.{Step}
 use Rattle.schedules.specs.declared.step.Step.TheVariants as steps
-use Rattle.schedule_replay.specs.declared.fault.ReplayFault.{ReplayFault}
-use Rattle.schedule_replay.specs.declared.fault.ReplayFault.TheVariants as faults
 use Rattle.schedule_replay.specs.declared.sending.Sending.{Sending}
-use Rattle.schedule_replay.specs.declared.tally.Tally.{Tally}
-use Rattle.schedule_replay.specs.Deployments.{Deployment, Arrives, ArrivesIfAny, Exchanges, OnSite, Rounds, bytes_of, piece_at}
+use Rattle.schedule_replay.specs.Deployments.{Deployment, ArrivesIfAny, Exchanges, OnSite, Rounds, bytes_of, piece_at}
 use Rattle.schedule_replay.specs.Hosts.{Outcome, Rules, Brings}
-use Rattle.schedule_replay.specs.Runs.{Ends}
+use Rattle.schedule_replay.specs.Runs.{Ran}
 use Rattle.schedule_replay.specs.Steps.{Does, Replays}
 
 -- those that the one node was asked, and those that the other was
@@ -28,21 +25,19 @@ then_asked earlier later = record { sp = earlier.sp ++ later.sp; idp = earlier.i
 
 module _ {S P : Type 0} (sp : Rules S) (idp : Rules P) where
   -- a piece came to its node, and may have completed a request
-  abbrev pub asked_on : (site : Site) (clock conn : ℕ) (piece : List ℕ) (outcome : Outcome) (before after : Deployment S P)
-      → OnSite site (λ old new. Brings sp clock conn piece old outcome new) (λ old new. Brings idp clock conn piece old outcome new) before after
+  abbrev pub asked_on : (site : Site) (clock conn : ℕ) (piece : List ℕ) (known : Option Outcome)
+      (before after : Deployment S P) → OnSite sp idp site (λ _ node. Brings node clock conn piece known) before after
       → BothAsked S P
-  asked_on Sp clock conn piece outcome before after brings = record { sp = asked_by brings.0.turn; idp = [] }
-  asked_on Idp clock conn piece outcome before after brings = record { sp = []; idp = asked_by brings.0.turn }
-
-  abbrev pub asked_arriving : (number : ℕ) (sending : Sending) (piece : List ℕ) (before after : Deployment S P)
-      → Arrives sp idp number sending piece before after → BothAsked S P
-  asked_arriving number sending piece before after arrives =
-      asked_on sending.request.site before.clock sending.conn piece arrives.outcome before arrives.behind arrives.brings
+  asked_on Sp clock conn piece (Some outcome) before after brings = record { sp = asked_by brings.0.0.turn; idp = [] }
+  asked_on Sp clock conn piece None before after brings = record { sp = asked_by brings.0.2.turn; idp = [] }
+  asked_on Idp clock conn piece (Some outcome) before after brings = record { sp = []; idp = asked_by brings.0.0.turn }
+  asked_on Idp clock conn piece None before after brings = record { sp = []; idp = asked_by brings.0.2.turn }
 
   abbrev pub asked_if_any : (number : ℕ) (sending : Option Sending) (piece : List ℕ) (before after : Deployment S P)
       → ArrivesIfAny sp idp number sending piece before after → BothAsked S P
   asked_if_any number (Some sending) (byte ∷ piece) before after arrives =
-      asked_arriving number sending (byte ∷ piece) before after arrives
+      asked_on sending.request.site before.clock sending.conn (byte ∷ piece) arrives.known before arrives.behind
+      arrives.brings
   asked_if_any number sending piece before after same = none_asked
 
   -- by the rounds of one or two requests
@@ -77,21 +72,6 @@ module _ {S P : Type 0} (sp : Rules S) (idp : Rules P) where
   asked_replaying (suc done) all first text now (step, before, after, earlier, were, is, did, fed, same, printed) =
       then_asked (asked_replaying done all first earlier before were) (asked_doing (suc done) step before after did)
 
-  -- What is known of a run however it ended: the steps that were done to their end.
-  pub record Ran (steps : List Step) (first : Deployment S P) : Type 0 where
-    pub done : ℕ
-    pub text : List ℕ
-    pub last : Deployment S P
-    pub replays : Replays sp idp done steps first text last
-
-  abbrev pub ran_by : (steps : List Step) (quiet : Bool) (first : Deployment S P) (result : Result Tally ReplayFault)
-      (left : Deployment S P → Type 0) (before after : Option (List ℕ)) → Ends sp idp steps quiet first result left before after → Ran steps first
-  ran_by steps quiet first (Ok tally) left before after ends =
-      record { done = _; text = ends.0; last = ends.1; replays = ends.2 }
-  ran_by steps quiet first (Err faults.WriteFault) left before after ends =
-      record { done = ends.0; text = ends.1; last = ends.2; replays = ends.4 }
-  ran_by steps quiet first (Err faults.NoMemory) left before after ends =
-      record { done = ends.0; text = ends.1; last = ends.2; replays = ends.3 }
-
-  abbrev pub asked_in_run : (steps : List Step) (first : Deployment S P) → Ran steps first → BothAsked S P
-  asked_in_run steps first ran = asked_replaying ran.done steps first ran.text ran.last ran.replays
+  -- in a run
+  abbrev pub asked_in_run : {steps : List Step} {first : Deployment S P} → Ran sp idp steps first → BothAsked S P
+  asked_in_run {steps} {first} ran = asked_replaying ran.done steps first ran.text ran.last ran.replays

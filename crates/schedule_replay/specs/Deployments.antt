@@ -1,7 +1,6 @@
 -- Two nodes and the user agents that reach them.
-use Rattle.std.specs.Prelude.{◌≡◌, ◌≢◌, ℕ, ◌*◌, ◌≤◌, zero, suc, max, min, Bool, true, false, List, [], ◌∷◌, ◌++◌, length, codes, take, drop, Option, None, Some, Result}
+use Rattle.std.specs.Prelude.{◌≡◌, ◌≢◌, ℕ, ◌*◌, ◌≤◌, zero, suc, max, Bool, true, false, List, [], ◌∷◌, ◌++◌, length, take, drop, Option, None, Some, Result}
 use Rattle.std.specs.Option.{option_map, option_map_or}
-use Rattle.saml_time.specs.declared.TheConstants.{LAST}
 use Rattle.gate_journal.specs.declared.fault.OpenFault.{OpenFault}
 use Rattle.serve_loop.specs.Turns.{Taken}
 use Rattle.post_agent.specs.declared.seen.Seen.{Seen}
@@ -13,7 +12,7 @@ use Rattle.post_agent.specs.States.{State}
 use Rattle.schedule_replay.specs.declared.sending.Sending.{Sending}
 use Rattle.schedule_replay.specs.declared.tally.Tally.{Tally}
 use Rattle.schedule_replay.specs.Counting.{counted, restarted}
-use Rattle.schedule_replay.specs.Hosts.{Host, Rules, Outcome, Silent, Sent, Stopped, Serves, Brings, RestartEnds, CompactionEnds, without_connections}
+use Rattle.schedule_replay.specs.Hosts.{Host, Rules, Outcome, Silent, Sent, Serves, Brings, Known, without_connections}
 use Rattle.schedule_replay.specs.Lines.{line, answer_words, stopped_words, result_words}
 
 -- The clock of both nodes, the nodes, what each agent keeps, what was counted, and the lines of the step that is done.
@@ -27,11 +26,6 @@ pub record Deployment (S P : Type 0) : Type 0 where
 
 abbrev pub saying : {S P : Type 0} → ℕ → List ℕ → Deployment S P → Deployment S P
 saying number words world = record world { lines = world.lines ++ line number words }
-
--- something is done at one node, and the other is as it was
-abbrev pub OnSite : {S P : Type 0} → Site → (Host S → Host S → Type 0) → (Host P → Host P → Type 0) → Deployment S P → Deployment S P → Type 0
-OnSite Sp sp_does idp_does before after = sp_does before.sp after.sp × (after ≡ record before { sp = after.sp })
-OnSite Idp sp_does idp_does before after = idp_does before.idp after.idp × (after ≡ record before { idp = after.idp })
 
 -- one agent keeps something else, and the others what they kept
 pub record Keeps (agent : ℕ) (state : State) (before after : ℕ → State) : Type 0 where
@@ -53,34 +47,39 @@ piece_at at size bytes = take size (drop at bytes)
 abbrev pub bytes_of : Option Sending → List ℕ
 bytes_of sending = option_map_or (λ one. one.request.bytes) sending []
 
--- What an agent and the output get of a piece: nothing; the answer is counted, received and printed; the restart is counted, and that
--- the node stopped is printed.
-abbrev pub Hears : {S P : Type 0} → ℕ → Sending → Outcome → Deployment S P → Deployment S P → Type 0
-Hears number sending Silent before after = after ≡ before
-Hears number sending (Sent path bytes) before after =
-    (seen : Seen) × ComesBack sending.lost sending.agent sending.request.site bytes before.agents seen after.agents
-    × (after ≡ saying number (answer_words sending.request.site seen) (record before { agents = after.agents; tally = counted path seen before.tally }))
-Hears number sending Stopped before after =
-    after ≡ saying number (stopped_words sending.request.site) (record before { tally = restarted before.tally })
-
 -- the connections of an earlier step have ended
 abbrev pub unconnected : {S P : Type 0} → Deployment S P → Deployment S P
 unconnected world = record world { sp = without_connections world.sp; idp = without_connections world.idp }
 
--- How a call that opens or compacts ended is printed; where the disk stopped in it, that, and the start behind it is counted.
+-- What is known of an event at a node is printed: where its disk stopped, that is, and the start behind it is counted.
 abbrev pub shows : {S P : Type 0} → ℕ → Site → Option (List ℕ) → Deployment S P → Deployment S P
 shows number site None world = saying number (stopped_words site) (record world { tally = restarted world.tally })
 shows number site (Some words) world = saying number words world
 
+-- What an agent and the output get of a piece: where the disk stopped, that is printed; else they get nothing, or the answer
+-- is counted, received and printed.
+abbrev pub Hears : {S P : Type 0} → ℕ → Sending → Option Outcome → Deployment S P → Deployment S P → Type 0
+Hears number sending None before after = after ≡ shows number sending.request.site None before
+Hears number sending (Some Silent) before after = after ≡ before
+Hears number sending (Some (Sent path bytes)) before after =
+    (seen : Seen) × ComesBack sending.lost sending.agent sending.request.site bytes before.agents seen after.agents
+    × (after
+    ≡ saying number (answer_words sending.request.site seen)
+    (record before { agents = after.agents; tally = counted path seen before.tally }))
+
 module _ {S P : Type 0} (sp : Rules S) (idp : Rules P) where
+  -- something is done at one node, by its rules, and the other is as it was
+  abbrev pub OnSite : Site → ((N : Type 0) → Rules N → Host N → Host N → Type 0) → Deployment S P → Deployment S P
+      → Type 0
+  OnSite Sp does before after = does S sp before.sp after.sp × (after ≡ record before { sp = after.sp })
+  OnSite Idp does before after = does P idp before.idp after.idp × (after ≡ record before { idp = after.idp })
+
   -- A piece of a request comes to its node.
   pub record Arrives (number : ℕ) (sending : Sending) (piece : List ℕ) (before after : Deployment S P) : Type 0 where
-    pub outcome : Outcome
+    pub known : Option Outcome
     pub behind : Deployment S P
-    pub brings :
-        OnSite sending.request.site (λ old new. Brings sp before.clock sending.conn piece old outcome new)
-        (λ old new. Brings idp before.clock sending.conn piece old outcome new) before behind
-    pub hears : Hears number sending outcome behind after
+    pub brings : OnSite sending.request.site (λ _ node. Brings node before.clock sending.conn piece known) before behind
+    pub hears : Hears number sending known behind after
 
   -- It comes where there is a request, and it has bytes.
   abbrev pub ArrivesIfAny : ℕ → Option Sending → List ℕ → Deployment S P → Deployment S P → Type 0
@@ -99,8 +98,7 @@ module _ {S P : Type 0} (sp : Rules S) (idp : Rules P) where
   abbrev pub Starts : Option Sending → Deployment S P → Deployment S P → Type 0
   Starts None before after = after ≡ before
   Starts (Some sending) before after =
-      OnSite sending.request.site (λ old new. Serves sp before.clock (Taken sending.conn) old new)
-      (λ old new. Serves idp before.clock (Taken sending.conn) old new) before after
+      OnSite sending.request.site (λ _ node. Serves node before.clock (Taken sending.conn)) before after
 
   -- One or two requests come to their nodes, in pieces of at most so many bytes, the two in turn, until all bytes came.
   pub record Exchanges (number size : ℕ) (first second : Option Sending) (before after : Deployment S P) : Type 0 where
@@ -112,20 +110,11 @@ module _ {S P : Type 0} (sp : Rules S) (idp : Rules P) where
     pub all : max (length (bytes_of first)) (length (bytes_of second)) ≤ rounds * size
     pub arrive : Rounds number size first second rounds both after
 
-  -- A node is started again, as a schedule asks for; the start is counted.
-  pub record RestartsAt (number : ℕ) (site : Site) (before after : Deployment S P) : Type 0 where
-    pub shown : Option (Result (Unit {0}) OpenFault)
+  -- A node does what a schedule asks for, and how that ended is printed, by this word where it ended well.
+  pub record Obeys (number : ℕ) (site : Site) (word : List ℕ)
+      (call : (N : Type 0) → Rules N → Host N → Result (Unit {0}) OpenFault → Host N → Type 0)
+      (before after : Deployment S P) : Type 0 where
+    pub known : Option (Result (Unit {0}) OpenFault)
     pub behind : Deployment S P
-    pub ends : OnSite site (λ old new. RestartEnds sp old shown new) (λ old new. RestartEnds idp old shown new) before behind
-    pub shows :
-        after
-        ≡ shows number site (option_map (result_words (codes "restart")) shown) (record behind { tally = restarted behind.tally })
-
-  -- A node compacts, at the moment of the clock.
-  pub record CompactsAt (number : ℕ) (site : Site) (before after : Deployment S P) : Type 0 where
-    pub shown : Option (Result (Unit {0}) OpenFault)
-    pub behind : Deployment S P
-    pub ends :
-        OnSite site (λ old new. CompactionEnds sp (min before.clock LAST) old shown new)
-        (λ old new. CompactionEnds idp (min before.clock LAST) old shown new) before behind
-    pub shows : after ≡ shows number site (option_map (result_words (codes "compact")) shown) behind
+    pub ends : OnSite site (λ N node. Known node (call N node) known) before behind
+    pub shown : after ≡ shows number site (option_map (result_words word) known) behind

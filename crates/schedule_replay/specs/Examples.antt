@@ -11,7 +11,7 @@ use Rattle.schedules.specs.declared.step.Step.{Step}
 use Rattle.schedules.specs.declared.step.Step.TheVariants.{Restart, Crash, Fail, Compact}
 use Rattle.schedule_replay.specs.Deployments.{Deployment}
 use Rattle.schedule_replay.specs.Faults.{FailuresAreSet, IsRunning, RestartsAreAskedOrSet, disk_of, failures_set, faults_if_stopped, faults_in, restarts_asked, stops_in, stops_set, stops_taken}
-use Rattle.schedule_replay.specs.Hosts.{Rules, failing}
+use Rattle.schedule_replay.specs.Hosts.{Rules}
 use Rattle.schedule_replay.specs.Lines.{line}
 use Rattle.schedule_replay.specs.Steps.{Replays, is_starved}
 
@@ -60,9 +60,12 @@ faults = (refl, refl, refl, refl)
 -- one step sets a failure, which is then to come
 a_failure_is_set : {S P : Type 0} (sp : Rules S) (idp : Rules P) (first : Deployment S P) → is_starved first ≡ false
     → Replays sp idp 1 (Fail Sp 1 ∷ []) first (first.lines ++ line 1 (codes "armed"))
-    (record first { sp = failing 1 first.sp; lines = [] })
+    (record first { sp = record first.sp { disk = record first.sp.disk { failing = 1 } }; lines = [] })
 a_failure_is_set sp idp first fed =
-    let after = record first { sp = failing 1 first.sp; lines = first.lines ++ line 1 (codes "armed") } in
+    let after = record first {
+      sp = record first.sp { disk = record first.sp.disk { failing = 1 } };
+      lines = first.lines ++ line 1 (codes "armed");
+    } in
     (Fail Sp 1, first, after, [], (refl, refl), refl, refl, fed, refl, refl)
 
 -- Where no step sets a failure or a stop and none was to come, no call fails, and no restart is counted but those that

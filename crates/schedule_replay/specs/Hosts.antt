@@ -6,7 +6,7 @@ use Rattle.crash_disk.specs.InMemory.{shown_in_memory}
 use Rattle.crash_disk.specs.Memory.{DiskInMemory, state_of}
 use Rattle.crash_disk.specs.Moments.{LeavesOnly}
 use Rattle.gate_journal.specs.declared.fault.OpenFault.{OpenFault}
-use Rattle.gate_journal.specs.declared.fault.OpenFault.TheVariants as faults
+use Rattle.gate_journal.specs.declared.fault.OpenFault.TheVariants.{NoMemory}
 use Rattle.gate_journal.specs.Opening.{CausesFaults}
 use Rattle.http_wire.specs.Answers.{fixed}
 use Rattle.http_wire.specs.Views.{answer_bytes}
@@ -69,22 +69,14 @@ Leaving before after P = LeavesOnly shown_in_memory before.disk after.disk P
 abbrev pub resumed : {N : Type 0} → Host N → Host N
 resumed host = record host { disk = record host.disk { stopped = false } }
 
--- a failure and a stop of its disk, counted from its next changing call
-abbrev pub failing : {N : Type 0} → ℕ → Host N → Host N
-failing call host = record host { disk = record host.disk { failing = call } }
-
-abbrev pub stopping : {N : Type 0} → ℕ → ℕ → Host N → Host N
-stopping call pick host = record host { disk = record host.disk { stopping = call; pick = pick } }
-
 -- its connections are gone
 abbrev pub without_connections : {N : Type 0} → Host N → Host N
 without_connections host = record host { kept = map.empty }
 
--- What comes of a piece of a request: nothing yet; bytes, for a request for a path where it was one; the disk stopped, and nothing came.
+-- What comes of a piece of a request: nothing yet; or bytes, for a request for a path where it was one.
 pub data Outcome : Type 0 where
   Silent : Outcome
   Sent : (path : Option (List ℕ)) (bytes : List ℕ) → Outcome
-  Stopped : Outcome
 
 -- what a turn of serving sends on its connection
 abbrev pub outcome_of : {N : Type 0} → Turn N → Outcome
@@ -101,55 +93,46 @@ module _ {N : Type 0} (rules : Rules N) where
     pub does : Does (IsAnswered rules.own rules.step rules.leaves) before.kept (world_of now before) turn after.kept (world_of now after)
     pub leaves : Leaving before after (MightLeave rules.leaves (told before) (turn ∷ []))
 
-  -- A restart: the node opens what its disk holds, and its connections are gone. The disk is its own then, also where it could not
-  -- open it.
-  pub record Restarts (before : Host N) (result : Result (Unit {0}) OpenFault) (after : Host N) : Type 0 where
-    pub does : rules.reopens before.node (told before) before.disk.faults after.disk.faults result after.node (told after)
-    pub leaves : Leaving before after (rules.reopening_leaves before.node (told before))
-    pub owns : rules.own after.node (told after)
-    pub faults : CausesFaults result before.disk.faults after.disk.faults
-    pub gone : after.kept ≡ map.empty
+  -- A piece comes on a connection, and this comes of it.
+  pub record Takes (now conn : ℕ) (piece : List ℕ) (before : Host N) (outcome : Outcome) (after : Host N) : Type 0 where
+    pub turn : Turn N
+    pub event : event_at turn ≡ Piece conn piece
+    pub serves : Serves now turn before after
+    pub comes : outcome ≡ outcome_of turn
 
-  -- A compaction at a moment.
-  pub record Compacts (now : ℕ) (before : Host N) (result : Result (Unit {0}) OpenFault) (after : Host N) : Type 0 where
-    pub does : rules.compacts before.node (told before) now before.disk.faults after.disk.faults result after.node (told after)
-    pub leaves : Leaving before after (rules.compaction_leaves before.node (told before) now)
+  -- A call that opens or compacts came to this, and found memory. The node's contract says what it does and what a crash inside
+  -- it may leave. The disk is the node's own then, also where the call failed.
+  pub record Performs
+      (does : N → Option DiskState → ℕ → ℕ → Result (Unit {0}) OpenFault → N → Option DiskState → Type 0)
+      (may_leave : N → Option DiskState → Image → Type 0)
+      (before : Host N) (result : Result (Unit {0}) OpenFault) (after : Host N) : Type 0 where
+    pub done : does before.node (told before) before.disk.faults after.disk.faults result after.node (told after)
+    pub leaves : Leaving before after (may_leave before.node (told before))
     pub owns : rules.own after.node (told after)
+    pub memory : result ≢ Err NoMemory
     pub faults : CausesFaults result before.disk.faults after.disk.faults
     pub kept : after.kept ≡ before.kept
 
+  -- A restart: the node opens what its disk holds, and its connections are gone.
+  abbrev pub Restarts : Host N → Result (Unit {0}) OpenFault → Host N → Type 0
+  Restarts before = Performs rules.reopens rules.reopening_leaves (without_connections before)
+
+  -- A compaction at a moment.
+  abbrev pub Compacts : ℕ → Host N → Result (Unit {0}) OpenFault → Host N → Type 0
+  Compacts now =
+      Performs (λ node disk. rules.compacts node disk now) (λ node disk. rules.compaction_leaves node disk now)
+
   -- A disk that stopped is started again, and then the node, whatever the stop left.
-  pub record Recovers (before after : Host N) : Type 0 where
-    pub result : Result (Unit {0}) OpenFault
-    pub memory : result ≢ Err faults.NoMemory
-    pub restarts : Restarts (resumed before) result after
+  abbrev pub Recovers : Host N → Host N → Type 0
+  Recovers before after = (result : Result (Unit {0}) OpenFault) × Restarts (resumed before) result after
 
-  -- how a turn ends: the disk stopped in it, or its answer goes out
-  abbrev pub Comes : Turn N → Host N → Outcome → Host N → Type 0
-  Comes turn behind Stopped after = (behind.disk.stopped ≡ true) × Recovers behind after
-  Comes turn behind outcome after = (behind.disk.stopped ≡ false) × (outcome ≡ outcome_of turn) × (after ≡ behind)
+  -- What is known of an event: what came of it, or, where the disk stopped in it, only that the node was started again.
+  abbrev pub Known : {A : Type 0} → (Host N → A → Host N → Type 0) → Option A → Host N → Host N → Type 0
+  Known {A} event (Some result) before after = event before result after × (after.disk.stopped ≡ false)
+  Known {A} event None before after =
+      (result : A) × (behind : Host N) × event before result behind
+      × (behind.disk.stopped ≡ true) × Recovers behind after
 
-  -- A piece comes on a connection.
-  pub record Brings (now conn : ℕ) (piece : List ℕ) (before : Host N) (outcome : Outcome) (after : Host N) : Type 0 where
-    pub turn : Turn N
-    pub behind : Host N
-    pub event : event_at turn ≡ Piece conn piece
-    pub serves : Serves now turn before behind
-    pub comes : Comes turn behind outcome after
-
-  -- How a restart or a compaction that a schedule asks for ends: the disk stopped in it and nothing is known of its result, or this is it.
-  abbrev pub Ends : Host N → Result (Unit {0}) OpenFault → Option (Result (Unit {0}) OpenFault) → Host N → Type 0
-  Ends behind result None after = (behind.disk.stopped ≡ true) × Recovers behind after
-  Ends behind result (Some shown) after = (behind.disk.stopped ≡ false) × (shown ≡ result) × (result ≢ Err faults.NoMemory) × (after ≡ behind)
-
-  pub record RestartEnds (before : Host N) (shown : Option (Result (Unit {0}) OpenFault)) (after : Host N) : Type 0 where
-    pub result : Result (Unit {0}) OpenFault
-    pub behind : Host N
-    pub restarts : Restarts before result behind
-    pub ends : Ends behind result shown after
-
-  pub record CompactionEnds (now : ℕ) (before : Host N) (shown : Option (Result (Unit {0}) OpenFault)) (after : Host N) : Type 0 where
-    pub result : Result (Unit {0}) OpenFault
-    pub behind : Host N
-    pub compacts : Compacts now before result behind
-    pub ends : Ends behind result shown after
+  -- what is known of a piece that comes on a connection
+  abbrev pub Brings : (now conn : ℕ) → List ℕ → Option Outcome → Host N → Host N → Type 0
+  Brings now conn piece = Known (Takes now conn piece)

@@ -35,17 +35,23 @@ abbrev pub shown : Bool → List ℕ → List ℕ
 shown quiet text = if quiet then [] else text
 
 module _ {S P : Type 0} (sp : Rules S) (idp : Rules P) where
-  -- How a run ended, by what was taken of its output before and after. Ok: all steps were done, their lines were printed, and last what they
-  -- came to. WriteFault: some steps were done, or all, and a part of what they print was taken. NoMemory: some steps were done, or all, and
-  -- their lines were printed.
-  abbrev pub Ends : List Step → Bool → Deployment S P → Result Tally ReplayFault → (Deployment S P → Type 0) → Option (List ℕ) → Option (List ℕ) → Type 0
-  Ends steps quiet first (Ok tally) left before after =
-      (text : List ℕ) × (last : Deployment S P) × Replays sp idp (length steps) steps first text last × (tally ≡ last.tally) × left last
-      × (after ≡ then_bytes before (shown quiet text ++ summary tally))
-  Ends steps quiet first (Err faults.WriteFault) left before after =
-      (done : ℕ) × (text : List ℕ) × (last : Deployment S P) × (n : ℕ) × Replays sp idp done steps first text last × left last
-      × ((after ≡ then_bytes before (take n (shown quiet text)))
-      ⊎ ((done ≡ length steps) × (after ≡ then_bytes before (shown quiet text ++ take n (summary last.tally)))))
-  Ends steps quiet first (Err faults.NoMemory) left before after =
-      (done : ℕ) × (text : List ℕ) × (last : Deployment S P) × Replays sp idp done steps first text last
-      × (after ≡ then_bytes before (shown quiet text))
+  -- What is known of a run however it ended: so many steps were done to their end, one after the other.
+  pub record Ran (steps : List Step) (first : Deployment S P) : Type 0 where
+    pub done : ℕ
+    pub text : List ℕ
+    pub last : Deployment S P
+    pub replays : Replays sp idp done steps first text last
+
+  -- How it ended, by what was taken of its output before and after. Ok: all steps were done, their lines were printed, and last
+  -- what they came to. WriteFault: a part of what the steps print was taken, or of all steps all of it and a part of the last
+  -- line. NoMemory: the lines of the steps that were done were printed.
+  abbrev pub Ends : {steps : List Step} {first : Deployment S P} → Ran steps first → (quiet : Bool)
+      → Result Tally ReplayFault → Option (List ℕ) → Option (List ℕ) → Type 0
+  Ends {steps} ran quiet (Ok tally) before after =
+      (ran.done ≡ length steps) × (tally ≡ ran.last.tally)
+      × (after ≡ then_bytes before (shown quiet ran.text ++ summary tally))
+  Ends {steps} ran quiet (Err faults.WriteFault) before after =
+      (n : ℕ) × ((after ≡ then_bytes before (take n (shown quiet ran.text)))
+      ⊎ ((ran.done ≡ length steps)
+      × (after ≡ then_bytes before (shown quiet ran.text ++ take n (summary ran.last.tally)))))
+  Ends {steps} ran quiet (Err faults.NoMemory) before after = after ≡ then_bytes before (shown quiet ran.text)

@@ -1,6 +1,8 @@
 -- What a step of a schedule does, and a run of them.
-use Rattle.std.specs.Prelude.{◌≡◌, ℕ, zero, suc, Bool, ◌||◌, true, false, List, [], ◌++◌, codes, length, slice_get, max, Option, None, Some}
+use Rattle.std.specs.Prelude.{◌≡◌, ℕ, zero, suc, Bool, ◌||◌, true, false, List, [], ◌++◌, codes, length, slice_get, max, min, Option, None, Some}
 use Rattle.std.specs.Option.{option_map}
+use Rattle.crash_disk.specs.Memory.{DiskInMemory}
+use Rattle.saml_time.specs.declared.TheConstants.{LAST}
 use Rattle.post_agent.specs.declared.seen.Outgoing.{Outgoing}
 use Rattle.post_agent.specs.declared.site.Site.{Site}
 use Rattle.post_agent.specs.declared.site.Site.TheVariants.{Sp, Idp}
@@ -10,8 +12,9 @@ use Rattle.schedules.specs.declared.step.Pick.TheVariants.{Synced, Pending, Mark
 use Rattle.schedules.specs.declared.step.Step.{Step}
 use Rattle.schedules.specs.declared.step.Step.TheVariants as steps
 use Rattle.schedule_replay.specs.declared.sending.Sending.{Sending}
-use Rattle.schedule_replay.specs.Deployments.{Deployment, Keeps, Exchanges, RestartsAt, CompactsAt, saying, bytes_of}
-use Rattle.schedule_replay.specs.Hosts.{Host, Rules, failing, stopping}
+use Rattle.schedule_replay.specs.Counting.{restarted}
+use Rattle.schedule_replay.specs.Deployments.{Deployment, Keeps, Exchanges, Obeys, saying, bytes_of}
+use Rattle.schedule_replay.specs.Hosts.{Rules, Compacts, Restarts}
 
 -- what a stop is to leave, as crash_disk numbers it
 abbrev pub pick_number : Pick → ℕ
@@ -28,10 +31,12 @@ abbrev pub saying_none : {S P : Type 0} → ℕ → Option Sending → Deploymen
 saying_none number None world = saying number (codes "none") world
 saying_none number (Some request) world = world
 
--- something is done to a node's disk
-abbrev pub armed : {S P : Type 0} → ℕ → Site → (Host S → Host S) → (Host P → Host P) → Deployment S P → Deployment S P
-armed number Sp arm other world = saying number (codes "armed") (record world { sp = arm world.sp })
-armed number Idp other arm world = saying number (codes "armed") (record world { idp = arm world.idp })
+-- something is set at a node's disk
+abbrev pub armed : {S P : Type 0} → ℕ → Site → (DiskInMemory → DiskInMemory) → Deployment S P → Deployment S P
+armed number Sp set world =
+    saying number (codes "armed") (record world { sp = record world.sp { disk = set world.sp.disk } })
+armed number Idp set world =
+    saying number (codes "armed") (record world { idp = record world.idp { disk = set world.idp.disk } })
 
 -- an agent forgets all
 abbrev pub Forgets : {S P : Type 0} → ℕ → (agent : ℕ) → Deployment S P → Deployment S P → Type 0
@@ -81,11 +86,17 @@ module _ {S P : Type 0} (sp : Rules S) (idp : Rules P) where
       RequestsTwo number size (sending_of false first 0 (submitted (before.agents first)))
       (sending_of false second 1 (submitted (before.agents second))) before after
   Does number (steps.Fresh agent) before after = Forgets number agent before after
-  Does number (steps.Restart site) before after = RestartsAt sp idp number site before after
+  -- a node is started again, and that is counted
+  Does number (steps.Restart site) before after =
+      Obeys sp idp number site (codes "restart") (λ _ node. Restarts node)
+      (record before { tally = restarted before.tally }) after
+  -- a stop and a failure of a disk, counted from its next changing call
   Does number (steps.Crash site call pick) before after =
-      after ≡ armed number site (λ host. stopping call (pick_number pick) host) (λ host. stopping call (pick_number pick) host) before
-  Does number (steps.Fail site call) before after = after ≡ armed number site (λ host. failing call host) (λ host. failing call host) before
-  Does number (steps.Compact site) before after = CompactsAt sp idp number site before after
+      after ≡ armed number site (λ disk. record disk { stopping = call; pick = pick_number pick }) before
+  Does number (steps.Fail site call) before after =
+      after ≡ armed number site (λ disk. record disk { failing = call }) before
+  Does number (steps.Compact site) before after =
+      Obeys sp idp number site (codes "compact") (λ _ node. Compacts node (min before.clock LAST)) before after
 
   -- The first so many steps of a schedule were done, one after the other, from this deployment on, and no disk found no memory. All that
   -- they print is `text`.

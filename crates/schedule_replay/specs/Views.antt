@@ -12,7 +12,7 @@ use Rattle.schedule_replay.specs.declared.host.Reply.{Reply}
 use Rattle.schedule_replay.specs.declared.sending.Sending.{Sending}
 use Rattle.schedule_replay.specs.declared.stage.Stage.{Stage}
 use Rattle.schedule_replay.specs.Deployments.{Deployment}
-use Rattle.schedule_replay.specs.Hosts.{Host, Rules, Outcome, Silent, Sent, Stopped}
+use Rattle.schedule_replay.specs.Hosts.{Host, Rules, Outcome, Silent, Sent}
 
 -- what the agent of a name keeps: one that is not there has seen nothing
 abbrev pub kept_by : BTreeMap ℕ State → ℕ → State
@@ -44,11 +44,6 @@ pub record SameStage {S P : Type 0} (old new : Stage S P) : Type 0 where
 abbrev pub outcome_view : Option Reply → Outcome
 outcome_view None = Silent
 outcome_view (Some reply) = Sent reply.path reply.bytes
-
--- what is known of a piece: none where the disk stopped
-abbrev pub brought_view : Option (Option Reply) → Outcome
-brought_view None = Stopped
-brought_view (Some reply) = outcome_view reply
 
 -- the disk is the node's own
 abbrev pub OwnsHost : {N : Type 0} → Rules N → Host N → Type 0

@@ -14,9 +14,9 @@ ghost use Rattle.conn_table.specs.Answers.{IsWholeRequest};
 ghost use Rattle.conn_table.specs.Events.{Piece};
 ghost use Rattle.serve_loop.specs.Turns.{Turn, Taken, Asked, Asks, Answers, event_at};
 ghost use Rattle.serve_loop.specs.Worlds.{HasBytes, IsAnswered};
-ghost use Rattle.schedule_replay.specs.Hosts.{Rules, Serves, Restarts, Compacts, Recovers, Brings, RestartEnds, CompactionEnds, outcome_of, rules, Sent, Leaving, world_of, without_connections};
+ghost use Rattle.schedule_replay.specs.Hosts.{Serves, Takes, Restarts, Compacts, Recovers, Brings, Known, rules, Sent, Leaving, world_of, without_connections};
 ghost use Rattle.schedule_replay.specs.Lines.{result_words};
-ghost use Rattle.schedule_replay.specs.Views.{host_in, outcome_view, brought_view, SameHost};
+ghost use Rattle.schedule_replay.specs.Views.{host_in, outcome_view, SameHost};
 
 use conn_table::{Conns, Progress, Start};
 use crash_disk::MemDisk;
@@ -160,10 +160,9 @@ impl<N: Node> HeldHost<'_, '_, N> {
         now: u64,
     ) -> Result<Option<Reply>, NoMemory>
         requires { N.own self.old.node.now (Some (state_of self.old.disk.now)) }
-        ensures serves { IfOk result (λ reply. (turn : Turn _) × (event_at turn ≡ Piece conn piece.now)
-            × (outcome_view reply ≡ outcome_of turn) × Serves
-            (rules N.own N.step N.leaves N.reopens N.reopening_leaves N.compacts N.compaction_leaves) now turn
-            (host_in self.old) (host_in self.new)) }
+        ensures takes { IfOk result
+            (λ reply. Takes (rules N.own N.step N.leaves N.reopens N.reopening_leaves N.compacts N.compaction_leaves)
+            now conn piece.now (host_in self.old) (outcome_view reply) (host_in self.new)) }
         ensures own { N.own self.new.node.now (Some (state_of self.new.disk.now)) }
         ensures objects { SameHost self.old self.new }
     {
@@ -179,7 +178,7 @@ impl<N: Node> HeldHost<'_, '_, N> {
     fn restart(&mut self, alloc: Global) -> Result<&'static str, NoMemory>
         requires own { N.own self.old.node.now (Some (state_of self.old.disk.now)) }
         ensures restarts { IfOk result
-            (λ shown. (outcome : Result (Unit {0}) OpenFault) × (outcome ≢ Err OpenFault.NoMemory)
+            (λ shown. (outcome : Result (Unit {0}) OpenFault)
             × (shown.now ≡ result_words (codes "restart") outcome) × Restarts
             (rules N.own N.step N.leaves N.reopens N.reopening_leaves N.compacts N.compaction_leaves)
             (host_in self.old) outcome (host_in self.new)) }
@@ -221,7 +220,7 @@ impl<N: Node> HeldHost<'_, '_, N> {
         requires own { N.own self.old.node.now (Some (state_of self.old.disk.now)) }
         ensures brings { IfOk result
             (λ reply. Brings (rules N.own N.step N.leaves N.reopens N.reopening_leaves N.compacts N.compaction_leaves)
-            now conn piece.now (host_in self.old) (brought_view reply) (host_in self.new)) }
+            now conn piece.now (option_map outcome_view reply) (host_in self.old) (host_in self.new)) }
         ensures own { N.own self.new.node.now (Some (state_of self.new.disk.now)) }
         ensures objects { SameHost self.old self.new }
     {
@@ -237,9 +236,10 @@ impl<N: Node> HeldHost<'_, '_, N> {
     pub(crate) fn start_again(&mut self, alloc: Global) -> Result<Option<&'static str>, NoMemory>
         requires own { N.own self.old.node.now (Some (state_of self.old.disk.now)) }
         ensures ends { IfOk result (λ shown. (outcome : Option (Result (Unit {0}) OpenFault))
-            × (text_view shown ≡ option_map (result_words (codes "restart")) outcome) × RestartEnds
+            × (text_view shown ≡ option_map (result_words (codes "restart")) outcome) × Known
             (rules N.own N.step N.leaves N.reopens N.reopening_leaves N.compacts N.compaction_leaves)
-            (host_in self.old) outcome (host_in self.new)) }
+            (Restarts (rules N.own N.step N.leaves N.reopens N.reopening_leaves N.compacts N.compaction_leaves))
+            outcome (host_in self.old) (host_in self.new)) }
         ensures own { N.own self.new.node.now (Some (state_of self.new.disk.now)) }
         ensures objects { SameHost self.old self.new }
     {
@@ -255,7 +255,7 @@ impl<N: Node> HeldHost<'_, '_, N> {
     fn compaction(&mut self, now: u64) -> Result<&'static str, NoMemory>
         requires { N.own self.old.node.now (Some (state_of self.old.disk.now)) }
         ensures compacts { IfOk result
-            (λ shown. (outcome : Result (Unit {0}) OpenFault) × (outcome ≢ Err OpenFault.NoMemory)
+            (λ shown. (outcome : Result (Unit {0}) OpenFault)
             × (shown.now ≡ result_words (codes "compact") outcome) × Compacts
             (rules N.own N.step N.leaves N.reopens N.reopening_leaves N.compacts N.compaction_leaves)
             (min now LAST) (host_in self.old) outcome (host_in self.new)) }
@@ -278,9 +278,10 @@ impl<N: Node> HeldHost<'_, '_, N> {
     ) -> Result<Option<&'static str>, NoMemory>
         requires own { N.own self.old.node.now (Some (state_of self.old.disk.now)) }
         ensures ends { IfOk result (λ shown. (outcome : Option (Result (Unit {0}) OpenFault))
-            × (text_view shown ≡ option_map (result_words (codes "compact")) outcome)
-            × CompactionEnds (rules N.own N.step N.leaves N.reopens N.reopening_leaves N.compacts N.compaction_leaves)
-            (min now LAST) (host_in self.old) outcome (host_in self.new)) }
+            × (text_view shown ≡ option_map (result_words (codes "compact")) outcome) × Known
+            (rules N.own N.step N.leaves N.reopens N.reopening_leaves N.compacts N.compaction_leaves)
+            (Compacts (rules N.own N.step N.leaves N.reopens N.reopening_leaves N.compacts N.compaction_leaves)
+            (min now LAST)) outcome (host_in self.old) (host_in self.new)) }
         ensures own { N.own self.new.node.now (Some (state_of self.new.disk.now)) }
         ensures objects { SameHost self.old self.new }
     {

@@ -1,13 +1,13 @@
 // A schedule is replayed.
 
-ghost use Rattle.std.specs.Prelude.{◌≡◌, ◌≤◌, ◌<◌, ◌+◌, ◌^◌, Option, Some, Err, ℕ, List, length, take, OnOk, OnErr, IfErr, IfOk, false, [], if◌then◌else◌};
+ghost use Rattle.std.specs.Prelude.{◌≡◌, ◌≢◌, ◌≤◌, ◌<◌, ◌+◌, ◌^◌, Option, Some, Err, ℕ, List, length, take, OnOk, OnErr, IfErr, IfOk, false, [], if◌then◌else◌};
 ghost use Rattle.std.specs.FinMap as map;
 ghost use Rattle.saml_outside.specs.Sinks.{then_bytes};
 ghost use Rattle.crash_disk.specs.Disk.{DiskState};
 ghost use Rattle.crash_disk.specs.Memory.{state_of};
 ghost use Rattle.saml_outside.specs.Counts.{Rose};
 ghost use Rattle.schedule_replay.specs.Hosts.{rules};
-ghost use Rattle.schedule_replay.specs.Runs.{AreLeft, Ends, alone, beginning, shown};
+ghost use Rattle.schedule_replay.specs.Runs.{AreLeft, Ends, Ran, alone, beginning, shown};
 ghost use Rattle.schedule_replay.specs.Steps.{Does, Replays, is_starved};
 ghost use Rattle.schedule_replay.specs.Deployments.{Deployment};
 ghost use Rattle.schedule_replay.specs.Views.{stage_in, HasNodes, OwnsBoth, SameStage};
@@ -147,10 +147,13 @@ impl<S: Node, P: Node> Stage<'_, '_, '_, '_, S, P> {
             (rules P.own P.step P.leaves P.reopens P.reopening_leaves P.compacts P.compaction_leaves)
             (stage_in self.old) }
         requires few { length steps.now < 2 ^ 63 }
-        ensures ends { Ends (rules S.own S.step S.leaves S.reopens S.reopening_leaves S.compacts S.compaction_leaves)
-            (rules P.own P.step P.leaves P.reopens P.reopening_leaves P.compacts P.compaction_leaves) steps.now quiet
-            (stage_in self.old) result (λ last. HasNodes last (stage_in self.new)) (K.taken out.old)
-            (K.taken out.new) }
+        ensures ends { (ran : Ran (rules S.own S.step S.leaves S.reopens S.reopening_leaves S.compacts S.compaction_leaves)
+            (rules P.own P.step P.leaves P.reopens P.reopening_leaves P.compacts P.compaction_leaves) steps.now
+            (stage_in self.old))
+            × Ends (rules S.own S.step S.leaves S.reopens S.reopening_leaves S.compacts S.compaction_leaves)
+            (rules P.own P.step P.leaves P.reopens P.reopening_leaves P.compacts P.compaction_leaves) ran quiet result
+            (K.taken out.old) (K.taken out.new)
+            × (result ≢ Err ReplayFault.NoMemory → HasNodes ran.last (stage_in self.new)) }
         ensures write_fault { result ≡ Err ReplayFault.WriteFault → Rose (K.faults_of out.old) (K.faults_of out.new) }
         ensures never_falls { K.faults_of out.old ≤ K.faults_of out.new }
         ensures own { OwnsBoth
@@ -191,10 +194,13 @@ pub fn replay<S: Node, P: Node, K: Sink>(
 ) -> Result<Tally, ReplayFault>
     requires sp_own { S.own sp.old (Some (state_of sp_disk.old)) }
     requires idp_own { P.own idp.old (Some (state_of idp_disk.old)) }
-    ensures ends { Ends (rules S.own S.step S.leaves S.reopens S.reopening_leaves S.compacts S.compaction_leaves)
-        (rules P.own P.step P.leaves P.reopens P.reopening_leaves P.compacts P.compaction_leaves) schedule.now quiet
-        (beginning (alone sp.old sp_disk.old) (alone idp.old idp_disk.old)) result
-        (λ last. AreLeft last sp.new sp_disk.new idp.new idp_disk.new) (K.taken out.old) (K.taken out.new) }
+    ensures ends { (ran : Ran (rules S.own S.step S.leaves S.reopens S.reopening_leaves S.compacts S.compaction_leaves)
+        (rules P.own P.step P.leaves P.reopens P.reopening_leaves P.compacts P.compaction_leaves) schedule.now
+        (beginning (alone sp.old sp_disk.old) (alone idp.old idp_disk.old)))
+        × Ends (rules S.own S.step S.leaves S.reopens S.reopening_leaves S.compacts S.compaction_leaves)
+        (rules P.own P.step P.leaves P.reopens P.reopening_leaves P.compacts P.compaction_leaves) ran quiet result
+        (K.taken out.old) (K.taken out.new)
+        × (result ≢ Err ReplayFault.NoMemory → AreLeft ran.last sp.new sp_disk.new idp.new idp_disk.new) }
     ensures write_fault { result ≡ Err ReplayFault.WriteFault → Rose (K.faults_of out.old) (K.faults_of out.new) }
     ensures never_falls { K.faults_of out.old ≤ K.faults_of out.new }
 {

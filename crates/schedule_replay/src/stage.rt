@@ -7,12 +7,12 @@ ghost use Rattle.gate_journal.specs.declared.fault.OpenFault.{OpenFault};
 ghost use Rattle.serve_loop.specs.Turns.{Taken};
 ghost use Rattle.post_agent.specs.Views.{text_view};
 ghost use Rattle.schedule_replay.specs.Counting as counting;
-ghost use Rattle.schedule_replay.specs.Deployments.{OnSite, Arrives, ArrivesIfAny, Rounds, Starts, Exchanges, Hears, RestartsAt, CompactsAt, saying, shows, unconnected, bytes_of, piece_at};
-ghost use Rattle.schedule_replay.specs.Hosts.{Serves, Brings, RestartEnds, CompactionEnds, rules};
+ghost use Rattle.schedule_replay.specs.Deployments.{OnSite, Arrives, ArrivesIfAny, Rounds, Starts, Exchanges, Hears, Obeys, saying, shows, unconnected, bytes_of, piece_at};
+ghost use Rattle.schedule_replay.specs.Hosts.{Brings, Compacts, Known, Restarts, rules};
 ghost use Rattle.schedule_replay.specs.Lines as spec;
 ghost use Rattle.schedule_replay.specs.Lines.{result_words};
 ghost use Rattle.schedule_replay.specs.Steps.{is_starved};
-ghost use Rattle.schedule_replay.specs.Views.{stage_in, brought_view, outcome_view, OwnsBoth, SameStage, sending_view};
+ghost use Rattle.schedule_replay.specs.Views.{stage_in, outcome_view, OwnsBoth, SameStage, sending_view};
 
 use crate::agents::Agents;
 use crate::host::{HeldHost, Reply};
@@ -80,12 +80,10 @@ impl<S: Node, P: Node> Stage<'_, '_, '_, '_, S, P> {
             (rules P.own P.step P.leaves P.reopens P.reopening_leaves P.compacts P.compaction_leaves)
             (stage_in self.old) }
         ensures brings { IfOk result
-            (λ reply. OnSite site
-            (λ old new. Brings
-            (rules S.own S.step S.leaves S.reopens S.reopening_leaves S.compacts S.compaction_leaves) self.old.clock
-            conn piece.now old (brought_view reply) new)
-            (λ old new. Brings (rules P.own P.step P.leaves P.reopens P.reopening_leaves P.compacts
-            P.compaction_leaves) self.old.clock conn piece.now old (brought_view reply) new) (stage_in self.old)
+            (λ reply. OnSite
+            (rules S.own S.step S.leaves S.reopens S.reopening_leaves S.compacts S.compaction_leaves)
+            (rules P.own P.step P.leaves P.reopens P.reopening_leaves P.compacts P.compaction_leaves) site
+            (λ _ node. Brings node self.old.clock conn piece.now (option_map outcome_view reply)) (stage_in self.old)
             (stage_in self.new)) }
         ensures own { OwnsBoth
             (rules S.own S.step S.leaves S.reopens S.reopening_leaves S.compacts S.compaction_leaves)
@@ -107,7 +105,7 @@ impl<S: Node, P: Node> Stage<'_, '_, '_, '_, S, P> {
         reply: Option<Reply>,
     ) -> Result<(), NoMemory>
         ensures ok { OnOk result
-            (Hears number sending.now (outcome_view reply) (stage_in self.old) (stage_in self.new)) }
+            (Hears number sending.now (Some (outcome_view reply)) (stage_in self.old) (stage_in self.new)) }
         ensures sp { self.new.sp ≡ self.old.sp }
         ensures idp { self.new.idp ≡ self.old.idp }
     {
@@ -323,11 +321,9 @@ impl<S: Node, P: Node> Stage<'_, '_, '_, '_, S, P> {
             (stage_in self.old) }
         ensures ends { IfOk result (λ shown. (outcome : Option (Result (Unit {0}) OpenFault))
             × (text_view shown ≡ option_map (result_words (codes "restart")) outcome)
-            × OnSite site (λ old new. RestartEnds
-            (rules S.own S.step S.leaves S.reopens S.reopening_leaves S.compacts S.compaction_leaves) old outcome
-            new) (λ old new. RestartEnds
-            (rules P.own P.step P.leaves P.reopens P.reopening_leaves P.compacts P.compaction_leaves) old outcome
-            new) (stage_in self.old) (stage_in self.new)) }
+            × OnSite (rules S.own S.step S.leaves S.reopens S.reopening_leaves S.compacts S.compaction_leaves)
+            (rules P.own P.step P.leaves P.reopens P.reopening_leaves P.compacts P.compaction_leaves) site
+            (λ _ node. Known node (Restarts node) outcome) (stage_in self.old) (stage_in self.new)) }
         ensures own { OwnsBoth
             (rules S.own S.step S.leaves S.reopens S.reopening_leaves S.compacts S.compaction_leaves)
             (rules P.own P.step P.leaves P.reopens P.reopening_leaves P.compacts P.compaction_leaves)
@@ -347,9 +343,10 @@ impl<S: Node, P: Node> Stage<'_, '_, '_, '_, S, P> {
             (rules P.own P.step P.leaves P.reopens P.reopening_leaves P.compacts P.compaction_leaves)
             (stage_in self.old) }
         ensures ok { OnOk result
-            (RestartsAt (rules S.own S.step S.leaves S.reopens S.reopening_leaves S.compacts S.compaction_leaves)
+            (Obeys (rules S.own S.step S.leaves S.reopens S.reopening_leaves S.compacts S.compaction_leaves)
             (rules P.own P.step P.leaves P.reopens P.reopening_leaves P.compacts P.compaction_leaves) number site
-            (stage_in self.old) (stage_in self.new)) }
+            (codes "restart") (λ _ node. Restarts node)
+            (record (stage_in self.old) { tally = counting.restarted self.old.tally }) (stage_in self.new)) }
         ensures own { OwnsBoth
             (rules S.own S.step S.leaves S.reopens S.reopening_leaves S.compacts S.compaction_leaves)
             (rules P.own P.step P.leaves P.reopens P.reopening_leaves P.compacts P.compaction_leaves)
@@ -369,12 +366,10 @@ impl<S: Node, P: Node> Stage<'_, '_, '_, '_, S, P> {
             (stage_in self.old) }
         ensures ends { IfOk result (λ shown. (outcome : Option (Result (Unit {0}) OpenFault))
             × (text_view shown ≡ option_map (result_words (codes "compact")) outcome)
-            × OnSite site (λ old new. CompactionEnds
-            (rules S.own S.step S.leaves S.reopens S.reopening_leaves S.compacts S.compaction_leaves)
-            (min self.old.clock LAST) old outcome new)
-            (λ old new. CompactionEnds
-            (rules P.own P.step P.leaves P.reopens P.reopening_leaves P.compacts P.compaction_leaves)
-            (min self.old.clock LAST) old outcome new) (stage_in self.old) (stage_in self.new)) }
+            × OnSite (rules S.own S.step S.leaves S.reopens S.reopening_leaves S.compacts S.compaction_leaves)
+            (rules P.own P.step P.leaves P.reopens P.reopening_leaves P.compacts P.compaction_leaves) site
+            (λ _ node. Known node (Compacts node (min self.old.clock LAST)) outcome) (stage_in self.old)
+            (stage_in self.new)) }
         ensures own { OwnsBoth
             (rules S.own S.step S.leaves S.reopens S.reopening_leaves S.compacts S.compaction_leaves)
             (rules P.own P.step P.leaves P.reopens P.reopening_leaves P.compacts P.compaction_leaves)
@@ -394,9 +389,10 @@ impl<S: Node, P: Node> Stage<'_, '_, '_, '_, S, P> {
             (rules P.own P.step P.leaves P.reopens P.reopening_leaves P.compacts P.compaction_leaves)
             (stage_in self.old) }
         ensures ok { OnOk result
-            (CompactsAt (rules S.own S.step S.leaves S.reopens S.reopening_leaves S.compacts S.compaction_leaves)
+            (Obeys (rules S.own S.step S.leaves S.reopens S.reopening_leaves S.compacts S.compaction_leaves)
             (rules P.own P.step P.leaves P.reopens P.reopening_leaves P.compacts P.compaction_leaves) number site
-            (stage_in self.old) (stage_in self.new)) }
+            (codes "compact") (λ _ node. Compacts node (min self.old.clock LAST)) (stage_in self.old)
+            (stage_in self.new)) }
         ensures own { OwnsBoth
             (rules S.own S.step S.leaves S.reopens S.reopening_leaves S.compacts S.compaction_leaves)
             (rules P.own P.step P.leaves P.reopens P.reopening_leaves P.compacts P.compaction_leaves)

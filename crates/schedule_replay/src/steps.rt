@@ -4,7 +4,7 @@ ghost use Rattle.std.specs.Prelude.{◌≡◌, ◌≤◌, Option, Some, None, If
 ghost use Rattle.crash_disk.specs.Disk.{DiskState};
 ghost use Rattle.post_agent.specs.Agents as agents;
 ghost use Rattle.schedule_replay.specs.Deployments.{saying};
-ghost use Rattle.schedule_replay.specs.Hosts.{rules, stopping, failing};
+ghost use Rattle.schedule_replay.specs.Hosts.{rules};
 ghost use Rattle.schedule_replay.specs.Steps as spec;
 ghost use Rattle.schedule_replay.specs.Views.{stage_in, sending_view, OwnsBoth, SameStage};
 
@@ -198,8 +198,8 @@ impl<S: Node, P: Node> Stage<'_, '_, '_, '_, S, P> {
             (rules P.own P.step P.leaves P.reopens P.reopening_leaves P.compacts P.compaction_leaves)
             (stage_in self.old) }
         ensures ok { OnOk result
-            (stage_in self.new ≡ spec.armed number site (λ host. stopping call (spec.pick_number pick) host)
-            (λ host. stopping call (spec.pick_number pick) host) (stage_in self.old)) }
+            (stage_in self.new ≡ spec.armed number site
+            (λ disk. record disk { stopping = call; pick = spec.pick_number pick }) (stage_in self.old)) }
         ensures own { OwnsBoth
             (rules S.own S.step S.leaves S.reopens S.reopening_leaves S.compacts S.compaction_leaves)
             (rules P.own P.step P.leaves P.reopens P.reopening_leaves P.compacts P.compaction_leaves)
@@ -220,8 +220,7 @@ impl<S: Node, P: Node> Stage<'_, '_, '_, '_, S, P> {
             (rules P.own P.step P.leaves P.reopens P.reopening_leaves P.compacts P.compaction_leaves)
             (stage_in self.old) }
         ensures ok { OnOk result
-            (stage_in self.new ≡ spec.armed number site (λ host. failing call host) (λ host. failing call host)
-            (stage_in self.old)) }
+            (stage_in self.new ≡ spec.armed number site (λ disk. record disk { failing = call }) (stage_in self.old)) }
         ensures own { OwnsBoth
             (rules S.own S.step S.leaves S.reopens S.reopening_leaves S.compacts S.compaction_leaves)
             (rules P.own P.step P.leaves P.reopens P.reopening_leaves P.compacts P.compaction_leaves)

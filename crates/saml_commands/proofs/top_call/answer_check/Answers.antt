@@ -4,7 +4,6 @@ use Rattle.saml_commands.specs.Check.{rows_of, OfJudged}
 use Rattle.saml_commands.specs.Reading.{OfFile}
 use Rattle.saml_commands.specs.Running.{Check, OfCommand}
 use Rattle.saml_commands.specs.Serving.{Unserved}
-use Rattle.saml_commands.specs.Views.{answer_view}
 use Rattle.saml_commands.proofs.Answering.{if_ok_map}
 use Rattle.saml_commands.proofs.Checking.{by_set_up, by_bad}
 use Rattle.saml_commands.proofs.top_call.answer_check.Goals as goal
@@ -16,10 +15,10 @@ returns-in-Ok-clause-ok g c =
     let now = c.args.now in
     let body = c.args.body.now in
     let meaning = OfJudged (rows_of setup.asked.items setup.opened.items) setup.config now in
-    if_ok_map c.answer_form.result (λ answer. OfFile meaning (g.F.Files.holds c.set_up.new.files) body GREATEST_BODY (answer_view answer))
-    (λ answer. OfCommand told Unserved (Check c.args.config.now body now) (answer_view answer))
-    (λ answer h. by_set_up told c.args.config.now body setup now (answer_view answer) c.in-Ok.ensures.ok
-    (subst (λ holds. OfFile meaning holds body GREATEST_BODY (answer_view answer)) c.in-Ok.ensures.same h))
+    if_ok_map c.answer_form.result (λ answer. OfFile meaning (g.F.Files.holds c.set_up.new.files) body GREATEST_BODY answer)
+    (λ answer. OfCommand told Unserved (Check c.args.config.now body now) answer)
+    (λ answer h. by_set_up told c.args.config.now body setup now answer c.in-Ok.ensures.ok
+    (subst (λ holds. OfFile meaning holds body GREATEST_BODY answer) c.in-Ok.ensures.same h))
     c.answer_form.ensures.ok
 
 pub returns-in-Err-BadFile-clause-ok : goal.returns-in-Err-BadFile-clause-ok

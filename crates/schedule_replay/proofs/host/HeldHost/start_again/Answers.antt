@@ -7,23 +7,10 @@ returns-then-stopped-clause-ends g c =
     let a = c.in_ok-shown.ensures.restarts in (
       None,
       refl,
-      record {
-        result = a.0;
-        behind = host_in c.restart.new.self;
-        restarts = a.3;
-        ends = (sym c.stopped.ensures ∙ c.if-stopped.true, c.in_ok-recover.ensures.recovers);
-      },
+      (a.0, host_in c.restart.new.self, a.2, sym c.stopped.ensures ∙ c.if-stopped.true, c.in_ok-recover.ensures.recovers),
     )
 
 pub returns-clause-ends : goal.returns-clause-ends
 returns-clause-ends g c =
-    let a = c.in_ok-shown.ensures.restarts in (
-      Some a.0,
-      ap (λ words. Some words) a.2,
-      record {
-        result = a.0;
-        behind = host_in c.restart.new.self;
-        restarts = a.3;
-        ends = (sym c.stopped.ensures ∙ c.if-stopped.false, refl, a.1, refl);
-      },
-    )
+    let a = c.in_ok-shown.ensures.restarts in
+    (Some a.0, ap (λ words. Some words) a.1, (a.2, sym c.stopped.ensures ∙ c.if-stopped.false))

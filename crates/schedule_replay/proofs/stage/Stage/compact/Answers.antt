@@ -10,8 +10,8 @@ returns-clause-ok g c =
     let behind = stage_in c.compaction.new.self in
     where_ok c.show.result c.show.ensures.ok
     (λ is. record {
-      shown = ended.0;
+      known = ended.0;
       behind = behind;
       ends = ended.2;
-      shows = is ∙ ap (λ (words : Option (List ℕ)). shows c.args.number c.args.site words behind) ended.1;
+      shown = is ∙ ap (λ (words : Option (List ℕ)). shows c.args.number c.args.site words behind) ended.1;
     })
