@@ -10,7 +10,7 @@ use Rattle.std.proofs.lemmas.Slice.Eq.{bytes_eq-Decides}
 use Rattle.std.proofs.lemmas.Str.{is_utf8-from_IsUtf8, IsUtf8-from_is_utf8}
 use Rattle.access_policy.specs.declared.rule.Rule.{Rule}
 use Rattle.access_policy.specs.Rules.{has_rule}
-use Rattle.access_policy.specs.Conditions.{hex_byte, put, unescaped, in_utf8, user, tested, conditions_of}
+use Rattle.access_policy.specs.Conditions.{hex_byte, put, unescaped, user, tested, conditions_of}
 
 other_byte : (b c : ℕ) → b ≢ c → (b == c) ≡ false
 other_byte b c h = grind (arith, nat_tests)
@@ -51,16 +51,6 @@ pub escaped_first : (word : List ℕ) (byte : ℕ) → 3 ≤ length word → get
     × (length (take (length word - 3) (drop 3 word)) < length word)
 escaped_first word byte three first digits =
     (escaped word byte three first digits ∙ ap (λ rest. option_map (λ bytes. byte ∷ bytes) (unescaped rest)) (sym (rest_is 3 word)), shorter 3 word (omega arith) three)
-
-pub text_in_utf8 : (bytes text : List ℕ) → text ≡ bytes → IsUtf8 bytes → Some text ≡ in_utf8 bytes
-text_in_utf8 bytes text same is = ap Some same ∙ ap (λ t. cond t (Some bytes) None) (sym (is_utf8-from_IsUtf8 bytes is))
-
-no_text : (bytes : List ℕ) (t : Bool) → is_utf8 bytes ≡ t → ¬ (IsUtf8 bytes) → None ≡ cond t (Some bytes) None
-no_text bytes true is not = absurd (not (IsUtf8-from_is_utf8 bytes is))
-no_text bytes false is not = refl
-
-pub not_in_utf8 : (bytes : List ℕ) → ¬ (IsUtf8 bytes) → None ≡ in_utf8 bytes
-not_in_utf8 bytes not = no_text bytes (is_utf8 bytes) refl not
 
 -- the star that a word ends with is one byte
 pub star_is_ascii : (word : List ℕ) → ends_with nat_eq word (codes "/*") ≡ true → 2 ≤ length word → get_or word (length word - 1) 0 < 128

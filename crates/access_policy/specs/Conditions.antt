@@ -2,9 +2,10 @@
 use Rattle.std.specs.Prelude.{ℕ, ◌+◌, ◌-◌, ◌*◌, ◌==◌, List, [], ◌∷◌, codes, Option, None, Some, option_and_then, if◌then◌else◌}
 use Rattle.std.specs.Int.{is_in_range}
 use Rattle.std.specs.Option.{option_map}
-use Rattle.std.specs.Str.{bytes_eq, is_utf8}
+use Rattle.std.specs.Str.{bytes_eq}
 use Rattle.access_policy.specs.declared.rule.Condition.{Condition}
 use Rattle.access_policy.specs.declared.rule.Condition.TheVariants.{Has, Lacks, User}
+use Rattle.owned_values.specs.Options.{◌>>=◌, in_utf8}
 
 -- `0` to `9` and `a` to `f`
 abbrev pub hex_digit : ℕ → Option ℕ
@@ -14,11 +15,17 @@ hex_digit digit =
     else None
 
 abbrev pub hex_byte : ℕ → ℕ → Option ℕ
-hex_byte high low = option_and_then (λ h. option_map (λ l. 16 * h + l) (hex_digit low)) (hex_digit high)
+hex_byte high low = do
+  h ← hex_digit high
+  l ← hex_digit low
+  Some (16 * h + l)
 
 -- the first and the others, where both are there
 abbrev pub put : {X : Type 0} → Option X → Option (List X) → Option (List X)
-put first others = option_and_then (λ x. option_map (λ xs. x ∷ xs) others) first
+put first others = do
+  x ← first
+  xs ← others
+  Some (x ∷ xs)
 
 -- '\'
 abbrev pub backslash : ℕ
@@ -31,10 +38,6 @@ unescaped (b ∷ []) = if b == backslash then None else Some (b ∷ [])
 unescaped (b ∷ high ∷ []) = if b == backslash then None else put (Some b) (unescaped (high ∷ []))
 unescaped (b ∷ high ∷ low ∷ bytes) =
     if b == backslash then put (hex_byte high low) (unescaped bytes) else put (Some b) (unescaped (high ∷ low ∷ bytes))
-
--- bytes that are UTF-8
-abbrev pub in_utf8 : List ℕ → Option (List ℕ)
-in_utf8 bytes = if is_utf8 bytes then Some bytes else None
 
 -- the text that a word spells
 abbrev pub text_of : List ℕ → Option (List ℕ)
@@ -52,8 +55,10 @@ tested_of kind attribute value =
     else None
 
 abbrev pub tested : List ℕ → List ℕ → List ℕ → Option Condition
-tested kind attribute value =
-    option_and_then (λ a. option_and_then (λ v. tested_of kind a v) (text_of value)) (text_of attribute)
+tested kind attribute value = do
+  a ← text_of attribute
+  v ← text_of value
+  tested_of kind a v
 
 -- the conditions that words spell one after the other
 abbrev pub conditions_of : List (List ℕ) → Option (List Condition)

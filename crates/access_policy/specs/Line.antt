@@ -10,6 +10,7 @@ use Rattle.access_policy.specs.declared.rule.Pattern.{Pattern}
 use Rattle.access_policy.specs.declared.rule.Rule.{Rule}
 use Rattle.access_policy.specs.declared.rule.TheConstants.{MAX_CONDITIONS, MAX_NAME_LENGTH}
 use Rattle.access_policy.specs.Conditions.{conditions_of}
+use Rattle.owned_values.specs.Options.{◌>>=◌}
 
 -- a letter, a digit or '-'
 abbrev pub is_name_byte : ℕ → Bool
@@ -24,9 +25,13 @@ is_rule_name name =
 abbrev pub is_path_byte : ℕ → Bool
 is_path_byte byte = is_ascii_alphanumeric byte || list_any (λ other. byte == other) (codes "._~/-")
 
--- `/app` or what is below it
+-- `/app`, and each path below it
+abbrev pub is_app : List ℕ → Bool
+is_app path = bytes_eq path (codes "/app") || starts_with nat_eq path (codes "/app/")
+
+-- the paths that a rule may be for
 abbrev pub is_path : List ℕ → Bool
-is_path path = (bytes_eq path (codes "/app") || starts_with nat_eq path (codes "/app/")) && list_all is_path_byte path
+is_path path = is_app path && list_all is_path_byte path
 
 -- what the paths begin with that a path ended by `/*` is for: all in front of the `*`
 abbrev pub prefix_of : List ℕ → Option (List ℕ)
@@ -46,10 +51,6 @@ verb_of word =
     if bytes_eq word (codes "allow") then Some true
     else if bytes_eq word (codes "deny") then Some false
     else None
-
-infixl 10 ◌>>=◌
-abbrev pub ◌>>=◌ : {X Y : Type 0} → Option X → (X → Option Y) → Option Y
-o >>= f = option_and_then f o
 
 -- the rule of these words
 abbrev pub spelled : List (List ℕ) → Option Rule

@@ -2,12 +2,13 @@
 use Rattle.std.specs.Prelude.{ℕ, Bool, ◌||◌, nat_le, List, [], ◌∷◌, ◌++◌, length, Option, None, Some, Result, if◌then◌else◌}
 use Rattle.std.specs.List.{list_any}
 use Rattle.std.specs.Str.{bytes_eq}
-use Rattle.text_lines.specs.Lines.{Said, Says, NoText, said, with_lines}
+use Rattle.text_lines.specs.Lines.{said, with_lines}
 use Rattle.access_policy.specs.declared.fault.PolicyFault.{PolicyFault}
 use Rattle.access_policy.specs.declared.fault.PolicyFault.TheVariants as faults
 use Rattle.access_policy.specs.declared.rule.Rule.{Rule}
 use Rattle.access_policy.specs.declared.rule.TheConstants.{MAX_RULES}
-use Rattle.access_policy.specs.Line.{rule_of, ◌>>=◌}
+use Rattle.access_policy.specs.Line.{rule_of}
+use Rattle.owned_values.specs.Options.{◌>>=◌}
 
 -- one of the rules has this name
 abbrev pub has_rule : List Rule → List ℕ → Bool
@@ -27,8 +28,3 @@ policy text = with_lines with_rule [] (said text)
 abbrev pub fault_of : PolicyFault → Option ℕ
 fault_of (faults.Line number) = Some number
 fault_of faults.NoMemory = None
-
--- the number of a line
-abbrev pub number_said : Said → ℕ
-number_said (Says number text) = number
-number_said (NoText number) = number

@@ -60,22 +60,12 @@ fn unescaped(alloc: Global, word: &[u8]) -> Result<Option<Blob>, NoMemory>
     Ok(Some(found))
 }
 
-/// The text of these bytes, where they are UTF-8.
-fn in_utf8(alloc: Global, bytes: &[u8]) -> Result<Option<Text>, NoMemory>
-    ensures { IfOk result (λ text. text ≡ spec.in_utf8 bytes.now) }
-{
-    match str::from_utf8(bytes) {
-        Ok(text) => Ok(Some(Text::of(alloc, text)?)),
-        Err(_) => Ok(None),
-    }
-}
-
 /// The text that a word spells.
 fn text_of(alloc: Global, word: &str) -> Result<Option<Text>, NoMemory>
     ensures { IfOk result (λ text. text ≡ spec.text_of word.now) }
 {
     match unescaped(alloc, word.as_bytes())? {
-        Some(bytes) => in_utf8(alloc, bytes.as_slice()),
+        Some(bytes) => Text::of_utf8(alloc, bytes.as_slice()),
         None => Ok(None),
     }
 }

@@ -36,6 +36,7 @@ mod rule;
 
 pub use denied::denied_page;
 pub use fault::PolicyFault;
+pub use line::{are_path_bytes, is_app};
 pub use policy::{Decision, Policy};
 pub use read::{MAX_POLICY_LENGTH, read_policy};
 pub use rule::{MAX_CONDITIONS, MAX_NAME_LENGTH, MAX_RULES};

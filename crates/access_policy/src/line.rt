@@ -42,18 +42,25 @@ fn is_path_byte(byte: u8) -> bool
     byte.is_ascii_alphanumeric() || matches!(byte, b'.' | b'_' | b'~' | b'/' | b'-')
 }
 
-/// Whether each byte may stand in a path.
-fn are_path_bytes(bytes: &[u8]) -> bool
+/// Whether each byte may stand in a path: an ASCII letter or digit, or one of `._~/-` (RFC 3986, 2.3 and 3.3).
+pub fn are_path_bytes(bytes: &[u8]) -> bool
     ensures { result ≡ list_all spec.is_path_byte bytes.now }
 {
     bytes.iter().all(|byte| is_path_byte(*byte))
+}
+
+/// Whether a path is `/app` or below it.
+pub fn is_app(path: &[u8]) -> bool
+    ensures { result ≡ spec.is_app path.now }
+{
+    path == b"/app".as_slice() || path.starts_with(b"/app/")
 }
 
 /// Whether the bytes are a path that a rule may be for.
 fn is_path(path: &[u8]) -> bool
     ensures { result ≡ spec.is_path path.now }
 {
-    (path == b"/app".as_slice() || path.starts_with(b"/app/")) && are_path_bytes(path)
+    is_app(path) && are_path_bytes(path)
 }
 
 /// What the paths begin with that the word is for, where it is a path ended by `/*`.

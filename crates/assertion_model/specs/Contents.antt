@@ -1,10 +1,11 @@
 -- What an element's content shows: its children by name, its text, and its attributes. Comments and prefixes are no part of
 -- it, and texts that meet are one.
 use Rattle.std.specs.Prelude.{ℕ, List, [], ◌∷◌, ◌++◌, Option, None, Some, if◌then◌else◌}
-use Rattle.std.specs.Option.{option_map, option_and_then}
 use Rattle.xml_spec.specs.Names.{ExpandedName}
 use Rattle.xml_spec.specs.Content.{ContentAttribute, Contents, NoContents, ElementContent, TextContent, InstructionContent}
 use Rattle.tree_read.specs.Children.{is_name}
+use Rattle.owned_values.specs.Options.{◌>>=◌}
+pub use Rattle.owned_values.specs.Options.{only, at_most_one}
 
 -- the attributes and the children of an element
 pub record Part : Type 0 where
@@ -39,18 +40,6 @@ value local [] = None
 value local (a ∷ attributes) =
     if is_name (record { namespace = []; local = local }) a.name then Some a.value else value local attributes
 
--- the one that there is, none where there are none or more
-abbrev pub only : {X : Type 0} → List X → Option X
-only [] = None
-only (x ∷ []) = Some x
-only (x ∷ y ∷ others) = None
-
--- that there is one or none, and which
-abbrev pub at_most_one : {X : Type 0} → List X → Option (Option X)
-at_most_one [] = Some None
-at_most_one (x ∷ []) = Some (Some x)
-at_most_one (x ∷ y ∷ others) = None
-
 -- the first, where there is one
 abbrev pub first : {X : Type 0} → List X → Option X
 first [] = None
@@ -59,4 +48,7 @@ first (x ∷ others) = Some x
 -- what each of them says, where each says something
 abbrev pub each : {X Y : Type 0} → (X → Option Y) → List X → Option (List Y)
 each says [] = Some []
-each says (x ∷ others) = option_and_then (λ y. option_map (λ ys. y ∷ ys) (each says others)) (says x)
+each says (x ∷ others) = do
+  y ← says x
+  ys ← each says others
+  Some (y ∷ ys)

@@ -1,20 +1,21 @@
 -- Where a login is read in a document, by the numbers of the elements: SAML Core, 2.4.1 and 2.7.3.
 use Rattle.std.specs.Prelude.{◌≡◌, ℕ, List, codes, Option, Some}
 use Rattle.std.specs.List.{flat_map}
-use Rattle.std.specs.Option.{option_and_then}
 use Rattle.xml_spec.specs.Tree.{Nodes}
 use Rattle.saml_names.specs.Names.{saml}
 use Rattle.saml_tree.specs.Elements.{IsElement}
 use Rattle.sig_reference.specs.Vouching.{IsIn}
 use Rattle.tree_read.specs.Children.{children}
 use Rattle.owned_values.specs.declared.attributes.Attribute.{Attribute}
+use Rattle.owned_values.specs.Options.{◌>>=◌}
 use Rattle.assertion_model.specs.Contents.{first}
 use Rattle.assertion_model.specs.Parts.{own_signature}
 
 -- Core, 2.4.1: the NameID of the Subject of element e
 abbrev pub name_place : Nodes → ℕ → Option ℕ
-name_place tree e =
-    option_and_then (λ subject. first (children tree subject (saml (codes "NameID")))) (first (children tree e (saml (codes "Subject"))))
+name_place tree e = do
+  subject ← first (children tree e (saml (codes "Subject")))
+  first (children tree subject (saml (codes "NameID")))
 
 -- Core, 2.7.3.1: the values of an Attribute
 abbrev pub places_of_attribute : Nodes → ℕ → List ℕ

@@ -22,6 +22,16 @@ fn texts_and_bytes_are_made_and_grow(rt: HostRuntime) -> Result<(), Fail> {
 }
 
 #[test]
+fn bytes_that_are_utf_8_are_a_text(rt: HostRuntime) -> Result<(), Fail> {
+    let Some(text) = Text::of_utf8(rt.alloc(), b"\xC3\xA9")? else {
+        return Err(Fail::from("no text"));
+    };
+    assert_eq!(rt; text.as_str(), "é");
+    assert!(rt; Text::of_utf8(rt.alloc(), b"\xC3")?.is_none());
+    Ok(())
+}
+
+#[test]
 fn attributes_are_kept_and_copied(rt: HostRuntime) -> Result<(), Fail> {
     let mut values = Texts::new(rt.alloc());
     values.push(Text::of(rt.alloc(), "reader")?)?;

@@ -10,7 +10,8 @@ use Rattle.verdict_codes.specs.declared.codes.Verdict.{Verdict}
 use Rattle.verdict_codes.specs.declared.codes.Verdict.TheVariants.{BadForm, BadBase64, TooLarge, BadXml, XmlLimit, BadNames, DuplicateId, NotResponse, NotSuccess, NotOneAssertion, BadSignatureForm, BadReference, TagDiffers, DigestDiffers, BadAssertion, WrongIssuer, WrongAudience, WrongRecipient, NotInTime, NotOutstanding, RequestSpent, AssertionSeen, RelayDiffers, NotLogout, UnknownPeer, LogoutDestination, NoSuchSession, UnknownLogout, LogoutNotInTime, NotAuthnRequest, UnknownIssuer, RequestDestination, WrongConsumer, NoSuchPending, LoginRefused, DiskFault, Full, NoMemory, Foreign, RegistryExpired}
 use Rattle.verdict_codes.specs.Codes.{number_of, name_of}
 use Rattle.xml_spec.proofs.Tests.{both_true, either_true}
-use Rattle.http_wire.specs.declared.fixed.TheConstants.{VERDICTS, FIXED_STATUSES}
+use Rattle.http_wire.specs.declared.fixed.TheConstants.{FIXED_STATUSES}
+use Rattle.verdict_codes.specs.declared.codes.TheConstants.{VERDICTS}
 use Rattle.http_wire.specs.Laws.{EachVerdictHasItsAnswer, FixedAnswersHaveRoom}
 use Rattle.http_wire.specs.Answers.{answer, page, refusal, status_page, status_of, verdict_of, is_fixed, fixed}
 

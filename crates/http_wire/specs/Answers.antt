@@ -9,7 +9,8 @@ use Rattle.verdict_codes.specs.declared.codes.Verdict.TheVariants.{DiskFault, Fu
 use Rattle.verdict_codes.specs.Codes.{number_of, name_of}
 use Rattle.http_wire.specs.declared.status.TheConstants.{FORBIDDEN, SERVICE_UNAVAILABLE}
 use Rattle.http_wire.specs.declared.answer.TheConstants.{PAGE_STATUSES}
-use Rattle.http_wire.specs.declared.fixed.TheConstants.{VERDICTS, FIXED_STATUSES}
+use Rattle.http_wire.specs.declared.fixed.TheConstants.{FIXED_STATUSES}
+use Rattle.verdict_codes.specs.declared.codes.TheConstants.{VERDICTS}
 
 -- ---- an answer
 

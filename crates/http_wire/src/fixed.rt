@@ -11,54 +11,10 @@ use crate::status::{
     PAYLOAD_TOO_LARGE, SERVICE_UNAVAILABLE, UNAUTHORIZED, UNSUPPORTED_MEDIA_TYPE,
 };
 use itoa::Buffer;
-use verdict_codes::Verdict;
+use verdict_codes::{VERDICTS, Verdict};
 
 /// The room for an answer that [`put_fixed`] writes, in bytes.
 pub const FIXED_ROOM: usize = 512;
-
-// The verdicts, each of which has an answer.
-const VERDICTS: [Verdict; 40] = [
-    Verdict::BadForm,
-    Verdict::BadBase64,
-    Verdict::TooLarge,
-    Verdict::BadXml,
-    Verdict::XmlLimit,
-    Verdict::BadNames,
-    Verdict::DuplicateId,
-    Verdict::NotResponse,
-    Verdict::NotSuccess,
-    Verdict::NotOneAssertion,
-    Verdict::BadSignatureForm,
-    Verdict::BadReference,
-    Verdict::TagDiffers,
-    Verdict::DigestDiffers,
-    Verdict::BadAssertion,
-    Verdict::WrongIssuer,
-    Verdict::WrongAudience,
-    Verdict::WrongRecipient,
-    Verdict::NotInTime,
-    Verdict::NotOutstanding,
-    Verdict::RequestSpent,
-    Verdict::AssertionSeen,
-    Verdict::RelayDiffers,
-    Verdict::NotLogout,
-    Verdict::UnknownPeer,
-    Verdict::LogoutDestination,
-    Verdict::NoSuchSession,
-    Verdict::UnknownLogout,
-    Verdict::LogoutNotInTime,
-    Verdict::NotAuthnRequest,
-    Verdict::UnknownIssuer,
-    Verdict::RequestDestination,
-    Verdict::WrongConsumer,
-    Verdict::NoSuchPending,
-    Verdict::LoginRefused,
-    Verdict::DiskFault,
-    Verdict::Full,
-    Verdict::NoMemory,
-    Verdict::Foreign,
-    Verdict::RegistryExpired,
-];
 
 // The statuses that are answered alone.
 const FIXED_STATUSES: [u16; 9] = [

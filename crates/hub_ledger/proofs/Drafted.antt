@@ -26,10 +26,12 @@ use Rattle.hub_ledger.specs.declared.ids.RequestIds.{RequestIds}
 use Rattle.hub_ledger.specs.Ids.{AreLoginIds, AreRequestIds}
 use Rattle.hub_ledger.specs.RowsOf.{Route, asked_rows, below_rows, opened_rows, routes, rows_of}
 use Rattle.hub_ledger.specs.Finding.{routed_row}
-use Rattle.hub_ledger.specs.Record.{drawn, goes_to, is_free, is_routed, moments, next_of, of_attribute, of_option, same_option, texts, AreRecords, AreRecordsAfter, LAST, hub_rules}
+use Rattle.hub_ledger.specs.Record.{drawn, goes_to, is_free, is_routed, moments, next_of, of_attribute, same_option, texts, AreRecords, AreRecordsAfter, LAST, hub_rules}
 use Rattle.hub_ledger.specs.Ledger.{Held, OpenedLedger, next_number}
 use Rattle.hub_ledger.specs.Drafts.{backed, backed_with, passed_with, routed, routed_with, spoke, AreSessionTexts, Drafts, IsDraftable, IsXmlBelow}
 use Rattle.hub_ledger.proofs.Words.{is_record-is, parts}
+use Rattle.std.specs.Option.{option_to_list, option_map_or}
+use Rattle.record_ledger.specs.Drafts.{MOST_ROWS}
 
 -- ---- what may be drafted
 
@@ -193,7 +195,7 @@ module _ (held : Held) (key : List ℕ) (ids : LoginIds) (are : AreLoginIds key 
       let t2 = and_parts (is_xml_text new.issuer) _ t1.1 in
       let t3 = and_parts (is_xml_text new.assertion) _ t2.1 in
       let t4 = and_parts (is_xml_text new.name) _ t3.1 in
-      let attributes = behind_xml (of_option new.index) (flat_map of_attribute new.attributes) t4.1 in
+      let attributes = behind_xml (option_to_list new.index) (flat_map of_attribute new.attributes) t4.1 in
       draftable held (backed_with first now ids route.below new)
       (both (is_routed asked below made) (not (is_spent (opened_rows held.records) new.request))
       (found_any (is_it now new) (λ (other : Route). bytes_eq other.asked.request new.request && goes_to made other.below) (routes asked below) route found.1
@@ -264,9 +266,9 @@ refused_alike : (old new : OpenedLedger) (one other : HubRecord) → length (hub
     → (result : Result HubRecord DraftFault) → Drafts old new one result → Drafts old new other result
 refused_alike old new one other long kind past past' (Ok drafted) is = absurd (past is.can.fits.numbers)
 refused_alike old new one other long kind past past' (Err (LedgerFull kept)) is =
-    (ap Rattle.record_ledger.specs.Drafts.is_most (sym kind) ∙ is.0, sym kind ∙ is.1)
+    (ap (λ (n : Option ℕ). option_map_or (nat_le MOST_ROWS) n false) (sym kind) ∙ is.0, sym kind ∙ is.1)
 refused_alike old new one other long kind past past' (Err (JournalFull len room next)) is =
-    (ap Rattle.record_ledger.specs.Drafts.is_most (sym kind) ∙ is.0, λ fits. past' fits.numbers, is.2 ∙ ap capped long, is.3, is.4)
+    (ap (λ (n : Option ℕ). option_map_or (nat_le MOST_ROWS) n false) (sym kind) ∙ is.0, λ fits. past' fits.numbers, is.2 ∙ ap capped long, is.3, is.4)
 refused_alike old new one other long kind past past' (Err NoMemory) is = tt
 
 pub routed_drafts : (old new : OpenedLedger) (key : List ℕ) (next now : ℕ) (ids : RequestIds) (below : BelowRow) (result : Result HubRecord DraftFault)

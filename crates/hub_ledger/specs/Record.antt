@@ -15,7 +15,7 @@ use Rattle.record_ledger.specs.Rules as any
 use Rattle.hub_ledger.specs.declared.row.BelowRow.{BelowRow}
 use Rattle.hub_ledger.specs.RowsOf.{HubRows, routes, rows_of, rows_of_kind}
 use Rattle.hub_ledger.specs.Naming.{has_visible, names}
-pub use Rattle.ledger_rules.specs.Texts.{of_option, of_attribute}
+pub use Rattle.ledger_rules.specs.Texts.{of_attribute}
 pub use Rattle.ledger_rules.specs.Moments.{LAST}
 
 -- whether two texts that may be absent are the same

@@ -2,7 +2,8 @@
 
 ghost use Rattle.std.specs.Prelude.{◌≡◌, ◌≤◌, IfOk, IfErr, OnOk};
 ghost use Rattle.sp_setup.specs.Faults.{IsFaultOf};
-ghost use Rattle.hub_setup.specs.Setup.{nothing, with_peer, Adds, IsBadFile, AreLoaded, IsFirstBad};
+ghost use Rattle.sp_setup.specs.Files.{in_order};
+ghost use Rattle.hub_setup.specs.Setup.{nothing, with_peer, load};
 
 use idp_setup::read_peer_files;
 use peer_keys::{LogoutPeer, Peers};
@@ -51,8 +52,8 @@ impl Loaded {
         files: &mut F,
         named: &HubFile,
     ) -> Result<(), SetupFault>
-        ensures ok { OnOk result (Adds (F.holds files.old) named.now self.old self.new) }
-        ensures err { IfErr result (IsFaultOf (IsBadFile (F.holds files.old) named.now) (F.faults_of files.old) (F.faults_of files.new)) }
+        ensures ok { OnOk result ((load named.now self.old).gives (F.holds files.old) self.new) }
+        ensures err { IfErr result (IsFaultOf ((load named.now self.old).fails (F.holds files.old)) (F.faults_of files.old) (F.faults_of files.new)) }
         ensures same { F.holds files.new ≡ F.holds files.old }
         ensures never_falls { F.faults_of files.old ≤ F.faults_of files.new }
     {
@@ -77,8 +78,8 @@ impl Loaded {
         files: &mut F,
         named: &[HubFile],
     ) -> Result<Loaded, SetupFault>
-        ensures ok { IfOk result (AreLoaded (F.holds files.old) named.now nothing) }
-        ensures err { IfErr result (IsFaultOf (IsFirstBad (F.holds files.old) named.now nothing) (F.faults_of files.old) (F.faults_of files.new)) }
+        ensures ok { IfOk result ((in_order load named.now nothing).gives (F.holds files.old)) }
+        ensures err { IfErr result (IsFaultOf ((in_order load named.now nothing).fails (F.holds files.old)) (F.faults_of files.old) (F.faults_of files.new)) }
         ensures same { F.holds files.new ≡ F.holds files.old }
         ensures never_falls { F.faults_of files.old ≤ F.faults_of files.new }
     {

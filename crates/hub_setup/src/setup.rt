@@ -5,7 +5,8 @@ ghost use Rattle.provider_config.specs.HubViews.{config_view, has_files};
 ghost use Rattle.provider_config.specs.Config as sp;
 ghost use Rattle.sp_setup.specs.Faults.{IsFaultOf};
 ghost use Rattle.identity_hub.specs.Config.{IsUsable};
-ghost use Rattle.hub_setup.specs.Setup.{config_of, IsSetUpBy, IsBadNamed, IsSetUp, IsBadSetUp};
+ghost use Rattle.hub_setup.specs.Config.{config_of};
+ghost use Rattle.hub_setup.specs.Setup.{set_up_by, IsSetUp, IsBadSetUp};
 
 use crate::loaded::Loaded;
 use identity_hub::HubConfig;
@@ -50,8 +51,8 @@ fn set_up_by<F: Files>(
     lines: HubLines,
 ) -> Result<HubConfig, SetupFault>
     requires { IsTrue (has_files lines.files.items) }
-    ensures ok { IfOk result (IsSetUpBy (F.holds files.old) (config_view lines)) }
-    ensures err { IfErr result (IsFaultOf (IsBadNamed (F.holds files.old) file.now (config_view lines)) (F.faults_of files.old) (F.faults_of files.new)) }
+    ensures ok { IfOk result ((set_up_by file.now (config_view lines)).gives (F.holds files.old)) }
+    ensures err { IfErr result (IsFaultOf ((set_up_by file.now (config_view lines)).fails (F.holds files.old)) (F.faults_of files.old) (F.faults_of files.new)) }
     ensures same { F.holds files.new ≡ F.holds files.old }
     ensures never_falls { F.faults_of files.old ≤ F.faults_of files.new }
 {

@@ -17,7 +17,7 @@ use Rattle.sig_reference.specs.Signing.{signed, signature}
 use Rattle.assertion_model.specs.declared.login.Login.{Login}
 use Rattle.assertion_model.specs.Assertion.{assertion, IsAssertionOf}
 use Rattle.protocol_messages.specs.Making.{response, assertion_made, attribute}
-use Rattle.protocol_messages.specs.Messages.{only, one_at_most, with_value, status_in_code, IsResponse}
+use Rattle.protocol_messages.specs.Messages.{only, at_most_one, with_value, status_in_code, IsResponse}
 use Rattle.protocol_messages.proofs.Reading.{response_read}
 use Rattle.protocol_messages.proofs.Standing.{Stands, some, first_kid, behind, kids_here, attribute_here, text_here}
 use Rattle.provider_config.specs.declared.idp_config.SignMode.{SignMode}
@@ -43,7 +43,7 @@ succeeded_read tree scope bound k rest here =
     let code = first_kid here (some _) in
     ap (λ cs. option_and_then (status_in_code tree) (only (named (samlp (codes "StatusCode")) cs))) (kids_here here)
     ∙ ap (λ n. option_and_then (status_in_code tree) (only (named (samlp (codes "StatusCode")) (child (suc k) (record { namespace = n; local = codes "StatusCode" }) ∷ [])))) bound
-    ∙ (λ i. with_value tree (attribute_here code (codes "Value") i) (one_at_most (named (samlp (codes "StatusCode")) (kids_here code i))))
+    ∙ (λ i. with_value tree (attribute_here code (codes "Value") i) (at_most_one (named (samlp (codes "StatusCode")) (kids_here code i))))
 
 -- the element is read as a success with one Assertion, and with a Signature or without one
 pub record IsRead (message issuer consumer request : List ℕ) (has_signature : Bool) (sent : Made) : Type 0 where

@@ -7,15 +7,17 @@ use Rattle.ledger_records.specs.declared.idp_round.Told.{Told}
 use Rattle.ledger_records.specs.declared.idp_record.IdpRecord.{IdpRecord}
 use Rattle.ledger_records.specs.declared.idp_record.IdpRecord.TheVariants as kinds
 use Rattle.round_rows.specs.declared.row.RoundRow.{RoundRow}
-use Rattle.round_rows.specs.Rounds.{is_done, waits_for, current, after_answer, answered_if}
+use Rattle.round_rows.specs.Rounds.{is_done, waits_for, after_answer, answered_if}
 use Rattle.record_ledger.specs.Marks.{all, kept, KeepsAll}
 use Rattle.record_ledger.proofs.Words.{same_text, text_itself}
 use Rattle.record_ledger.proofs.Draftable.{both}
 use Rattle.idp_rows.specs.Finding.{visible}
 use Rattle.idp_rows.specs.RoundsOf.{round_row, round_behind, round_rows}
-use Rattle.idp_ledger.specs.Naming.{has_request, has_visible, is_next_request, names}
+use Rattle.idp_ledger.specs.Naming.{has_request, has_visible, names}
 use Rattle.idp_rows.specs.Record.{fits_where_waiting, is_answer_free}
 use Rattle.idp_ledger.proofs.KeptMarks.{Marked, NamersOf, AreClosed}
+use Rattle.owned_values.specs.Options.{is_there}
+use Rattle.std.specs.Option.{unwrap_or}
 
 -- a record that made the request for which a round waits is named by the Told that answers it
 asks_so : (h : IdpRecord) (row : RoundRow) (t : Told) → has_request row.request h ≡ true → waits_for t.request row ≡ true → names (kinds.Told t) h ≡ true
@@ -30,9 +32,9 @@ record Holder (P : IdpRecord → Type 0) (row : RoundRow) : Type 0 where
   its : P maker
 
 next_holder : (P : IdpRecord → Type 0) (row : RoundRow) (t : Told) (next : Option (List ℕ)) → t.next ≡ next → Holder P row → P (kinds.Told t) → Holder P (after_answer t.confirmed t.next row)
-next_holder P row t None none h its = record { maker = h.maker; has = ap (λ n. has_request (current n row.request) h.maker) none ∙ h.has; its = h.its }
+next_holder P row t None none h its = record { maker = h.maker; has = ap (λ n. has_request (unwrap_or n row.request) h.maker) none ∙ h.has; its = h.its }
 next_holder P row t (Some id) some h its =
-    record { maker = kinds.Told t; has = ap (λ n. is_next_request (current n row.request) n) some ∙ text_itself id; its = its }
+    record { maker = kinds.Told t; has = ap (λ n. is_there (unwrap_or n row.request) n) some ∙ text_itself id; its = its }
 
 -- ---- a round that is kept
 

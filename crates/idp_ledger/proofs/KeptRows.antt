@@ -15,11 +15,12 @@ use Rattle.idp_rows.specs.declared.row.PendingRow.{PendingRow}
 use Rattle.idp_rows.specs.declared.row.SessionRow.{SessionRow}
 use Rattle.idp_rows.specs.declared.row.LeftRow.{LeftRow}
 use Rattle.idp_rows.specs.Finding.{visible}
-use Rattle.idp_rows.specs.RowsOf.{if_pending, pending_rows, session_rows, left_rows, pending_row, session_row, left_row, is_pending, uses, ends, confirms}
+use Rattle.idp_rows.specs.RowsOf.{if_pending, pending_rows, session_rows, left_rows, pending_row, session_row, left_row, uses, ends, confirms}
 use Rattle.idp_ledger.proofs.KeptMarks.{Marked, NamersOf, AreClosed}
+use Rattle.owned_values.specs.Options.{is_there}
 
 -- what uses a login, ends a session or confirms a logout names its record
-issue_user : (r : Pending) (p : Option (List ℕ)) (cookie : List ℕ) → is_pending r.pending p ≡ true → issue_names p cookie (kinds.Pending r) ≡ true
+issue_user : (r : Pending) (p : Option (List ℕ)) (cookie : List ℕ) → is_there r.pending p ≡ true → issue_names p cookie (kinds.Pending r) ≡ true
 issue_user r None cookie here = absurd (false≢true here)
 issue_user r (Some pending) cookie here = other_way pending r.pending here
 

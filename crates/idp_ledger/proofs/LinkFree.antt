@@ -9,16 +9,16 @@ use Rattle.ledger_records.specs.declared.idp_round.Round.{Round}
 use Rattle.ledger_records.specs.declared.idp_round.Told.{Told}
 use Rattle.ledger_records.specs.declared.idp_record.IdpRecord.{IdpRecord}
 use Rattle.ledger_records.specs.declared.idp_record.IdpRecord.TheVariants as kinds
-use Rattle.std.specs.Option.{is_some}
+use Rattle.std.specs.Option.{is_some, option_to_list}
 use Rattle.ledger_rules.specs.Numbers.{Drawn}
 use Rattle.record_ledger.specs.Compacting.{passes}
 use Rattle.record_ledger.specs.Linking as any
 use Rattle.record_ledger.proofs.Words.{same_text, other_way}
 use Rattle.record_ledger.proofs.LinkRows.{alone, other_not, among_one}
-use Rattle.idp_rows.specs.RowsOf.{is_among, is_pending, uses, ends, confirms, pending_rows, session_rows, left_rows, rows_of}
+use Rattle.idp_rows.specs.RowsOf.{is_among, uses, ends, confirms, pending_rows, session_rows, left_rows, rows_of}
 use Rattle.idp_ledger.specs.Record.{is_record, AreRecords, idp_rules}
-use Rattle.idp_rows.specs.Record.{of_option, is_unused, is_unended, is_waiting, is_issue_free, fits_where_waiting}
-use Rattle.idp_ledger.specs.Naming.{has_cookie, has_pending, has_session, has_logout, has_request, is_next_request, issue_names, names}
+use Rattle.idp_rows.specs.Record.{is_unused, is_unended, is_waiting, is_issue_free, fits_where_waiting}
+use Rattle.idp_ledger.specs.Naming.{has_cookie, has_pending, has_session, has_logout, has_request, issue_names, names}
 use Rattle.idp_ledger.specs.Linking.{idp_links, named, row_found, next_found, session_found, where_none, within}
 use Rattle.round_rows.specs.Rounds.{waits_for}
 use Rattle.idp_rows.specs.RoundsOf.{round_rows}
@@ -26,6 +26,7 @@ use Rattle.record_ledger.proofs.FreeRows.{free_among, free_at}
 use Rattle.idp_ledger.proofs.FreeKeys.{unended_cookies, unused_pendings, waiting_logouts}
 use Rattle.idp_ledger.proofs.RoundChains.{answers_it, holder_at}
 use Rattle.idp_ledger.proofs.LawWords.{parts}
+use Rattle.owned_values.specs.Options.{is_there}
 
 -- whether a record has a row with one of these IDs, and whether one names another that is linked to it
 abbrev pub has_id : List (List ℕ) → IdpRecord → Bool
@@ -57,7 +58,7 @@ logout_has : (request : List ℕ) (x : IdpRecord) → has_logout request x ≡ t
 logout_has request (kinds.Left l) is = alone (bytes_eq request l.request) (other_way l.request request is)
 logout_has request other is = absurd (false≢true is)
 
-request_found : (request : List ℕ) (first : ℕ) (next : Option (List ℕ)) → is_next_request request next ≡ true → passes (λ (d : Drawn). is_among d.id (request ∷ [])) (next_found first next) ≡ true
+request_found : (request : List ℕ) (first : ℕ) (next : Option (List ℕ)) → is_there request next ≡ true → passes (λ (d : Drawn). is_among d.id (request ∷ [])) (next_found first next) ≡ true
 request_found request first None is = absurd (false≢true is)
 request_found request first (Some next) is = alone (bytes_eq request next) (other_way next request is)
 
@@ -67,7 +68,7 @@ request_has request (kinds.Told x) is = request_found request x.first x.next is
 request_has request other is = absurd (false≢true is)
 
 -- a record that is named and linked has one of the IDs
-issue_has : (p : Option (List ℕ)) (cookie : List ℕ) (x : IdpRecord) → (not (is_some (where_none p cookie)) && issue_names p cookie x) ≡ true → has_id (of_option p) x ≡ true
+issue_has : (p : Option (List ℕ)) (cookie : List ℕ) (x : IdpRecord) → (not (is_some (where_none p cookie)) && issue_names p cookie x) ≡ true → has_id (option_to_list p) x ≡ true
 issue_has None cookie x is = absurd (false≢true is)
 issue_has (Some pending) cookie x is = pending_has pending x is
 
@@ -81,13 +82,13 @@ names_has (kinds.Told r) x is = request_has r.request x is
 names_has other x is = absurd (false≢true is)
 
 -- a record that is linked does not name what it does not use, end or confirm
-unused_by : (o : Pending) (p : Option (List ℕ)) (cookie : List ℕ) → is_pending o.pending p ≡ false → (not (is_some (where_none p cookie)) && issue_names p cookie (kinds.Pending o)) ≡ false
+unused_by : (o : Pending) (p : Option (List ℕ)) (cookie : List ℕ) → is_there o.pending p ≡ false → (not (is_some (where_none p cookie)) && issue_names p cookie (kinds.Pending o)) ≡ false
 unused_by o None cookie none = refl
 unused_by o (Some pending) cookie none = other_not pending o.pending none
 
 unused_names : (id : List ℕ) (x y : IdpRecord) → has_pending id x ≡ true → uses id y ≡ false → names_up y x ≡ false
 unused_names id (kinds.Pending o) (kinds.Issued r) has none =
-    unused_by o r.pending r.cookie (subst (λ t. is_pending t r.pending ≡ false) (sym (same_text o.pending id has)) none)
+    unused_by o r.pending r.cookie (subst (λ t. is_there t r.pending ≡ false) (sym (same_text o.pending id has)) none)
 unused_names id (kinds.Pending o) (kinds.Pending r) has none = refl
 unused_names id (kinds.Pending o) (kinds.Ended r) has none = refl
 unused_names id (kinds.Pending o) (kinds.Left r) has none = refl
@@ -151,7 +152,7 @@ untold_by : (a : Told) (p : Option (List ℕ)) (cookie : List ℕ) → (not (is_
 untold_by a None cookie = refl
 untold_by a (Some pending) cookie = refl
 
-not_next : (q request : List ℕ) (next : Option (List ℕ)) → is_next_request q next ≡ true → bytes_eq request q ≡ false → is_next_request request next ≡ false
+not_next : (q request : List ℕ) (next : Option (List ℕ)) → is_there q next ≡ true → bytes_eq request q ≡ false → is_there request next ≡ false
 not_next q request None has none = refl
 not_next q request (Some id) has none = ap (λ x. bytes_eq x request) (same_text id q has) ∙ other_not request q none
 
@@ -202,7 +203,7 @@ listed_named : (cookies : List (List ℕ)) (id : List ℕ) (x : IdpRecord) → i
 listed_named cookies id (kinds.Issued o) among has = listed_cookie cookies id o.pending o.cookie among has
 listed_named cookies id other among has = absurd (false≢true has)
 
-issued_free : (before : List IdpRecord) (r : Issued) (id : List ℕ) (p : Option (List ℕ)) → r.pending ≡ p → is_issue_free (rows_of before) p r.cookie ≡ true → is_among id (of_option p) ≡ true
+issued_free : (before : List IdpRecord) (r : Issued) (id : List ℕ) (p : Option (List ℕ)) → r.pending ≡ p → is_issue_free (rows_of before) p r.cookie ≡ true → is_among id (option_to_list p) ≡ true
     → FreeRow before (kinds.Issued r) id
 issued_free before r id None e free among = absurd (false≢true among)
 issued_free before r id (Some pending) e free among =

@@ -8,15 +8,17 @@ use Rattle.ledger_records.specs.declared.idp_round.Told.{Told}
 use Rattle.ledger_records.specs.declared.idp_record.IdpRecord.{IdpRecord}
 use Rattle.ledger_records.specs.declared.idp_record.IdpRecord.TheVariants as kinds
 use Rattle.round_rows.specs.declared.row.RoundRow.{RoundRow}
-use Rattle.round_rows.specs.Rounds.{is_done, is_turn_left, waits_for, current, after_answer, answered_if}
+use Rattle.round_rows.specs.Rounds.{is_done, is_turn_left, waits_for, after_answer, answered_if}
 use Rattle.record_ledger.proofs.Words.{same_text, text_itself}
 use Rattle.record_ledger.proofs.LinkRows.{other_not, at_front, at_last}
 use Rattle.idp_rows.specs.RoundsOf.{round_row, round_after, round_behind, round_rows}
 use Rattle.idp_ledger.specs.Record.{is_record, AreRecordsAfter}
 use Rattle.idp_rows.specs.Record.{has_its_next, fits_where_waiting}
-use Rattle.idp_ledger.specs.Naming.{is_next_request, has_request}
+use Rattle.idp_ledger.specs.Naming.{has_request}
 use Rattle.idp_ledger.proofs.LawWords.{parts}
 use Rattle.idp_ledger.proofs.RoundRows.{round_rows-push}
+use Rattle.owned_values.specs.Options.{is_there}
+use Rattle.std.specs.Option.{unwrap_or}
 
 -- ---- lists
 
@@ -160,7 +162,7 @@ chain_told row t later q true takes fits (inl same) waits = by_next t.next refl
         absurd (false≢true (sym (done_waits q (after_answer t.confirmed t.next row) done)
         ∙ ap (waits_for q) (sym (done_stays (after_answer t.confirmed t.next row) later done)) ∙ waits))
     by_next (Some id) some =
-        let is : id ≡ q = sym (ap (λ n. current n row.request) some) ∙ same.0 in
+        let is : id ≡ q = sym (ap (λ n. unwrap_or n row.request) some) ∙ same.0 in
         inr (asked_here t later q (some ∙ ap Some is) same.1)
 chain_told row t later q false takes fits (inr asked) waits = inr (asked_later (kinds.Told t) later q asked)
 chain_told row t later q false takes fits (inl same) waits = elim (cases_Bool (is_done row)) [
@@ -211,7 +213,7 @@ holder_of r later q (inl same) = record { place = 0; row = kinds.Round r; there 
     free (suc l) y less there = same.1 l y there
 holder_of r later q (inr asked) =
     holder_later (kinds.Round r) later q
-    (record { place = asked.place; row = kinds.Told asked.told; there = asked.there; has = ap (is_next_request q) asked.next ∙ text_itself q; free = asked.free })
+    (record { place = asked.place; row = kinds.Told asked.told; there = asked.there; has = ap (is_there q) asked.next ∙ text_itself q; free = asked.free })
 
 pub new_round : (before : List IdpRecord) (r : Round) → slice_get (round_rows (before ++ kinds.Round r ∷ [])) (length (round_rows before)) ≡ Some (round_row r)
 new_round before r =

@@ -1,7 +1,7 @@
 -- Rounds and answers that may be drafted.
 use Rattle.std.proofs.Common.{◌≡◌, ℕ, suc, ◌+◌, ◌≤◌, Bool, true, false, not, ◌&&◌, List, [], ◌∷◌, ◌++◌, length, Option, None, Some, Result, Ok, Err, inl, inr, refl, sym, ap, ◌∙◌, subst, arith}
 use Rattle.std.specs.List.{list_all, list_any, flat_map, All}
-use Rattle.std.specs.Option.{is_some}
+use Rattle.std.specs.Option.{is_some, unwrap_or, option_to_list}
 use Rattle.std.proofs.lemmas.Bool.{and_parts, cases_lt}
 use Rattle.std.proofs.lemmas.List.Folds.{list_all-append}
 use Rattle.std.proofs.lemmas.List.Elements.{All-nil, All-cons, All-head, All-tail}
@@ -19,7 +19,7 @@ use Rattle.ledger_rules.specs.Numbers.{Drawn, NUMBER_END, has_number, is_xml_tex
 use Rattle.ledger_rules.specs.declared.fault.DraftFault.{DraftFault}
 use Rattle.ledger_rules.specs.declared.fault.DraftFault.TheVariants.{LedgerFull, JournalFull, NoMemory}
 use Rattle.round_rows.specs.declared.row.RoundRow.{RoundRow}
-use Rattle.round_rows.specs.Rounds.{is_turn_left, is_turn_of, waits_for, current, answered_if, turn_found}
+use Rattle.round_rows.specs.Rounds.{is_turn_left, is_turn_of, waits_for, answered_if, turn_found}
 use Rattle.round_rows.specs.Kept.{IsRoundOf}
 use Rattle.idp_rows.specs.declared.row.SessionRow.{SessionRow}
 use Rattle.idp_ledger.specs.declared.ids.RoundIds.{RoundIds}
@@ -27,7 +27,7 @@ use Rattle.idp_rows.specs.RoundsOf.{round_row, round_behind, round_rows}
 use Rattle.idp_rows.specs.RowsOf.{session_rows}
 use Rattle.idp_rows.specs.Finding.{session_found, visible}
 use Rattle.idp_ledger.specs.Record.{is_record, AreRecords, AreRecordsAfter, idp_rules}
-use Rattle.idp_rows.specs.Record.{LAST, drawn, of_asker, of_option, of_turn, is_unended}
+use Rattle.idp_rows.specs.Record.{LAST, drawn, of_asker, of_turn, is_unended}
 use Rattle.idp_ledger.specs.Ledger.{Held, OpenedLedger, next_number}
 use Rattle.idp_ledger.specs.Ids.{AreRoundIds, round_ids}
 use Rattle.idp_ledger.specs.Drafts.{round, round_with, told_with, AreLive, AreXmlTurns, IsXmlAsker, Drafts, IsDraftable}
@@ -145,14 +145,14 @@ is_round_xml row = is_xml_text row.request
 
 record ToldTexts (r : Told) : Type 0 where
   request : is_xml_text r.request ≡ true
-  next : list_all is_xml_text (of_option r.next) ≡ true
+  next : list_all is_xml_text (option_to_list r.next) ≡ true
 
 told_texts : (before : List IdpRecord) (r : Told) → is_record before (kinds.Told r) ≡ true → ToldTexts r
 told_texts before r is =
-    let all = and_parts (is_xml_text r.request) (list_all is_xml_text (of_option r.next)) (parts before (kinds.Told r) is).texts in
+    let all = and_parts (is_xml_text r.request) (list_all is_xml_text (option_to_list r.next)) (parts before (kinds.Told r) is).texts in
     record { request = all.0; next = all.1 }
 
-answered_xml : (b : Bool) (confirmed : Bool) (next : Option (List ℕ)) (row : RoundRow) → is_round_xml row ≡ true → list_all is_xml_text (of_option next) ≡ true
+answered_xml : (b : Bool) (confirmed : Bool) (next : Option (List ℕ)) (row : RoundRow) → is_round_xml row ≡ true → list_all is_xml_text (option_to_list next) ≡ true
     → is_round_xml (answered_if b confirmed next row) ≡ true
 answered_xml false confirmed next row here there = here
 answered_xml true confirmed None row here there = here

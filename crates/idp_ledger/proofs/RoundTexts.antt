@@ -17,10 +17,11 @@ use Rattle.idp_rows.specs.declared.row.IssuedRow.{IssuedRow}
 use Rattle.idp_rows.specs.RoundsOf.{round_behind, round_row, round_rows}
 use Rattle.idp_rows.specs.RowsOf.{issued_row, issued_rows}
 use Rattle.idp_ledger.specs.Record.{AreRecords, AreRecordsAfter, is_record, next_of}
-use Rattle.idp_rows.specs.Record.{of_asker, of_attribute, of_option, of_turn}
+use Rattle.idp_rows.specs.Record.{of_asker, of_attribute, of_turn}
 use Rattle.idp_ledger.specs.Turns.{AreRoundTexts}
 use Rattle.idp_ledger.proofs.LawWords.{parts}
 use Rattle.idp_rows.proofs.StandingRows.{first_fresh}
+use Rattle.std.specs.Option.{option_to_list}
 
 -- ---- one record
 
@@ -90,7 +91,7 @@ issued_part before r is =
     let three = and_parts (is_xml_text r.assertion) _ two.1 in
     let four = and_parts (is_xml_text r.message) _ three.1 in
     let five = and_parts (is_xml_text r.user) _ four.1 in
-    let six = and_parts (is_xml_text r.peer) (list_all is_xml_text (r.consumer ∷ r.request ∷ of_option r.pending ++ flat_map of_attribute r.attributes)) five.1 in
+    let six = and_parts (is_xml_text r.peer) (list_all is_xml_text (r.consumer ∷ r.request ∷ option_to_list r.pending ++ flat_map of_attribute r.attributes)) five.1 in
     both (is_xml_text r.peer && is_xml_text r.user) (is_xml_text r.index) (both (is_xml_text r.peer) (is_xml_text r.user) six.0 five.0) two.0
 
 parts_after : (before later : List IdpRecord) → AreRecordsAfter before later → list_all is_part_xml (issued_rows later) ≡ true

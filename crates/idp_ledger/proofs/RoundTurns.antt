@@ -7,14 +7,15 @@ use Rattle.ledger_records.specs.declared.idp_round.Told.{Told}
 use Rattle.ledger_records.specs.declared.idp_record.IdpRecord.{IdpRecord}
 use Rattle.ledger_records.specs.declared.idp_record.IdpRecord.TheVariants as kinds
 use Rattle.round_rows.specs.declared.row.RoundRow.{RoundRow}
-use Rattle.round_rows.specs.Rounds.{after_answer, answered_if, current, is_done, is_turn_left, waits_for}
+use Rattle.round_rows.specs.Rounds.{after_answer, answered_if, is_done, is_turn_left, waits_for}
 use Rattle.std.specs.Str.{bytes_eq}
 use Rattle.record_ledger.proofs.Words.{same_text}
 use Rattle.idp_rows.specs.RoundsOf.{answers_after, round_row, round_rows}
 use Rattle.idp_ledger.specs.Record.{AreRecordsAfter}
-use Rattle.idp_rows.specs.Record.{fits_where_waiting, has_its_next, of_option}
+use Rattle.idp_rows.specs.Record.{fits_where_waiting, has_its_next}
 use Rattle.idp_ledger.specs.Turns.{RoundsAskInTurn}
 use Rattle.idp_ledger.proofs.RoundChains.{FitsAll, FitsOne, done_waits, fits_all, last_answer, new_round}
+use Rattle.std.specs.Option.{unwrap_or, option_to_list}
 
 -- a round that is done has no answers more
 done_none : (row : RoundRow) (later : List IdpRecord) → is_done row ≡ true → answers_after row later ≡ []
@@ -27,7 +28,7 @@ done_none row (other ∷ later) done = done_none row later done
 -- ---- the answers from a row on
 
 abbrev nexts : List Told → List (List ℕ)
-nexts ts = flat_map (λ (t : Told). of_option t.next) ts
+nexts ts = flat_map (λ (t : Told). option_to_list t.next) ts
 
 record InTurn (row : RoundRow) (ts : List Told) : Type 0 where
   answers_it : (k : ℕ) (t : Told) → slice_get ts k ≡ Some t → slice_get (row.request ∷ nexts ts) k ≡ Some t.request
@@ -49,12 +50,12 @@ module _ (row : RoundRow) (t : Told) (later : List IdpRecord) (waits : waits_for
   taken_one rest = record { answers_it = it; goes_on = on }
     where
       behind : (next : Option (List ℕ)) → t.next ≡ next → (k : ℕ) (x : Told) → slice_get (answers_after next_row later) k ≡ Some x
-          → slice_get (of_option next ++ nexts (answers_after next_row later)) k ≡ Some x.request
+          → slice_get (option_to_list next ++ nexts (answers_after next_row later)) k ≡ Some x.request
       behind None none k x there =
           let empty = done_none next_row later (last_answer t row waits none fits) in
           absurd (let clash = sym (ap (λ (ts : List Told). slice_get ts k) empty) ∙ there in cc)
       behind (Some id) some k x there =
-          ap (λ (n : Option (List ℕ)). slice_get (current n row.request ∷ nexts (answers_after next_row later)) k) (sym some) ∙ rest.answers_it k x there
+          ap (λ (n : Option (List ℕ)). slice_get (unwrap_or n row.request ∷ nexts (answers_after next_row later)) k) (sym some) ∙ rest.answers_it k x there
 
       it : (k : ℕ) (x : Told) → slice_get (t ∷ answers_after next_row later) k ≡ Some x
           → slice_get (row.request ∷ nexts (t ∷ answers_after next_row later)) k ≡ Some x.request

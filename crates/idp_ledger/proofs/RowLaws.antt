@@ -12,12 +12,13 @@ use Rattle.record_ledger.proofs.Numbers as any
 use Rattle.idp_rows.specs.declared.row.PendingRow.{PendingRow}
 use Rattle.idp_rows.specs.declared.row.SessionRow.{SessionRow}
 use Rattle.idp_rows.specs.declared.row.LeftRow.{LeftRow}
-use Rattle.idp_rows.specs.RowsOf.{pending_row, issued_row, session_row, left_row, if_pending, begun, is_among, is_pending, uses, ends, confirms, pending_rows, issued_rows, session_rows, left_rows, rows_of, used_where, ended_where, confirmed_where, rows_after}
+use Rattle.idp_rows.specs.RowsOf.{pending_row, issued_row, session_row, left_row, if_pending, begun, is_among, uses, ends, confirms, pending_rows, issued_rows, session_rows, left_rows, rows_of, used_where, ended_where, confirmed_where, rows_after}
 use Rattle.idp_rows.specs.RoundsOf.{round_row, round_rows}
 use Rattle.idp_ledger.specs.Record.{next_of, is_record, idp_rules}
 use Rattle.idp_rows.specs.Record.{drawn, is_next}
 use Rattle.round_rows.specs.Rounds.{answered}
 use Rattle.idp_ledger.proofs.RoundRows.{round_rows-push, rounds_stay, map_nothing}
+use Rattle.owned_values.specs.Options.{is_there}
 
 or-false : (b : Bool) → (b || false) ≡ b
 or-false true = refl
@@ -90,7 +91,7 @@ rows_of-push records (kinds.Pending r) =
     let rounds = round_rows-push records (kinds.Pending r) ∙ rounds_stay (round_rows records) in
     λ i. record { pendings = pendings i; issues = issues i; sessions = sessions i; lefts = lefts i; rounds = rounds i }
 rows_of-push records (kinds.Issued r) =
-    let pendings = pending_rows-push records (kinds.Issued r) ∙ append-nil (used_where (λ row. is_pending row.pending r.pending) (pending_rows records)) in
+    let pendings = pending_rows-push records (kinds.Issued r) ∙ append-nil (used_where (λ row. is_there row.pending r.pending) (pending_rows records)) in
     let issues = issued_rows-append records (kinds.Issued r ∷ []) in
     let sessions = session_rows-push records (kinds.Issued r) ∙ ap (λ rows. rows ++ session_rows (kinds.Issued r ∷ [])) (ended_where-nothing (session_rows records)) ∙ ap (λ rows. session_rows records ++ rows) (append-nil (begun false r)) in
     let lefts = left_rows-push records (kinds.Issued r) ∙ lefts_stay (left_rows records) in

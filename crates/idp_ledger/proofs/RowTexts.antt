@@ -20,10 +20,11 @@ use Rattle.idp_rows.specs.declared.row.LeftRow.{LeftRow}
 use Rattle.idp_rows.specs.RowsOf.{ends, if_pending, session_row, pending_rows, issued_rows, session_rows, left_rows, rows_of}
 use Rattle.idp_rows.specs.Finding.{visible, pending_found, session_found, is_waiting_now, is_empty, is_listed, is_ending, has_issued, last_issue, last_peer, peer_of}
 use Rattle.idp_ledger.specs.Record.{next_of, is_record, AreRecords, AreRecordsAfter}
-use Rattle.idp_rows.specs.Record.{LAST, of_option, of_attribute, is_unused, is_unended, is_waiting}
+use Rattle.idp_rows.specs.Record.{LAST, of_attribute, is_unused, is_unended, is_waiting}
 use Rattle.idp_ledger.proofs.RowLaws.{is_record-is}
 use Rattle.idp_rows.proofs.StandingRows.{NextParts, next_parts}
 use Rattle.record_ledger.proofs.Draftable.{both}
+use Rattle.std.specs.Option.{option_to_list}
 
 pub row_there : {X : Type 0} (xs : List X) (i : ℕ) → i < length xs → (x : X) × (slice_get xs i ≡ Some x)
 row_there [] i inside = absurd (omega arith)
@@ -71,7 +72,7 @@ pub record IssuedTexts (r : Issued) : Type 0 where
 issued_texts : (before : List IdpRecord) (r : Issued) → is_record before (kinds.Issued r) ≡ true → IssuedTexts r
 issued_texts before r is =
     let parts = parts_of before (kinds.Issued r) is in
-    let rest = of_option r.pending ++ flat_map of_attribute r.attributes in
+    let rest = option_to_list r.pending ++ flat_map of_attribute r.attributes in
     let one = and_parts (is_xml_text r.cookie) _ parts.texts_are in
     let two = and_parts (is_xml_text r.index) _ one.1 in
     let three = and_parts (is_xml_text r.assertion) _ two.1 in
@@ -80,8 +81,8 @@ issued_texts before r is =
     let six = and_parts (is_xml_text r.peer) _ five.1 in
     let seven = and_parts (is_xml_text r.consumer) _ six.1 in
     let eight = and_parts (is_xml_text r.request) (list_all is_xml_text rest) seven.1 in
-    let last = and_parts (list_all is_xml_text (of_option r.pending)) (list_all is_xml_text (flat_map of_attribute r.attributes))
-    (sym (list_all-append is_xml_text (of_option r.pending) (flat_map of_attribute r.attributes)) ∙ eight.1) in
+    let last = and_parts (list_all is_xml_text (option_to_list r.pending)) (list_all is_xml_text (flat_map of_attribute r.attributes))
+    (sym (list_all-append is_xml_text (option_to_list r.pending) (flat_map of_attribute r.attributes)) ∙ eight.1) in
     let dated = and_parts (nat_le r.moment LAST) (nat_le r.session_end LAST && true) parts.dated in
     record {
       cookie = one.0;

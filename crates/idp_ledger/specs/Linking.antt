@@ -4,11 +4,11 @@ use Rattle.ledger_records.specs.declared.idp_record.IdpRecord.{IdpRecord}
 use Rattle.ledger_records.specs.declared.idp_record.IdpRecord.TheVariants as kinds
 use Rattle.ledger_rules.specs.Numbers.{Drawn}
 use Rattle.record_ledger.specs.Linking as any
-use Rattle.idp_rows.specs.Record.{of_option}
+use Rattle.std.specs.Option.{option_to_list}
 
 -- the IDs of the rows whose records are linked to the one that names them
 abbrev pub named : IdpRecord → List (List ℕ)
-named (kinds.Issued r) = of_option r.pending
+named (kinds.Issued r) = option_to_list r.pending
 named (kinds.Ended r) = r.cookies
 named (kinds.Left r) = r.cookie ∷ []
 named (kinds.Confirmed r) = r.request ∷ []

@@ -5,6 +5,7 @@ use Rattle.ledger_records.specs.declared.idp_record.IdpRecord.{IdpRecord}
 use Rattle.ledger_records.specs.declared.idp_record.IdpRecord.TheVariants as kinds
 use Rattle.idp_rows.specs.Finding.{visible}
 use Rattle.idp_rows.specs.RowsOf.{is_among}
+use Rattle.owned_values.specs.Options.{is_there}
 
 -- whether a row of a record is visible: the pending login, the assertion or the session that began with it, the logout
 abbrev pub has_session_visible : (now horizon : ℕ) → Option (List ℕ) → (session_end : ℕ) → Bool
@@ -36,13 +37,9 @@ has_logout request (kinds.Left r) = bytes_eq r.request request
 has_logout request other = false
 
 -- whether a record makes this request of a round: a Round its first one, and a Told the next one
-abbrev pub is_next_request : List ℕ → Option (List ℕ) → Bool
-is_next_request request None = false
-is_next_request request (Some next) = bytes_eq next request
-
 abbrev pub has_request : List ℕ → IdpRecord → Bool
 has_request request (kinds.Round r) = bytes_eq r.request request
-has_request request (kinds.Told r) = is_next_request request r.next
+has_request request (kinds.Told r) = is_there request r.next
 has_request request other = false
 
 -- Whether the first record names a row of the second: an Issued the login that was pending or the session that the user

@@ -1,7 +1,7 @@
 -- What is said of rounds in the records of a ledger.
 use Rattle.std.specs.Prelude.{◌≡◌, ◌≢◌, ℕ, ◌+◌, ◌≤◌, nat_lt, true, List, [], ◌∷◌, ◌++◌, length, Some, slice_get}
 use Rattle.std.specs.List.{flat_map, list_all}
-use Rattle.std.specs.Option.{is_some}
+use Rattle.std.specs.Option.{is_some, option_to_list}
 use Rattle.ledger_records.specs.declared.idp_round.Round.{Round}
 use Rattle.ledger_records.specs.declared.idp_round.Told.{Told}
 use Rattle.ledger_records.specs.declared.idp_record.IdpRecord.{IdpRecord}
@@ -10,7 +10,7 @@ use Rattle.ledger_rules.specs.Numbers.{is_xml_text}
 use Rattle.round_rows.specs.declared.row.RoundRow.{RoundRow}
 use Rattle.idp_rows.specs.RoundsOf.{answers}
 use Rattle.idp_ledger.specs.Record.{AreRecords}
-use Rattle.idp_rows.specs.Record.{of_asker, of_option, of_turn}
+use Rattle.idp_rows.specs.Record.{of_asker, of_turn}
 
 -- a document may hold the texts of a round but a relay state, its message has an ID, and no more answers confirm than came
 pub record AreRoundTexts (row : RoundRow) : Type 0 where
@@ -22,7 +22,7 @@ pub record AreRoundTexts (row : RoundRow) : Type 0 where
 
 -- The requests of a round, in the order in which they are made: the first one, and the one behind each answer, where there is one.
 abbrev pub requests : Round → (later : List IdpRecord) → List (List ℕ)
-requests r later = r.request ∷ flat_map (λ (t : Told). of_option t.next) (answers r later)
+requests r later = r.request ∷ flat_map (λ (t : Told). option_to_list t.next) (answers r later)
 
 -- The answer at each place is one to the request at that place, and a request more follows it exactly where a turn is left: so the
 -- request at a place is that to the provider of the turn at that place, and none is asked twice.

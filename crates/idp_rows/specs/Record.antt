@@ -14,7 +14,8 @@ use Rattle.idp_rows.specs.declared.row.PendingRow.{PendingRow}
 use Rattle.idp_rows.specs.declared.row.SessionRow.{SessionRow}
 use Rattle.idp_rows.specs.declared.row.LeftRow.{LeftRow}
 use Rattle.idp_rows.specs.RowsOf.{IdpRows, if_pending}
-pub use Rattle.ledger_rules.specs.Texts.{of_option, of_attribute}
+use Rattle.std.specs.Option.{option_to_list}
+pub use Rattle.ledger_rules.specs.Texts.{of_attribute}
 pub use Rattle.ledger_rules.specs.Moments.{LAST}
 
 -- whether there is a pending login of this ID that is not used
@@ -89,13 +90,13 @@ abbrev pub texts : IdpRecord → List (List ℕ)
 texts (kinds.Pending r) = r.pending ∷ r.request ∷ r.peer ∷ r.consumer ∷ []
 texts (kinds.Issued r) =
     r.cookie ∷ r.index ∷ r.assertion ∷ r.message ∷ r.user ∷ r.peer ∷ r.consumer ∷ r.request
-    ∷ of_option r.pending ++ flat_map of_attribute r.attributes
+    ∷ option_to_list r.pending ++ flat_map of_attribute r.attributes
 texts (kinds.Ended r) = r.message ∷ r.request ∷ r.peer ∷ r.cookies
 texts (kinds.Left r) = r.cookie ∷ r.request ∷ r.peer ∷ []
 texts (kinds.Confirmed r) = r.request ∷ []
 texts (kinds.Spoke r) = r.message ∷ r.request ∷ r.peer ∷ []
 texts (kinds.Round r) = r.message ∷ r.request ∷ of_asker r.asker ++ (flat_map of_turn r.turns ++ r.cookies)
-texts (kinds.Told r) = r.request ∷ of_option r.next
+texts (kinds.Told r) = r.request ∷ option_to_list r.next
 
 -- when a record was made, and when the session of an Issued ends
 abbrev pub moments : IdpRecord → List ℕ

@@ -14,6 +14,7 @@ use Rattle.idp_rows.specs.declared.row.IssuedRow.{IssuedRow}
 use Rattle.idp_rows.specs.declared.row.SessionRow.{SessionRow}
 use Rattle.idp_rows.specs.declared.row.LeftRow.{LeftRow}
 use Rattle.idp_rows.specs.RoundsOf.{round_row, round_rows}
+use Rattle.owned_values.specs.Options.{is_there}
 pub use Rattle.ledger_rules.specs.Texts.{is_among}
 
 -- the rows of each kind, in the order of their records
@@ -69,14 +70,9 @@ if_pending (Some pending) items = items
 abbrev pub begun : Bool → Issued → List SessionRow
 begun ended r = if_pending r.pending (session_row ended r ∷ [])
 
--- whether this is the login that was pending
-abbrev pub is_pending : List ℕ → Option (List ℕ) → Bool
-is_pending pending None = false
-is_pending pending (Some id) = bytes_eq id pending
-
 -- whether a record uses the pending login of this ID: an Issued that names it
 abbrev pub uses : List ℕ → IdpRecord → Bool
-uses pending (kinds.Issued r) = is_pending pending r.pending
+uses pending (kinds.Issued r) = is_there pending r.pending
 uses pending other = false
 
 -- whether a record ends the session of this cookie: a Left of it, or an Ended or a Round that lists it
@@ -146,7 +142,7 @@ confirmed_where test rows = map (λ row. confirmed_if (test row) row) rows
 abbrev pub rows_after : IdpRows → IdpRecord → IdpRows
 rows_after rows (kinds.Pending r) = record rows { pendings = rows.pendings ++ pending_row false r ∷ [] }
 rows_after rows (kinds.Issued r) = record rows {
-  pendings = used_where (λ row. is_pending row.pending r.pending) rows.pendings;
+  pendings = used_where (λ row. is_there row.pending r.pending) rows.pendings;
   issues = rows.issues ++ issued_row r ∷ [];
   sessions = rows.sessions ++ begun false r;
 }

@@ -3,7 +3,8 @@ ghost use Rattle.std.specs.Prelude.{◌≡◌, ◌<◌, ◌≤◌, true, false, 
 ghost use Rattle.std.specs.List.{list_any};
 ghost use Rattle.ledger_rules.specs.Numbers.{AreBelow, has_number};
 ghost use Rattle.std.specs.Str.{bytes_eq};
-ghost use Rattle.idp_rows.specs.RowsOf.{is_pending, used_where};
+ghost use Rattle.owned_values.specs.Options.{is_there};
+ghost use Rattle.idp_rows.specs.RowsOf.{used_where};
 ghost use Rattle.idp_rows.specs.Finding.{pending_found};
 ghost use Rattle.idp_rows.specs.Record.{is_unused};
 ghost use Rattle.idp_rows.specs.Kept.{IsRowAt};
@@ -132,7 +133,7 @@ impl Pendings {
 
     /// Uses the login that was pending, where there is one.
     pub(crate) fn use_up(&mut self, pending: &Option<Text>)
-        ensures rows { self.new.rows ≡ used_where (λ row. is_pending row.pending pending.now) self.old.rows }
+        ensures rows { self.new.rows ≡ used_where (λ row. is_there row.pending pending.now) self.old.rows }
         ensures numbers { self.new.numbers ≡ self.old.numbers }
         ensures spare { self.new.spare ≡ self.old.spare }
     {

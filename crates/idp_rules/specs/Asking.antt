@@ -1,6 +1,5 @@
 -- When a posted form asks for a login that an identity provider answers.
-use Rattle.std.specs.Prelude.{◌≡◌, ℕ, ◌&&◌, not, Bool, true, IsTrue, List, [], ◌∷◌, codes, Option, None, Some, unwrap_or, Ok, slice_get}
-use Rattle.std.specs.Str.{bytes_eq}
+use Rattle.std.specs.Prelude.{◌≡◌, ℕ, ◌&&◌, not, Bool, true, IsTrue, List, codes, Option, Some, unwrap_or, Ok, slice_get}
 use Rattle.xml_spec.specs.Tree.{Nodes}
 use Rattle.saml_names.specs.Names.{ds}
 use Rattle.saml_tree.specs.Documents.{IsSpelled}
@@ -8,6 +7,8 @@ use Rattle.tree_read.specs.Children.{children}
 use Rattle.post_binding.specs.Form.{form}
 use Rattle.post_binding.specs.declared.posted.Field.TheVariants.{Request}
 use Rattle.protocol_messages.specs.Messages.{is_any, IsAuthnRequest}
+pub use Rattle.protocol_messages.specs.Messages.{is_destination}
+use Rattle.owned_values.specs.Options.{is_if_any}
 use Rattle.protocol_messages.specs.declared.authn.AuthnRequest.{AuthnRequest}
 use Rattle.sig_reference.specs.Form.{Parts}
 use Rattle.sig_reference.specs.Signature.{Vouches}
@@ -36,21 +37,10 @@ pub record Carries (body : List ℕ) (c : Carried) : Type 0 where
 abbrev pub is_signed : Nodes → Bool
 is_signed tree = is_any (children tree 0 (ds (codes "Signature")))
 
--- SAML Bindings, 3.5.5.2: the Destination of a request is the place that it was sent to; a signed one has to name it. An empty one
--- names nothing.
-abbrev pub is_destination : (address : List ℕ) → (signed : Bool) → Option (List ℕ) → Bool
-is_destination address signed None = not signed
-is_destination address signed (Some []) = not signed
-is_destination address signed (Some (b ∷ bytes)) = bytes_eq (b ∷ bytes) address
-
--- SAML Core, 3.4.1: the address that the request names for the Response, where it names one, is that of the peer's metadata
-abbrev pub is_consumer : (service : List ℕ) → Option (List ℕ) → Bool
-is_consumer service None = true
-is_consumer service (Some consumer) = bytes_eq consumer service
-
--- SAML Profiles, 4.1.4.1: the Response is wanted by HTTP POST at an address of the peer's metadata
+-- SAML Profiles, 4.1.4.1: the Response is wanted by HTTP POST at an address of the peer's metadata: SAML Core, 3.4.1, the
+-- address that the request names for the Response, where it names one, is that of the metadata
 abbrev pub is_wanted_at : LogoutPeer → AuthnRequest → Bool
-is_wanted_at peer request = is_consumer peer.peer.service request.consumer && not request.other_binding
+is_wanted_at peer request = is_if_any peer.peer.service request.consumer && not request.other_binding
 
 -- SAML Core, 5.4: where the message has a Signature, this vouches for it with the key of what the peer sends
 abbrev pub IsAuthentic : LogoutPeer → Nodes → Type 0

@@ -3,8 +3,9 @@ use Rattle.std.specs.Prelude.{◌≡◌, true, false, [], None, Some, Ok, Err, c
 use Rattle.post_binding.specs.declared.fault.FormFault.TheVariants as forms
 use Rattle.post_binding.specs.declared.posted.Field.TheVariants.{Request, Response}
 use Rattle.verdict_codes.specs.declared.codes.Verdict.TheVariants as verdicts
-use Rattle.idp_rules.specs.Asking.{is_destination, is_consumer}
+use Rattle.idp_rules.specs.Asking.{is_destination}
 use Rattle.idp_rules.specs.Verdict.{form_refusal}
+use Rattle.owned_values.specs.Options.{is_if_any}
 
 -- a signed request has to name its Destination, and an empty one names nothing
 destinations : (is_destination (codes "a") false None ≡ true) × (is_destination (codes "a") true None ≡ false) × (is_destination (codes "a") false (Some []) ≡ true)
@@ -13,8 +14,8 @@ destinations : (is_destination (codes "a") false None ≡ true) × (is_destinati
 destinations = (refl, refl, refl, refl, refl, refl)
 
 -- an address that stands is that of the metadata, also where it is empty
-consumers : (is_consumer (codes "a") None ≡ true) × (is_consumer (codes "a") (Some (codes "a")) ≡ true) × (is_consumer (codes "a") (Some (codes "b")) ≡ false)
-    × (is_consumer (codes "a") (Some []) ≡ false)
+consumers : (is_if_any (codes "a") None ≡ true) × (is_if_any (codes "a") (Some (codes "a")) ≡ true) × (is_if_any (codes "a") (Some (codes "b")) ≡ false)
+    × (is_if_any (codes "a") (Some []) ≡ false)
 consumers = (refl, refl, refl, refl)
 
 -- a response where a request is to be

@@ -1,10 +1,11 @@
 -- A round that waits for the answer of a provider in its turn.
 use Rattle.std.specs.Prelude.{slice_get}
-use Rattle.std.proofs.Common.{◌≡◌, ℕ, ◌<◌, true, ◌&&◌, not, List, length, Option, None, Some, bytes_eq, refl}
+use Rattle.std.specs.Option.{option_map_or}
+use Rattle.std.proofs.Common.{◌≡◌, ℕ, ◌<◌, true, false, ◌&&◌, not, List, length, Option, None, Some, bytes_eq, refl}
 use Rattle.std.proofs.lemmas.Bool.{and_parts}
 use Rattle.logout_turns.specs.declared.turns.Turn.{Turn}
 use Rattle.round_rows.specs.declared.row.RoundRow.{RoundRow}
-use Rattle.round_rows.specs.Rounds.{is_done, is_of, is_turn_of, turn_found, visible, waits_for}
+use Rattle.round_rows.specs.Rounds.{is_done, is_turn_of, turn_found, visible, waits_for}
 use Rattle.record_ledger.proofs.Words.{same_text}
 use Rattle.idp_ledger.specs.Ledger.{Held}
 use Rattle.idp_ledger.specs.Record.{AreRecords}
@@ -24,7 +25,8 @@ pub record IsTurnFound (rounds : List RoundRow) (request peer : List ℕ) (row :
   pub at : slice_get row.turns row.told ≡ Some turn
   pub within : row.told < length row.turns
 
-turn_at : (peer : List ℕ) (o : Option Turn) → is_of peer o ≡ true → (turn : Turn) × (o ≡ Some turn)
+turn_at : (peer : List ℕ) (o : Option Turn) → option_map_or (λ (turn : Turn). bytes_eq turn.peer peer) o false ≡ true
+    → (turn : Turn) × (o ≡ Some turn)
 turn_at peer None is = absurd (cc)
 turn_at peer (Some turn) is = (turn, refl)
 

@@ -1,6 +1,5 @@
 -- What an identity provider does at one request.
 use Rattle.std.specs.Prelude.{◌≡◌, ℕ, Bool, true, false, not, List, [], ◌∷◌, codes, Option, None, Some, if◌then◌else◌, slice_get}
-use Rattle.std.specs.Option.{option_and_then}
 use Rattle.http_wire.specs.declared.answer.Answer.{Answer}
 use Rattle.http_wire.specs.declared.answer.Answer.TheVariants.{Fixed, Full}
 use Rattle.http_wire.specs.Requests.{Request}
@@ -49,6 +48,7 @@ use Rattle.idp_server.specs.Rounds.{asks_others, round_by, round_waiting, told_b
 use Rattle.service_routes.specs.declared.route.Route.TheVariants.{To, Refused}
 use Rattle.idp_server.specs.declared.route.Service.TheVariants.{SignOn, Login, Metadata, Logout, SingleLogout}
 use Rattle.idp_server.specs.Routes.{route}
+use Rattle.owned_values.specs.Options.{◌>>=◌}
 
 -- a provider: what it is set up with, and its ledger
 abbrev pub Provider : Type 0
@@ -58,9 +58,9 @@ Provider = any.Provider IdpConfig IdpRecord
 
 -- the live session of the request's cookie
 abbrev pub session_for : Held → ℕ → Request → Option SessionRow
-session_for held now request =
-    option_and_then (λ cookie. session_found (rows_of held.records).sessions cookie now held.header.horizon)
-    (option_and_then (λ header. cookie_value header (codes "idp_sid")) request.cookie)
+session_for held now request = do
+  cookie ← request.cookie >>= λ header. cookie_value header (codes "idp_sid")
+  session_found (rows_of held.records).sessions cookie now held.header.horizon
 
 -- the session in which an Assertion is issued at once: there is none where the user has to be authenticated anew (SAML
 -- Core, 3.4.1, ForceAuthn)

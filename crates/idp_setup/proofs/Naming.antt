@@ -8,6 +8,7 @@ use Rattle.std.proofs.lemmas.Slice.Eq.{bytes_eq-Decides}
 use Rattle.xml_spec.proofs.Tests.{both_true, and_true}
 use Rattle.peer_keys.specs.Peers.{place_of, differ}
 use Rattle.peer_keys.specs.declared.peers.LogoutPeer.{LogoutPeer}
+use Rattle.idp_setup.specs.Setup.{doubled_with}
 
 -- the test of texts, turned round
 turned : (x y : List ℕ) → bytes_eq x y ≡ false → bytes_eq y x ≡ false
@@ -35,3 +36,9 @@ differ_with (first ∷ peers) peer d none =
     (behind (list_any (λ (other : LogoutPeer). bytes_eq other.peer.entity first.peer.entity) peers) _ (bytes_eq peer.peer.entity first.peer.entity) apart.0
     (turned first.peer.entity peer.peer.entity named.0) (list_any-append (λ (other : LogoutPeer). bytes_eq other.peer.entity first.peer.entity) peers (peer ∷ [])))
     (differ_with peers peer apart.1 named.1)
+
+-- where no name is doubled, none was, and the last is new
+pub none_doubled : (first : Option ℕ) (line : ℕ) (known : Bool) → doubled_with first line known ≡ None → (first ≡ None) × (known ≡ false)
+none_doubled (Some first) line known e = absurd (cc)
+none_doubled None line true e = absurd (cc)
+none_doubled None line false e = (refl, refl)

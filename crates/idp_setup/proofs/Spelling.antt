@@ -12,10 +12,10 @@ use Rattle.xml_spec.specs.Characters.{is_char, IsText}
 use Rattle.xml_spec.proofs.Tests.{and_true, both_true}
 use Rattle.saml_tree.proofs.Lists.{all_push}
 use Rattle.owned_values.specs.declared.attributes.Attribute.{Attribute}
-use Rattle.text_lines.specs.Lines.{Said, Says, NoText, is_text, is_passed_over, lines, said_from, said, and_then, with_lines}
+use Rattle.text_lines.specs.Lines.{Said, Says, NoText, is_text, is_passed_over, lines, said_from, said, and_then, with_lines, SaysText}
 use Rattle.text_lines.specs.Words.{Parts, parts_of, with_first, words_of}
 use Rattle.text_lines.proofs.Texts.{tested_text}
-use Rattle.provider_config.specs.Shared.{AreTexts, SaysText}
+use Rattle.provider_config.specs.Shared.{AreTexts}
 use Rattle.provider_config.proofs.TextWords.{words_are_texts}
 use Rattle.user_store.specs.Line.{line_of, attribute_of, user_of, rounds_of, bytes_of, value_of}
 use Rattle.user_store.specs.Store.{has_user, with_attribute, with_user, with_line, with_text, users}

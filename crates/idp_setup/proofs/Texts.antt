@@ -1,5 +1,5 @@
 -- The texts of a peer that metadata describes hold characters that a document may hold.
-use Rattle.std.proofs.Common.{◌≡◌, ℕ, List, [], ◌∷◌, Option, None, Some, IfSome, Ok, codes, subst}
+use Rattle.std.proofs.Common.{◌≡◌, ℕ, List, [], ◌∷◌, Option, None, Some, IfSome, Ok, codes, sym, subst}
 use Rattle.xml_spec.specs.Characters.{IsText}
 use Rattle.xml_spec.specs.Tree.{Nodes}
 use Rattle.canon_laws.specs.Writable.{IsWritable}
@@ -11,6 +11,12 @@ use Rattle.metadata.specs.Faults.{IsRead}
 use Rattle.metadata.specs.Metadata.{not_empty, described, with_service, address, entity, sign_on, logout}
 use Rattle.metadata.specs.declared.peer.Peer.{Peer}
 use Rattle.metadata.specs.declared.peer.Role.{Role}
+use Rattle.metadata.specs.declared.peer.Role.TheVariants.{Sp}
+use Rattle.saml_outside.specs.Files.{File}
+use Rattle.provider_config.specs.declared.idp_config.PeerFiles.{PeerFiles}
+use Rattle.peer_keys.specs.declared.peers.LogoutPeer.{LogoutPeer}
+use Rattle.idp_rules.specs.Config.{IsTextPeer}
+use Rattle.idp_setup.specs.Setup.{peer_of}
 use Rattle.tree_read.proofs.WritableTexts.{AreWritable, either_option, attribute_is_text}
 use Rattle.metadata.proofs.PeerTexts.{location_text, not_empty_text}
 
@@ -42,3 +48,9 @@ pub peer_texts : (text : List ℕ) (role : Role) (peer : Peer) → AreWritable �
 peer_texts text role peer law read =
     let w = law text read.tree read.spelled.spells in
     described_texts read.tree role (entity read.tree 0) _ peer w (entity_text read.tree 0 w) read.is
+
+-- those of a peer whose files were read
+pub read_texts : (told : Option (List File)) (names : PeerFiles) (peer : LogoutPeer) → AreWritable → (peer_of names).gives told peer → IsTextPeer peer
+read_texts told names peer law (said, (bytes, there, read), (key_in, in_there, (key_out, out_there, is))) =
+    let texts = peer_texts bytes Sp said law read in
+    subst IsTextPeer (sym is) (record { entity = texts.0; service = texts.1; logout = texts.2 })

@@ -1,9 +1,11 @@
 // The files that a config names are read.
 
 ghost use Rattle.std.specs.Prelude.{◌≡◌, ◌≤◌, IfOk, IfErr};
-ghost use Rattle.saml_outside.specs.Files.{IsUnread};
+ghost use Rattle.user_store.specs.Store.{users};
+ghost use Rattle.user_store.specs.declared.read.TheConstants.{MAX_USERS_LENGTH};
 ghost use Rattle.sp_setup.specs.Faults.{IsFaultOf};
-ghost use Rattle.idp_setup.specs.Setup.{Holds, HoldsKey, HasNoKey, HoldsIdKey, HasNoIdKey, HoldsMetadata, HasNoMetadata, HoldsUsers, HasNoUsers, IsPeer, LacksPeer};
+ghost use Rattle.sp_setup.specs.Files.{whole, text_of, key_file, id_key_file, metadata_file};
+ghost use Rattle.idp_setup.specs.Setup.{peer_of};
 
 use crate::fault::bad_file;
 use metadata::{MetaFault, Peer, Role, read_peer};
@@ -22,8 +24,8 @@ fn read_named<F: Files>(
     name: &str,
     limit: u64,
 ) -> Result<Vec<u8>, SetupFault>
-    ensures ok { IfOk result (λ bytes. Holds (F.holds files.old) name.now limit bytes.items) }
-    ensures err { IfErr result (IsFaultOf (λ file line. (file ≡ name.now) × (line ≡ 0) × IsUnread (F.holds files.old) name.now limit) (F.faults_of files.old) (F.faults_of files.new)) }
+    ensures ok { IfOk result (λ bytes. (whole limit name.now).gives (F.holds files.old) bytes.items) }
+    ensures err { IfErr result (IsFaultOf ((whole limit name.now).fails (F.holds files.old)) (F.faults_of files.old) (F.faults_of files.new)) }
     ensures same { F.holds files.new ≡ F.holds files.old }
     ensures never_falls { F.faults_of files.old ≤ F.faults_of files.new }
 {
@@ -35,8 +37,8 @@ fn read_named<F: Files>(
 
 /// A key of messages.
 fn read_key<F: Files>(alloc: Global, files: &mut F, name: &str) -> Result<Blob, SetupFault>
-    ensures ok { IfOk result (HoldsKey (F.holds files.old) name.now) }
-    ensures err { IfErr result (IsFaultOf (λ file line. (file ≡ name.now) × (line ≡ 0) × HasNoKey (F.holds files.old) name.now) (F.faults_of files.old) (F.faults_of files.new)) }
+    ensures ok { IfOk result ((key_file name.now).gives (F.holds files.old)) }
+    ensures err { IfErr result (IsFaultOf ((key_file name.now).fails (F.holds files.old)) (F.faults_of files.old) (F.faults_of files.new)) }
     ensures same { F.holds files.new ≡ F.holds files.old }
     ensures never_falls { F.faults_of files.old ≤ F.faults_of files.new }
 {
@@ -56,8 +58,8 @@ pub(crate) fn read_id_key<F: Files>(
     files: &mut F,
     name: &str,
 ) -> Result<[u8; ID_KEY], SetupFault>
-    ensures ok { IfOk result (HoldsIdKey (F.holds files.old) name.now) }
-    ensures err { IfErr result (IsFaultOf (λ file line. (file ≡ name.now) × (line ≡ 0) × HasNoIdKey (F.holds files.old) name.now) (F.faults_of files.old) (F.faults_of files.new)) }
+    ensures ok { IfOk result ((id_key_file name.now).gives (F.holds files.old)) }
+    ensures err { IfErr result (IsFaultOf ((id_key_file name.now).fails (F.holds files.old)) (F.faults_of files.old) (F.faults_of files.new)) }
     ensures same { F.holds files.new ≡ F.holds files.old }
     ensures never_falls { F.faults_of files.old ≤ F.faults_of files.new }
 {
@@ -72,8 +74,8 @@ pub(crate) fn read_id_key<F: Files>(
 
 /// What the metadata of a service provider says.
 fn read_metadata<F: Files>(alloc: Global, files: &mut F, name: &str) -> Result<Peer, SetupFault>
-    ensures ok { IfOk result (HoldsMetadata (F.holds files.old) name.now) }
-    ensures err { IfErr result (IsFaultOf (λ file line. (file ≡ name.now) × (line ≡ 0) × HasNoMetadata (F.holds files.old) name.now) (F.faults_of files.old) (F.faults_of files.new)) }
+    ensures ok { IfOk result ((metadata_file Role.Sp name.now).gives (F.holds files.old)) }
+    ensures err { IfErr result (IsFaultOf ((metadata_file Role.Sp name.now).fails (F.holds files.old)) (F.faults_of files.old) (F.faults_of files.new)) }
     ensures same { F.holds files.new ≡ F.holds files.old }
     ensures never_falls { F.faults_of files.old ≤ F.faults_of files.new }
 {
@@ -91,8 +93,8 @@ pub(crate) fn read_user_file<F: Files>(
     files: &mut F,
     name: &str,
 ) -> Result<Users, SetupFault>
-    ensures ok { IfOk result (HoldsUsers (F.holds files.old) name.now) }
-    ensures err { IfErr result (IsFaultOf (λ file line. (file ≡ name.now) × HasNoUsers (F.holds files.old) name.now line) (F.faults_of files.old) (F.faults_of files.new)) }
+    ensures ok { IfOk result ((text_of MAX_USERS_LENGTH users name.now).gives (F.holds files.old)) }
+    ensures err { IfErr result (IsFaultOf ((text_of MAX_USERS_LENGTH users name.now).fails (F.holds files.old)) (F.faults_of files.old) (F.faults_of files.new)) }
     ensures same { F.holds files.new ≡ F.holds files.old }
     ensures never_falls { F.faults_of files.old ≤ F.faults_of files.new }
 {
@@ -115,8 +117,8 @@ pub fn read_peer_files<F: Files>(
     files: &mut F,
     names: &PeerFiles,
 ) -> Result<LogoutPeer, SetupFault>
-    ensures ok { IfOk result (IsPeer (F.holds files.old) names.now) }
-    ensures err { IfErr result (IsFaultOf (λ file line. (line ≡ 0) × LacksPeer (F.holds files.old) names.now file) (F.faults_of files.old) (F.faults_of files.new)) }
+    ensures ok { IfOk result ((peer_of names.now).gives (F.holds files.old)) }
+    ensures err { IfErr result (IsFaultOf ((peer_of names.now).fails (F.holds files.old)) (F.faults_of files.old) (F.faults_of files.new)) }
     ensures same { F.holds files.new ≡ F.holds files.old }
     ensures never_falls { F.faults_of files.old ≤ F.faults_of files.new }
 {

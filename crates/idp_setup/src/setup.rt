@@ -4,7 +4,8 @@ ghost use Rattle.std.specs.Prelude.{◌≡◌, ◌≤◌, IfOk, IfErr, IsTrue};
 ghost use Rattle.provider_config.specs.IdpConfig.{config_view, has_files};
 ghost use Rattle.sp_setup.specs.Faults.{IsFaultOf};
 ghost use Rattle.idp_rules.specs.Config.{IsUsable};
-ghost use Rattle.idp_setup.specs.Setup.{config_of, IsSetUpBy, IsBadNamed, IsSetUp, IsBadSetUp};
+ghost use Rattle.idp_setup.specs.Config.{config_of};
+ghost use Rattle.idp_setup.specs.Setup.{set_up_by, IsSetUp, IsBadSetUp};
 
 use crate::fault::bad_file;
 use crate::loaded::Loaded;
@@ -41,8 +42,8 @@ fn set_up_by<F: Files>(
     lines: IdpLines,
 ) -> Result<IdpConfig, SetupFault>
     requires { IsTrue (has_files lines.files.items) }
-    ensures ok { IfOk result (IsSetUpBy (F.holds files.old) (config_view lines)) }
-    ensures err { IfErr result (IsFaultOf (IsBadNamed (F.holds files.old) file.now (config_view lines)) (F.faults_of files.old) (F.faults_of files.new)) }
+    ensures ok { IfOk result ((set_up_by file.now (config_view lines)).gives (F.holds files.old)) }
+    ensures err { IfErr result (IsFaultOf ((set_up_by file.now (config_view lines)).fails (F.holds files.old)) (F.faults_of files.old) (F.faults_of files.new)) }
     ensures same { F.holds files.new ≡ F.holds files.old }
     ensures never_falls { F.faults_of files.old ≤ F.faults_of files.new }
 {

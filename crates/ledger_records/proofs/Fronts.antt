@@ -10,7 +10,8 @@ use Rattle.std.proofs.lemmas.Nat.{be_bytes_4, be_bytes_8, from_be_bytes-to_be_by
 use Rattle.ledger_records.specs.declared.key_number.KeyNumber.{KeyNumber}
 use Rattle.ledger_records.specs.declared.key_number.KeyNumber.TheVariants.{First, Second}
 use Rattle.ledger_records.specs.Fields.{number, count, text, option_of, flag, key_byte}
-use Rattle.ledger_records.specs.Reading.{◌>>=◌, number_at, in_utf8, text_of, text_at, flag_at, key_at, option_at, value_if}
+use Rattle.ledger_records.specs.Reading.{number_at, text_of, text_at, flag_at, key_at, option_at, value_if}
+use Rattle.owned_values.specs.Options.{◌>>=◌, in_utf8}
 
 -- ---- bytes
 

@@ -9,8 +9,9 @@ use Rattle.owned_values.specs.declared.attributes.Attribute.{Attribute}
 use Rattle.logout_turns.specs.declared.part.Asker.{Asker as AskerOf}
 use Rattle.logout_turns.specs.declared.turns.Turn.{Turn}
 use Rattle.ledger_records.specs.Fields.{number, count, text, option_of, list_of, attribute, asking, turn, IsAttribute, IsAsking, IsTurn, Field, NoNumber, Number, Text, Optional, Texts, Attributes, Asker, Turns, Flag, Key, field, bytes_of, IsField, AreFields}
-use Rattle.ledger_records.specs.Reading.{◌>>=◌, number_at, text_at, option_at, flag_at, key_at, many_at, list_at, attribute_at, asking_at, turn_at, no_number_at, Form, NoNumberForm, NumberForm, TextForm, OptionalForm, TextsForm, AttributesForm, AskerForm, TurnsForm, FlagForm, KeyForm, as_field, field_at, fields_in, record_in}
+use Rattle.ledger_records.specs.Reading.{number_at, text_at, option_at, flag_at, key_at, many_at, list_at, attribute_at, asking_at, turn_at, no_number_at, Form, NoNumberForm, NumberForm, TextForm, OptionalForm, TextsForm, AttributesForm, AskerForm, TurnsForm, FlagForm, KeyForm, as_field, field_at, fields_in, record_in}
 use Rattle.ledger_records.proofs.Fronts.{IsBytes, IsBytes-rest, bind_some, test_some, some_is, Takes, Takes-then, Spelled, numbers, counts, wide32, number_again, wide64, text_spelled, flag_spelled, key_spelled, key_bytes, option_spelled}
+use Rattle.owned_values.specs.Options.{◌>>=◌}
 
 -- ---- several items
 

@@ -9,7 +9,8 @@ use Rattle.ledger_records.specs.declared.reading.Unread.TheVariants as errors
 use Rattle.ledger_records.specs.declared.key_number.KeyNumber.{KeyNumber}
 use Rattle.ledger_records.specs.declared.key_number.KeyNumber.TheVariants.{First, Second}
 use Rattle.ledger_records.specs.Fields.{key_byte}
-use Rattle.ledger_records.specs.Reading.{◌>>=◌, Misses, in_utf8, key_at, many_at}
+use Rattle.ledger_records.specs.Reading.{Misses, key_at, many_at}
+use Rattle.owned_values.specs.Options.{◌>>=◌, in_utf8}
 
 -- what was read before, and what is still read
 abbrev pub with_front : {X : Type 0} → List X → Option (List X × List ℕ) → Option (List X × List ℕ)

@@ -8,10 +8,11 @@ use Rattle.ledger_records.specs.declared.sp_record.SpRecord.{SpRecord}
 use Rattle.ledger_records.specs.declared.sp_record.SpRecord.TheVariants as kinds
 use Rattle.ledger_records.specs.Fields.{Field, Key}
 use Rattle.ledger_records.specs.SpRecord.{sp_parts, IsOfVersion, IsSpPayload}
-use Rattle.ledger_records.specs.Reading.{◌>>=◌, KeyForm, sp_forms, record_in}
+use Rattle.ledger_records.specs.Reading.{KeyForm, sp_forms, record_in}
 use Rattle.ledger_records.proofs.Fronts.{IsBytes, some_is}
 use Rattle.ledger_records.proofs.Lists.{form_of, record_takes, record_again}
 use Rattle.ledger_records.specs.Found.{key_from, sp_from, sp_record}
+use Rattle.owned_values.specs.Options.{◌>>=◌}
 
 -- ---- the record of given fields
 

@@ -8,7 +8,8 @@ use Rattle.ledger_records.specs.declared.sp_record.SpRecord.TheVariants as kinds
 use Rattle.ledger_records.specs.declared.idp_record.IdpRecord.{IdpRecord}
 use Rattle.ledger_records.specs.declared.idp_record.IdpRecord.TheVariants as idp
 use Rattle.ledger_records.specs.Fields.{Field, NoNumber, Number, Text, Optional, Texts, Attributes, Asker, Turns, Flag, Key}
-use Rattle.ledger_records.specs.Reading.{◌>>=◌, Form, sp_forms, idp_forms, record_in}
+use Rattle.ledger_records.specs.Reading.{Form, sp_forms, idp_forms, record_in}
+use Rattle.owned_values.specs.Options.{◌>>=◌}
 
 -- The record that a payload is: the one of its fields, which have the forms of its kind. A journal keeps the length of a
 -- payload in four bytes.

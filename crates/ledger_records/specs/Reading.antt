@@ -1,7 +1,6 @@
 -- How a payload is read, field by field. The laws of this reading lead to the definitions of Fields, SpRecord and
 -- IdpRecord.
 use Rattle.std.specs.Prelude.{◌≡◌, ℕ, zero, suc, ◌==◌, nat_lt, if◌then◌else◌, Bool, true, false, List, [], ◌∷◌, length, take, drop, Option, None, Some, Result, Ok, Err}
-use Rattle.std.specs.Str.{is_utf8}
 use Rattle.std.specs.Int.{Width, w32, w64, byte_len, from_be_bytes}
 use Rattle.owned_values.specs.declared.attributes.Attribute.{Attribute}
 use Rattle.logout_turns.specs.declared.part.Asker.{Asker as AskerOf}
@@ -11,11 +10,7 @@ use Rattle.ledger_records.specs.declared.key_number.KeyNumber.TheVariants.{First
 use Rattle.ledger_records.specs.declared.reading.Unread.{Unread}
 use Rattle.ledger_records.specs.declared.reading.Unread.TheVariants as errors
 use Rattle.ledger_records.specs.Fields.{Field, NoNumber, Number, Text, Optional, Texts, Attributes, Asker, Turns, Flag, Key}
-
-infixl 10 ◌>>=◌
-abbrev pub ◌>>=◌ : {A B : Type 0} → Option A → (A → Option B) → Option B
-(Some x) >>= f = f x
-None >>= f = None
+use Rattle.owned_values.specs.Options.{◌>>=◌, in_utf8}
 
 -- What a call returned, seen by view, is what reading gives, unless memory ran out.
 abbrev pub Misses : {Y : Type 0} → Unread → Option Y → Type 0
@@ -34,10 +29,6 @@ abbrev pub number_at : Width → List ℕ → Front ℕ
 number_at w bytes =
     if nat_lt (length bytes) (byte_len w) then None
     else Some (from_be_bytes w (take (byte_len w) bytes), drop (byte_len w) bytes)
-
--- the bytes, where they are UTF-8
-abbrev pub in_utf8 : List ℕ → Option (List ℕ)
-in_utf8 bytes = if is_utf8 bytes then Some bytes else None
 
 -- a text of so many bytes
 abbrev pub text_of : ℕ × List ℕ → Front (List ℕ)

@@ -2,7 +2,8 @@
 
 ghost use Rattle.std.specs.Prelude.{◌≡◌, [], IfOk};
 ghost use Rattle.std.specs.Int.{w32, w64};
-ghost use Rattle.ledger_records.specs.Reading.{Reads, number_at, in_utf8, text_at, flag_at, key_at, option_at, many_at, list_at, attribute_at, no_number_at, fields_in, key_forms};
+ghost use Rattle.owned_values.specs.Options.{in_utf8};
+ghost use Rattle.ledger_records.specs.Reading.{Reads, number_at, text_at, flag_at, key_at, option_at, many_at, list_at, attribute_at, no_number_at, fields_in, key_forms};
 ghost use Rattle.ledger_records.specs.Fields.{NoNumber};
 ghost use Rattle.ledger_records.specs.SpRecord.{key_in};
 

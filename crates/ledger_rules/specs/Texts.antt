@@ -1,5 +1,5 @@
 -- Texts, and what is looked up among them.
-use Rattle.std.specs.Prelude.{◌≡◌, ℕ, Bool, true, false, List, [], ◌∷◌, slice_index_or, Option, None, Some}
+use Rattle.std.specs.Prelude.{◌≡◌, ℕ, Bool, true, false, List, [], ◌∷◌, slice_index_or}
 use Rattle.std.specs.List.{list_any}
 use Rattle.std.specs.Str.{bytes_eq}
 use Rattle.owned_values.specs.declared.attributes.Attribute.{Attribute}
@@ -16,11 +16,6 @@ is_empty (first ∷ others) = false
 -- the ID at a place, the empty one where there is none
 abbrev pub id_at : List (List ℕ) → ℕ → List ℕ
 id_at ids k = slice_index_or ids k []
-
--- the text, where there is one
-abbrev pub of_option : Option (List ℕ) → List (List ℕ)
-of_option None = []
-of_option (Some text) = text ∷ []
 
 -- an attribute's name and values
 abbrev pub of_attribute : Attribute → List (List ℕ)

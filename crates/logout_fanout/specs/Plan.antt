@@ -1,6 +1,6 @@
 -- Whom an identity provider asks for a logout. SAML Profiles, 4.4.3.3: it has to send a LogoutRequest "to each session participant for
 -- which it issued assertions in the current session, with the exception of the session participant that issued the <LogoutRequest>".
-use Rattle.std.specs.Prelude.{ℕ, Bool, false, not, ◌&&◌, List, [], ◌∷◌, ◌++◌, map, filter, slice_get, Option, None, Some, if◌then◌else◌}
+use Rattle.std.specs.Prelude.{ℕ, Bool, not, ◌&&◌, List, [], ◌∷◌, ◌++◌, map, filter, slice_get, Option, Some, if◌then◌else◌}
 use Rattle.std.specs.List.{list_any}
 use Rattle.std.specs.Option.{is_some}
 use Rattle.std.specs.Str.{bytes_eq}
@@ -8,24 +8,14 @@ use Rattle.logout_turns.specs.declared.part.Part.{Part}
 use Rattle.logout_turns.specs.declared.turns.Turn.{Turn}
 use Rattle.peer_keys.specs.declared.peers.LogoutPeer.{LogoutPeer}
 use Rattle.peer_keys.specs.Peers.{place_of}
-
--- whether this provider is the one that asks, where one does
-abbrev pub is_asker : (asker : Option (List ℕ)) → (peer : List ℕ) → Bool
-is_asker None peer = false
-is_asker (Some asker) peer = bytes_eq asker peer
-
--- whether a peer has an address for logout
-abbrev pub logs_out : Option LogoutPeer → Bool
-logs_out None = false
-logs_out (Some peer) = is_some peer.peer.logout
+use Rattle.owned_values.specs.Options.{◌>>=◌, is_there}
 
 -- whether a provider is one of the peers, with an address for logout
-abbrev pub peer_at : List LogoutPeer → Option ℕ → Option LogoutPeer
-peer_at peers None = None
-peer_at peers (Some place) = slice_get peers place
-
 abbrev pub has_address : List LogoutPeer → (entity : List ℕ) → Bool
-has_address peers entity = logs_out (peer_at peers (place_of entity peers))
+has_address peers entity = is_some (do
+  place ← place_of entity peers
+  peer ← slice_get peers place
+  peer.peer.logout)
 
 -- whether a text is among these
 abbrev pub is_among : List ℕ → List (List ℕ) → Bool
@@ -52,7 +42,7 @@ firsts = firsts_after []
 module _ (asker : Option (List ℕ)) (peers : List LogoutPeer) where
   -- whether the provider of a part is another one than the asker, and whether it can be asked
   abbrev pub is_other : Part → Bool
-  is_other part = not (is_asker asker part.peer)
+  is_other part = not (is_there part.peer asker)
 
   abbrev pub can_be_asked : Part → Bool
   can_be_asked part = is_other part && has_address peers part.peer

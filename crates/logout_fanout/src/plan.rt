@@ -2,7 +2,8 @@
 ghost use Rattle.std.specs.Prelude.{◌≡◌, ◌∷◌, ◌++◌, ℕ, List, [], map, option_copied, IfOk};
 ghost use Rattle.std.specs.Str.{bytes_eq};
 ghost use Rattle.std.specs.List.{list_any};
-ghost use Rattle.logout_fanout.specs.Plan.{can_be_asked, has_address, indexes_of, is_among, is_asker, is_skipped, skipped, turns};
+ghost use Rattle.owned_values.specs.Options.{is_there};
+ghost use Rattle.logout_fanout.specs.Plan.{can_be_asked, has_address, indexes_of, is_among, is_skipped, skipped, turns};
 
 use logout_turns::{Part, Turn, Turns};
 use owned_values::{NoMemory, Text, Texts};
@@ -73,7 +74,7 @@ impl Distinct {
 
 /// Whether this provider is the one that asks, where one does.
 fn is_asker(asker: Option<&str>, peer: &Text) -> bool
-    ensures { result ≡ is_asker (option_copied asker.entry) peer.now }
+    ensures { result ≡ is_there peer.now (option_copied asker.entry) }
 {
     match asker {
         Some(asker) => asker == peer.as_str(),

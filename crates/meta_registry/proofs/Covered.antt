@@ -21,10 +21,11 @@ use Rattle.metadata.specs.declared.peer.Role.TheVariants.{Idp, Sp}
 use Rattle.metadata.specs.declared.peer.Peer.{Peer}
 use Rattle.metadata.specs.declared.fault.MetaFault.{MetaFault}
 use Rattle.meta_registry.specs.declared.fault.PeerFault.TheVariants.{NotListed, Meta}
-use Rattle.meta_registry.specs.Aggregate.{RegistryView, descriptors, is_named, has_name, entry_of, answer_of, answer_in, peer_in}
+use Rattle.meta_registry.specs.Aggregate.{RegistryView, descriptors, has_name, entry_of, answer_of, answer_in, peer_in}
 use Rattle.meta_registry.specs.Faults.{IsRegistryOf}
 use Rattle.meta_registry.specs.Listed.{listed, answer_at, IsListed}
 use Rattle.meta_registry.proofs.Picking.{filter_map, all_filtered}
+use Rattle.owned_values.specs.Options.{is_there}
 
 -- WHAT STANDS BEHIND THE FIRST CHILD
 
@@ -109,7 +110,7 @@ pub read_from_listed : (key : List ℕ) (tree : Nodes) (registry : RegistryView)
     (d : ℕ) × IsListed key tree entity d × (peer_of tree d role ≡ Ok peer)
 read_from_listed key tree registry entity role peer is e =
     let found = listed tree 0 entity in
-    let test = λ (d : ℕ). is_named entity (attribute_text tree d (codes "entityID")) in
+    let test = λ (d : ℕ). is_there entity (attribute_text tree d (codes "entityID")) in
     let the = answer_from_one tree role peer found (sym (says_listed key tree 0 registry entity role is) ∙ e) in
     let d = the.descriptor in
     let within : IsElementIn tree 0 d =

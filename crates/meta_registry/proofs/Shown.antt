@@ -21,7 +21,7 @@ use Rattle.assertion_model.specs.Parts.{part_at}
 use Rattle.assertion_model.proofs.PartLemmas.{Stands, behind, next, some, named_at}
 use Rattle.assertion_model.proofs.PlaceLemmas.{IsElementIn, children_in, of_name}
 use Rattle.assertion_model.proofs.ValueLemmas.{value_at}
-use Rattle.metadata.specs.Metadata.{is_post, first_location, address, not_empty, entity, with_service, described, descriptor, sign_on, logout, peer_of}
+use Rattle.metadata.specs.Metadata.{first_location, address, not_empty, entity, with_service, described, descriptor, sign_on, logout, peer_of}
 use Rattle.metadata.specs.declared.peer.Role.{Role}
 use Rattle.metadata.specs.declared.peer.Role.TheVariants.{Idp, Sp}
 use Rattle.metadata.specs.declared.peer.Peer.{Peer}
@@ -30,6 +30,8 @@ use Rattle.metadata.specs.declared.fault.MetaFault.TheVariants.{WrongShape}
 use Rattle.meta_registry.specs.declared.entry.Entry.{Entry}
 use Rattle.meta_registry.specs.Aggregate.{is_aggregate, valid_until, descriptors, entry_of}
 use Rattle.meta_registry.proofs.Skipping.{signature, first_part, same_children, same_attributes}
+use Rattle.owned_values.specs.Options.{is_there}
+use Rattle.saml_names.specs.Uris.{post}
 
 -- WHAT A PART SAYS
 
@@ -37,7 +39,7 @@ use Rattle.meta_registry.proofs.Skipping.{signature, first_part, same_children, 
 abbrev location_in : List Part → Option (List ℕ)
 location_in [] = None
 location_in (part ∷ parts) =
-    cond (is_post (value (codes "Binding") part.attributes)) (value (codes "Location") part.attributes) (location_in parts)
+    cond (is_there post (value (codes "Binding") part.attributes)) (value (codes "Location") part.attributes) (location_in parts)
 
 abbrev address_in : Part → List ℕ → Option (List ℕ)
 address_in part local = location_in (named (md local) part.kids)
@@ -69,7 +71,7 @@ module _ (tree : Nodes) (names : HasNames tree) where
   locations_same : (ks : List ℕ) → AllByRecursion (IsElement tree) ks → first_location tree ks ≡ location_in (map (part_at tree) ks)
   locations_same [] all = refl
   locations_same (k ∷ ks) all =
-      λ i. cond (is_post (sym (value_at (codes "Binding") tree k names all.0) i)) (sym (value_at (codes "Location") tree k names all.0) i)
+      λ i. cond (is_there post (sym (value_at (codes "Binding") tree k names all.0) i)) (sym (value_at (codes "Location") tree k names all.0) i)
       (locations_same ks all.1 i)
 
   elements_among : (k : ℕ) (wanted : ExpandedName) → AllByRecursion (IsElement tree) (children tree k wanted)

@@ -1,8 +1,7 @@
 -- What an aggregate of metadata lists: SAML Metadata, 2.3.1 and 2.3.2. All that is not named here is passed over, nested aggregates
 -- too.
-use Rattle.std.specs.Prelude.{ℕ, Bool, false, ◌&&◌, List, [], ◌∷◌, codes, length, filter, Option, None, Some, is_some, Result, Ok, Err, if◌then◌else◌}
+use Rattle.std.specs.Prelude.{ℕ, Bool, ◌&&◌, List, [], ◌∷◌, codes, length, filter, Option, None, is_some, Result, Ok, Err, if◌then◌else◌}
 use Rattle.std.specs.Option.{option_and_then}
-use Rattle.std.specs.Str.{bytes_eq}
 use Rattle.xml_spec.specs.Tree.{Nodes}
 use Rattle.saml_names.specs.Names.{md}
 use Rattle.tree_read.specs.Children.{is_name, children}
@@ -17,6 +16,7 @@ use Rattle.assertion_model.specs.Instants.{moment_of}
 use Rattle.meta_registry.specs.declared.entry.Entry.{Entry}
 use Rattle.meta_registry.specs.declared.fault.PeerFault.{PeerFault}
 use Rattle.meta_registry.specs.declared.fault.PeerFault.TheVariants.{NotListed, Meta}
+use Rattle.owned_values.specs.Options.{is_there}
 
 -- THE AGGREGATE
 
@@ -36,11 +36,6 @@ descriptors tree e = children tree e (md (codes "EntityDescriptor"))
 
 -- WHAT IS KEPT OF IT
 
--- the name is this one, as it stands
-abbrev pub is_named : List ℕ → Option (List ℕ) → Bool
-is_named entity None = false
-is_named entity (Some name) = bytes_eq name entity
-
 -- 2.3.2: the name of the provider that descriptor d describes, and what it says of it in either role
 abbrev pub entry_of : Nodes → ℕ → Entry
 entry_of tree d =
@@ -55,7 +50,7 @@ pub record RegistryView : Type 0 where
 
 -- the entry is of the provider of this name
 abbrev pub has_name : List ℕ → Entry → Bool
-has_name entity entry = is_named entity entry.name
+has_name entity entry = is_there entity entry.name
 
 -- what the entry says in this role
 abbrev pub says_of : Role → Entry → Result Peer MetaFault

@@ -11,11 +11,12 @@ use Rattle.metadata.specs.declared.peer.Role.{Role}
 use Rattle.metadata.specs.declared.peer.Peer.{Peer}
 use Rattle.meta_registry.specs.declared.fault.PeerFault.{PeerFault}
 use Rattle.meta_registry.specs.declared.fault.PeerFault.TheVariants.{NotListed}
-use Rattle.meta_registry.specs.Aggregate.{descriptors, is_named, answer_of}
+use Rattle.meta_registry.specs.Aggregate.{descriptors, answer_of}
+use Rattle.owned_values.specs.Options.{is_there}
 
 -- 2.3.1 and 2.3.2: the descriptors of the provider of this name that aggregate e lists
 abbrev pub listed : Nodes → ℕ → List ℕ → List ℕ
-listed tree e entity = filter (λ d. is_named entity (attribute_text tree d (codes "entityID"))) (descriptors tree e)
+listed tree e entity = filter (λ d. is_there entity (attribute_text tree d (codes "entityID"))) (descriptors tree e)
 
 -- what descriptors say, of which there has to be just one
 abbrev pub answer_at : Nodes → Role → List ℕ → Result Peer PeerFault

@@ -5,14 +5,16 @@ use Rattle.xml_spec.specs.Tree.{Nodes}
 use Rattle.canon_laws.specs.Writable.{IsWritable}
 use Rattle.tree_read.specs.Texts.{attribute_text}
 use Rattle.tree_read.proofs.WritableTexts.{either_option, attribute_is_text}
-use Rattle.metadata.specs.Metadata.{is_post, first_location, not_empty, described, with_service, address, sign_on, logout}
+use Rattle.metadata.specs.Metadata.{first_location, not_empty, described, with_service, address, sign_on, logout}
 use Rattle.metadata.specs.declared.peer.Peer.{Peer}
 use Rattle.metadata.specs.declared.peer.Role.{Role}
+use Rattle.owned_values.specs.Options.{is_there}
+use Rattle.saml_names.specs.Uris.{post}
 
 pub location_text : (tree : Nodes) (endpoints : List ℕ) → IsWritable tree → IfSome (first_location tree endpoints) IsText
 location_text tree [] h = tt
 location_text tree (n ∷ others) h =
-    either_option (is_post (attribute_text tree n (codes "Binding"))) (attribute_text tree n (codes "Location")) (first_location tree others)
+    either_option (is_there post (attribute_text tree n (codes "Binding"))) (attribute_text tree n (codes "Location")) (first_location tree others)
     (attribute_is_text tree n (codes "Location") h) (location_text tree others h)
 
 pub not_empty_text : (o : Option (List ℕ)) → IfSome o IsText → IfSome (not_empty o) IsText

@@ -1,6 +1,5 @@
 -- What the metadata of a provider says: SAML Metadata, 2.2 to 2.4. All that is not named here is passed over.
-use Rattle.std.specs.Prelude.{ℕ, Bool, false, List, [], ◌∷◌, codes, Option, None, Some, Result, Ok, Err, if◌then◌else◌}
-use Rattle.std.specs.Str.{bytes_eq}
+use Rattle.std.specs.Prelude.{ℕ, List, [], ◌∷◌, codes, Option, None, Some, Result, Ok, Err, if◌then◌else◌}
 use Rattle.xml_spec.specs.Tree.{Nodes}
 use Rattle.saml_names.specs.Names.{md}
 use Rattle.saml_names.specs.Uris.{post}
@@ -12,6 +11,7 @@ use Rattle.metadata.specs.declared.peer.Role.TheVariants.{Idp, Sp}
 use Rattle.metadata.specs.declared.peer.Peer.{Peer}
 use Rattle.metadata.specs.declared.fault.MetaFault.{MetaFault}
 use Rattle.metadata.specs.declared.fault.MetaFault.TheVariants.{WrongShape, NoPostService}
+use Rattle.owned_values.specs.Options.{is_there}
 
 -- 2.4.3, 2.4.4: the element that describes a provider in this role
 abbrev pub descriptor : Role → List ℕ
@@ -27,16 +27,11 @@ sign_on Sp = codes "AssertionConsumerService"
 abbrev pub logout : List ℕ
 logout = codes "SingleLogoutService"
 
--- 2.2.2: the binding is HTTP POST
-abbrev pub is_post : Option (List ℕ) → Bool
-is_post None = false
-is_post (Some binding) = bytes_eq binding post
-
 -- 2.2.2: the Location of the first of these endpoints whose binding is HTTP POST
 abbrev pub first_location : Nodes → List ℕ → Option (List ℕ)
 first_location tree [] = None
 first_location tree (n ∷ others) =
-    if is_post (attribute_text tree n (codes "Binding")) then attribute_text tree n (codes "Location") else first_location tree others
+    if is_there post (attribute_text tree n (codes "Binding")) then attribute_text tree n (codes "Location") else first_location tree others
 
 -- the address of the endpoints of this name below a descriptor
 abbrev pub address : Nodes → ℕ → List ℕ → Option (List ℕ)

@@ -7,7 +7,9 @@ ghost use Rattle.tree_read.specs.Children.{is_name};
 ghost use Rattle.tree_read.specs.Texts.{attribute_text};
 ghost use Rattle.tree_read.specs.Views.{tree_of};
 ghost use Rattle.tree_read.specs.Walk.{name_of_node};
-ghost use Rattle.metadata.specs.Metadata.{is_post, address, not_empty, entity, peer_of};
+ghost use Rattle.saml_names.specs.Uris as uris;
+ghost use Rattle.owned_values.specs.Options.{is_there};
+ghost use Rattle.metadata.specs.Metadata.{address, not_empty, entity, peer_of};
 ghost use Rattle.metadata.specs.Faults.{fault_of, IsRead, IsRefused};
 
 use crate::fault::MetaFault;
@@ -51,7 +53,7 @@ fn read_entity(alloc: Global, at: At<'_, '_>) -> Result<Option<Text>, NoMemory>
 
 /// Whether the binding of an endpoint is HTTP POST (SAML Metadata, 2.2.2).
 fn takes_post(alloc: Global, endpoint: At<'_, '_>) -> Result<bool, NoMemory>
-    ensures { IfOk result (λ is. is ≡ is_post (attribute_text (tree_of endpoint.entry) endpoint.entry.node.0 (codes "Binding"))) }
+    ensures { IfOk result (λ is. is ≡ is_there uris.post (attribute_text (tree_of endpoint.entry) endpoint.entry.node.0 (codes "Binding"))) }
 {
     match attr_text(alloc, endpoint, "Binding")? {
         Some(binding) => Ok(binding.as_str() == POST),

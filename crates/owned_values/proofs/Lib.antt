@@ -1,1 +1,2 @@
 pub mod GivesLaws
+pub mod Utf8

@@ -1,5 +1,6 @@
 //! Texts and bytes that the program owns. A contract sees a text as its bytes, and a list of texts as a list of those.
 ghost use Rattle.std.specs.Prelude.{◌≡◌, ◌<◌, [], ◌∷◌, ◌++◌, length, slice_get, IfOk, OnOk, OnErr, IsTrue, ◌↔◌};
+ghost use Rattle.owned_values.specs.Options.{in_utf8};
 
 use crate::NoMemory;
 use std::alloc::Global;
@@ -36,6 +37,16 @@ impl Text {
     {
         let chars = String::from_str(alloc, s)?;
         Ok(Text { chars })
+    }
+
+    /// The text of these bytes; none where they are no UTF-8.
+    pub fn of_utf8(alloc: Global, bytes: &[u8]) -> Result<Option<Text>, NoMemory>
+        ensures { IfOk result (λ text. text ≡ in_utf8 bytes.now) }
+    {
+        match str::from_utf8(bytes) {
+            Ok(text) => Ok(Some(Text::of(alloc, text)?)),
+            Err(_) => Ok(None),
+        }
     }
 
     /// How many bytes the text has.

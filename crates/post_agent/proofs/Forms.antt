@@ -21,10 +21,12 @@ use Rattle.post_binding.specs.Pages.{auto_form, login_page, relay_input, submitt
 use Rattle.post_agent.specs.declared.seen.AutoForm.{AutoForm}
 use Rattle.post_agent.specs.Cuts.{cut, quoted}
 use Rattle.post_agent.specs.Pages.{form_page, IsForm}
-use Rattle.post_agent.specs.Reading.{FormParts, url_front, name_front, value_front, relay_front, pending_front, relay_part, form_parts, in_utf8, text_in, are_bytes, as_bytes, decoded, message_in, field_of, relay_in, form_of, form_with, form_in, login_with, login_in}
+use Rattle.post_agent.specs.Reading.{FormParts, url_front, name_front, value_front, relay_front, pending_front, relay_part, form_parts, text_in, are_bytes, as_bytes, decoded, message_in, field_of, relay_in, form_of, form_with, form_in, login_with, login_in}
 use Rattle.post_agent.proofs.Cutting.{behind_front, cut_front, is_without, bytes_eq-same}
 use Rattle.post_agent.proofs.Options.{followed, mapped, passed, some_same}
-use Rattle.post_agent.proofs.Texts.{is_text, is_decoded}
+use Rattle.post_agent.proofs.Texts.{is_decoded}
+use Rattle.owned_values.proofs.Utf8.{text_in_utf8}
+use Rattle.owned_values.specs.Options.{in_utf8}
 
 -- a text without markup has no quotation mark
 without_quotes : (text : List ℕ) → filter is_markup text ≡ [] → is_without quotation_mark text ≡ true
@@ -122,7 +124,7 @@ module _ (clean : EscapedTextHoldsNoMarkup) (again : EscapedTextIsReadAgain) whe
       (escaped_is_quoted relay_front relay (codes "/>" ++ end_of_page))
 
   text_is_read : (text : List ℕ) → IsUtf8 text → text_in (escape text) ≡ Some text
-  text_is_read text is = ap (option_and_then in_utf8) (again text) ∙ sym (is_text text text refl is)
+  text_is_read text is = ap (option_and_then in_utf8) (again text) ∙ sym (text_in_utf8 text text refl is)
 
   message_is_read : (message : List ℕ) → IsBytes message →
       message_in (escape (encode_of standard message)) ≡ Some message

@@ -13,7 +13,7 @@ use Rattle.xml_spec.proofs.Tests.{either_true}
 use Rattle.post_binding.specs.Laws.{EscapedTextHoldsNoMarkup, EscapedTextIsReadAgain}
 use Rattle.post_binding.specs.Pages.{login_page, end_page}
 use Rattle.http_wire.specs.Answers.{page}
-use Rattle.post_agent.specs.declared.page.TheConstants.{VERDICTS}
+use Rattle.verdict_codes.specs.declared.codes.TheConstants.{VERDICTS}
 use Rattle.post_agent.specs.declared.seen.AutoForm.{AutoForm}
 use Rattle.post_agent.specs.declared.seen.Page.{Page}
 use Rattle.post_agent.specs.declared.seen.Page.TheVariants.{Form, Login, End, Code, Status, Other}

@@ -14,18 +14,7 @@ use Rattle.base64.specs.GeneralPurpose.{IsBytes, decode_of}
 use Rattle.xml_spec.proofs.Tests.{and_true}
 use Rattle.post_binding.specs.Html.{read_text, read_behind}
 use Rattle.post_agent.proofs.Cutting.{other_byte}
-use Rattle.post_agent.specs.Reading.{in_utf8, first_of, behind_reference, are_bytes, as_bytes, decoded}
-
-pub is_text : (bytes text : List ℕ) → text ≡ bytes → IsUtf8 bytes → Some text ≡ in_utf8 bytes
-is_text bytes text same valid =
-    ap Some same ∙ sym (ap (λ t. cond t (Some bytes) None) (is_utf8-from_IsUtf8 bytes valid))
-
-pub is_no_text : (bytes : List ℕ) → ¬ (IsUtf8 bytes) → None ≡ in_utf8 bytes
-is_no_text bytes invalid = sym (by_test (is_utf8 bytes) refl)
-  where
-    by_test : (t : Bool) → t ≡ is_utf8 bytes → cond t (Some bytes) None ≡ None
-    by_test true h = absurd (invalid (IsUtf8-from_is_utf8 bytes (sym h)))
-    by_test false h = refl
+use Rattle.post_agent.specs.Reading.{first_of, behind_reference, are_bytes, as_bytes, decoded}
 
 -- ---- references
 

@@ -17,7 +17,7 @@ use Rattle.post_binding.specs.Html.{read_text}
 use Rattle.post_binding.specs.Pages.{login_page, end_page}
 use Rattle.http_wire.specs.Answers.{is_one_line}
 use Rattle.post_agent.specs.declared.agent.TheConstants.{SEE_OTHER}
-use Rattle.post_agent.specs.declared.page.TheConstants.{VERDICTS}
+use Rattle.verdict_codes.specs.declared.codes.TheConstants.{VERDICTS}
 use Rattle.post_agent.specs.declared.seen.AutoForm.{AutoForm}
 use Rattle.post_agent.specs.declared.seen.Page.{Page}
 use Rattle.post_agent.specs.declared.seen.Page.TheVariants as pages
@@ -26,10 +26,7 @@ use Rattle.post_agent.specs.declared.seen.What.TheVariants as seen
 use Rattle.post_agent.specs.Cuts.{behind, cut, quoted}
 use Rattle.post_agent.specs.Pages.{form_page, refusal_page, status_page}
 use Rattle.post_agent.specs.Received.{Parts, Reading, NoAnswer, Moved, Shown, what_of}
-
-infixl 10 ◌>>=◌
-abbrev pub ◌>>=◌ : {X Y : Type 0} → Option X → (X → Option Y) → Option Y
-o >>= f = option_and_then f o
+use Rattle.owned_values.specs.Options.{◌>>=◌, in_utf8}
 
 -- ---- texts in pages
 
@@ -46,9 +43,6 @@ behind_reference text =
     first_of (behind_one 38 (codes "&amp;") text) (first_of (behind_one 60 (codes "&lt;") text)
     (first_of (behind_one 62 (codes "&gt;") text) (first_of (behind_one 34 (codes "&quot;") text)
     (behind_one 39 (codes "&#39;") text))))
-
-abbrev pub in_utf8 : List ℕ → Option (List ℕ)
-in_utf8 bytes = if is_utf8 bytes then Some bytes else None
 
 abbrev pub text_in : List ℕ → Option (List ℕ)
 text_in escaped = option_and_then in_utf8 (read_text escaped)

@@ -63,22 +63,12 @@ fn unescaped(alloc: Global, text: &[u8]) -> Result<Option<Blob>, NoMemory>
     Ok(Some(found))
 }
 
-/// The text of these bytes; none where they are no UTF-8.
-fn in_utf8(alloc: Global, bytes: &[u8]) -> Result<Option<Text>, NoMemory>
-    ensures { IfOk result (λ text. text ≡ spec.in_utf8 bytes.now) }
-{
-    match str::from_utf8(bytes) {
-        Ok(text) => Ok(Some(Text::of(alloc, text)?)),
-        Err(_) => Ok(None),
-    }
-}
-
 /// The text that an escaped one stands for.
 pub(crate) fn text_in(alloc: Global, escaped: &[u8]) -> Result<Option<Text>, NoMemory>
     ensures { IfOk result (λ text. text ≡ spec.text_in escaped.now) }
 {
     match unescaped(alloc, escaped)? {
-        Some(bytes) => in_utf8(alloc, bytes.as_slice()),
+        Some(bytes) => Text::of_utf8(alloc, bytes.as_slice()),
         None => Ok(None),
     }
 }

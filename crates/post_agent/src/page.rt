@@ -11,51 +11,7 @@ use crate::seen::Page;
 use itoa::Buffer;
 use owned_values::NoMemory;
 use std::alloc::Global;
-use verdict_codes::Verdict;
-
-// The verdicts, each of which has a page.
-const VERDICTS: [Verdict; 40] = [
-    Verdict::BadForm,
-    Verdict::BadBase64,
-    Verdict::TooLarge,
-    Verdict::BadXml,
-    Verdict::XmlLimit,
-    Verdict::BadNames,
-    Verdict::DuplicateId,
-    Verdict::NotResponse,
-    Verdict::NotSuccess,
-    Verdict::NotOneAssertion,
-    Verdict::BadSignatureForm,
-    Verdict::BadReference,
-    Verdict::TagDiffers,
-    Verdict::DigestDiffers,
-    Verdict::BadAssertion,
-    Verdict::WrongIssuer,
-    Verdict::WrongAudience,
-    Verdict::WrongRecipient,
-    Verdict::NotInTime,
-    Verdict::NotOutstanding,
-    Verdict::RequestSpent,
-    Verdict::AssertionSeen,
-    Verdict::RelayDiffers,
-    Verdict::NotLogout,
-    Verdict::UnknownPeer,
-    Verdict::LogoutDestination,
-    Verdict::NoSuchSession,
-    Verdict::UnknownLogout,
-    Verdict::LogoutNotInTime,
-    Verdict::NotAuthnRequest,
-    Verdict::UnknownIssuer,
-    Verdict::RequestDestination,
-    Verdict::WrongConsumer,
-    Verdict::NoSuchPending,
-    Verdict::LoginRefused,
-    Verdict::DiskFault,
-    Verdict::Full,
-    Verdict::NoMemory,
-    Verdict::Foreign,
-    Verdict::RegistryExpired,
-];
+use verdict_codes::{VERDICTS, Verdict};
 
 /// Whether the bytes are these pieces, one after the other.
 fn is_made_of(bytes: &[u8], pieces: &[&str]) -> bool

@@ -1,5 +1,5 @@
 -- The form of the HTTP POST binding: SAML Bindings 3.5, over the pairs of `form_urlencoded` (URL Standard, 5).
-use Rattle.std.specs.Prelude.{ℕ, Bool, ◌&&◌, not, List, [], ◌∷◌, map, filter, length, codes, Option, Some, None, Result, Ok, Err, nat_lt, nat_le, ok_or, option_and_then, if◌then◌else◌}
+use Rattle.std.specs.Prelude.{ℕ, Bool, ◌&&◌, not, List, [], ◌∷◌, map, filter, length, codes, Option, Some, None, Result, Ok, Err, nat_lt, nat_le, ok_or, if◌then◌else◌}
 use Rattle.std.specs.Option.{option_map}
 use Rattle.std.specs.Str.{bytes_eq}
 use Rattle.std.specs.Str.Lossy.{utf8_lossy, replacement_bytes}
@@ -15,6 +15,7 @@ use Rattle.post_binding.specs.declared.posted.Field.{Field}
 use Rattle.post_binding.specs.declared.posted.Field.TheVariants.{Request, Response}
 use Rattle.post_binding.specs.declared.posted.Posted.{Posted}
 use Rattle.post_binding.specs.declared.posted.TheConstants.{MESSAGE_LIMIT, RELAY_LIMIT}
+use Rattle.owned_values.specs.Options.{◌>>=◌}
 
 -- ---- the pairs
 
@@ -119,8 +120,10 @@ fault_of faults.NoMemory = None
 -- the values of the names in order, none where one has none
 abbrev pub fields_of : List Pair → List (List ℕ) → Option (List (List ℕ))
 fields_of given [] = Some []
-fields_of given (name ∷ names) =
-    option_and_then (λ value. option_map (λ found. value ∷ found) (fields_of given names)) (the_value (values name given))
+fields_of given (name ∷ names) = do
+  value ← the_value (values name given)
+  found ← fields_of given names
+  Some (value ∷ found)
 
 abbrev pub fields : List ℕ → List (List ℕ) → Option (List (List ℕ))
 fields body names = fields_of (pairs body) names

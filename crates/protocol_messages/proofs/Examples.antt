@@ -5,7 +5,7 @@ use Rattle.saml_names.specs.Names.{saml_namespace, samlp_namespace, saml}
 use Rattle.saml_names.specs.Uris.{success, responder, partial_logout, post}
 use Rattle.tree_read.specs.Children.{children}
 use Rattle.protocol_messages.specs.declared.logout.Outcome.TheVariants as outcomes
-use Rattle.protocol_messages.specs.Messages.{one_at_most, issuer_of, flag, is_other_binding, status_of, outcome_of, IsMessage}
+use Rattle.protocol_messages.specs.Messages.{at_most_one, issuer_of, flag, is_other_binding, status_of, outcome_of, IsMessage}
 
 -- ForceAuthn and IsPassive
 pub flag-not_given : flag None ≡ Some false
@@ -71,8 +71,8 @@ issuer-trimmed = refl
 pub issuer-two : issuer_of (message (issuer (issuer NoNodes))) 0 ≡ None
 issuer-two = refl
 
-pub one_at_most-two : one_at_most (children (message (issuer (issuer NoNodes))) 0 (saml (codes "Issuer"))) ≡ None
-one_at_most-two = refl
+pub at_most_one-two : at_most_one (children (message (issuer (issuer NoNodes))) 0 (saml (codes "Issuer"))) ≡ None
+at_most_one-two = refl
 
 -- an Assertion inside Extensions is no child
 pub assertion-deeper : children (message (Element (codes "samlp:Extensions") [] (Element (codes "saml:Assertion") [] NoNodes NoNodes) NoNodes)) 0 (saml (codes "Assertion")) ≡ []

@@ -17,7 +17,7 @@ use Rattle.tree_read.specs.Children.{child, is_name, named, children, elements_o
 use Rattle.tree_read.specs.Texts.{text_in, text_of, trimmed}
 use Rattle.protocol_messages.specs.declared.logout.Outcome.TheVariants as outcomes
 use Rattle.protocol_messages.specs.declared.parts.Status.{Status}
-use Rattle.protocol_messages.specs.Messages.{only, one_at_most, with_value, status_in_code, issuer_named, outcome_of, IsAuthnRequest, IsResponse, IsLogoutRequest, IsLogoutResponse}
+use Rattle.protocol_messages.specs.Messages.{only, at_most_one, with_value, status_in_code, issuer_named, outcome_of, IsAuthnRequest, IsResponse, IsLogoutRequest, IsLogoutResponse}
 use Rattle.protocol_messages.specs.Making.{authn_request, response, assertion_made, session_indexes, logout_request, logged_out, succeeded, failed, attribute}
 use Rattle.protocol_messages.proofs.Standing.{Stands, some, first_kid, behind, kids_here, attribute_here, text_here}
 
@@ -56,9 +56,9 @@ module _ (tree : Nodes) (scope : Scope) (bound : namespace_of scope (codes "saml
       ∙ ap (λ n. option_and_then (status_in_code tree) (only (named status_code_name (child (suc k) (record { namespace = n; local = codes "StatusCode" }) ∷ [])))) bound
 
   code_read : (k : ℕ) (value : List ℕ) (inside : Nodes) → Stands tree k scope (code_nodes value inside) →
-      status_in_code tree k ≡ with_value tree (Some value) (one_at_most (named status_code_name (elements_of scope (suc k) inside)))
+      status_in_code tree k ≡ with_value tree (Some value) (at_most_one (named status_code_name (elements_of scope (suc k) inside)))
   code_read k value inside here =
-      λ i. with_value tree (attribute_here here (codes "Value") i) (one_at_most (named status_code_name (kids_here here i)))
+      λ i. with_value tree (attribute_here here (codes "Value") i) (at_most_one (named status_code_name (kids_here here i)))
 
   succeeded_read : (k : ℕ) (rest : Nodes) → Stands tree k scope (status_nodes success NoNodes rest) → status_at k ≡ Some (record { top = success; inner = None })
   succeeded_read k rest here = only_code k success NoNodes rest here ∙ code_read (suc k) success NoNodes (first_kid here (some _))
@@ -68,7 +68,7 @@ module _ (tree : Nodes) (scope : Scope) (bound : namespace_of scope (codes "saml
   failed_read k reason rest here =
       let code = first_kid here (some _) in
       only_code k responder (code_nodes reason NoNodes) rest here ∙ code_read (suc k) responder (code_nodes reason NoNodes) code
-      ∙ ap (λ n. with_value tree (Some responder) (one_at_most (named status_code_name (child (suc (suc k)) (record { namespace = n; local = codes "StatusCode" }) ∷ [])))) bound
+      ∙ ap (λ n. with_value tree (Some responder) (at_most_one (named status_code_name (child (suc (suc k)) (record { namespace = n; local = codes "StatusCode" }) ∷ [])))) bound
       ∙ ap (λ v. Some (record { top = responder; inner = v })) (attribute_here (first_kid code (some _)) (codes "Value"))
 
 module _ (id issuer destination other instant : List ℕ) (issued : ℕ) (some_id : 1 ≤ length id) (short : length id ≤ 256) (told : TellsInFull instant issued) where

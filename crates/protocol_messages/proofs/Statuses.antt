@@ -5,10 +5,10 @@ use Rattle.xml_spec.specs.Names.{ExpandedName}
 use Rattle.saml_names.specs.Names.{samlp}
 use Rattle.saml_tree.specs.Documents.{DocumentView}
 use Rattle.tree_read.specs.Children.{children}
-use Rattle.protocol_messages.specs.Messages.{only, one_at_most, is_any, status_in_code, status_code, status_of}
+use Rattle.protocol_messages.specs.Messages.{only, at_most_one, is_any, status_in_code, status_code, status_of}
 
 -- of several there is not one at most
-pub several : (xs : List ℕ) → 1 < length xs → one_at_most xs ≡ None
+pub several : (xs : List ℕ) → 1 < length xs → at_most_one xs ≡ None
 several [] h = absurd (omega arith)
 several (x ∷ []) h = absurd (omega arith)
 several (x ∷ y ∷ xs) h = refl

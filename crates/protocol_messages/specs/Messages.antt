@@ -17,19 +17,10 @@ use Rattle.protocol_messages.specs.declared.logout.LogoutRequest.{LogoutRequest}
 use Rattle.protocol_messages.specs.declared.logout.LogoutResponse.{LogoutResponse}
 use Rattle.protocol_messages.specs.declared.logout.Outcome.{Outcome}
 use Rattle.protocol_messages.specs.declared.logout.Outcome.TheVariants as outcomes
+use Rattle.owned_values.specs.Options.{is_there, ◌>>=◌}
+pub use Rattle.owned_values.specs.Options.{only, at_most_one}
 
 -- PARTS
-
--- the one in a list, where there is just one
-abbrev pub only : List ℕ → Option ℕ
-only (n ∷ []) = Some n
-only _ = None
-
--- none, or the one in a list, where there is one at most
-abbrev pub one_at_most : List ℕ → Option (Option ℕ)
-one_at_most [] = Some None
-one_at_most (n ∷ []) = Some (Some n)
-one_at_most _ = None
 
 -- 2.2.5: the provider that an Issuer names, without the white space around it (profile)
 abbrev pub issuer_named : Nodes → ℕ → List ℕ
@@ -78,17 +69,25 @@ with_value tree _ _ = None
 
 abbrev pub status_in_code : Nodes → ℕ → Option Status
 status_in_code tree code =
-    with_value tree (attribute_text tree code (codes "Value")) (one_at_most (children tree code (samlp (codes "StatusCode"))))
+    with_value tree (attribute_text tree code (codes "Value")) (at_most_one (children tree code (samlp (codes "StatusCode"))))
 
 -- 3.2.2.1: the one Status of a message, which has one StatusCode
 abbrev pub status_code : Nodes → ℕ → Option ℕ
-status_code tree k =
-    option_and_then (λ status. only (children tree status (samlp (codes "StatusCode")))) (only (children tree k (samlp (codes "Status"))))
+status_code tree k = do
+  status ← only (children tree k (samlp (codes "Status")))
+  only (children tree status (samlp (codes "StatusCode")))
 
 abbrev pub status_of : Nodes → ℕ → Option Status
 status_of tree k = option_and_then (status_in_code tree) (status_code tree k)
 
 -- MESSAGES
+
+-- SAML Bindings, 3.5.5.2: the Destination of a message is the place that it was sent to; a signed message has to name it. An empty
+-- one names nothing.
+abbrev pub is_destination : (address : List ℕ) → (signed : Bool) → Option (List ℕ) → Bool
+is_destination address signed None = not signed
+is_destination address signed (Some []) = not signed
+is_destination address signed (Some (b ∷ bytes)) = bytes_eq (b ∷ bytes) address
 
 -- 3.4.1: the binding in which the response is wanted is given, and it is not HTTP POST
 abbrev pub is_other_binding : Option (List ℕ) → Bool
@@ -114,7 +113,7 @@ is_any _ = true
 pub record IsResponse (tree : Nodes) (k : ℕ) (message : ResponseHead) : Type 0 where
   pub issued : ℕ
   pub is : IsMessage tree k (codes "Response") message.id issued
-  pub issuer : option_map (option_map (issuer_named tree)) (one_at_most (children tree k (saml (codes "Issuer")))) ≡ Some message.issuer
+  pub issuer : option_map (option_map (issuer_named tree)) (at_most_one (children tree k (saml (codes "Issuer")))) ≡ Some message.issuer
   pub destination : attribute_text tree k (codes "Destination") ≡ message.destination
   pub request : attribute_text tree k (codes "InResponseTo") ≡ message.request
   pub success : option_map (λ status. bytes_eq status.top success) (status_of tree k) ≡ Some message.success
@@ -131,15 +130,10 @@ pub record IsLogoutRequest (tree : Nodes) (k : ℕ) (message : LogoutRequest) : 
   pub name : option_map (text_of tree) (only (children tree k (saml (codes "NameID")))) ≡ Some message.name
   pub indexes : map (text_of tree) (children tree k (samlp (codes "SessionIndex"))) ≡ message.indexes
 
--- the text is this one
-abbrev pub is_given : List ℕ → Option (List ℕ) → Bool
-is_given wanted None = false
-is_given wanted (Some text) = bytes_eq text wanted
-
 -- 3.7.3.2: what became of a logout: not all participants were reached, or all were, or it is not known
 abbrev pub outcome_of : Status → Outcome
 outcome_of status =
-    if is_given partial_logout status.inner then outcomes.Partial else (if bytes_eq status.top success then outcomes.Success else outcomes.Other)
+    if is_there partial_logout status.inner then outcomes.Partial else (if bytes_eq status.top success then outcomes.Success else outcomes.Other)
 
 -- 3.7.2: LogoutResponse; the moment of its issue is not told further
 pub record IsLogoutResponse (tree : Nodes) (k : ℕ) (message : LogoutResponse) : Type 0 where

@@ -7,7 +7,8 @@ ghost use Rattle.tree_read.specs.Children.{children};
 ghost use Rattle.tree_read.specs.Faults.{IsShapeFault};
 ghost use Rattle.tree_read.specs.Texts.{text_of};
 ghost use Rattle.tree_read.specs.Views.{tree_of};
-ghost use Rattle.protocol_messages.specs.Messages.{only, outcome_of, is_given, IsLogoutRequest, IsLogoutResponse};
+ghost use Rattle.owned_values.specs.Options.{is_there};
+ghost use Rattle.protocol_messages.specs.Messages.{only, outcome_of, IsLogoutRequest, IsLogoutResponse};
 ghost use Rattle.protocol_messages.specs.declared.logout.LogoutRequest.{LogoutRequest};
 ghost use Rattle.protocol_messages.specs.declared.logout.LogoutResponse.{LogoutResponse};
 
@@ -112,7 +113,7 @@ pub fn read_logout_request(alloc: Global, at: At<'_, '_>) -> Result<LogoutReques
 
 /// Whether a text is given, and is this one.
 fn is_given(wanted: &str, text: &Option<Text>) -> bool
-    ensures { result ≡ is_given wanted.now text.now }
+    ensures { result ≡ is_there wanted.now text.now }
 {
     match text {
         Some(text) => text.as_str() == wanted,

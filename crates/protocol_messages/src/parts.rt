@@ -9,7 +9,7 @@ ghost use Rattle.tree_read.specs.Texts.{attribute_text};
 ghost use Rattle.tree_read.specs.Walk.{name_of_node};
 ghost use Rattle.tree_read.specs.Faults.{IsShapeFault};
 ghost use Rattle.tree_read.specs.Views.{tree_of};
-ghost use Rattle.protocol_messages.specs.Messages.{IsMessage, Tell, only, issuer_of, boolean, flag, value_inside, one_at_most, status_in_code, status_of};
+ghost use Rattle.protocol_messages.specs.Messages.{IsMessage, Tell, only, issuer_of, boolean, flag, value_inside, at_most_one, status_in_code, status_of};
 
 use owned_values::Text;
 use saml_names::{ExpandedName, saml, samlp};
@@ -159,8 +159,8 @@ pub(crate) struct Status {
 ///
 /// `WrongShape`, exactly where there are several.
 fn read_inner(alloc: Global, code: At<'_, '_>) -> Result<Option<Text>, ShapeFault>
-    ensures ok { IfOk result (λ inner. option_map (value_inside (tree_of code.entry)) (one_at_most (children (tree_of code.entry) code.entry.node.0 (samlp (codes "StatusCode")))) ≡ Some inner) }
-    ensures other { IfErr result (λ fault. IsShapeFault fault (one_at_most (children (tree_of code.entry) code.entry.node.0 (samlp (codes "StatusCode"))) ≡ None)) }
+    ensures ok { IfOk result (λ inner. option_map (value_inside (tree_of code.entry)) (at_most_one (children (tree_of code.entry) code.entry.node.0 (samlp (codes "StatusCode")))) ≡ Some inner) }
+    ensures other { IfErr result (λ fault. IsShapeFault fault (at_most_one (children (tree_of code.entry) code.entry.node.0 (samlp (codes "StatusCode"))) ≡ None)) }
 {
     match at_most_one(code, samlp("StatusCode"))? {
         Some(inner) => Ok(attr_text(alloc, inner, "Value")?),

@@ -9,7 +9,7 @@ ghost use Rattle.saml_tree.specs.Elements.{IsElement};
 ghost use Rattle.tree_read.specs.Children.{children};
 ghost use Rattle.tree_read.specs.Faults.{IsShapeFault};
 ghost use Rattle.tree_read.specs.Views.{tree_of};
-ghost use Rattle.protocol_messages.specs.Messages.{issuer_named, one_at_most, is_any, IsResponse};
+ghost use Rattle.protocol_messages.specs.Messages.{issuer_named, at_most_one, is_any, IsResponse};
 ghost use Rattle.protocol_messages.specs.declared.response.ResponseHead.{ResponseHead};
 
 use crate::parts::{read_head, read_status};
@@ -45,8 +45,8 @@ pub struct ResponseHead {
 ///
 /// `WrongShape`, exactly where it has several.
 fn read_issuer_at_most(alloc: Global, at: At<'_, '_>) -> Result<Option<Text>, ShapeFault>
-    ensures ok { IfOk result (λ issuer. option_map (option_map (issuer_named (tree_of at.entry))) (one_at_most (children (tree_of at.entry) at.entry.node.0 (saml (codes "Issuer")))) ≡ Some issuer) }
-    ensures other { IfErr result (λ fault. IsShapeFault fault (one_at_most (children (tree_of at.entry) at.entry.node.0 (saml (codes "Issuer"))) ≡ None)) }
+    ensures ok { IfOk result (λ issuer. option_map (option_map (issuer_named (tree_of at.entry))) (at_most_one (children (tree_of at.entry) at.entry.node.0 (saml (codes "Issuer")))) ≡ Some issuer) }
+    ensures other { IfErr result (λ fault. IsShapeFault fault (at_most_one (children (tree_of at.entry) at.entry.node.0 (saml (codes "Issuer"))) ≡ None)) }
 {
     match at_most_one(at, saml("Issuer"))? {
         Some(issuer) => Ok(Some(trimmed(alloc, issuer)?)),

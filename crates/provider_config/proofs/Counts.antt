@@ -9,7 +9,7 @@ use Rattle.provider_config.specs.Line.{spelled}
 use Rattle.provider_config.specs.Shared.{with_line}
 use Rattle.provider_config.proofs.Running.{made_of}
 use Rattle.provider_config.proofs.Sharing.{kept, of_lines}
-use Rattle.provider_config.proofs.Numbers.{few_lines}
+use Rattle.text_lines.proofs.Numbering.{few_lines}
 
 -- no more things said than lines
 said_are_few : (number : ℕ) (ls : List (List ℕ)) → length (said_from number ls) ≤ length ls

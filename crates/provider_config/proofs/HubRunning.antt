@@ -17,10 +17,11 @@ use Rattle.provider_config.specs.Drafts as drafts
 use Rattle.provider_config.specs.HubDrafts.{Found, found, made_with, complete, taken, stands, unless_found, next_line, config_from}
 use Rattle.provider_config.specs.HubLine.{line_of, spelled}
 use Rattle.provider_config.specs.HubViews.{above_files, is_peer_file}
-use Rattle.provider_config.specs.Shared.{with_line, ◌>>=◌}
+use Rattle.provider_config.specs.Shared.{with_line}
 use Rattle.provider_config.proofs.HubServing.{is_plain, plain_line}
 use Rattle.provider_config.proofs.Running as running
 use Rattle.provider_config.proofs.Sharing.{filter_map-push, any_filtered, count_filtered, fresh, line_behind, from_next, kept}
+use Rattle.owned_values.specs.Options.{◌>>=◌}
 
 -- ---- one more line
 

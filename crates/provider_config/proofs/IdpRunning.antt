@@ -15,8 +15,9 @@ use Rattle.provider_config.specs.declared.idp_line.IdpLine.TheVariants.{Entity, 
 use Rattle.provider_config.specs.IdpLine.{key_of, line_of, spelled}
 use Rattle.provider_config.specs.IdpConfig.{IdpConfig, entity, base, listen, skew, sign, file, is_users, is_id_key, is_peer_file, has_files, is_peer, is_beyond, config_of, idp_config}
 use Rattle.provider_config.specs.IdpDrafts.{is_fanout, found, complete, taken, stands, unless_found, next_line, config_from}
-use Rattle.provider_config.specs.Shared.{the, has_key, with_line, config_in, ◌>>=◌}
+use Rattle.provider_config.specs.Shared.{the, has_key, with_line, config_in}
 use Rattle.provider_config.proofs.Sharing.{the-push, any-push, filter_map-push, is_some-the, any_filtered, count_filtered, fresh, line_behind, from_next, kept, of_lines}
+use Rattle.owned_values.specs.Options.{◌>>=◌}
 
 found-push : (lines : List IdpLine) (line : IdpLine) → found (lines ++ line ∷ []) ≡ taken line (found lines)
 found-push lines line = λ i. record {

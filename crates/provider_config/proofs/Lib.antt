@@ -3,7 +3,6 @@ pub mod HubNaming
 pub mod HubRunning
 pub mod HubServing
 pub mod IdpRunning
-pub mod Numbers
 pub mod Roles
 pub mod Running
 pub mod Sharing

@@ -13,9 +13,10 @@ use Rattle.provider_config.specs.declared.line.SpLine.{SpLine}
 use Rattle.provider_config.specs.declared.line.SpLine.TheVariants.{Entity, Base, Listen, Idp, KeyIn, KeyOut, IdKey, Skew, NextIn, Policy, Registry, Guard, Asked, Opened}
 use Rattle.provider_config.specs.Line.{key_of, line_of, spelled}
 use Rattle.provider_config.specs.Config.{Config, entity, base, listen, skew, times, file, asked, opened, same_role, role_of, has_file, has_files, doubles, config_of, sp_config}
-use Rattle.provider_config.specs.Shared.{the, has_key, with_line, config_in, ◌>>=◌}
+use Rattle.provider_config.specs.Shared.{the, has_key, with_line, config_in}
 use Rattle.provider_config.proofs.Sharing.{the-push, filter_map-push, any-push, is_some-the, any_filtered, fresh, line_behind, from_next}
 use Rattle.provider_config.specs.Drafts.{is_guard, found, complete, taken, stands, unless_found, next_line, config_from}
+use Rattle.owned_values.specs.Options.{◌>>=◌}
 
 -- ---- one more line
 

@@ -6,7 +6,8 @@ use Rattle.std.specs.List.{filter_map, cons_option, list_any}
 use Rattle.std.specs.Option.{option_map_or, option_or}
 use Rattle.std.proofs.lemmas.List.Sums.{sum_by-cons}
 use Rattle.text_lines.specs.Lines.{Said, Says, NoText, and_then, with_lines}
-use Rattle.provider_config.specs.Shared.{the, with_line, pushed, ◌>>=◌}
+use Rattle.provider_config.specs.Shared.{the, with_line, pushed}
+use Rattle.owned_values.specs.Options.{◌>>=◌}
 
 or_assoc : {X : Type 0} (a b c : Option X) → option_or (option_or a b) c ≡ option_or a (option_or b c)
 or_assoc None b c = refl

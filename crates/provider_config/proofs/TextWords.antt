@@ -1,7 +1,7 @@
 -- The words of a text are texts.
 use Rattle.std.proofs.Common.{◌≡◌, ◌≢◌, ℕ, ◌+◌, ◌≤◌, ◌/◌, Bool, true, false, cond, not, ◌==◌, List, [], ◌∷◌, ◌++◌, None, Some, IfSome, encode_utf8, encode_utf8_all, nat_lt, refl, sym, ap, subst, arith}
 use lib.Utf8.{encode, next}
-use Rattle.std.specs.List.{list_all, list_any}
+use Rattle.std.specs.List.{list_all, list_any, onto_first}
 use Rattle.std.proofs.lemmas.Bool.{cond_both}
 use Rattle.std.proofs.lemmas.Bool.Decides.{nat_tests}
 use Rattle.xml_spec.specs.Ascii.{space_character}
@@ -9,7 +9,7 @@ use Rattle.xml_spec.specs.Bytes.{is_empty}
 use Rattle.xml_spec.specs.Characters.{is_char, IsText}
 use Rattle.xml_spec.proofs.Tests.{and_true, both_true}
 use Rattle.std.specs.Option.{option_map_or}
-use Rattle.text_lines.specs.Words.{parts_of, in_word, between_spaces, words_of}
+use Rattle.text_lines.specs.Words.{parts_of, between_spaces, words_of}
 use Rattle.text_lines.proofs.Lining.{first_word}
 use Rattle.provider_config.specs.Shared.{AreTexts}
 
@@ -23,11 +23,11 @@ has_no_space bytes = list_all (λ b. not (b == space_character)) bytes
 -- the bytes in front of the first word
 abbrev in_front : List ℕ → List (List ℕ) → List (List ℕ)
 in_front [] words = words
-in_front (b ∷ bytes) words = in_word b (in_front bytes words)
+in_front (b ∷ bytes) words = onto_first b (in_front bytes words)
 
 in_front-word : (bytes word : List ℕ) (words : List (List ℕ)) → in_front bytes (word ∷ words) ≡ (bytes ++ word) ∷ words
 in_front-word [] word words = refl
-in_front-word (b ∷ bytes) word words = ap (in_word b) (in_front-word bytes word words)
+in_front-word (b ∷ bytes) word words = ap (onto_first b) (in_front-word bytes word words)
 
 spaces_behind : (bytes rest : List ℕ) → has_no_space bytes ≡ true → between_spaces (bytes ++ rest) ≡ in_front bytes (between_spaces rest)
 spaces_behind [] rest none = refl
@@ -36,9 +36,9 @@ spaces_behind (b ∷ bytes) rest none =
     by_test (b == space_character) parts.0 (spaces_behind bytes rest parts.1)
   where
     by_test : (t : Bool) → not t ≡ true → between_spaces (bytes ++ rest) ≡ in_front bytes (between_spaces rest) →
-        cond t ([] ∷ between_spaces (bytes ++ rest)) (in_word b (between_spaces (bytes ++ rest))) ≡ in_word b (in_front bytes (between_spaces rest))
+        cond t ([] ∷ between_spaces (bytes ++ rest)) (onto_first b (between_spaces (bytes ++ rest))) ≡ onto_first b (in_front bytes (between_spaces rest))
     by_test true h same = absurd (cc)
-    by_test false h same = ap (in_word b) same
+    by_test false h same = ap (onto_first b) same
 
 high_byte : (b : ℕ) (bytes : List ℕ) → 128 ≤ b → has_no_space bytes ≡ true → has_no_space (b ∷ bytes) ≡ true
 high_byte b bytes high none = and_true (not (b == space_character)) (has_no_space bytes) (ap not (other_byte b 32 (omega arith))) none

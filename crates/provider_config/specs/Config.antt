@@ -15,7 +15,8 @@ use Rattle.provider_config.specs.declared.line.Purpose.{Purpose}
 use Rattle.provider_config.specs.declared.line.SpLine.{SpLine}
 use Rattle.provider_config.specs.declared.line.SpLine.TheVariants.{Entity, Base, Listen, Idp, KeyIn, KeyOut, IdKey, Skew, NextIn, Policy, Registry, Asked, Opened}
 use Rattle.provider_config.specs.Line.{key_of, spelled}
-use Rattle.provider_config.specs.Shared.{the, has_key, config_in, ◌>>=◌}
+use Rattle.provider_config.specs.Shared.{the, has_key, config_in}
+use Rattle.owned_values.specs.Options.{◌>>=◌}
 
 -- ---- the lines of a text
 

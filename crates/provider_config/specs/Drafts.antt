@@ -13,7 +13,8 @@ use Rattle.provider_config.specs.declared.config.OpenedLine.{OpenedLine}
 use Rattle.provider_config.specs.declared.config.SpFile.{SpFile}
 use Rattle.provider_config.specs.declared.config.Times.{Times}
 use Rattle.provider_config.specs.Config.{Config, entity, base, listen, skew, times, file, asked, opened, has_file, has_files}
-use Rattle.provider_config.specs.Shared.{pushed, the, ◌>>=◌}
+use Rattle.provider_config.specs.Shared.{pushed, the}
+use Rattle.owned_values.specs.Options.{◌>>=◌}
 
 -- ---- what is found so far
 

@@ -10,7 +10,8 @@ use Rattle.provider_config.specs.declared.idp_config.TheConstants.{MAX_PEERS}
 use Rattle.provider_config.specs.declared.line.SpLine.{SpLine}
 use Rattle.provider_config.specs.Config as sp
 use Rattle.provider_config.specs.HubLine.{spelled}
-use Rattle.provider_config.specs.Shared.{config_in, ◌>>=◌}
+use Rattle.provider_config.specs.Shared.{config_in}
+use Rattle.owned_values.specs.Options.{◌>>=◌}
 
 -- ---- the lines of a text
 

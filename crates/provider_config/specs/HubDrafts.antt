@@ -11,7 +11,8 @@ use Rattle.provider_config.specs.declared.hub_config.HubFile.{HubFile}
 use Rattle.provider_config.specs.HubConfig.{HubConfig, above, file}
 use Rattle.provider_config.specs.HubLine.{line_of}
 use Rattle.provider_config.specs.HubViews.{above_files, is_peer_file, has_peer}
-use Rattle.provider_config.specs.Shared.{pushed, ◌>>=◌}
+use Rattle.provider_config.specs.Shared.{pushed}
+use Rattle.owned_values.specs.Options.{◌>>=◌}
 
 -- ---- what is found so far
 

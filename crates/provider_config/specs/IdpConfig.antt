@@ -12,7 +12,8 @@ use Rattle.provider_config.specs.declared.idp_line.IdpLine.{IdpLine}
 use Rattle.provider_config.specs.declared.idp_line.IdpLine.TheVariants.{Entity, Base, Listen, Users, IdKey, Skew, Sign, Peer}
 use Rattle.provider_config.specs.declared.line.TheConstants.{MILLIS, MOST_SKEW}
 use Rattle.provider_config.specs.IdpLine.{key_of, spelled}
-use Rattle.provider_config.specs.Shared.{the, has_key, config_in, ◌>>=◌}
+use Rattle.provider_config.specs.Shared.{the, has_key, config_in}
+use Rattle.owned_values.specs.Options.{◌>>=◌}
 
 -- ---- the lines of a text
 

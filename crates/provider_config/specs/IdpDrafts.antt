@@ -11,7 +11,8 @@ use Rattle.provider_config.specs.declared.idp_config.IdpFile.{IdpFile}
 use Rattle.provider_config.specs.declared.idp_config.SignMode.{SignMode}
 use Rattle.provider_config.specs.declared.idp_config.SignMode.TheVariants as modes
 use Rattle.provider_config.specs.IdpConfig.{IdpConfig, entity, base, listen, skew, sign, file, has_users, has_id_key, is_peer_file, has_files}
-use Rattle.provider_config.specs.Shared.{pushed, the, ◌>>=◌}
+use Rattle.provider_config.specs.Shared.{pushed, the}
+use Rattle.owned_values.specs.Options.{◌>>=◌}
 
 -- ---- what is found so far
 

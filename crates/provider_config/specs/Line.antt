@@ -12,6 +12,7 @@ use Rattle.provider_config.specs.declared.line.Purpose.{Purpose}
 use Rattle.provider_config.specs.declared.line.Purpose.TheVariants.{Check, Serve}
 use Rattle.provider_config.specs.declared.line.SpLine.{SpLine}
 use Rattle.provider_config.specs.declared.line.SpLine.TheVariants.{Entity, Base, Listen, Idp, KeyIn, KeyOut, IdKey, Skew, NextIn, Policy, Registry, Guard, Asked, Opened}
+use Rattle.owned_values.specs.Options.{◌>>=◌}
 
 -- the key of a line, with which it begins; but `registry` stands in place of `idp`, so that a config has one of both
 abbrev pub key_of : SpLine → List ℕ
@@ -47,7 +48,10 @@ abbrev pub in_order : ℕ → ℕ → Option Times
 in_order from until = if nat_le from until then Some (record { from = from; until = until }) else None
 
 abbrev pub times_of : List ℕ → List ℕ → Option Times
-times_of from until = option_and_then (λ f. option_and_then (λ u. in_order f u) (number_of LAST until)) (number_of LAST from)
+times_of from until = do
+  f ← number_of LAST from
+  u ← number_of LAST until
+  in_order f u
 
 -- the lines of a key and three words: `next_in FILE FROM UNTIL`, moments that have a written form, and
 -- `registry FILE KEYFILE ENTITY`, where the entity is the word as it stands

@@ -1,17 +1,14 @@
 -- Words that the configs of all roles share.
-use Rattle.std.specs.Prelude.{ℕ, Bool, List, [], ◌∷◌, ◌++◌, Option, None, Some, Result, ok_or, option_and_then, if◌then◌else◌}
+use Rattle.std.specs.Prelude.{ℕ, Bool, List, [], ◌∷◌, ◌++◌, Option, None, Some, Result, ok_or, if◌then◌else◌}
 use Rattle.std.specs.List.{list_any}
 use Rattle.std.specs.Option.{option_or}
 use Rattle.std.specs.Str.{bytes_eq}
 use Rattle.xml_spec.specs.Characters.{IsText}
-use Rattle.text_lines.specs.Lines.{Said, Says, NoText, said, and_then, with_lines}
+use Rattle.text_lines.specs.Lines.{said, and_then, with_lines}
 use Rattle.text_lines.specs.Words.{words_of}
 use Rattle.provider_config.specs.declared.fault.ConfigFault.{ConfigFault}
 use Rattle.provider_config.specs.declared.fault.ConfigFault.TheVariants as faults
-
-infixl 10 ◌>>=◌
-abbrev pub ◌>>=◌ : {X Y : Type 0} → Option X → (X → Option Y) → Option Y
-o >>= f = option_and_then f o
+use Rattle.owned_values.specs.Options.{◌>>=◌}
 
 -- what the line of a kind says, of which there is one at most
 abbrev pub the : {Line X : Type 0} → (Line → Option X) → List Line → Option X
@@ -40,11 +37,6 @@ abbrev pub pushed : {X : Type 0} → List X → Option X → List X
 pushed xs None = xs
 pushed xs (Some x) = xs ++ x ∷ []
 
--- the number of a line
-abbrev pub number_said : Said → ℕ
-number_said (Says number text) = number
-number_said (NoText number) = number
-
 -- the number that a fault gives, none for want of memory
 abbrev pub fault_of : ConfigFault → Option ℕ
 fault_of (faults.Line number) = Some number
@@ -54,8 +46,3 @@ fault_of faults.NoMemory = None
 abbrev pub AreTexts : List (List ℕ) → Type 0
 AreTexts [] = Unit {0}
 AreTexts (word ∷ words) = IsText word × AreTexts words
-
--- what is said is a text
-abbrev pub SaysText : Said → Type 0
-SaysText (Says number text) = IsText text
-SaysText (NoText number) = Unit {0}

@@ -4,11 +4,12 @@ ghost use Rattle.std.specs.Prelude.{◌<◌, ◌≤◌, ◌*◌, ◌^◌, length
 ghost use Rattle.owned_values.specs.Gives.{Gives};
 ghost use Rattle.xml_spec.specs.Characters.{IsText};
 ghost use Rattle.text_lines.specs.Views.{said_view};
+ghost use Rattle.text_lines.specs.Lines.{number_said, SaysText};
 ghost use Rattle.provider_config.specs.Config.{AreInOrder};
 ghost use Rattle.provider_config.specs.HubConfig.{hub_config, IsSound};
 ghost use Rattle.provider_config.specs.HubDrafts.{next_line};
 ghost use Rattle.provider_config.specs.HubViews.{config_view, has_files, is_peer_file};
-ghost use Rattle.provider_config.specs.Shared.{SaysText, fault_of, number_said};
+ghost use Rattle.provider_config.specs.Shared.{fault_of};
 
 use crate::config::MAX_CONFIG_LENGTH;
 use crate::fault::ConfigFault;

@@ -19,7 +19,6 @@ use Rattle.record_ledger.specs.Rules.{RecordRules}
 use Rattle.record_ledger.specs.Ledger.{Held, LeftByOpening, held_with, ledger_in, migrated, next_number, taken}
 use Rattle.record_ledger.specs.Compacting.{Compacts}
 use Rattle.record_ledger.specs.Laws.{ImagesHoldRecords}
-use Rattle.record_ledger.specs.Linking.{as_list}
 use Rattle.record_ledger.specs.Runs as events
 use Rattle.record_ledger.specs.Runs.{Event, Adds, Opens, Leads}
 use Rattle.record_ledger.proofs.Records.{record_there}
@@ -36,6 +35,7 @@ use Rattle.provider_node.specs.Step as steps
 use Rattle.provider_node.specs.Step.{AnswersBy, Ledger, Owns, Provider, IsWhole, MakesRoom, OwnsDisk, Serves}
 use Rattle.provider_node.specs.Step.{ServingLeaves, StepLeaves, Steps}
 use Rattle.provider_node.proofs.Serving.{settled}
+use Rattle.std.specs.Option.{option_to_list}
 
 -- ---- what came of a ledger
 
@@ -218,7 +218,7 @@ module _ {Setup R : Type 0} (rules : RecordRules R) (Answers : AnswersBy Setup R
 
   -- what a request does
   abbrev Goes : List R → Asked (Provider Setup R) → World (Provider Setup R) → Type 0
-  Goes records one later = (r : Option R) × Stands Answers one r × Known later (as_list r ++ records)
+  Goes records one later = (r : Option R) × Stands Answers one r × Known later (option_to_list r ++ records)
 
   module _ (one : Asked (Provider Setup R)) (w later : World (Provider Setup R)) (records : List R)
       (tells : IsSome w.disk) (node : one.node ≡ w.node) (reads : IfSome w.disk (λ d. MayLeave d (image_of d)))
@@ -335,11 +335,11 @@ module _ {Setup R : Type 0} (rules : RecordRules R) (Answers : AnswersBy Setup R
   passes former turns turn new w later told at (Asking piece one old answers) knows =
       let (r, stands, holds) = asked_goes one w answers.told knows.all told.0 at.0 knows.holds answers.asks in
       record {
-        records = as_list r ++ knows.records;
+        records = option_to_list r ++ knows.records;
         are = (knows.records, knows.are, (r, stands, refl));
-        all = as_list r ++ knows.all;
-        joined = ap (λ (l : List R). as_list r ++ l) knows.joined ∙ sym (append_assoc (as_list r) knows.records former);
-        holds = but_link answers.told later (as_list r ++ knows.all) answers.sends.same holds;
+        all = option_to_list r ++ knows.all;
+        joined = ap (λ (l : List R). option_to_list r ++ l) knows.joined ∙ sym (append_assoc (option_to_list r) knows.records former);
+        holds = but_link answers.told later (option_to_list r ++ knows.all) answers.sends.same holds;
       }
 
   pub known_behind : (former : List R) (first last : World (Provider Setup R))

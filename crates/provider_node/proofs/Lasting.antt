@@ -12,7 +12,6 @@ use Rattle.serve_loop.proofs.Quiet.{Asking, Goes, Quiet, goes}
 use Rattle.record_ledger.specs.Rules.{RecordRules}
 use Rattle.record_ledger.specs.Ledger.{Held}
 use Rattle.record_ledger.specs.Laws.{ImagesHoldRecords}
-use Rattle.record_ledger.specs.Linking.{as_list}
 use Rattle.record_ledger.specs.Runs.{Event}
 use Rattle.provider_node.specs.Step.{AnswersBy, Provider, StepLeaves}
 use Rattle.provider_node.specs.Histories.{AreBehind, Another, CameFrom, HoldsWhatCame, Includes, IsAtStart, IsProviders}
@@ -20,6 +19,7 @@ use Rattle.provider_node.specs.Histories.{This, moments_of}
 use Rattle.provider_node.specs.Lasting.{AreInEachSince, AreKeptSince, StayIn}
 use Rattle.provider_node.proofs.Histories.{AreMoments, DrawsAbove, Holds, all_told, moments_are, asked_goes, begins}
 use Rattle.provider_node.proofs.Histories.{holds_same, step_left}
+use Rattle.std.specs.Option.{option_to_list}
 
 -- ---- a history in which more records were added is one in which fewer were
 
@@ -31,7 +31,7 @@ includes_fewer (event ∷ past) r records (Another includes) = Another (includes
 
 module _ {R : Type 0} (rules : RecordRules R) (IsMoment : ℕ → Type 0) where
   came_fewer : (start held : Held R) (r : Option R) (earlier : List R)
-      → CameFrom rules IsMoment start (as_list r ++ earlier) held → CameFrom rules IsMoment start earlier held
+      → CameFrom rules IsMoment start (option_to_list r ++ earlier) held → CameFrom rules IsMoment start earlier held
   came_fewer start held None earlier came = came
   came_fewer start held (Some r) earlier came = record {
     events = came.events;
@@ -79,9 +79,9 @@ module _ {Setup R : Type 0} (rules : RecordRules R) (Answers : AnswersBy Setup R
   passes earlier turn new w later told moment (Asking piece one old answers) holds =
       let (r, stands, now_holds) = asked_goes rules Answers
       law numbers IsMoment first.node.ledger.held one w answers.told earlier told.0 moment.0 holds answers.asks in (
-        as_list r ++ earlier,
+        option_to_list r ++ earlier,
         (r, stands, refl),
-        stays answers.told later (as_list r ++ earlier) (ap (λ (x : World (Provider Setup R)). x.node)
+        stays answers.told later (option_to_list r ++ earlier) (ap (λ (x : World (Provider Setup R)). x.node)
             answers.sends.same) (ap (λ (x : World (Provider Setup R)). x.disk) answers.sends.same) now_holds,
       )
 

@@ -1,6 +1,6 @@
 -- That a closed session stays closed over a service, from point to point.
 use Rattle.std.specs.Prelude.{IfSome, IsSome, Option, None, Some}
-use Rattle.std.specs.Option.{is_some}
+use Rattle.std.specs.Option.{is_some, option_to_list}
 use Rattle.std.proofs.Common.{◌≡◌, ℕ, false, List, [], ◌∷◌, ◌++◌, map, sym, subst, ap, ◌∙◌}
 use Rattle.std.specs.List.{AllByRecursion}
 use Rattle.conn_table.specs.Table.{Table}
@@ -11,7 +11,6 @@ use Rattle.serve_loop.proofs.Quiet.{Asking, Goes, IsButTheLink, Quiet, goes}
 use Rattle.record_ledger.specs.Rules.{RecordRules, AreRecords}
 use Rattle.record_ledger.specs.Ledger.{Held}
 use Rattle.record_ledger.specs.Laws.{ImagesHoldRecords}
-use Rattle.record_ledger.specs.Linking.{as_list}
 use Rattle.provider_node.specs.Step.{AnswersBy, Ledger, Owns, OwnsDisk, Provider}
 use Rattle.provider_node.specs.Histories.{AnyMoment, IsAtStart, IsProviders}
 use Rattle.provider_node.specs.Points.{AClosedSessionStaysClosed, IsClosedAt, IsOverAt, Point, StayClosed, point}
@@ -119,7 +118,7 @@ module _ {Setup R : Type 0} (rules : RecordRules R)
   answered_since one w later tells asks point since whole = let before = since whole in
       let goes = asked_goes rules
       Answers law numbers AnyMoment point.node.ledger.held one w later before.records tells tt before.holds asks in
-      record { begun = before.begun; records = as_list goes.0 ++ before.records; holds = goes.2 }
+      record { begun = before.begun; records = option_to_list goes.0 ++ before.records; holds = goes.2 }
 
   answered_knows : (one : Asked (Provider Setup R))
       (w later : World (Provider Setup R)) (earlier : List (Point (Provider Setup R)))

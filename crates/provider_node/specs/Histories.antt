@@ -9,9 +9,9 @@ use Rattle.serve_loop.specs.Worlds.{World, NodeStep, IsAnswered}
 use Rattle.serve_loop.specs.Turns.{Asked, Turn, asked_by}
 use Rattle.record_ledger.specs.Rules.{RecordRules, AreRecords}
 use Rattle.record_ledger.specs.Ledger.{Held, ledger_in}
-use Rattle.record_ledger.specs.Linking.{as_list}
 use Rattle.record_ledger.specs.Runs.{Event, Adds, Compacts, Leads}
 use Rattle.provider_node.specs.Step.{AnswersBy, Provider, OwnsDisk, StepsOnDisk, StepLeaves}
+use Rattle.std.specs.Option.{option_to_list}
 
 module _ {Setup R : Type 0} (rules : RecordRules R) (Answers : AnswersBy Setup R) where
   -- what an answer of a provider does, with the calls on its disk, and what a crash may leave
@@ -35,7 +35,7 @@ module _ {Setup R : Type 0} (Answers : AnswersBy Setup R) where
   -- the records for which the answers of some turns stand, the latest first
   abbrev pub AreBehind : List (Asked (Provider Setup R)) → (earlier records : List R) → Type 0
   AreBehind [] earlier records = records ≡ earlier
-  AreBehind (asked ∷ others) earlier records = (r : Option R) × Stands asked r × (records ≡ as_list r ++ earlier)
+  AreBehind (asked ∷ others) earlier records = (r : Option R) × Stands asked r × (records ≡ option_to_list r ++ earlier)
 
   abbrev pub AreAcknowledged : List (Turn (Provider Setup R)) → List R → Type 0
   AreAcknowledged [] records = records ≡ []

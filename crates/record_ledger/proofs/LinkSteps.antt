@@ -1,6 +1,6 @@
 -- The links of one record more.
 use Rattle.std.proofs.Common.{◌≡◌, ◌≢◌, ℕ, zero, suc, ◌+◌, ◌<◌, ◌≤◌, ◌⊎◌, inl, inr, Bool, true, false, ◌||◌, ◌&&◌, nat_lt, cond, List, [], ◌∷◌, ◌++◌, map, length, set, get_or, take, bytes_eq, slice_index, slice_get, Option, None, Some, IfSome, Result, Ok, Err, OnOk, refl, sym, ap, ◌∙◌, subst, arith, append_assoc, append-nil, get_or-set_same, get_or-set_other}
-use Rattle.std.specs.Option.{is_some}
+use Rattle.std.specs.Option.{is_some, option_to_list}
 use Rattle.std.proofs.lemmas.Bool.{cases_Bool, cases_eq, cases_lt, false≢true, and_parts, and_from, false_from_ne_true, cond-true, cond-false, lt-ltb, ltb-true}
 use Rattle.std.proofs.lemmas.List.{length-set, length_push, take_more, take_all, get_or_append_left, get_or_push, get_or_past}
 use Rattle.std.proofs.lemmas.List.Folds.{list_any_at}
@@ -11,7 +11,7 @@ use Rattle.record_ledger.specs.declared.links.Links.{Links}
 use Rattle.record_ledger.specs.Rules.{RecordRules, next_of, AreRecords}
 use Rattle.record_ledger.specs.Compacting.{passes, relates_at}
 use Rattle.record_ledger.specs.Laws.{AreFreshlyDrawn}
-use Rattle.record_ledger.specs.Linking.{LinkRules, LinkLaws, is_among, names_up, names_down, has_id, row_number, as_list, row_numbers, row_places, AreLinks, AreRows, IsLinked, IsOwnLink, ArePlaced, LinksThem, HasRow, HaveRows}
+use Rattle.record_ledger.specs.Linking.{LinkRules, LinkLaws, is_among, names_up, names_down, has_id, row_number, row_numbers, row_places, AreLinks, AreRows, IsLinked, IsOwnLink, ArePlaced, LinksThem, HasRow, HaveRows}
 use Rattle.record_ledger.proofs.Words.{text_itself}
 use Rattle.record_ledger.proofs.Records.{AreRecords-push}
 use Rattle.record_ledger.proofs.Numbers.{next_cons, fresh_at, below_above}
@@ -19,30 +19,30 @@ use Rattle.record_ledger.proofs.LinkRows.{at_front, at_last, at_push, passes_som
 
 -- one number, or none, in front of others
 front : (o : Option ℕ) (number first : ℕ) (numbers places : List ℕ) → o ≡ Some number
-    → (0 < length (as_list o ++ numbers)) × (slice_index (as_list o ++ numbers) 0 ≡ number) × (slice_index (map (λ n. first) (as_list o) ++ places) 0 ≡ first)
+    → (0 < length (option_to_list o ++ numbers)) × (slice_index (option_to_list o ++ numbers) 0 ≡ number) × (slice_index (map (λ n. first) (option_to_list o) ++ places) 0 ≡ first)
 front None number first numbers places is = absurd (cc)
 front (Some m) number first numbers places is = let same : m ≡ number = cc in (omega arith, same, refl)
 
 behind : (o : Option ℕ) (first p : ℕ) (numbers places : List ℕ) → p < length numbers
-    → (q : ℕ) × (q < length (as_list o ++ numbers)) × (slice_index (as_list o ++ numbers) q ≡ slice_index numbers p)
-    × (slice_index (map (λ n. first) (as_list o) ++ places) q ≡ slice_index places p)
+    → (q : ℕ) × (q < length (option_to_list o ++ numbers)) × (slice_index (option_to_list o ++ numbers) q ≡ slice_index numbers p)
+    × (slice_index (map (λ n. first) (option_to_list o) ++ places) q ≡ slice_index places p)
 behind None first p numbers places within = (p, within, refl, refl)
 behind (Some m) first p numbers places within = (suc p, omega arith, refl, refl)
 
 long_front : (o : Option ℕ) (first : ℕ) (numbers places : List ℕ) → length places ≡ length numbers
-    → length (map (λ n. first) (as_list o) ++ places) ≡ length (as_list o ++ numbers)
+    → length (map (λ n. first) (option_to_list o) ++ places) ≡ length (option_to_list o ++ numbers)
 long_front None first numbers places long = long
 long_front (Some m) first numbers places long = ap suc long
 
 abbrev AreLess : ℕ → List ℕ → Type 0
 AreLess bound numbers = (p : ℕ) → p < length numbers → slice_index numbers p < bound
 
-less_front : (o : Option ℕ) (numbers : List ℕ) (bound : ℕ) → ((n : ℕ) → o ≡ Some n → n < bound) → AreLess bound numbers → AreLess bound (as_list o ++ numbers)
+less_front : (o : Option ℕ) (numbers : List ℕ) (bound : ℕ) → ((n : ℕ) → o ≡ Some n → n < bound) → AreLess bound numbers → AreLess bound (option_to_list o ++ numbers)
 less_front None numbers bound here less p within = less p within
 less_front (Some m) numbers bound here less zero within = here m refl
 less_front (Some m) numbers bound here less (suc p) within = less p (omega arith)
 
-place_front : (o : Option ℕ) (first : ℕ) (places : List ℕ) (bound : ℕ) → first < bound → AreLess bound places → AreLess bound (map (λ n. first) (as_list o) ++ places)
+place_front : (o : Option ℕ) (first : ℕ) (places : List ℕ) (bound : ℕ) → first < bound → AreLess bound places → AreLess bound (map (λ n. first) (option_to_list o) ++ places)
 place_front None first places bound here less p within = less p within
 place_front (Some m) first places bound here less zero within = here
 place_front (Some m) first places bound here less (suc p) within = less p (omega arith)
@@ -91,21 +91,21 @@ module _ {R : Type 0} (relates : R → R → Bool) where
 
 module _ {R : Type 0} (rules : RecordRules R) (link_rules : LinkRules R) where
   -- the numbers and the places of rows
-  numbers_push : (records : List R) (r : R) → row_numbers rules link_rules (records ++ r ∷ []) ≡ row_numbers rules link_rules records ++ as_list (row_number rules link_rules r)
-  numbers_push [] r = append-nil (as_list (row_number rules link_rules r))
+  numbers_push : (records : List R) (r : R) → row_numbers rules link_rules (records ++ r ∷ []) ≡ row_numbers rules link_rules records ++ option_to_list (row_number rules link_rules r)
+  numbers_push [] r = append-nil (option_to_list (row_number rules link_rules r))
   numbers_push (x ∷ records) r =
-      ap (λ rest. as_list (row_number rules link_rules x) ++ rest) (numbers_push records r) ∙ sym (append_assoc (as_list (row_number rules link_rules x)) (row_numbers rules link_rules records) (as_list (row_number rules link_rules r)))
+      ap (λ rest. option_to_list (row_number rules link_rules x) ++ rest) (numbers_push records r) ∙ sym (append_assoc (option_to_list (row_number rules link_rules x)) (row_numbers rules link_rules records) (option_to_list (row_number rules link_rules r)))
 
   places_push : (first : ℕ) (records : List R) (r : R)
-      → row_places rules link_rules first (records ++ r ∷ []) ≡ row_places rules link_rules first records ++ map (λ n. first + length records) (as_list (row_number rules link_rules r))
+      → row_places rules link_rules first (records ++ r ∷ []) ≡ row_places rules link_rules first records ++ map (λ n. first + length records) (option_to_list (row_number rules link_rules r))
   places_push first [] r =
       let same : first ≡ first + 0 = omega arith in
-      append-nil (map (λ n. first) (as_list (row_number rules link_rules r))) ∙ ap (λ f. map (λ n. f) (as_list (row_number rules link_rules r))) same
+      append-nil (map (λ n. first) (option_to_list (row_number rules link_rules r))) ∙ ap (λ f. map (λ n. f) (option_to_list (row_number rules link_rules r))) same
   places_push first (x ∷ records) r =
       let same : first + 1 + length records ≡ first + length (x ∷ records) = omega arith in
-      ap (λ rest. map (λ n. first) (as_list (row_number rules link_rules x)) ++ rest)
-      (places_push (first + 1) records r ∙ ap (λ f. row_places rules link_rules (first + 1) records ++ map (λ n. f) (as_list (row_number rules link_rules r))) same)
-      ∙ sym (append_assoc (map (λ n. first) (as_list (row_number rules link_rules x))) (row_places rules link_rules (first + 1) records) (map (λ n. first + length (x ∷ records)) (as_list (row_number rules link_rules r))))
+      ap (λ rest. map (λ n. first) (option_to_list (row_number rules link_rules x)) ++ rest)
+      (places_push (first + 1) records r ∙ ap (λ f. row_places rules link_rules (first + 1) records ++ map (λ n. f) (option_to_list (row_number rules link_rules r))) same)
+      ∙ sym (append_assoc (map (λ n. first) (option_to_list (row_number rules link_rules x))) (row_places rules link_rules (first + 1) records) (map (λ n. first + length (x ∷ records)) (option_to_list (row_number rules link_rules r))))
 
   places_long : (first : ℕ) (records : List R) → length (row_places rules link_rules first records) ≡ length (row_numbers rules link_rules records)
   places_long first [] = refl
@@ -381,8 +381,8 @@ module _ {R : Type 0} (rules : RecordRules R) (link_rules : LinkRules R) (fresh 
   -- a record was taken
   pub taken : (records : List R) (r : R) (old new : Links) (items : List (Option ℕ)) (own : Option ℕ) (ids : List (List ℕ)) (place : ℕ)
       → IsLinked rules link_rules records old → rules.is_record records r ≡ true → IsOwnLink rules link_rules records r own → place ≡ length records → ids ≡ link_rules.named r → items ≡ old.links.items ++ own ∷ []
-      → LinksThem rules link_rules records ids place items new.links.items → new.numbers.listed ≡ old.numbers.listed ++ as_list (row_number rules link_rules r)
-      → new.places.items ≡ old.places.items ++ map (λ n. place) (as_list (row_number rules link_rules r)) → IsLinked rules link_rules (records ++ r ∷ []) new
+      → LinksThem rules link_rules records ids place items new.links.items → new.numbers.listed ≡ old.numbers.listed ++ option_to_list (row_number rules link_rules r)
+      → new.places.items ≡ old.places.items ++ map (λ n. place) (option_to_list (row_number rules link_rules r)) → IsLinked rules link_rules (records ++ r ∷ []) new
   taken records r old new items own ids place before is own_is at these pushed linked numbers places =
       let one = subst (λ t. LinksThem rules link_rules records t place items new.links.items) these linked in
       let two = subst (λ p. LinksThem rules link_rules records (link_rules.named r) p items new.links.items) at one in
@@ -390,9 +390,9 @@ module _ {R : Type 0} (rules : RecordRules R) (link_rules : LinkRules R) (fresh 
       record {
         rows = record {
           are = AreRecords-push rules records r before.rows.are is;
-          numbers_are = numbers ∙ ap (λ ns. ns ++ as_list (row_number rules link_rules r)) before.rows.numbers_are ∙ sym (numbers_push rules link_rules records r);
-          places_are = places ∙ ap (λ ps. ps ++ map (λ n. place) (as_list (row_number rules link_rules r))) before.rows.places_are
-              ∙ ap (λ p. row_places rules link_rules 0 records ++ map (λ n. p) (as_list (row_number rules link_rules r))) (at ∙ zero_more (length records)) ∙ sym (places_push rules link_rules 0 records r);
+          numbers_are = numbers ∙ ap (λ ns. ns ++ option_to_list (row_number rules link_rules r)) before.rows.numbers_are ∙ sym (numbers_push rules link_rules records r);
+          places_are = places ∙ ap (λ ps. ps ++ map (λ n. place) (option_to_list (row_number rules link_rules r))) before.rows.places_are
+              ∙ ap (λ p. row_places rules link_rules 0 records ++ map (λ n. p) (option_to_list (row_number rules link_rules r))) (at ∙ zero_more (length records)) ∙ sym (places_push rules link_rules 0 records r);
         };
         linked = links_push records r before.rows.are is old.links.items new.links.items own before.linked own_is three;
       }
@@ -404,14 +404,14 @@ module _ {R : Type 0} (rules : RecordRules R) (link_rules : LinkRules R) (fresh 
   pub taken_so : (records : List R) (r : R) (old mid new : Links) (items : List (Option ℕ)) (own : Option ℕ) (ids : List (List ℕ)) (place : ℕ)
       → IsLinked rules link_rules records old → rules.is_record records r ≡ true → IsOwnLink rules link_rules records r own → place ≡ length old.links.items → ids ≡ link_rules.named r → items ≡ old.links.items ++ own ∷ []
       → (HaveRows rules link_rules records ids → LinksThem rules link_rules records ids place items mid.links.items) → mid.numbers ≡ old.numbers → mid.places ≡ old.places
-      → new.links ≡ mid.links → new.numbers.listed ≡ mid.numbers.listed ++ as_list (row_number rules link_rules r)
-      → new.places.items ≡ mid.places.items ++ map (λ n. place) (as_list (row_number rules link_rules r)) → IsLinked rules link_rules (records ++ r ∷ []) new
+      → new.links ≡ mid.links → new.numbers.listed ≡ mid.numbers.listed ++ option_to_list (row_number rules link_rules r)
+      → new.places.items ≡ mid.places.items ++ map (λ n. place) (option_to_list (row_number rules link_rules r)) → IsLinked rules link_rules (records ++ r ∷ []) new
   taken_so records r old mid new items own ids place before is own_is at these pushed linked same_numbers same_places links numbers places =
       let have : HaveRows rules link_rules records ids = λ id among. has_row records r before.rows.are is id (ap (is_among id) (sym these) ∙ among) in
       taken records r old new items own ids place before is own_is (at ∙ before.linked.long) these pushed
       (subst (λ ls. LinksThem rules link_rules records ids place items ls) (ap (λ v. v.items) (sym links)) (linked have))
-      (numbers ∙ ap (λ ns. ns.listed ++ as_list (row_number rules link_rules r)) same_numbers)
-      (places ∙ ap (λ v. v.items ++ map (λ n. place) (as_list (row_number rules link_rules r))) same_places)
+      (numbers ∙ ap (λ ns. ns.listed ++ option_to_list (row_number rules link_rules r)) same_numbers)
+      (places ∙ ap (λ v. v.items ++ map (λ n. place) (option_to_list (row_number rules link_rules r))) same_places)
 
   -- where the row of an ID is found
   pub record FoundRow (records : List R) (links : Links) (id : List ℕ) (place : ℕ) : Type 0 where

@@ -5,15 +5,11 @@ use Rattle.ledger_rules.specs.declared.fault.DraftFault.TheVariants.{LedgerFull,
 use Rattle.ledger_rules.specs.Numbers.{Drawn, NUMBER_END}
 use Rattle.record_ledger.specs.Rules.{RecordRules, RowRules}
 use Rattle.record_ledger.specs.Ledger.{Held, OpenedLedger, next_number, room_left, IsFitting, CanCommit}
+use Rattle.std.specs.Option.{option_map_or}
 
 -- how many rows of one kind may be kept
 abbrev pub MOST_ROWS : ℕ
 MOST_ROWS = 65536
-
--- whether there are as many or more
-abbrev pub is_most : Option ℕ → Bool
-is_most None = false
-is_most (Some n) = nat_le MOST_ROWS n
 
 -- a length, or the greatest number of eight bytes where it is longer
 abbrev pub capped : ℕ → ℕ
@@ -22,7 +18,7 @@ capped n = min n (2 ^ 64 - 1)
 module _ {R : Type 0} (rules : RecordRules R) where
   -- whether these records have as many rows of a record's kind as there may be, or more
   abbrev pub is_full : List R → R → Bool
-  is_full records r = is_most (rules.rows_of_kind records r)
+  is_full records r = option_map_or (nat_le MOST_ROWS) (rules.rows_of_kind records r) false
 
   -- Why a record is not drafted, the first of these that holds: as many rows of its kind are kept as there may be; it does not
   -- fit. Want of memory may come in place of each.

@@ -1,7 +1,7 @@
 -- How a compaction finds which record names which.
 use Rattle.std.specs.Prelude.{◌≡◌, ◌⊎◌, ℕ, ◌+◌, ◌<◌, Bool, true, false, not, ◌&&◌, List, [], ◌∷◌, ◌++◌, length, map, slice_index, slice_get, Option, None, Some, if◌then◌else◌}
 use Rattle.std.specs.List.{flat_map, list_any}
-use Rattle.std.specs.Option.{option_map, is_some}
+use Rattle.std.specs.Option.{option_map, is_some, option_to_list}
 use Rattle.std.specs.Str.{bytes_eq}
 use Rattle.ledger_rules.specs.Numbers.{Drawn}
 use Rattle.ledger_rules.specs.Kept.{link_at}
@@ -18,10 +18,6 @@ pub record LinkRules (R : Type 0) : Type 0 where
   pub named : R → List (List ℕ)
   -- the ID of the row to whose record a record is itself linked
   pub within : R → Option (List ℕ)
-
-abbrev pub as_list : {X : Type 0} → Option X → List X
-as_list None = []
-as_list (Some x) = x ∷ []
 
 -- whether a text is among these
 abbrev pub is_among : List ℕ → List (List ℕ) → Bool
@@ -50,11 +46,11 @@ module _ {R : Type 0} (rules : RecordRules R) (link_rules : LinkRules R) where
 
   -- the numbers of the rows of records, and the places of these records, counted from that of the first
   abbrev pub row_numbers : List R → List ℕ
-  row_numbers records = flat_map (λ r. as_list (row_number r)) records
+  row_numbers records = flat_map (λ r. option_to_list (row_number r)) records
 
   abbrev pub row_places : ℕ → List R → List ℕ
   row_places first [] = []
-  row_places first (r ∷ later) = map (λ n. first) (as_list (row_number r)) ++ row_places (first + 1) later
+  row_places first (r ∷ later) = map (λ n. first) (option_to_list (row_number r)) ++ row_places (first + 1) later
 
   -- each record is linked so
   pub record AreLinks (records : List R) (links : List (Option ℕ)) : Type 0 where

@@ -16,8 +16,9 @@ pub(crate) struct Links {
 }
 
 impl Links {
+    ghost use Rattle.std.specs.Option.{option_to_list};
     ghost use Rattle.record_ledger.specs.Rules.{RecordRules};
-    ghost use Rattle.record_ledger.specs.Linking.{LinkRules, LinkLaws, as_list, AreRows, ArePlaced, CanTake, HaveRows, IsLinked, IsOwnLink, LinksThem};
+    ghost use Rattle.record_ledger.specs.Linking.{LinkRules, LinkLaws, AreRows, ArePlaced, CanTake, HaveRows, IsLinked, IsOwnLink, LinksThem};
 
     /// No links.
     pub(crate) fn new<S: Standing>(alloc: Global) -> Links
@@ -61,8 +62,8 @@ impl Links {
     /// Puts the row of a number at a place, where there is one.
     fn put_row(&mut self, number: Option<u64>, place: u32) -> Result<(), NoMemory>
         requires { IfSome number (λ n. AreBelow n self.old.numbers.listed) }
-        ensures numbers { OnOk result (self.new.numbers.listed ≡ self.old.numbers.listed ++ as_list number) }
-        ensures places { OnOk result (self.new.places.items ≡ self.old.places.items ++ map (λ n. place) (as_list number)) }
+        ensures numbers { OnOk result (self.new.numbers.listed ≡ self.old.numbers.listed ++ option_to_list number) }
+        ensures places { OnOk result (self.new.places.items ≡ self.old.places.items ++ map (λ n. place) (option_to_list number)) }
         ensures links { self.new.links ≡ self.old.links }
     {
         if let Some(number) = number {

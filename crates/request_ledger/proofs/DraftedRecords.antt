@@ -19,12 +19,13 @@ use Rattle.ledger_rules.specs.declared.fault.DraftFault.TheVariants.{LedgerFull,
 use Rattle.request_rows.specs.declared.row.NewSession.{NewSession}
 use Rattle.request_rows.specs.Rows.{asked_row, is_spent, session_row}
 use Rattle.request_ledger.specs.RowsOf.{asked_rows, opened_rows, left_rows}
-use Rattle.request_ledger.specs.Record.{drawn, LAST, of_option, of_attribute, is_asked, AreRecords, request_rules}
+use Rattle.request_ledger.specs.Record.{drawn, LAST, of_attribute, is_asked, AreRecords, request_rules}
 use Rattle.request_ledger.specs.Ledger.{Held, OpenedLedger, next_number}
 use Rattle.request_ledger.specs.Drafts.{asked, opened, left, ended, confirmed, ending, is_waiting_now, AreSessionTexts, Drafts, IsDraftable}
 use Rattle.record_ledger.proofs.Draftable.{both, id_has_number, id_is_allowed, id_long, HasItsNumber, one_number, one_id}
 use Rattle.request_ledger.proofs.Draftable.{draftable}
 use Rattle.request_ledger.proofs.RowTexts.{tokens_allowed, requests_allowed, is_asked_now, live_is_open, live_is_allowed, waiting_is, waiting_is_allowed, ending_open, ending_allowed}
+use Rattle.std.specs.Option.{option_to_list}
 
 -- ---- a request for a login
 
@@ -105,7 +106,7 @@ opened_draftable held key now new moment allowed some unspent =
     let one = and_parts (is_xml_text new.request) _ allowed in
     let two = and_parts (is_xml_text new.issuer) _ one.1 in
     let three = and_parts (is_xml_text new.assertion) _ two.1 in
-    let rest = list_all is_xml_text (new.name ∷ of_option new.index ++ flat_map of_attribute new.attributes) in
+    let rest = list_all is_xml_text (new.name ∷ option_to_list new.index ++ flat_map of_attribute new.attributes) in
     let with_token : (is_xml_text token && rest) ≡ true = both (is_xml_text token) rest (id_is_allowed key Cookie first) three.1 in
     let texts_of = both (is_xml_text new.request) _ one.0 (both (is_xml_text new.issuer) _ two.0 (both (is_xml_text new.assertion) _ three.0 with_token)) in
     draftable held (opened key first now new) free (one_number request_rules held drawn_one (omega arith)) (one_id drawn_one (id_has_number key Cookie first)) texts_of moment

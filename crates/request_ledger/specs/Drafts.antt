@@ -12,13 +12,14 @@ use Rattle.request_rows.specs.declared.row.OpenedRow.{OpenedRow}
 use Rattle.request_rows.specs.declared.row.LeftRow.{LeftRow}
 use Rattle.ledger_rules.specs.Numbers.{is_xml_text}
 use Rattle.record_ledger.specs.Drafts as any
-use Rattle.request_ledger.specs.Record.{of_option, of_attribute, request_rules}
+use Rattle.request_ledger.specs.Record.{of_attribute, request_rules}
 use Rattle.request_rows.specs.Rows.{visible}
 use Rattle.saml_ids.specs.IdText.{id_text}
 use Rattle.saml_ids.specs.declared.Kind.TheVariants.{Request, Relay, Cookie, Message}
 use Rattle.request_ledger.specs.RowsOf.{is_among}
 use Rattle.request_ledger.specs.Standing.{request_row_rules}
 use Rattle.request_ledger.specs.Ledger.{Held, OpenedLedger}
+use Rattle.std.specs.Option.{option_to_list}
 pub use Rattle.ledger_rules.specs.Texts.{is_empty}
 pub use Rattle.ledger_rules.specs.Moments.{LIFE}
 
@@ -60,7 +61,7 @@ opened key next now new = opened_with next now (id_text key Cookie next) new
 -- a document may hold the texts of a session
 abbrev pub session_texts : NewSession → List (List ℕ)
 session_texts new =
-    new.request ∷ new.issuer ∷ new.assertion ∷ new.name ∷ of_option new.index ++ flat_map of_attribute new.attributes
+    new.request ∷ new.issuer ∷ new.assertion ∷ new.name ∷ option_to_list new.index ++ flat_map of_attribute new.attributes
 
 abbrev pub AreSessionTexts : NewSession → Type 0
 AreSessionTexts new = list_all is_xml_text (session_texts new) ≡ true

@@ -15,7 +15,8 @@ use Rattle.record_ledger.specs.Rules.{RecordRules}
 use Rattle.record_ledger.specs.Rules as any
 use Rattle.request_ledger.specs.RowsOf.{SpRows, rows_of, rows_of_kind}
 use Rattle.request_ledger.specs.Naming.{has_visible, names}
-pub use Rattle.ledger_rules.specs.Texts.{of_option, of_attribute}
+use Rattle.std.specs.Option.{option_to_list}
+pub use Rattle.ledger_rules.specs.Texts.{of_attribute}
 pub use Rattle.ledger_rules.specs.Moments.{LAST}
 
 -- whether there is a row of this request
@@ -51,7 +52,7 @@ drawn (kinds.Confirmed r) = []
 abbrev pub texts : SpRecord → List (List ℕ)
 texts (kinds.Asked r) = r.target ∷ r.request ∷ []
 texts (kinds.Opened r) =
-    r.request ∷ r.issuer ∷ r.assertion ∷ r.token ∷ r.name ∷ of_option r.index ++ flat_map of_attribute r.attributes
+    r.request ∷ r.issuer ∷ r.assertion ∷ r.token ∷ r.name ∷ option_to_list r.index ++ flat_map of_attribute r.attributes
 texts (kinds.Left r) = r.token ∷ r.request ∷ []
 texts (kinds.Ended r) = r.message ∷ r.request ∷ r.tokens
 texts (kinds.Confirmed r) = r.request ∷ []

@@ -1,9 +1,9 @@
 -- Rounds of logouts, and what is looked up in them. A moment is the milliseconds since 1970-01-01T00:00:00Z.
 -- SAML Profiles, 4.4.3.3: an identity provider has to send a LogoutRequest "to each session participant for which it issued
 -- assertions in the current session". In a round it sends them one after the other, each behind the answer to the one before.
-use Rattle.std.specs.Prelude.{ℕ, ◌+◌, Bool, false, ◌&&◌, not, nat_lt, nat_le, max, List, map, length, slice_get, Option, None, Some, if◌then◌else◌}
+use Rattle.std.specs.Prelude.{ℕ, ◌+◌, Bool, false, ◌&&◌, not, nat_lt, nat_le, max, List, map, length, slice_get, Option, Some, if◌then◌else◌}
 use Rattle.std.specs.List.{find}
-use Rattle.std.specs.Option.{option_map}
+use Rattle.std.specs.Option.{option_map, unwrap_or, option_map_or}
 use Rattle.std.specs.Str.{bytes_eq}
 use Rattle.logout_turns.specs.declared.turns.Turn.{Turn}
 use Rattle.round_rows.specs.declared.row.RoundRow.{RoundRow}
@@ -22,25 +22,17 @@ abbrev pub is_turn_left : RoundRow → Bool
 is_turn_left row = nat_lt (row.told + 1) (length row.turns)
 
 -- whether the turn of this provider has come
-abbrev pub is_of : (peer : List ℕ) → Option Turn → Bool
-is_of peer None = false
-is_of peer (Some turn) = bytes_eq turn.peer peer
-
 abbrev pub is_turn_of : (peer : List ℕ) → RoundRow → Bool
-is_turn_of peer row = is_of peer (slice_get row.turns row.told)
+is_turn_of peer row = option_map_or (λ (turn : Turn). bytes_eq turn.peer peer) (slice_get row.turns row.told) false
 
 -- the ID of the request that follows, where one does
 abbrev pub id_of : Option NextRequest → Option (List ℕ)
 id_of next = option_map (λ n. n.id) next
 
 -- A round behind one answer more: it is counted, and where a request follows the round waits for that one.
-abbrev pub current : (next : Option (List ℕ)) → (request : List ℕ) → List ℕ
-current None request = request
-current (Some next) request = next
-
 abbrev pub after_answer : (confirmed : Bool) → (next : Option (List ℕ)) → RoundRow → RoundRow
 after_answer confirmed next row = record row {
-  request = current next row.request;
+  request = unwrap_or next row.request;
   told = row.told + 1;
   confirmed = if confirmed then row.confirmed + 1 else row.confirmed;
 }

@@ -75,8 +75,7 @@ by_set_up told file body setup now answer s h =
     subst (λ (l : List AskedLine). OfFile (OfJudged (rows_of l setup.opened.items) setup.config now) told body GREATEST_BODY answer) s.asked h
     in
     inr (
-      s.lines,
-      setup_view setup,
+      setup_view s.lines setup,
       s.is,
       subst (λ (l : List OpenedLine). OfFile (OfJudged (rows_of s.lines.asked l) setup.config now) told body GREATEST_BODY answer) s.opened asked,
     )

@@ -6,7 +6,6 @@ use Rattle.schedules.specs.declared.read.TheConstants.{MAX_SCHEDULE_LENGTH}
 use Rattle.verdict_codes.specs.declared.codes.Verdict.{Verdict}
 use Rattle.request_rows.specs.Rows.{RowsView}
 use Rattle.request_rows.specs.declared.row.AskedRow.{AskedRow}
-use Rattle.provider_config.specs.Config.{Config}
 use Rattle.provider_config.specs.declared.line.Purpose.{Purpose}
 use Rattle.provider_config.specs.declared.line.Purpose.TheVariants as purposes
 use Rattle.sig_reference.specs.declared.fault.SigFault.{SigFault}
@@ -65,10 +64,10 @@ vouch_alone id key_file bytes key a b agrees (inr p) (inr q) =
 pub record Laws : Type 0 where
   pub opened : (config : SpConfig) (rows : RowsView) (horizon now : ℕ) (body : List ℕ) (b : Brought) (asked : AskedRow) (verdict : Verdict) →
       Opens config rows horizon now body b asked → ¬ (IsRefused config rows horizon now body verdict)
-  pub set_up : (files : List File) (purpose : Purpose) (config : List ℕ) (lines others : Config) (one other : Setup) →
-      IsSetUp (Some files) purpose config lines one → IsSetUp (Some files) purpose config others other → (lines ≡ others) × (one ≡ other)
-  pub never_both : (files : List File) (purpose : Purpose) (config : List ℕ) (lines : Config) (one : Setup) (file : List ℕ) (line : ℕ) →
-      IsSetUp (Some files) purpose config lines one → ¬ (IsBadSetUp (Some files) purpose config file line)
+  pub set_up : (files : List File) (purpose : Purpose) (config : List ℕ) (one other : Setup) →
+      IsSetUp (Some files) purpose config one → IsSetUp (Some files) purpose config other → one ≡ other
+  pub never_both : (files : List File) (purpose : Purpose) (config : List ℕ) (one : Setup) (file : List ℕ) (line : ℕ) →
+      IsSetUp (Some files) purpose config one → ¬ (IsBadSetUp (Some files) purpose config file line)
 
 judged_alone : Laws → (rows : RowsView) (config : SpConfig) (now : ℕ) (body : List ℕ) → SaysYesAlone (OfJudged rows config now body)
 judged_alone laws rows config now body a b agrees (inl p) (inl q) = subst IsYes (sym q.2) tt
@@ -78,15 +77,14 @@ judged_alone laws rows config now body a b agrees (inr p) q = absurd (not_refuse
 
 check_alone : Laws → (files : List File) (file body : List ℕ) (now : ℕ) → SaysYesAlone (OfCheck (Some files) file body now)
 check_alone laws files file body now a b agrees (inl p) q = absurd (not_bad_too a p.0 p.1 agrees p.3)
-check_alone laws files file body now a b agrees (inr p) (inl q) = absurd (laws.never_both files purposes.Check file p.0 p.1 q.0 q.1 p.2 q.2)
+check_alone laws files file body now a b agrees (inr p) (inl q) = absurd (laws.never_both files purposes.Check file p.0 q.0 q.1 p.1 q.2)
 check_alone laws files file body now a b agrees (inr p) (inr q) =
-    let one = laws.set_up files purposes.Check file p.0 q.0 p.1 q.1 p.2 q.2 in
-    let same : OfFile (OfJudged (rows_of q.0.asked q.0.opened) q.1.config now) (Some files) body GREATEST_BODY a =
-    subst (λ (l : Config). OfFile (OfJudged (rows_of l.asked l.opened) q.1.config now) (Some files) body GREATEST_BODY a) one.0
-    (subst (λ (s : Setup). OfFile (OfJudged (rows_of p.0.asked p.0.opened) s.config now) (Some files) body GREATEST_BODY a) one.1 p.3)
+    let rows : RowsView = rows_of q.0.lines.asked q.0.lines.opened in
+    let same : OfFile (OfJudged rows q.0.config now) (Some files) body GREATEST_BODY a =
+    subst (λ (s : Setup). OfFile (OfJudged (rows_of s.lines.asked s.lines.opened) s.config now) (Some files) body GREATEST_BODY a)
+    (laws.set_up files purposes.Check file p.0 q.0 p.1 q.1) p.2
     in
-    file_alone (OfJudged (rows_of q.0.asked q.0.opened) q.1.config now) files body GREATEST_BODY (judged_alone laws (rows_of q.0.asked q.0.opened) q.1.config now)
-    a b agrees same q.3
+    file_alone (OfJudged rows q.0.config now) files body GREATEST_BODY (judged_alone laws rows q.0.config now) a b agrees same q.2
 
 -- bytes that are no schedule are not answered with yes
 schedule_alone : (file bytes : List ℕ) → SaysYesAlone (OfSchedule file bytes)

@@ -8,7 +8,6 @@ use Rattle.request_rows.specs.Rows.{RowsView}
 use Rattle.request_rows.specs.declared.row.AskedRow.{AskedRow}
 use Rattle.request_rows.specs.declared.row.OpenedRow.{OpenedRow}
 use Rattle.request_rows.specs.declared.row.NewSession.{NewSession}
-use Rattle.provider_config.specs.Config.{Config}
 use Rattle.provider_config.specs.declared.config.AskedLine.{AskedLine}
 use Rattle.provider_config.specs.declared.config.OpenedLine.{OpenedLine}
 use Rattle.provider_config.specs.declared.line.Purpose.TheVariants.{Check}
@@ -80,5 +79,5 @@ OfJudged rows config now body answer =
 abbrev pub OfCheck : Option (List File) → List ℕ → List ℕ → ℕ → Answer → Type 0
 OfCheck told file body now answer =
     ((bad : List ℕ) × (line : ℕ) × IsBadSetUp told Check file bad line × (answer ≡ BadFile bad line))
-    ⊎ ((lines : Config) × (setup : Setup) × IsSetUp told Check file lines setup
-    × OfFile (OfJudged (rows_of lines.asked lines.opened) setup.config now) told body GREATEST_BODY answer)
+    ⊎ ((setup : Setup) × IsSetUp told Check file setup
+    × OfFile (OfJudged (rows_of setup.lines.asked setup.lines.opened) setup.config now) told body GREATEST_BODY answer)

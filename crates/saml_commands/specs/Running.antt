@@ -1,5 +1,5 @@
 -- What a run of the program prints, and with which status it ends.
-use Rattle.std.specs.Prelude.{◌≡◌, ◌≢◌, ℕ, ◌⊎◌, true, false, List, [], ◌∷◌, ◌++◌, take, Option, Some, None, MatchOption, Ok, Err, if◌then◌else◌, nat_le, codes}
+use Rattle.std.specs.Prelude.{◌≡◌, ◌≢◌, ℕ, ◌⊎◌, true, false, List, [], ◌∷◌, ◌++◌, take, Option, Some, None, MatchOption, Ok, Err, if◌then◌else◌, codes}
 use Rattle.std.specs.Str.{bytes_eq}
 use Rattle.std.specs.Option.{option_map, option_and_then}
 use Rattle.xml_spec.specs.declared.TheConstants.{MAX_DOCUMENT_LENGTH}
@@ -8,6 +8,7 @@ use Rattle.verdict_codes.specs.declared.codes.Verdict.{Verdict}
 use Rattle.crash_disk.specs.Disk.{Image, DiskState}
 use Rattle.saml_time.specs.declared.TheConstants.{LAST}
 use Rattle.text_lines.specs.Numbers.{number_of}
+pub use Rattle.text_lines.specs.Numbers.{positive}
 use Rattle.sp_setup.specs.declared.limits.TheConstants.{GREATEST_KEY}
 use Rattle.provider_run.specs.Runs.{Outside}
 use Rattle.saml_commands.specs.declared.limits.TheConstants.{MOST_EVENTS, MOST_START}
@@ -43,10 +44,6 @@ pub data Command : Type 0 where
   Serve : (role : Role) (config : List ℕ) (events : ℕ) → Command
   Replay : (file : List ℕ) → Command
   Make : (logins start : ℕ) → Command
-
--- the number from 1 on, up to this greatest one, that a word says
-abbrev pub positive : ℕ → List ℕ → Option ℕ
-positive most word = option_and_then (λ number. if nat_le 1 number then Some number else None) (number_of most word)
 
 -- the role that a word says
 abbrev pub role_of : List ℕ → Option Role

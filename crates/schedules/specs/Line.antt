@@ -5,6 +5,7 @@ use Rattle.std.specs.Map.{lookup}
 use Rattle.std.specs.Option.{option_map, option_zip}
 use Rattle.std.specs.Str.{bytes_eq}
 use Rattle.text_lines.specs.Numbers.{number_of}
+pub use Rattle.text_lines.specs.Numbers.{positive}
 use Rattle.text_lines.specs.Words.{words_of}
 use Rattle.post_agent.specs.declared.site.Site.{Site}
 use Rattle.post_agent.specs.declared.site.Site.TheVariants.{Sp, Idp}
@@ -23,10 +24,6 @@ site_of word = lookup (bytes_eq word) ((codes "sp", Sp) ∷ (codes "idp", Idp) �
 
 abbrev pub pick_of : List ℕ → Option Pick
 pick_of word = lookup (bytes_eq word) ((codes "0", Synced) ∷ (codes "1", Pending) ∷ (codes "2", Marked) ∷ [])
-
--- numbers are from 1 on
-abbrev pub positive : ℕ → List ℕ → Option ℕ
-positive most word = option_and_then (λ number. if number == 0 then None else Some number) (number_of most word)
 
 -- `now MOMENT`; `submit AGENT`, `lose AGENT`, `follow AGENT` and `fresh AGENT`; `restart NODE` and `compact NODE`
 abbrev pub two_words : List ℕ → List ℕ → Option Step

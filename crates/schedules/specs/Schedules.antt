@@ -1,5 +1,5 @@
 -- The schedule of a text.
-use Rattle.std.specs.Prelude.{ℕ, Bool, ◌==◌, ◌&&◌, nat_le, List, [], ◌∷◌, ◌++◌, length, fold, Option, None, Some, Result, Ok, Err, option_and_then, ok_or, if◌then◌else◌}
+use Rattle.std.specs.Prelude.{ℕ, Bool, ◌==◌, ◌&&◌, nat_le, List, [], ◌∷◌, ◌++◌, length, fold, Option, None, Some, Result, Err, option_and_then, ok_or, if◌then◌else◌}
 use Rattle.std.specs.List.{flat_map, list_any}
 use Rattle.std.specs.Option.{option_to_list}
 use Rattle.text_lines.specs.Lines.{Said, Says, NoText, said, with_lines}
@@ -54,11 +54,6 @@ schedule text = with_lines with_text [] (said text)
 abbrev pub fault_of : ScheduleFault → Option ℕ
 fault_of (faults.Line number) = Some number
 fault_of faults.NoMemory = None
-
--- the number of a line
-abbrev pub number_said : Said → ℕ
-number_said (Says number text) = number
-number_said (NoText number) = number
 
 -- ---- words by which the code reads
 

@@ -3,7 +3,8 @@
 ghost use Rattle.std.specs.Prelude.{◌≡◌, ◌<◌, ◌≤◌, ◌^◌, length};
 ghost use Rattle.owned_values.specs.Gives.{Gives};
 ghost use Rattle.text_lines.specs.Views.{said_view};
-ghost use Rattle.schedules.specs.Schedules.{schedule, with_said, fault_of, number_said};
+ghost use Rattle.text_lines.specs.Lines.{number_said};
+ghost use Rattle.schedules.specs.Schedules.{schedule, with_said, fault_of};
 
 use crate::draft::Draft;
 use crate::fault::ScheduleFault;

@@ -16,7 +16,7 @@ use Rattle.ledger_rules.specs.Numbers.{is_xml_text}
 use Rattle.request_rows.specs.declared.row.AskedRow.{AskedRow}
 use Rattle.request_rows.specs.declared.row.NewSession.{NewSession}
 use Rattle.request_rows.specs.Rows.{RowsView}
-use Rattle.request_ledger.specs.Record.{of_attribute, of_option}
+use Rattle.request_ledger.specs.Record.{of_attribute}
 use Rattle.request_ledger.specs.Drafts.{AreSessionTexts}
 use Rattle.request_ledger.proofs.Draftable.{text_is_allowed}
 use Rattle.sp_rules.specs.declared.accepted.Accepted.{Accepted}
@@ -24,6 +24,7 @@ use Rattle.sp_rules.specs.declared.config.SpConfig.{SpConfig}
 use Rattle.sp_rules.specs.Opening.{Brought, Opens}
 use Rattle.sp_rules.specs.Shown.{IsOpening, session_of}
 use Rattle.sp_answers.specs.Judging.{CanBeRecorded}
+use Rattle.std.specs.Option.{option_to_list}
 
 are_allowed : (texts : List (List ℕ)) → AllByRecursion IsText texts → list_all is_xml_text texts ≡ true
 are_allowed [] all = refl
@@ -33,7 +34,7 @@ all_both : (one other : List (List ℕ)) → AllByRecursion IsText one → AllBy
 all_both [] other a b = b
 all_both (text ∷ one) other a b = (a.0, all_both one other a.1 b)
 
-of_index : (index : Option (List ℕ)) → IfSome index IsText → AllByRecursion IsText (of_option index)
+of_index : (index : Option (List ℕ)) → IfSome index IsText → AllByRecursion IsText (option_to_list index)
 of_index None is = tt
 of_index (Some index) is = (is, tt)
 
@@ -43,8 +44,8 @@ of_attributes (a ∷ attributes) all = all_both (of_attribute a) (flat_map of_at
 
 of_login : (config : SpConfig) (now number : ℕ) (login : Login) → HoldsTexts login → AreSessionTexts (session_of config now number login)
 of_login config now number login texts =
-    are_allowed (login.request ∷ login.issuer ∷ login.id ∷ login.name ∷ of_option login.index ++ flat_map of_attribute login.attributes)
-    (texts.request, (texts.issuer, (texts.id, (texts.name, all_both (of_option login.index) (flat_map of_attribute login.attributes) (of_index login.index texts.index) (of_attributes login.attributes texts.attributes)))))
+    are_allowed (login.request ∷ login.issuer ∷ login.id ∷ login.name ∷ option_to_list login.index ++ flat_map of_attribute login.attributes)
+    (texts.request, (texts.issuer, (texts.id, (texts.name, all_both (option_to_list login.index) (flat_map of_attribute login.attributes) (of_index login.index texts.index) (of_attributes login.attributes texts.attributes)))))
 
 -- the texts of a session that a form opens
 pub texts_opened : ((bytes : List ℕ) (tree : Nodes) → Spells bytes tree → IsWritable tree)

@@ -4,17 +4,14 @@ use Rattle.std.specs.Prelude.{ℕ, ◌+◌, Bool, true, false, not, ◌&&◌, Li
 use Rattle.std.specs.List.{list_all, list_any}
 use Rattle.std.specs.Str.{bytes_eq}
 use Rattle.protocol_messages.specs.declared.response.ResponseHead.{ResponseHead}
+pub use Rattle.protocol_messages.specs.Messages.{is_destination}
+pub use Rattle.owned_values.specs.Options.{is_if_any}
 use Rattle.assertion_model.specs.declared.login.Login.{Login}
 use Rattle.sp_rules.specs.declared.config.SpConfig.{SpConfig}
 
 -- where responses go: the provider's AssertionConsumerService
 abbrev pub consumer : SpConfig → List ℕ
 consumer config = config.base ++ codes "/acs"
-
--- the text is this one, where it stands
-abbrev pub is_if_any : List ℕ → Option (List ℕ) → Bool
-is_if_any wanted None = true
-is_if_any wanted (Some text) = bytes_eq text wanted
 
 -- 4.1.4.2: the Issuer is the identity provider, and so is that of the Response where it has one
 abbrev pub is_from : SpConfig → ResponseHead → Login → Bool
@@ -31,13 +28,6 @@ is_for config login = has_restriction login.audiences && list_all (names_provide
     has_restriction : List (List (List ℕ)) → Bool
     has_restriction [] = false
     has_restriction (audiences ∷ others) = true
-
--- SAML Bindings, 3.5.5.2: the Destination of a Response is the place that it was sent to; a signed Response has to name it. An
--- empty one names nothing.
-abbrev pub is_destination : List ℕ → Bool → Option (List ℕ) → Bool
-is_destination address is_signed None = not is_signed
-is_destination address is_signed (Some []) = not is_signed
-is_destination address is_signed (Some (b ∷ bytes)) = bytes_eq (b ∷ bytes) address
 
 -- 4.1.4.3: the Recipient is this address, and so is the Destination of the Response
 abbrev pub is_sent_to : List ℕ → ResponseHead → Login → Bool

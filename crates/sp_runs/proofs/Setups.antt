@@ -37,7 +37,7 @@ served_by_one told file before opened provider turns kept behind asked begins ru
 
 pub told_in_a_run : ARegistryTellsTheProvider → ARunUsesWhatItsRegistryLists
 told_in_a_run tells told file before opened provider line begins named =
-    (tells told _ file begins.set_up.lines begins.set_up.setup line begins.set_up.is named, begins.set_up.serves_by)
+    (tells told _ file begins.set_up.setup line begins.set_up.is named, begins.set_up.serves_by)
 
 -- where a registry has ended nothing is recorded, and this is answered
 module _ (setup : Setup) (held : Held) (request : Request) (now : ℕ) (answer : Answer) (adds : Option SpRecord)
@@ -148,8 +148,7 @@ pub never_expired : WithoutARegistryNothingEnds → WithoutARegistryNothingIsExp
 never_expired endless told file before opened provider turns kept behind asked begins run none there =
     let by = served_by_one told file before opened provider turns kept behind asked begins run there in
     let no_end : asked.node.setup.expiry ≡ None =
-    ap (λ (s : Setup). s.expiry) by ∙ endless told _ file begins.set_up.lines begins.set_up.setup begins.set_up.is
-    none in
+    ap (λ (s : Setup). s.expiry) by ∙ endless told _ file begins.set_up.setup begins.set_up.is none in
     let here = did (world_of provider opened) behind turns kept asked run there in
     step_unexpired asked.node here.disk asked.request asked.now (Rose here.faults here.later) asked.answer here.new
     no_end here.step

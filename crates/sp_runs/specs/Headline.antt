@@ -169,7 +169,7 @@ pub record GoesExactly (asked : Asked Provider) : Type 0 where
 pub record KeepsToItsConfig (told : Option (List File)) (file : List ℕ) (before : Outside) (provider : Provider)
     (opened : Outside) (begins : Begins IsServedBy key request_rules told file before provider opened)
     (turns : List (Turn Provider)) : Type 0 where
-  pub tells : (line : RegistryLine) → Contains begins.set_up.lines.files (Registry line)
+  pub tells : (line : RegistryLine) → Contains begins.set_up.setup.lines.files (Registry line)
       → IsFromRegistry told line begins.set_up.setup × (provider.setup ≡ served_by begins.set_up.setup)
   pub same : (asked : Asked Provider) → Contains (asked_in turns) asked
       → asked.node.setup ≡ served_by begins.set_up.setup
@@ -179,7 +179,7 @@ pub record KeepsToItsConfig (told : Option (List File)) (file : List ℕ) (befor
       → Contains (asked_in turns) asked → until ≤ asked.now
       → AsksAndOpensNothing (served_by begins.set_up.setup) asked.request asked.answer
   pub without : (asked : Asked Provider)
-      → ((line : RegistryLine) → ¬ (Contains begins.set_up.lines.files (Registry line)))
+      → ((line : RegistryLine) → ¬ (Contains begins.set_up.setup.lines.files (Registry line)))
       → Contains (asked_in turns) asked → asked.answer ≢ Fixed (number_of RegistryExpired)
 
 -- ---- all of it

@@ -85,7 +85,7 @@ EachSessionWasSigned =
 abbrev pub ARunUsesWhatItsRegistryLists : Type 0
 ARunUsesWhatItsRegistryLists =
     (told : Option (List File)) (file : List ℕ) (before opened : Outside) (provider : Provider) (line : RegistryLine)
-    → (begins : Begins told file before provider opened) → Contains begins.set_up.lines.files (Registry line)
+    → (begins : Begins told file before provider opened) → Contains begins.set_up.setup.lines.files (Registry line)
     → IsFromRegistry told line begins.set_up.setup × (provider.setup ≡ served_by begins.set_up.setup)
 
 -- And so at each request of the run: the provider serves by what it was started with.
@@ -134,7 +134,7 @@ WithoutARegistryNothingIsExpired =
     (turns : List (Turn Provider)) (kept : Table) (behind : World Provider)
     (asked : Asked Provider) → (begins : Begins told file before provider opened)
     → Run (IsProviders request_rules Answers) (world_of provider opened) turns kept behind
-    → ((line : RegistryLine) → ¬ (Contains begins.set_up.lines.files (Registry line))) → Contains (asked_in turns) asked
+    → ((line : RegistryLine) → ¬ (Contains begins.set_up.setup.lines.files (Registry line))) → Contains (asked_in turns) asked
     → asked.answer ≢ Fixed (number_of RegistryExpired)
 
 -- POLICIES

@@ -4,7 +4,6 @@ use Rattle.saml_outside.specs.Files.{File}
 use Rattle.provider_run.specs.Providers as any
 use Rattle.provider_run.specs.Runs.{Outside}
 use Rattle.request_ledger.specs.Record.{request_rules}
-use Rattle.provider_config.specs.Config.{Config}
 use Rattle.provider_config.specs.declared.line.Purpose.TheVariants.{Serve}
 use Rattle.sp_server.specs.Step as steps
 use Rattle.sp_server.specs.Step.{Provider}
@@ -12,13 +11,12 @@ use Rattle.sp_setup.specs.Setup.{Setup, IsSetUp, IsBadSetUp}
 
 -- a provider serves by all that it is set up with
 abbrev pub served_by : Setup → steps.Setup
-served_by setup = record { config = setup.config; policy = setup.policy; expiry = setup.expiry; guard = setup.guard }
+served_by setup = record { config = setup.config; policy = setup.policy; expiry = setup.expiry; guard = setup.lines.guard }
 
 -- The config in this file sets a provider up, which serves by this.
 pub record IsServedBy (told : Option (List File)) (file : List ℕ) (by : steps.Setup) : Type 0 where
-  pub lines : Config
   pub setup : Setup
-  pub is : IsSetUp told Serve file lines setup
+  pub is : IsSetUp told Serve file setup
   pub serves_by : by ≡ served_by setup
 
 -- This is the first file, the config or one that it names, that can't be used, and its line.

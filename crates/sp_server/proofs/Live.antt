@@ -2,7 +2,7 @@
 use Rattle.std.specs.Prelude.{Option, None, Some}
 use Rattle.std.proofs.Common.{◌≡◌, ℕ, Bool, true, ◌&&◌, List, [], ◌∷◌, ◌++◌, sym, subst, refl, ap, ◌∙◌}
 use Rattle.std.specs.List.{list_all}
-use Rattle.std.specs.Option.{ForSome}
+use Rattle.std.specs.Option.{ForSome, option_to_list}
 use Rattle.std.proofs.lemmas.Bool.{and_parts}
 use Rattle.std.proofs.lemmas.List.Sums.{AllPass-from_list_all}
 use Rattle.std.proofs.lemmas.Option.{get_or_from_slice_get, slice_get_within}
@@ -13,7 +13,7 @@ use Rattle.ledger_records.specs.declared.sp_record.SpRecord.TheVariants as kinds
 use Rattle.ledger_rules.specs.Numbers.{is_xml_text}
 use Rattle.request_rows.specs.declared.row.OpenedRow.{OpenedRow}
 use Rattle.request_ledger.specs.RowsOf.{opened_rows}
-use Rattle.request_ledger.specs.Record.{of_option, AreRecords, AreRecordsAfter}
+use Rattle.request_ledger.specs.Record.{AreRecords, AreRecordsAfter}
 use Rattle.request_ledger.specs.Ledger.{Held}
 use Rattle.record_ledger.proofs.Draftable.{both}
 use Rattle.request_ledger.proofs.LawWords.{parts}
@@ -29,7 +29,7 @@ text_of s allowed = (tested s).0 allowed
 -- ---- each row has texts of such characters
 
 abbrev is_allowed : OpenedRow → Bool
-is_allowed row = is_xml_text row.name && list_all is_xml_text (of_option row.index)
+is_allowed row = is_xml_text row.name && list_all is_xml_text (option_to_list row.index)
 
 rest_of : (index more : List (List ℕ)) → list_all is_xml_text (index ++ more) ≡ true → list_all is_xml_text index ≡ true
 rest_of [] more all = refl
@@ -47,14 +47,14 @@ rows_after before (kinds.Opened r ∷ later) are =
     let fourth = (and_parts (is_xml_text r.assertion) _ third).1 in
     let fifth = (and_parts (is_xml_text r.token) _ fourth).1 in
     let name = and_parts (is_xml_text r.name) _ fifth in
-    both (is_xml_text r.name && list_all is_xml_text (of_option r.index)) (list_all is_allowed (opened_rows later))
-    (both (is_xml_text r.name) (list_all is_xml_text (of_option r.index)) name.0 (rest_of (of_option r.index) _ name.1))
+    both (is_xml_text r.name && list_all is_xml_text (option_to_list r.index)) (list_all is_allowed (opened_rows later))
+    (both (is_xml_text r.name) (list_all is_xml_text (option_to_list r.index)) name.0 (rest_of (option_to_list r.index) _ name.1))
     (rows_after (before ++ kinds.Opened r ∷ []) later are.1)
 rows_after before (other ∷ later) are = rows_after (before ++ other ∷ []) later are.1
 
 -- ---- so has the one that is found
 
-index_allowed : (index : Option (List ℕ)) → list_all is_xml_text (of_option index) ≡ true
+index_allowed : (index : Option (List ℕ)) → list_all is_xml_text (option_to_list index) ≡ true
     → ForSome index (λ i. is_xml_text i ≡ true)
 index_allowed None all x is = cc
 index_allowed (Some i) all x is = let same : i ≡ x =
@@ -72,5 +72,5 @@ session_texts held request now row are is =
     let all = AllPass-from_list_all is_allowed rows (rows_after [] held.records are) in
     let passes = sym (ap is_allowed (get_or_from_slice_get rows found.place row row found.at))
     ∙ all found.place row (slice_get_within rows found.place row found.at) in
-    let two = and_parts (is_xml_text row.name) (list_all is_xml_text (of_option row.index)) passes in
+    let two = and_parts (is_xml_text row.name) (list_all is_xml_text (option_to_list row.index)) passes in
     record { name = two.0; index = index_allowed row.index two.1 }

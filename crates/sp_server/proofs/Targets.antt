@@ -17,7 +17,8 @@ use Rattle.service_routes.specs.declared.route.Route.TheVariants.{To, Refused}
 use Rattle.service_routes.specs.Routes.{IsAnswered, checked, is_method, is_typed}
 use Rattle.sp_server.specs.declared.route.Service.{Service}
 use Rattle.sp_server.specs.declared.route.Service.TheVariants.{App, Guard}
-use Rattle.sp_server.specs.Routes.{at_target, is_guarded, is_path_byte, is_target, route, service_at}
+use Rattle.sp_server.specs.Routes.{at_target, is_guarded, is_target, route, service_at}
+use Rattle.access_policy.specs.Line.{is_path_byte}
 
 graphic : (b : ℕ) → is_path_byte b ≡ true → (45 ≤ b) × (b < 127)
 graphic b h = grind (arith, nat_tests)

@@ -14,7 +14,8 @@ use Rattle.http_wire.specs.Vouched.{vouched_answer}
 use Rattle.request_rows.specs.declared.row.OpenedRow.{OpenedRow}
 use Rattle.sp_answers.specs.Answers.{denied_answer}
 use Rattle.service_routes.specs.Routes.{is_method}
-use Rattle.sp_server.specs.Routes.{is_app, is_target}
+use Rattle.sp_server.specs.Routes.{is_target}
+use Rattle.access_policy.specs.Line.{is_app}
 
 -- ---- the path
 

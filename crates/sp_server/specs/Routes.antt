@@ -1,7 +1,6 @@
 -- Which requests a service provider serves.
-use Rattle.std.specs.Prelude.{ℕ, ◌==◌, nat_eq, nat_le, Bool, ◌&&◌, ◌||◌, List, codes, length, Option, None, Some, if◌then◌else◌}
+use Rattle.std.specs.Prelude.{ℕ, nat_eq, nat_le, Bool, ◌&&◌, List, codes, length, Option, None, Some, if◌then◌else◌}
 use Rattle.std.specs.List.{list_all, starts_with}
-use Rattle.std.specs.Char.{is_ascii_alphanumeric}
 use Rattle.std.specs.Str.{bytes_eq}
 use Rattle.http_wire.specs.declared.method.Method.{Method}
 use Rattle.http_wire.specs.declared.method.Method.TheVariants.{Get, Post}
@@ -11,19 +10,13 @@ use Rattle.service_routes.specs.declared.route.Route.TheVariants.{To, Refused}
 use Rattle.service_routes.specs.Routes.{checked}
 use Rattle.sp_server.specs.declared.route.Service.{Service}
 use Rattle.sp_server.specs.declared.route.Service.TheVariants.{App, Consumer, Metadata, Logout, SingleLogout, Guard}
+use Rattle.access_policy.specs.Line.{is_app, is_path_byte}
 
 -- /auth, and a path behind it
 abbrev pub is_guarded : List ℕ → Bool
 is_guarded path = starts_with nat_eq path (codes "/auth/")
 
--- /app, and each path below it
-abbrev pub is_app : List ℕ → Bool
-is_app path = bytes_eq path (codes "/app") || starts_with nat_eq path (codes "/app/")
-
--- a path to which a user can be sent back: letters, digits, `.`, `_`, `~`, `/` and `-`, and at most 256 of them
-abbrev pub is_path_byte : ℕ → Bool
-is_path_byte b = is_ascii_alphanumeric b || b == 46 || b == 95 || b == 126 || b == 47 || b == 45
-
+-- a path to which a user can be sent back: at most 256 letters, digits, `.`, `_`, `~`, `/` and `-`
 abbrev pub is_target : List ℕ → Bool
 is_target path = nat_le (length path) 256 && list_all is_path_byte path
 

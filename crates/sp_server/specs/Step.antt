@@ -1,6 +1,6 @@
 -- What a service provider does at one request.
 use Rattle.std.specs.Prelude.{◌≡◌, ◌⊎◌, ℕ, nat_le, Bool, true, false, List, codes, Option, None, Some, if◌then◌else◌}
-use Rattle.std.specs.Option.{option_and_then, option_to_list}
+use Rattle.std.specs.Option.{option_to_list}
 use Rattle.http_wire.specs.declared.answer.Answer.{Answer}
 use Rattle.http_wire.specs.declared.answer.Answer.TheVariants.{Fixed, Full}
 use Rattle.http_wire.specs.Requests.{Request}
@@ -33,6 +33,7 @@ use Rattle.sp_server.specs.declared.route.Service.TheVariants.{App, Consumer, Me
 use Rattle.sp_server.specs.Routes.{route}
 use Rattle.sp_server.specs.Guard.{guard_answer}
 use Rattle.sp_server.specs.Peer.{idp_at, IsObeyed, IsNotObeyed}
+use Rattle.owned_values.specs.Options.{◌>>=◌}
 
 -- what a provider is set up with: its config, the rules of its policy where it has one, the moment at which its
 -- registry of metadata ends where it has one, and whether it has a guard
@@ -49,9 +50,9 @@ is_expired (Some moment) now = nat_le moment now
 
 -- the live session of the request's cookie
 abbrev pub session_for : Held → ℕ → Request → Option OpenedRow
-session_for held now request =
-    option_and_then (λ token. session_row (rows_of held.records).opened token now held.header.horizon)
-    (option_and_then (λ header. cookie_value header (codes "sp_sid")) request.cookie)
+session_for held now request = do
+  token ← request.cookie >>= λ header. cookie_value header (codes "sp_sid")
+  session_row (rows_of held.records).opened token now held.header.horizon
 
 -- what a session is answered: the page of the user where the policy allows it or there is none, else the rule that
 -- denies it

@@ -11,8 +11,8 @@ ghost use Rattle.sp_server.specs.Routes.{route};
 use crate::app::session_for;
 use crate::reply::Reply;
 use crate::role::SpRole;
-use crate::route::{is_app, is_target};
-use access_policy::{Decision, Policy};
+use crate::route::is_target;
+use access_policy::{Decision, Policy, is_app};
 use fault_verdicts::Judged;
 use http_wire::{Answer, HttpRequest, Method, vouched_answer};
 use owned_values::{Blob, NoMemory};
@@ -66,7 +66,7 @@ fn has_plain_segments(path: &str) -> bool
 fn is_plain(path: &str) -> bool
     ensures { result ≡ spec.is_plain path.now }
 {
-    is_app(path) && is_target(path) && has_plain_segments(path)
+    is_app(path.as_bytes()) && is_target(path) && has_plain_segments(path)
 }
 
 /// What a policy decides of a path that is asked for.

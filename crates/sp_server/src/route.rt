@@ -1,9 +1,9 @@
 //! Which requests are served.
 ghost use Rattle.std.specs.Prelude.{◌≡◌};
-ghost use Rattle.std.specs.List.{list_all};
 ghost use Rattle.http_wire.specs.Views.{request_view};
 ghost use Rattle.sp_server.specs.Routes as spec;
 
+use access_policy::{are_path_bytes, is_app};
 use http_wire::{HttpRequest, Method};
 use service_routes::{Route, route_to};
 
@@ -27,32 +27,11 @@ pub enum Service {
 /// The longest path to which a user can be sent back, in bytes.
 const LONGEST_TARGET: usize = 256;
 
-/// Whether a path to which a user can be sent back may have this byte.
-fn is_path_byte(byte: u8) -> bool
-    ensures { result ≡ spec.is_path_byte byte }
-{
-    byte.is_ascii_alphanumeric() || matches!(byte, b'.' | b'_' | b'~' | b'/' | b'-')
-}
-
-/// Whether each byte of a path is one that a path to which a user can be sent back may have.
-fn are_path_bytes(path: &str) -> bool
-    ensures { result ≡ list_all spec.is_path_byte path.now }
-{
-    path.bytes().all(|byte| is_path_byte(byte))
-}
-
 /// Whether a user can be sent back to a path.
 pub(crate) fn is_target(path: &str) -> bool
     ensures { result ≡ spec.is_target path.now }
 {
-    path.len() <= LONGEST_TARGET && are_path_bytes(path)
-}
-
-/// Whether a path is `/app` or below it.
-pub(crate) fn is_app(path: &str) -> bool
-    ensures { result ≡ spec.is_app path.now }
-{
-    path == "/app" || path.starts_with("/app/")
+    path.len() <= LONGEST_TARGET && are_path_bytes(path.as_bytes())
 }
 
 /// Whether a path is one behind `/auth`.
@@ -66,7 +45,7 @@ fn is_guarded(path: &str) -> bool
 fn service_at(path: &str) -> Option<(Method, Service)>
     ensures { result ≡ spec.service_at path.now }
 {
-    if is_app(path) {
+    if is_app(path.as_bytes()) {
         Some((Method::Get, Service::App))
     } else if path == "/acs" {
         Some((Method::Post, Service::Consumer))

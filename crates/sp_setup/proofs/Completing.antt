@@ -4,7 +4,6 @@ use Rattle.std.proofs.lemmas.Bool.{and_parts}
 use Rattle.saml_outside.specs.Files.{File}
 use Rattle.metadata.specs.declared.peer.Peer.{Peer}
 use Rattle.provider_config.specs.Config.{Config, AreInOrder, same_role, role_of, has_file, has_files}
-use Rattle.provider_config.specs.Shared.{◌>>=◌}
 use Rattle.provider_config.specs.declared.config.FileRole.{FileRole}
 use Rattle.provider_config.specs.declared.config.FileRole.TheVariants as roles
 use Rattle.provider_config.specs.declared.config.SpFile.{SpFile}
@@ -19,8 +18,12 @@ use Rattle.sp_rules.specs.declared.config.SpConfig.{SpConfig}
 use Rattle.sp_rules.specs.declared.config.TheConstants.{GREATEST_SKEW}
 use Rattle.sp_setup.specs.declared.loaded.Loaded.{Loaded}
 use Rattle.sp_setup.specs.declared.setup.SetUp.{SetUp}
-use Rattle.sp_setup.specs.Setup.{nothing, Loads, Adds, AreLoaded, next_of, config_of}
+use Rattle.sp_setup.specs.Config.{next_of, config_of}
+use Rattle.sp_setup.specs.Files.{in_order}
+use Rattle.sp_setup.specs.Setup.{nothing, load_file, load}
 use Rattle.sp_setup.specs.Views.{IsSetUpBy, IsWithinBounds}
+use Rattle.sp_setup.proofs.Loading.{named_is_read}
+use Rattle.owned_values.specs.Options.{◌>>=◌}
 
 -- ---- each file that is needed was read
 
@@ -34,20 +37,20 @@ is_loaded roles.IdKey loaded = is_some loaded.id_key
 is_loaded roles.Policy loaded = is_some loaded.policy
 
 -- a file adds what its role says, and takes nothing away
-one_more : (other role : FileRole) (bytes : List ℕ) (before after : Loaded) → Loads other bytes before after →
+one_more : (told : Option (List File)) (other role : FileRole) (name : List ℕ) (before after : Loaded) → (load_file other name before).gives told after →
     is_loaded role after ≡ (same_role other role || is_loaded role before)
-one_more roles.Idp roles.Idp bytes before after h = ap (is_loaded roles.Idp) h.2
-one_more roles.Idp role bytes before after h = ap (is_loaded role) h.2
-one_more roles.KeyIn roles.KeyIn bytes before after h = ap (is_loaded roles.KeyIn) h.1
-one_more roles.KeyIn role bytes before after h = ap (is_loaded role) h.1
-one_more roles.NextIn roles.NextIn bytes before after h = ap (is_loaded roles.NextIn) h.1
-one_more roles.NextIn role bytes before after h = ap (is_loaded role) h.1
-one_more roles.KeyOut roles.KeyOut bytes before after h = ap (is_loaded roles.KeyOut) h.1
-one_more roles.KeyOut role bytes before after h = ap (is_loaded role) h.1
-one_more roles.IdKey roles.IdKey bytes before after h = ap (is_loaded roles.IdKey) h.1
-one_more roles.IdKey role bytes before after h = ap (is_loaded role) h.1
-one_more roles.Policy roles.Policy bytes before after h = ap (is_loaded roles.Policy) h.2
-one_more roles.Policy role bytes before after h = ap (is_loaded role) h.2
+one_more told roles.Idp roles.Idp name before after h = ap (is_loaded roles.Idp) h.2
+one_more told roles.Idp role name before after h = ap (is_loaded role) h.2
+one_more told roles.KeyIn roles.KeyIn name before after h = ap (is_loaded roles.KeyIn) h.2
+one_more told roles.KeyIn role name before after h = ap (is_loaded role) h.2
+one_more told roles.NextIn roles.NextIn name before after h = ap (is_loaded roles.NextIn) h.2
+one_more told roles.NextIn role name before after h = ap (is_loaded role) h.2
+one_more told roles.KeyOut roles.KeyOut name before after h = ap (is_loaded roles.KeyOut) h.2
+one_more told roles.KeyOut role name before after h = ap (is_loaded role) h.2
+one_more told roles.IdKey roles.IdKey name before after h = ap (is_loaded roles.IdKey) h.2
+one_more told roles.IdKey role name before after h = ap (is_loaded role) h.2
+one_more told roles.Policy roles.Policy name before after h = ap (is_loaded roles.Policy) h.2
+one_more told roles.Policy role name before after h = ap (is_loaded role) h.2
 
 -- a registry adds the identity provider
 registry_more : (role : FileRole) (peer : Peer) (until : ℕ) (before after : Loaded) → after ≡ record before { idp = Some peer; expiry = Some until } →
@@ -55,28 +58,15 @@ registry_more : (role : FileRole) (peer : Peer) (until : ℕ) (before after : Lo
 registry_more roles.Idp peer until before after e = ap (is_loaded roles.Idp) e
 registry_more role peer until before after e = ap (is_loaded role) e
 
-line_more : (told : Option (List File)) (named : SpFile) (role : FileRole) (before after : Loaded) → Adds told named before after →
+line_more : (told : Option (List File)) (role : FileRole) (named : SpFile) (before after : Loaded) → (load named before).gives told after →
     is_loaded role after ≡ (same_role (role_of named) role || is_loaded role before)
-line_more told (names.One file) role before after h = one_more file.role role h.0 before after h.2
-line_more told (names.Registry line) role before after h = registry_more role h.3.0 h.3.1 before after h.3.3
+line_more told role (names.One file) before after h = one_more told file.role role file.name before after h
+line_more told role (names.Registry line) before after (bytes, there, (key, key_there, (registry, read, (peer, says, is)))) =
+    registry_more role peer registry.valid_until before after is
 
-swapped : (a b c : Bool) → ((a || b) || c) ≡ (b || (a || c))
-swapped true true c = refl
-swapped true false c = refl
-swapped false b c = refl
-
-all_more : (told : Option (List File)) (role : FileRole) (files : List SpFile) (before after : Loaded) → AreLoaded told files before after →
-    (has_file role files || is_loaded role before) ≡ is_loaded role after
-all_more told role [] before after h = ap (is_loaded role) h
-all_more told role (named ∷ others) before after (middle, adds, rest) =
-    swapped (same_role (role_of named) role) (has_file role others) (is_loaded role before)
-    ∙ ap (λ b. has_file role others || b) (sym (line_more told named role before middle adds))
-    ∙ all_more told role others middle after rest
-
-named_is_loaded : (told : Option (List File)) (role : FileRole) (files : List SpFile) (before after : Loaded) → AreLoaded told files before after →
+named_is_loaded : (told : Option (List File)) (role : FileRole) (files : List SpFile) (before after : Loaded) → (in_order load files before).gives told after →
     has_file role files ≡ true → is_loaded role after ≡ true
-named_is_loaded told role files before after h named =
-    sym (all_more told role files before after h) ∙ ap (λ b. b || is_loaded role before) named
+named_is_loaded told role = named_is_read load told (λ named. same_role (role_of named) role) (is_loaded role) (line_more told role)
 
 -- ---- what is set up
 
@@ -89,7 +79,8 @@ some_of idp None key_out id_key make has_idp has_in has_out has_id e = cc
 some_of idp key_in None id_key make has_idp has_in has_out has_id e = cc
 some_of idp key_in key_out None make has_idp has_in has_out has_id e = cc
 
-pub is_set_up : (told : Option (List File)) (lines : Config) (loaded : Loaded) → IsTrue (has_files lines.files) → AreLoaded told lines.files nothing loaded →
+pub is_set_up : (told : Option (List File)) (lines : Config) (loaded : Loaded) → IsTrue (has_files lines.files) →
+    (in_order load lines.files nothing).gives told loaded →
     config_of lines loaded ≡ None → ⊥
 is_set_up told lines loaded named all none =
     let three = and_parts _ _ named in

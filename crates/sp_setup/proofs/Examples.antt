@@ -7,45 +7,59 @@ use Rattle.provider_config.specs.declared.config.FileRole.TheVariants as roles
 use Rattle.provider_config.specs.declared.config.SpFile.{SpFile}
 use Rattle.provider_config.specs.declared.config.SpFile.TheVariants.{One, Registry}
 use Rattle.provider_config.specs.declared.config.Times.{Times}
-use Rattle.sp_setup.specs.Setup.{nothing, IsFirstBad, IsUnusable, Loads, next_of, no_key, short_key}
+use Rattle.sp_setup.specs.Config.{next_of}
+use Rattle.sp_setup.specs.Files.{in_order, key_file, id_key_file}
+use Rattle.sp_setup.specs.Setup.{nothing, load_file, load}
 
 -- a file of 16 bytes, and one of 15
 abbrev files : Option (List File)
 files =
     Some (record { name = codes "a"; bytes = codes "sixteen bytes it" } ∷ record { name = codes "b"; bytes = codes "fifteen bytes.." } ∷ [])
 
+-- a policy of which the second line is bad, and one without rules
+abbrev policy_files : Option (List File)
+policy_files = Some (record { name = codes "p"; bytes = codes "a deny /app\nb permit /app\n" } ∷ record { name = codes "q"; bytes = [] } ∷ [])
+
 abbrev named : List SpFile
 named = One (record { role = roles.KeyIn; name = codes "a" }) ∷ One (record { role = roles.KeyOut; name = codes "b" }) ∷ []
 
 -- 16 bytes make a key of messages, and 15 none; neither makes the key of IDs
-keys : Loads roles.KeyIn (codes "sixteen bytes it") nothing (record nothing { key_in = Some (codes "sixteen bytes it") })
-    × IsUnusable roles.KeyIn (codes "fifteen bytes..") 0 × IsUnusable roles.IdKey (codes "sixteen bytes it") 0
-keys = ((omega arith, refl), (refl, omega arith), (refl, λ e. omega (arith, e)))
+keys : (key_file (codes "a")).gives files (codes "sixteen bytes it") × (key_file (codes "b")).fails files (codes "b") 0
+    × (id_key_file (codes "a")).fails files (codes "a") 0
+keys = (
+  (codes "sixteen bytes it", (omega arith, refl), (refl, omega arith)),
+  inr (codes "fifteen bytes..", (omega arith, refl), (refl, (refl, λ h. omega (arith, h)))),
+  inr (codes "sixteen bytes it", (omega arith, refl), (refl, (refl, λ e. omega (arith, e)))),
+)
 
 -- a bad line of a policy is told by its number; one without rules can be used
-policies : IsUnusable roles.Policy (codes "a deny /app\nb permit /app\n") 2 × Loads roles.Policy [] nothing (record nothing { policy = Some [] })
+policies : (load_file roles.Policy (codes "p") nothing).fails policy_files (codes "p") 2
+    × (load_file roles.Policy (codes "q") nothing).gives policy_files (record nothing { policy = Some [] })
 unfolding chars encode
-policies = (refl, ([], refl, refl))
+policies = (
+  inl (inr (codes "a deny /app\nb permit /app\n", (omega arith, refl), (refl, refl))),
+  ([], ([], (omega arith, refl), refl), refl),
+)
 
 -- the second file is the first that can't be used
-second : IsFirstBad files named nothing (codes "b") 0
+second : (in_order load named nothing).fails files (codes "b") 0
 second =
     inr (
       record nothing { key_in = Some (codes "sixteen bytes it") },
-      (codes "sixteen bytes it", (omega arith, refl), (omega arith, refl)),
-      inl (refl, inr (codes "fifteen bytes..", (omega arith, refl), (refl, omega arith))),
+      (codes "sixteen bytes it", (codes "sixteen bytes it", (omega arith, refl), (refl, omega arith)), refl),
+      inl (inl (inr (codes "fifteen bytes..", (omega arith, refl), (refl, (refl, λ h. omega (arith, h)))))),
     )
 
 -- an absent file comes before those behind it
-absent : IsFirstBad files (One (record { role = roles.Idp; name = codes "c" }) ∷ named) nothing (codes "c") 0
-absent = inl (refl, inl (refl, inl (refl, refl)))
+absent : (in_order load (One (record { role = roles.Idp; name = codes "c" }) ∷ named) nothing).fails files (codes "c") 0
+absent = inl (inl (inl (refl, refl, inl (refl, refl))))
 
 -- the key of a registry is told by its own name, where it is absent or too short, whatever the registry holds
-registry_key : IsFirstBad files (Registry (record { file = codes "a"; key = codes "c"; entity = codes "e" }) ∷ []) nothing (codes "c") 0
-    × IsFirstBad files (Registry (record { file = codes "a"; key = codes "b"; entity = codes "e" }) ∷ []) nothing (codes "b") 0
+registry_key : (in_order load (Registry (record { file = codes "a"; key = codes "c"; entity = codes "e" }) ∷ []) nothing).fails files (codes "c") 0
+    × (in_order load (Registry (record { file = codes "a"; key = codes "b"; entity = codes "e" }) ∷ []) nothing).fails files (codes "b") 0
 registry_key = (
-  inl (refl, no_key (codes "sixteen bytes it") (omega arith, refl) (inl (refl, refl)) refl),
-  inl (refl, short_key (codes "sixteen bytes it") (codes "fifteen bytes..") (omega arith, refl) (omega arith, refl) (omega arith) refl),
+  inl (inr (codes "sixteen bytes it", (omega arith, refl), inl (inl (refl, refl, inl (refl, refl))))),
+  inl (inr (codes "sixteen bytes it", (omega arith, refl), inl (inr (codes "fifteen bytes..", (omega arith, refl), (refl, (refl, λ h. omega (arith, h))))))),
 )
 
 -- a key takes over at its moments

@@ -1,9 +1,12 @@
 -- What a fault says.
-use Rattle.std.proofs.Common.{◌≡◌, ℕ, ◌≤◌, List, Result, Ok, Err, IfOk, IfErr, sym, subst, arith}
+use Rattle.std.proofs.Common.{◌≡◌, ℕ, ◌≤◌, List, Option, Result, Ok, Err, IfOk, IfErr, inl, inr, sym, subst, arith}
+use Rattle.std.specs.Prelude.{IsErrAnd}
+use Rattle.saml_outside.specs.Files.{File}
 use Rattle.saml_outside.specs.Counts.{Rose}
 use Rattle.sp_setup.specs.declared.fault.SetupFault.{SetupFault}
 use Rattle.sp_setup.specs.declared.fault.SetupFault.TheVariants as faults
 use Rattle.sp_setup.specs.Faults.{IsFaultOf, IsBad}
+use Rattle.sp_setup.specs.Files.{Reading, ◌>>=◌}
 
 pub if_ok_map : {T E : Type 0} (P Q : T → Type 0) (r : Result T E) → ((x : T) → P x → Q x) → IfOk r P → IfOk r Q
 if_ok_map P Q (Ok x) f h = f x h
@@ -31,3 +34,20 @@ pub wider : (P Q : List ℕ → ℕ → Type 0) (before middle now : ℕ) (fault
 wider P Q before middle now (faults.BadFile file line) le f h = f file line h
 wider P Q before middle now faults.ReadFault le f h = rose_from before middle now le h
 wider P Q before middle now faults.NoMemory le f h = tt
+
+-- what holds of the error that is handed on holds of the error
+pub handed_on : {T E : Type 0} (P : E → Type 0) (result : Result T E) (e : E) → IsErrAnd result (λ error. error ≡ e) → P e → IfErr result P
+handed_on P (Ok x) e h is = tt
+handed_on P (Err error) e h is = subst P (sym h) is
+
+-- what is told of the first files that are read is told of all
+pub first_fails : {X Y : Type 0} (held : Option (List File)) (first : Reading X) (next : X → Reading Y) (before now : ℕ) (fault : SetupFault) →
+    IsFaultOf (first.fails held) before now fault → IsFaultOf ((first >>= next).fails held) before now fault
+first_fails held first next before now fault h =
+    wider (first.fails held) ((first >>= next).fails held) before before now fault (omega arith) (λ file line bad. inl bad) h
+
+-- and so is what is told of those that follow on what they gave
+pub next_fails : {X Y : Type 0} (held : Option (List File)) (first : Reading X) (next : X → Reading Y) (x : X) (before middle now : ℕ) (fault : SetupFault) →
+    first.gives held x → before ≤ middle → IsFaultOf ((next x).fails held) middle now fault → IsFaultOf ((first >>= next).fails held) before now fault
+next_fails held first next x before middle now fault given later h =
+    wider ((next x).fails held) ((first >>= next).fails held) before middle now fault later (λ file line bad. inr (x, given, bad)) h

@@ -1,7 +1,6 @@
 //! Laws of the definitions. Each function does nothing: what it ensures is the law.
 ghost use Rattle.std.specs.Prelude.{◌≡◌, ℕ, List, Some};
 ghost use Rattle.saml_outside.specs.Files.{File};
-ghost use Rattle.provider_config.specs.Config.{Config};
 ghost use Rattle.provider_config.specs.declared.line.Purpose.{Purpose};
 ghost use Rattle.sp_setup.specs.Laws.{ARegistryTellsTheProvider, WithoutARegistryNothingEnds};
 ghost use Rattle.sp_setup.specs.Setup.{Setup, IsSetUp, IsBadSetUp};
@@ -9,12 +8,12 @@ ghost use Rattle.sp_setup.specs.Setup.{Setup, IsSetUp, IsBadSetUp};
 /// Where it is told what files there are, a config sets one provider up, or one file and line of it are the first that
 /// can't be used, and never both.
 pub fn a_config_has_one_outcome()
-    ensures set_up { (files : List File) (purpose : Purpose) (config : List ℕ) (lines others : Config) (one other : Setup) →
-        IsSetUp (Some files) purpose config lines one → IsSetUp (Some files) purpose config others other → (lines ≡ others) × (one ≡ other) }
+    ensures set_up { (files : List File) (purpose : Purpose) (config : List ℕ) (one other : Setup) →
+        IsSetUp (Some files) purpose config one → IsSetUp (Some files) purpose config other → one ≡ other }
     ensures bad { (files : List File) (purpose : Purpose) (config one other : List ℕ) (line number : ℕ) →
         IsBadSetUp (Some files) purpose config one line → IsBadSetUp (Some files) purpose config other number → (one ≡ other) × (line ≡ number) }
-    ensures never_both { (files : List File) (purpose : Purpose) (config : List ℕ) (lines : Config) (one : Setup) (file : List ℕ) (line : ℕ) →
-        IsSetUp (Some files) purpose config lines one → ¬ (IsBadSetUp (Some files) purpose config file line) }
+    ensures never_both { (files : List File) (purpose : Purpose) (config : List ℕ) (one : Setup) (file : List ℕ) (line : ℕ) →
+        IsSetUp (Some files) purpose config one → ¬ (IsBadSetUp (Some files) purpose config file line) }
 {
     meta_registry::laws::a_text_has_one_outcome();
 }

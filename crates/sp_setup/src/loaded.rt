@@ -1,14 +1,12 @@
 // What the files that a config names hold.
 
 ghost use Rattle.std.specs.Bool.{MatchBool};
-ghost use Rattle.std.specs.Prelude.{◌≡◌, ◌≢◌, ◌<◌, ◌≤◌, ℕ, length, None, Some, IfOk, IfErr, OnOk, MatchOption};
+ghost use Rattle.std.specs.Prelude.{◌≡◌, ◌<◌, ◌≤◌, length, Some, IfOk, IfErr, OnOk, MatchOption};
 ghost use Rattle.xml_spec.specs.declared.TheConstants.{MAX_DOCUMENT_LENGTH};
-ghost use Rattle.saml_outside.specs.Files.{Reads, IsUnread};
-ghost use Rattle.saml_outside.specs.declared.reading.FileRead.TheVariants as reads;
-ghost use Rattle.provider_config.specs.declared.config.SpFile.TheVariants as names;
 ghost use Rattle.sp_setup.specs.Faults.{IsFaultOf};
-ghost use Rattle.sp_setup.specs.Setup.{limit_of, nothing, Loads, IsUnusable, IsUnlisted, TakesProvider, AddsFile, AddsRegistry, Adds, IsBadAt, AreLoaded, IsFirstBad};
-ghost use Rattle.sp_setup.specs.Views.{IsUnreadFile, IsNoKey};
+ghost use Rattle.sp_setup.specs.Files.{whole, in_order, key_file};
+ghost use Rattle.sp_setup.specs.Setup.{nothing, load_file, load_registry, load};
+ghost use Rattle.sp_setup.specs.Views.{limit_of, Loads, IsUnusable, IsUnlisted, TakesProvider};
 
 use crate::fault::SetupFault;
 use crate::limits::{GREATEST_KEY, ID_KEY, LEAST_KEY};
@@ -68,8 +66,8 @@ fn read_whole<F: Files>(
     name: &str,
     limit: u64,
 ) -> Result<Vec<u8>, SetupFault>
-    ensures ok { IfOk result (λ bytes. Reads (F.holds files.old) name.now limit reads.Whole bytes.items) }
-    ensures err { IfErr result (IsFaultOf (IsUnreadFile (F.holds files.old) name.now limit) (F.faults_of files.old) (F.faults_of files.new)) }
+    ensures ok { IfOk result (λ bytes. (whole limit name.now).gives (F.holds files.old) bytes.items) }
+    ensures err { IfErr result (IsFaultOf ((whole limit name.now).fails (F.holds files.old)) (F.faults_of files.old) (F.faults_of files.new)) }
     ensures same { F.holds files.new ≡ F.holds files.old }
     ensures never_falls { F.faults_of files.old ≤ F.faults_of files.new }
 {
@@ -81,8 +79,8 @@ fn read_whole<F: Files>(
 
 /// The key in a file, which has to be there and has to have 16 bytes at least.
 fn read_key<F: Files>(alloc: Global, files: &mut F, name: &str) -> Result<Vec<u8>, SetupFault>
-    ensures ok { IfOk result (λ key. Reads (F.holds files.old) name.now GREATEST_KEY reads.Whole key.items × (LEAST_KEY ≤ length key.items)) }
-    ensures err { IfErr result (IsFaultOf (IsNoKey (F.holds files.old) name.now) (F.faults_of files.old) (F.faults_of files.new)) }
+    ensures ok { IfOk result (λ key. (key_file name.now).gives (F.holds files.old) key.items) }
+    ensures err { IfErr result (IsFaultOf ((key_file name.now).fails (F.holds files.old)) (F.faults_of files.old) (F.faults_of files.new)) }
     ensures same { F.holds files.new ≡ F.holds files.old }
     ensures never_falls { F.faults_of files.old ≤ F.faults_of files.new }
 {
@@ -174,8 +172,8 @@ impl Loaded {
         files: &mut F,
         named: &NamedFile,
     ) -> Result<(), SetupFault>
-        ensures ok { OnOk result (AddsFile (F.holds files.old) named.now self.old self.new) }
-        ensures err { IfErr result (IsFaultOf (IsBadAt (F.holds files.old) (names.One named.now)) (F.faults_of files.old) (F.faults_of files.new)) }
+        ensures ok { OnOk result ((load_file named.now.role named.now.name self.old).gives (F.holds files.old) self.new) }
+        ensures err { IfErr result (IsFaultOf ((load_file named.now.role named.now.name self.old).fails (F.holds files.old)) (F.faults_of files.old) (F.faults_of files.new)) }
         ensures same { F.holds files.new ≡ F.holds files.old }
         ensures never_falls { F.faults_of files.old ≤ F.faults_of files.new }
     {
@@ -215,8 +213,8 @@ impl Loaded {
         files: &mut F,
         line: &RegistryLine,
     ) -> Result<(), SetupFault>
-        ensures ok { OnOk result (AddsRegistry (F.holds files.old) line.now self.old self.new) }
-        ensures err { IfErr result (IsFaultOf (IsBadAt (F.holds files.old) (names.Registry line.now)) (F.faults_of files.old) (F.faults_of files.new)) }
+        ensures ok { OnOk result ((load_registry line.now self.old).gives (F.holds files.old) self.new) }
+        ensures err { IfErr result (IsFaultOf ((load_registry line.now self.old).fails (F.holds files.old)) (F.faults_of files.old) (F.faults_of files.new)) }
         ensures same { F.holds files.new ≡ F.holds files.old }
         ensures never_falls { F.faults_of files.old ≤ F.faults_of files.new }
     {
@@ -241,8 +239,8 @@ impl Loaded {
         files: &mut F,
         named: &SpFile,
     ) -> Result<(), SetupFault>
-        ensures ok { OnOk result (Adds (F.holds files.old) named.now self.old self.new) }
-        ensures err { IfErr result (IsFaultOf (IsBadAt (F.holds files.old) named.now) (F.faults_of files.old) (F.faults_of files.new)) }
+        ensures ok { OnOk result ((load named.now self.old).gives (F.holds files.old) self.new) }
+        ensures err { IfErr result (IsFaultOf ((load named.now self.old).fails (F.holds files.old)) (F.faults_of files.old) (F.faults_of files.new)) }
         ensures same { F.holds files.new ≡ F.holds files.old }
         ensures never_falls { F.faults_of files.old ≤ F.faults_of files.new }
     {
@@ -258,8 +256,8 @@ impl Loaded {
         files: &mut F,
         named: &[SpFile],
     ) -> Result<Loaded, SetupFault>
-        ensures ok { IfOk result (AreLoaded (F.holds files.old) named.now nothing) }
-        ensures err { IfErr result (IsFaultOf (IsFirstBad (F.holds files.old) named.now nothing) (F.faults_of files.old) (F.faults_of files.new)) }
+        ensures ok { IfOk result ((in_order load named.now nothing).gives (F.holds files.old)) }
+        ensures err { IfErr result (IsFaultOf ((in_order load named.now nothing).fails (F.holds files.old)) (F.faults_of files.old) (F.faults_of files.new)) }
         ensures same { F.holds files.new ≡ F.holds files.old }
         ensures never_falls { F.faults_of files.old ≤ F.faults_of files.new }
     {

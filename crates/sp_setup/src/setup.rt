@@ -2,8 +2,10 @@
 
 ghost use Rattle.std.specs.Prelude.{◌≡◌, ◌≤◌, None, IfOk, IfErr, IsTrue, MatchOption};
 ghost use Rattle.provider_config.specs.Config.{config_view, has_files};
+ghost use Rattle.sp_setup.specs.Config.{next_of, config_of};
 ghost use Rattle.sp_setup.specs.Faults.{IsFaultOf};
-ghost use Rattle.sp_setup.specs.Setup.{nothing, next_of, config_of, IsFirstBad, IsBadSetUp};
+ghost use Rattle.sp_setup.specs.Files.{in_order};
+ghost use Rattle.sp_setup.specs.Setup.{nothing, load, IsBadSetUp};
 ghost use Rattle.sp_setup.specs.Views.{IsConfigOf, IsSetUpBy, IsSetUpFrom, IsWithinBounds, HasTexts};
 
 use crate::fault::SetupFault;
@@ -81,7 +83,7 @@ pub fn config_of(lines: SpLines, loaded: Loaded) -> Option<SetUp>
 fn set_up_by<F: Files>(alloc: Global, files: &mut F, lines: SpLines) -> Result<SetUp, SetupFault>
     requires { IsTrue (has_files lines.files.items) }
     ensures ok { IfOk result (IsSetUpBy (F.holds files.old) (config_view lines)) }
-    ensures err { IfErr result (IsFaultOf (IsFirstBad (F.holds files.old) lines.files.items nothing) (F.faults_of files.old) (F.faults_of files.new)) }
+    ensures err { IfErr result (IsFaultOf ((in_order load lines.files.items nothing).fails (F.holds files.old)) (F.faults_of files.old) (F.faults_of files.new)) }
     ensures same { F.holds files.new ≡ F.holds files.old }
     ensures never_falls { F.faults_of files.old ≤ F.faults_of files.new }
 {

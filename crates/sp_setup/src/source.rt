@@ -4,7 +4,7 @@ ghost use Rattle.std.specs.Prelude.{◌≡◌, ◌≤◌, length, Ok, Err, IfOk,
 ghost use Rattle.xml_spec.specs.declared.TheConstants.{MAX_DOCUMENT_LENGTH};
 ghost use Rattle.meta_registry.specs.Aggregate.{peer_in};
 ghost use Rattle.meta_registry.specs.declared.fault.PeerFault.{PeerFault};
-ghost use Rattle.sp_setup.specs.Setup.{Lists, IsUnlisted};
+ghost use Rattle.sp_setup.specs.Views.{Lists, IsUnlisted};
 
 use meta_registry::{PeerFault, Registry, RegistryFault, read_registry};
 use metadata::{Peer, Role};

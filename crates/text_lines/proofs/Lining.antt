@@ -3,10 +3,11 @@ use Rattle.std.proofs.Common.{◌≡◌, ◌≢◌, ℕ, zero, suc, ◌+◌, ◌
 use Rattle.std.proofs.lemmas.Bool.Decides.{nat_tests}
 use Rattle.std.proofs.lemmas.List.{take_all, length-drop}
 use Rattle.xml_spec.specs.Ascii.{line_feed, space_character}
-use Rattle.text_lines.specs.Lines.{lines, in_first}
+use Rattle.text_lines.specs.Lines.{lines}
 use Rattle.std.specs.Option.{option_map, option_map_or}
 use denote.Bor.{Bor}
-use Rattle.text_lines.specs.Words.{with_first, parts_of, between_spaces, in_word}
+use Rattle.text_lines.specs.Words.{with_first, parts_of, between_spaces}
+use Rattle.std.specs.List.{onto_first}
 
 other_byte : (b c : ℕ) → b ≢ c → (b == c) ≡ false
 other_byte b c h = grind (arith, nat_tests)
@@ -19,10 +20,10 @@ pub cut_line : (bytes : List ℕ) (i : ℕ) → i < length bytes → ((k : ℕ) 
     lines bytes ≡ take i bytes ∷ lines (drop (suc i) bytes)
 cut_line [] i within none feed = absurd (omega arith)
 cut_line (b ∷ bytes) zero within none feed =
-    ap (λ t. cond t ([] ∷ lines bytes) (in_first b (lines bytes))) (same_byte b line_feed feed)
+    ap (λ t. cond t ([] ∷ lines bytes) (onto_first b (lines bytes))) (same_byte b line_feed feed)
 cut_line (b ∷ bytes) (suc i) within none feed =
-    ap (λ t. cond t ([] ∷ lines bytes) (in_first b (lines bytes))) (other_byte b line_feed (none 0 (omega arith)))
-    ∙ ap (in_first b) (cut_line bytes i (omega arith) (λ k h. none (suc k) (omega arith)) feed)
+    ap (λ t. cond t ([] ∷ lines bytes) (onto_first b (lines bytes))) (other_byte b line_feed (none 0 (omega arith)))
+    ∙ ap (onto_first b) (cut_line bytes i (omega arith) (λ k h. none (suc k) (omega arith)) feed)
 
 -- without a line feed the text is one line
 pub last_line : (bytes : List ℕ) → 0 < length bytes → ((k : ℕ) → k < length bytes → get_or bytes k 0 ≢ line_feed) → lines bytes ≡ bytes ∷ []
@@ -30,8 +31,8 @@ last_line [] some none = absurd (omega arith)
 last_line (b ∷ []) some none =
     ap (λ t. cond t ([] ∷ []) ((b ∷ []) ∷ [])) (other_byte b line_feed (none 0 (omega arith)))
 last_line (b ∷ c ∷ bytes) some none =
-    ap (λ t. cond t ([] ∷ lines (c ∷ bytes)) (in_first b (lines (c ∷ bytes)))) (other_byte b line_feed (none 0 (omega arith)))
-    ∙ ap (in_first b) (last_line (c ∷ bytes) (omega arith) (λ k h. none (suc k) (omega arith)))
+    ap (λ t. cond t ([] ∷ lines (c ∷ bytes)) (onto_first b (lines (c ∷ bytes)))) (other_byte b line_feed (none 0 (omega arith)))
+    ∙ ap (onto_first b) (last_line (c ∷ bytes) (omega arith) (λ k h. none (suc k) (omega arith)))
 
 pub cut_parts : (bytes : List ℕ) (i : ℕ) → i < length bytes → ((k : ℕ) → k < i → get_or bytes k 0 ≢ space_character) → get_or bytes i 0 ≡ space_character →
     parts_of bytes ≡ record { first = take i bytes; rest = Some (drop (suc i) bytes) }
@@ -65,11 +66,11 @@ first_word [] = refl
 first_word (b ∷ bytes) = by_test (b == space_character) (first_word bytes)
   where
     by_test : (t : Bool) → between_spaces bytes ≡ (parts_of bytes).first ∷ option_map_or between_spaces (parts_of bytes).rest [] →
-        cond t ([] ∷ between_spaces bytes) (in_word b (between_spaces bytes))
+        cond t ([] ∷ between_spaces bytes) (onto_first b (between_spaces bytes))
         ≡ (cond t (record { first = []; rest = Some bytes }) (with_first b (parts_of bytes))).first
         ∷ option_map_or between_spaces (cond t (record { first = []; rest = Some bytes }) (with_first b (parts_of bytes))).rest []
     by_test true h = refl
-    by_test false h = ap (in_word b) h
+    by_test false h = ap (onto_first b) h
 
 pub shown_rest : (rest : Option (Bor (List ℕ))) →
     option_map_or between_spaces (option_map (λ (t : Bor (List ℕ)). t.now) rest) [] ≡ option_map_or (λ (t : Bor (List ℕ)). between_spaces t.now) rest []

@@ -1,23 +1,18 @@
 -- Files that people write: texts of lines.
 use Rattle.std.specs.Prelude.{ℕ, suc, Bool, true, ◌&&◌, not, ◌==◌, List, [], ◌∷◌, Option, Result, Ok, Err, ok_or, if◌then◌else◌}
-use Rattle.std.specs.List.{list_all}
+use Rattle.std.specs.List.{list_all, onto_first}
 use Rattle.std.specs.Str.{chars, encode_utf8_all, bytes_eq}
 use Rattle.xml_spec.specs.Ascii.{line_feed}
-use Rattle.xml_spec.specs.Characters.{is_char}
+use Rattle.xml_spec.specs.Characters.{is_char, IsText}
 
 -- the bytes are the UTF-8 of characters that XML allows; a law says that this is the word of XML 1.0, 2.2
 abbrev pub is_text : List ℕ → Bool
 is_text bytes = list_all is_char (chars bytes) && bytes_eq (encode_utf8_all (chars bytes)) bytes
 
--- the byte in front of the first line
-abbrev pub in_first : ℕ → List (List ℕ) → List (List ℕ)
-in_first b [] = (b ∷ []) ∷ []
-in_first b (line ∷ lines) = (b ∷ line) ∷ lines
-
 -- the lines of a text: each ends with a line feed, which the last one may lack
 abbrev pub lines : List ℕ → List (List ℕ)
 lines [] = []
-lines (b ∷ bytes) = if b == line_feed then [] ∷ lines bytes else in_first b (lines bytes)
+lines (b ∷ bytes) = if b == line_feed then [] ∷ lines bytes else onto_first b (lines bytes)
 
 -- '#'
 abbrev pub number_sign : ℕ
@@ -32,6 +27,16 @@ is_passed_over (b ∷ bytes) = b == number_sign
 pub data Said : Type 0 where
   Says : (number : ℕ) (line : List ℕ) → Said
   NoText : (number : ℕ) → Said
+
+-- the number of a line
+abbrev pub number_said : Said → ℕ
+number_said (Says number line) = number
+number_said (NoText number) = number
+
+-- what it says is a text
+abbrev pub SaysText : Said → Type 0
+SaysText (Says number line) = IsText line
+SaysText (NoText number) = Unit {0}
 
 -- What lines say, of which the first has this number. All lines are counted, also those that are passed over. A line that
 -- is no text ends it, a comment too.

@@ -4,6 +4,7 @@ use Rattle.std.specs.List.{list_all}
 use Rattle.std.specs.Char.{is_ascii_digit}
 use Rattle.std.specs.Str.Parse.{digits_value}
 use Rattle.xml_spec.specs.Bytes.{is_empty}
+use Rattle.owned_values.specs.Options.{◌>>=◌}
 
 -- '0'
 abbrev pub digit_zero : ℕ
@@ -21,3 +22,9 @@ is_decimal word = not (is_empty word) && list_all is_ascii_digit word && not (ha
 abbrev pub number_of : ℕ → List ℕ → Option ℕ
 number_of most word =
     if is_decimal word && nat_le (digits_value 10 word) most then Some (digits_value 10 word) else None
+
+-- the same, from 1 on
+abbrev pub positive : ℕ → List ℕ → Option ℕ
+positive most word = do
+  number ← number_of most word
+  if number == 0 then None else Some number

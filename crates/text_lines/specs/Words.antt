@@ -1,6 +1,6 @@
 -- The words of a line.
 use Rattle.std.specs.Prelude.{ℕ, ◌==◌, List, [], ◌∷◌, Option, None, Some, if◌then◌else◌}
-use Rattle.std.specs.List.{list_any}
+use Rattle.std.specs.List.{list_any, slice_split}
 use Rattle.xml_spec.specs.Ascii.{space_character}
 use Rattle.xml_spec.specs.Bytes.{is_empty}
 
@@ -17,15 +17,9 @@ parts_of [] = record { first = []; rest = None }
 parts_of (b ∷ bytes) =
     if b == space_character then record { first = []; rest = Some bytes } else with_first b (parts_of bytes)
 
--- the byte in front of the first word
-abbrev pub in_word : ℕ → List (List ℕ) → List (List ℕ)
-in_word b [] = (b ∷ []) ∷ []
-in_word b (word ∷ words) = (b ∷ word) ∷ words
-
 -- what stands between the spaces of a line
 abbrev pub between_spaces : List ℕ → List (List ℕ)
-between_spaces [] = [] ∷ []
-between_spaces (b ∷ bytes) = if b == space_character then [] ∷ between_spaces bytes else in_word b (between_spaces bytes)
+between_spaces line = slice_split (λ b. b == space_character) line
 
 -- the words of a line, which one space separates; none where a word would be empty
 abbrev pub words_of : List ℕ → Option (List (List ℕ))

@@ -1,23 +1,21 @@
 -- One line of a file of users: a user, or a value of an attribute of the last user.
-use Rattle.std.specs.Prelude.{ℕ, ◌≤◌, ◌==◌, List, [], ◌∷◌, codes, Option, None, Some, option_and_then, if◌then◌else◌}
+use Rattle.std.specs.Prelude.{ℕ, ◌≤◌, List, [], ◌∷◌, codes, Option, None, Some, option_and_then, if◌then◌else◌}
 use Rattle.std.specs.Option.{option_map}
 use Rattle.std.specs.Result.{result_ok}
 use Rattle.std.specs.Str.{bytes_eq}
 use Rattle.hex.specs.Hex.{decode_of, decode_sized}
 use Rattle.xml_spec.specs.Bytes.{is_empty}
 use Rattle.text_lines.specs.Words.{Parts, parts_of, words_of}
-use Rattle.text_lines.specs.Numbers.{number_of}
+use Rattle.text_lines.specs.Numbers.{positive}
 use Rattle.user_store.specs.declared.line.TheConstants.{MOST_ROUNDS}
 use Rattle.user_store.specs.declared.line.UserLine.{UserLine}
 use Rattle.user_store.specs.declared.line.UserLine.TheVariants.{User, Attribute}
 use Rattle.user_store.specs.declared.user.TheConstants.{VALUE_LENGTH}
+use Rattle.owned_values.specs.Options.{◌>>=◌}
 
 -- RFC 8018, 4.2: the iteration count, from 1
-abbrev pub some_rounds : ℕ → Option ℕ
-some_rounds rounds = if rounds == 0 then None else Some rounds
-
 abbrev pub rounds_of : List ℕ → Option ℕ
-rounds_of word = option_and_then some_rounds (number_of MOST_ROUNDS word)
+rounds_of word = positive MOST_ROUNDS word
 
 -- pairs of hexadecimal digits of either case, each pair a byte
 abbrev pub bytes_of : List ℕ → Option (List ℕ)
@@ -26,10 +24,6 @@ bytes_of word = result_ok (decode_of word)
 -- the same for as many bytes as a value has
 abbrev pub value_of : List ℕ → Option (List ℕ)
 value_of word = result_ok (decode_sized word VALUE_LENGTH)
-
-infixl 10 ◌>>=◌
-abbrev pub ◌>>=◌ : {X Y : Type 0} → Option X → (X → Option Y) → Option Y
-o >>= f = option_and_then f o
 
 -- `user NAME ROUNDS SALT VALUE`
 abbrev pub user_of : List (List ℕ) → Option UserLine

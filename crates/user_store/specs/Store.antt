@@ -5,7 +5,7 @@ use Rattle.std.specs.Option.{option_map}
 use Rattle.std.specs.Str.{bytes_eq}
 use Rattle.hmac_sha256.specs.Pbkdf2.{pbkdf2}
 use Rattle.owned_values.specs.declared.attributes.Attribute.{Attribute}
-use Rattle.text_lines.specs.Lines.{Said, Says, NoText, said, with_lines}
+use Rattle.text_lines.specs.Lines.{said, with_lines}
 use Rattle.user_store.specs.declared.fault.UserFault.{UserFault}
 use Rattle.user_store.specs.declared.fault.UserFault.TheVariants as faults
 use Rattle.user_store.specs.declared.line.UserLine.{UserLine}
@@ -61,8 +61,3 @@ users text = with_lines with_text [] (said text)
 abbrev pub fault_of : UserFault → Option ℕ
 fault_of (faults.Line number) = Some number
 fault_of faults.NoMemory = None
-
--- the number of a line
-abbrev pub number_said : Said → ℕ
-number_said (Says number text) = number
-number_said (NoText number) = number

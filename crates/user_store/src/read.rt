@@ -2,9 +2,9 @@
 
 ghost use Rattle.std.specs.Prelude.{◌≡◌, ◌<◌, ◌≤◌, ◌^◌, [], ◌∷◌, length};
 ghost use Rattle.owned_values.specs.Gives.{Gives};
-ghost use Rattle.text_lines.specs.Lines.{with_lines};
+ghost use Rattle.text_lines.specs.Lines.{with_lines, number_said};
 ghost use Rattle.text_lines.specs.Views.{said_view};
-ghost use Rattle.user_store.specs.Store.{users, with_text, fault_of, number_said};
+ghost use Rattle.user_store.specs.Store.{users, with_text, fault_of};
 
 use crate::fault::UserFault;
 use crate::line::line_of;

@@ -15,4 +15,4 @@
 mod codes;
 pub mod laws;
 
-pub use codes::Verdict;
+pub use codes::{VERDICTS, Verdict};

@@ -1,8 +1,8 @@
 use Rattle.std.proofs.Common.{[], subst, sym, ◌∙◌, arith}
 use Rattle.text_lines.specs.Lines.{said}
-use Rattle.access_policy.proofs.OneByOne.{one_by_one, all_said}
+use Rattle.text_lines.proofs.OneByOne.{one_by_one, all_said}
 use Rattle.access_policy.specs.Rules.{with_rule}
-use Rattle.access_policy.proofs.Numbers.{AreSmall, small_numbers}
+use Rattle.text_lines.proofs.Numbering.{AreSmall, small_numbers}
 use Rattle.access_policy.proofs.read.read_policy.Goals as goal
 
 pub loop-said-init : goal.loop-said-init

@@ -1,7 +1,7 @@
 use Rattle.std.proofs.Common.{◌≡◌, length}
-use Rattle.access_policy.proofs.OneByOne.{one_by_one}
+use Rattle.text_lines.proofs.OneByOne.{one_by_one}
 use Rattle.access_policy.specs.Rules.{policy, with_rule}
-use Rattle.access_policy.proofs.Numbers.{AreSmall}
+use Rattle.text_lines.proofs.Numbering.{AreSmall}
 use Rattle.access_policy.proofs.read.read_policy.Given as goal
 
 -- what is read and what is still to be said make the policy

@@ -4,7 +4,7 @@ use Rattle.provider_config.specs.HubDrafts.{complete, config_from}
 use Rattle.provider_config.specs.HubViews.{config_view}
 use Rattle.provider_config.proofs.HubNaming.{all_named, few_named}
 use Rattle.provider_config.proofs.HubRunning.{at_first}
-use Rattle.provider_config.proofs.Numbers.{AreSmall, small_numbers}
+use Rattle.text_lines.proofs.Numbering.{AreSmall, small_numbers}
 use Rattle.provider_config.proofs.hub_read.read_hub_config.Goals as goal
 
 pub loop-said-init : goal.loop-said-init

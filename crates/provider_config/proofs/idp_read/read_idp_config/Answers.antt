@@ -1,7 +1,7 @@
 use Rattle.std.proofs.Common.{subst, sym, ◌∙◌, arith}
 use Rattle.provider_config.specs.IdpDrafts.{config_from}
 use Rattle.provider_config.proofs.IdpRunning.{at_first}
-use Rattle.provider_config.proofs.Numbers.{AreSmall, small_numbers}
+use Rattle.text_lines.proofs.Numbering.{AreSmall, small_numbers}
 use Rattle.provider_config.proofs.idp_read.read_idp_config.Goals as goal
 
 pub loop-said-init : goal.loop-said-init

@@ -1,6 +1,6 @@
 use Rattle.std.proofs.Common.{subst, sym, ◌∙◌, arith}
 use Rattle.provider_config.specs.Drafts.{config_from}
-use Rattle.provider_config.proofs.Numbers.{AreSmall, small_numbers}
+use Rattle.text_lines.proofs.Numbering.{AreSmall, small_numbers}
 use Rattle.provider_config.proofs.Running.{at_first}
 use Rattle.provider_config.proofs.read.read_sp_config.Goals as goal
 

@@ -1,7 +1,7 @@
 use Rattle.std.proofs.Common.{◌≡◌, length}
 use Rattle.provider_config.specs.Config.{sp_config}
 use Rattle.provider_config.specs.Drafts.{config_from}
-use Rattle.provider_config.proofs.Numbers.{AreSmall}
+use Rattle.text_lines.proofs.Numbering.{AreSmall}
 use Rattle.provider_config.proofs.read.read_sp_config.Given as goal
 
 -- what is found and what is still to be said make the config

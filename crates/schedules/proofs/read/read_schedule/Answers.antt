@@ -1,7 +1,7 @@
 use Rattle.std.proofs.Common.{subst, sym, arith}
 use Rattle.text_lines.specs.Lines.{with_lines}
 use Rattle.schedules.specs.Schedules.{with_text}
-use Rattle.schedules.proofs.Numbers.{AreSmall, small_numbers}
+use Rattle.text_lines.proofs.Numbering.{AreSmall, small_numbers}
 use Rattle.schedules.proofs.read.read_schedule.Goals as goal
 
 pub loop-said-init : goal.loop-said-init

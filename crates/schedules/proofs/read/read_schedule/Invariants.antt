@@ -1,7 +1,7 @@
 use Rattle.std.proofs.Common.{◌≡◌, length}
 use Rattle.text_lines.specs.Lines.{with_lines}
 use Rattle.schedules.specs.Schedules.{schedule, with_text}
-use Rattle.schedules.proofs.Numbers.{AreSmall}
+use Rattle.text_lines.proofs.Numbering.{AreSmall}
 use Rattle.schedules.proofs.read.read_schedule.Given as goal
 
 -- what is read and what is still to be said make the schedule

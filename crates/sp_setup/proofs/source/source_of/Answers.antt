@@ -1,4 +1,4 @@
-use Rattle.sp_setup.specs.Setup.{no_registry}
+use Rattle.sp_setup.specs.Views.{no_registry}
 use Rattle.sp_setup.proofs.Sources.{found_in}
 use Rattle.sp_setup.proofs.source.source_of.Goals as goal
 

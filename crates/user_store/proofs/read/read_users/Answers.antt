@@ -1,8 +1,8 @@
 use Rattle.std.proofs.Common.{[], subst, sym, ◌∙◌, arith}
 use Rattle.text_lines.specs.Lines.{said}
-use Rattle.user_store.proofs.OneByOne.{one_by_one, all_said}
+use Rattle.text_lines.proofs.OneByOne.{one_by_one, all_said}
 use Rattle.user_store.specs.Store.{with_text}
-use Rattle.user_store.proofs.Numbers.{AreSmall, small_numbers}
+use Rattle.text_lines.proofs.Numbering.{AreSmall, small_numbers}
 use Rattle.user_store.proofs.read.read_users.Goals as goal
 
 pub loop-said-init : goal.loop-said-init

@@ -1,7 +1,7 @@
 use Rattle.std.proofs.Common.{◌≡◌, length}
-use Rattle.user_store.proofs.OneByOne.{one_by_one}
+use Rattle.text_lines.proofs.OneByOne.{one_by_one}
 use Rattle.user_store.specs.Store.{users, with_text}
-use Rattle.user_store.proofs.Numbers.{AreSmall}
+use Rattle.text_lines.proofs.Numbering.{AreSmall}
 use Rattle.user_store.proofs.read.read_users.Given as goal
 
 -- what is read and what is still to be said make the users

@@ -1,12 +1,13 @@
 use Rattle.std.proofs.Common.{◌≡◌, ◌∙◌, ◌+◌, ◌++◌, ◌∷◌, [], ℕ, false, Some, true, List, ap, sym, subst, arith}
 use Rattle.ledger_rules.specs.Numbers.{has_number, AreBelow}
 use Rattle.idp_rows.specs.declared.row.SessionRow.{SessionRow}
-use Rattle.idp_rows.specs.RowsOf.{is_pending, used_where, issued_row, session_row}
+use Rattle.idp_rows.specs.RowsOf.{used_where, issued_row, session_row}
 use Rattle.idp_rows.specs.Kept.{StandingView}
 use Rattle.idp_rows.proofs.RowPlaces.{below_more, below_later}
 use Rattle.idp_rows.proofs.StandingRows.{IsFresh, fresh_assertion, fresh_message, fresh_cookie, fresh_index, begun_pending, none_begun, session_there, sessions_some, sessions_none, above_some, above_none}
 use Rattle.idp_rows.proofs.kept.KeptRows.put_issued.Goals as goal
 use Rattle.idp_rows.proofs.kept.KeptRows.put_issued.Goals.{In-Some, In-None}
+use Rattle.owned_values.specs.Options.{is_there}
 
 -- what an Issued of a pending login begins
 begins : (c : In-Some) → (pending : List ℕ) × (c.args.r.pending ≡ Some pending) × (c.in-Some.session ≡ session_row false c.args.r)
@@ -81,7 +82,7 @@ returns-in-Some c =
     let r = c.args.r in
     let old = c.args.self.now in
     let b = begins s in
-    let pendings = c.use_up.ensures.rows ∙ ap (λ (v : StandingView). used_where (λ row. is_pending row.pending r.pending) v.rows.pendings) c.self.view_is in
+    let pendings = c.use_up.ensures.rows ∙ ap (λ (v : StandingView). used_where (λ row. is_there row.pending r.pending) v.rows.pendings) c.self.view_is in
     let issues = c.begin.ensures.issues ∙ ap (λ (v : StandingView). v.rows.issues ++ issued_row r ∷ []) c.self.view_is in
     let sessions = c.begin.ensures.rows ∙ ap (λ (v : StandingView). v.rows.sessions ++ c.in-Some.session ∷ []) c.self.view_is
     ∙ sessions_some old.rows.sessions r c.in-Some.session b.0 b.1 b.2 in
@@ -97,7 +98,7 @@ returns-in-None c =
     let r = c.args.r in
     let old = c.args.self.now in
     let none = none_begun r (sym c.requires.session ∙ c.in-None.is) in
-    let pendings = c.use_up.ensures.rows ∙ ap (λ (v : StandingView). used_where (λ row. is_pending row.pending r.pending) v.rows.pendings) c.self.view_is in
+    let pendings = c.use_up.ensures.rows ∙ ap (λ (v : StandingView). used_where (λ row. is_there row.pending r.pending) v.rows.pendings) c.self.view_is in
     let issues = c.issue.ensures.issues ∙ ap (λ (v : StandingView). v.rows.issues ++ issued_row r ∷ []) c.self.view_is in
     let sessions = c.issue.ensures.rows ∙ ap (λ (v : StandingView). v.rows.sessions) c.self.view_is ∙ sessions_none old.rows.sessions r none in
     let lefts = ap (λ (v : StandingView). v.rows.lefts) c.self.view_is in

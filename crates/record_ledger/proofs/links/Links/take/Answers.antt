@@ -2,9 +2,9 @@ use Rattle.std.proofs.Common.{◌∙◌, ◌++◌, length, map, subst, sym, ap, 
 use Rattle.std.specs.Prelude.{IfSome}
 use Rattle.std.proofs.lemmas.List.{length_push}
 use Rattle.ledger_rules.specs.Numbers.{AreBelow}
-use Rattle.record_ledger.specs.Linking.{as_list}
 use Rattle.record_ledger.proofs.LinkSteps.{placed, row_is_next, row_is_small, taken_so, both_ok}
 use Rattle.record_ledger.proofs.links.Links.take.Goals as goal
+use Rattle.std.specs.Option.{option_to_list}
 
 pub row_number-number-requires : goal.row_number-number-requires
 row_number-number-requires g c = row_is_small g.S.Standing.rules g.S.Standing.link_rules c.laws_hold.ensures.fresh c.laws_hold.ensures.links c.requires.records c.args.entry.now c.requires.is
@@ -31,6 +31,6 @@ returns g c =
     before is (c.own_link-own.ensures records before.rows is) (c.len-place.ensures ∙ c.args.self.now.links.ok.0) c.named.ensures c.in_ok-push.ensures.items
     (λ have. c.link_all.ensures.links records (record { are = before.rows.are; numbers_are = before.rows.numbers_are; places_are = before.rows.places_are }) have)
     c.link_all.ensures.numbers c.link_all.ensures.places c.put_row.ensures.links
-    (numbers ∙ ap (λ o. c.link_all.new.self.numbers.listed ++ as_list o) c.row_number-number.ensures)
-    (places ∙ ap (λ o. c.link_all.new.self.places.items ++ map (λ n. c.len-place.result) (as_list o)) c.row_number-number.ensures))
+    (numbers ∙ ap (λ o. c.link_all.new.self.numbers.listed ++ option_to_list o) c.row_number-number.ensures)
+    (places ∙ ap (λ o. c.link_all.new.self.places.items ++ map (λ n. c.len-place.result) (option_to_list o)) c.row_number-number.ensures))
     c.put_row.ensures.numbers c.put_row.ensures.places

@@ -3,4 +3,4 @@ use Rattle.sp_runs.proofs.provider.ServiceProviderRunsProvider.never_both.Goals 
 
 pub returns : goal.returns
 returns c = λ files config role file line served bad.
-    c.a_config_has_one_outcome.ensures.never_both files Serve config served.lines served.setup file line served.is bad
+    c.a_config_has_one_outcome.ensures.never_both files Serve config served.setup file line served.is bad
