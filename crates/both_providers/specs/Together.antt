@@ -15,9 +15,10 @@ use Rattle.sp_rules.specs.declared.config.SpConfig.{SpConfig}
 use Rattle.sp_rules.specs.Opening.{Brought}
 use Rattle.sp_rules.specs.Shown.{session_of}
 use Rattle.serve_loop.specs.Turns.{Asked}
+use Rattle.serve_loop.specs.Worlds.{World}
 use Rattle.provider_node.specs.declared.codes.TheConstants.{NO_MEMORY}
 use Rattle.provider_node.specs.Starts as any
-use Rattle.provider_node.specs.Starts.{Start, asked_over, AreStarts}
+use Rattle.provider_node.specs.Starts.{Start, asked_over, last_of, AreStarts}
 use Rattle.request_ledger.specs.Ledger.{Held}
 use Rattle.request_ledger.specs.Record.{AreRecords, request_rules}
 use Rattle.sp_server.specs.Sessions.{GivesSession, HasRoom, IsOpened, OpensOver}
@@ -32,6 +33,13 @@ use Rattle.recorded_logins.specs.Recorded.{Added, AreOf}
 use Rattle.recorded_logins.specs.Logins.{IsRecordedSession}
 use Rattle.provider_node.specs.Step.{Serves}
 
+-- A request that a node was asked in these starts; or any in whose answer one of them may have been cut, of a node as it was at the
+-- end of that start.
+pub data WasAsked {N : Type 0} (starts : List (Start N)) (asked : Asked N) : Type 0 where
+  Answered : Contains (asked_over starts) asked → WasAsked starts asked
+  MayBeCut : (one : Start N) (last : World N) → Contains starts one → last_of one ≡ Some last → asked.node ≡ last.node
+      → asked.disk ≡ last.disk → WasAsked starts asked
+
 -- An identity provider of this setup recorded this at a request of these starts, and its answer stands for it.
 pub record WasRecorded (setup : IdpConfig) (starts : List (Start idp.Provider)) (one : Added) : Type 0 where
   pub asked : Asked idp.Provider
@@ -39,17 +47,22 @@ pub record WasRecorded (setup : IdpConfig) (starts : List (Start idp.Provider)) 
   pub by : asked.node.setup ≡ setup
   pub stands : idp.Answers setup one.held asked.request asked.now asked.answer (Some one.r)
 
--- These are elements that it signed, each for one of these records, all of which it recorded.
-pub record WereSigned (setup : IdpConfig) (starts : List (Start idp.Provider)) (added : List Added) (issued : List Signed) : Type 0 where
-  pub recorded : (one : Added) → Contains added one → WasRecorded setup starts one
+-- It recorded this in these starts, or its ledger had the record at first.
+abbrev pub IsKnown : IdpConfig → idp_ledger.Held → List (Start idp.Provider) → Added → Type 0
+IsKnown setup start starts one = Contains start.records one.r ⊎ WasRecorded setup starts one
+
+-- These are elements that it signed, each for one of these records, all of which it recorded, then or before.
+pub record WereSigned (setup : IdpConfig) (start : idp_ledger.Held) (starts : List (Start idp.Provider)) (added : List Added)
+    (issued : List Signed) : Type 0 where
+  pub recorded : (one : Added) → Contains added one → IsKnown setup start starts one
   pub of : AreOf setup added issued
 
 -- The session is that of a login which the identity provider recorded: of one of these records, for this provider, to its address and in
 -- its time.
-pub record IsOfARecordedLogin (setup : IdpConfig) (starts : List (Start idp.Provider)) (added : List Added) (config : SpConfig) (now : ℕ)
-    (session : NewSession) : Type 0 where
+pub record IsOfARecordedLogin (setup : IdpConfig) (start : idp_ledger.Held) (starts : List (Start idp.Provider)) (added : List Added)
+    (config : SpConfig) (now : ℕ) (session : NewSession) : Type 0 where
   pub is : IsRecordedSession setup added config now session
-  pub recorded : WasRecorded setup starts (record { held = is.held; r = kinds.Issued is.r })
+  pub recorded : IsKnown setup start starts (record { held = is.held; r = kinds.Issued is.r })
 
 -- A request that the service provider was asked opens a session exactly where the posted form opens one: it records one, with whatever
 -- answer, only there; and wherever a form does, over the ledger that the step found, where there is room and the disk does not fail, the
@@ -64,18 +77,19 @@ pub record OpensExactly (asked : Asked sp.Provider) : Type 0 where
       → ¬ (Rose faults later)
       → (asked.answer ≡ Fixed NO_MEMORY) ⊎ IsOpened asked.node.setup found asked.request asked.now b asked.answer new.ledger.held
 
--- Sessions are opened exactly where forms open them. Each that is given, with whatever answer, is of a recorded login: for each list of
--- what the identity provider signed for records of these starts, where no HMAC in the posted form is made by anybody else and no other
--- text there has the hash of one of them. And what the service provider acknowledged is kept, once: no request opens two sessions, those
--- whose answer was lost included.
-pub record Headline (start : Held) (sp_starts : List (Start sp.Provider)) (idp_starts : List (Start idp.Provider)) : Type 0 where
-  pub opens : (asked : Asked sp.Provider) → Contains (asked_over sp_starts) asked → OpensExactly asked
+-- Sessions are opened exactly where forms open them, also where a crash cut the request. Each that is given, with whatever answer, is of
+-- a recorded login: for each list of what the identity provider signed for records of these starts, or that it had at first, where no
+-- HMAC in the posted form is made by anybody else and no other text there has the hash of one of them. And what the service provider
+-- acknowledged is kept, once: no request opens two sessions, those whose answer was lost included.
+pub record Headline (start : Held) (sp_starts : List (Start sp.Provider)) (idp_start : idp_ledger.Held)
+    (idp_starts : List (Start idp.Provider)) : Type 0 where
+  pub opens : (asked : Asked sp.Provider) → WasAsked sp_starts asked → OpensExactly asked
   pub recorded : (setup : IdpConfig) (added : List Added) (issued : List Signed) (asked : Asked sp.Provider) (held : Held) (answer : Answer)
       (r : SpRecord)
-      → WereSigned setup idp_starts added issued → Contains (asked_over sp_starts) asked
+      → WereSigned setup idp_start idp_starts added issued → WasAsked sp_starts asked
       → Unforged issued asked.node.setup.config asked.now asked.request.body → NoCollision issued asked.request.body
       → (gives : GivesSession asked.node.setup held asked.request asked.now r answer)
-      → IsOfARecordedLogin setup idp_starts added asked.node.setup.config asked.now
+      → IsOfARecordedLogin setup idp_start idp_starts added asked.node.setup.config asked.now
       (session_of asked.node.setup.config asked.now gives.brought.key.number gives.brought.login)
   pub once : AreKeptOnceOver start sp_starts
 
@@ -84,4 +98,4 @@ abbrev pub TheHeadlineHoldsOfBoth : Type 0
 TheHeadlineHoldsOfBoth =
     (start : Held) (sp_starts : List (Start sp.Provider)) (idp_start : idp_ledger.Held) (idp_starts : List (Start idp.Provider))
     → AreRecords start.records → AreStarts request_rules Answers start sp_starts → any.AreStarts idp_rules idp.Answers idp_start idp_starts
-    → Headline start sp_starts idp_starts
+    → Headline start sp_starts idp_start idp_starts

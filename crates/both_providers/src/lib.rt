@@ -10,18 +10,19 @@
 //! # What is proved
 //!
 //! One law over all starts of a service provider and of an identity provider, wherever crashes stop them
-//! (`the_headline_holds_of_both`): a session is opened exactly where a posted form opens one; each that is given, with
-//! whatever answer, is of a login that the identity provider recorded, for this provider, to its address and in its
-//! time, where nobody else makes HMACs that match and no hash collides; what was acknowledged is kept, once, and no
-//! request opens two. [HEADLINE](HEADLINE.md) has it word by word.
+//! (`the_headline_holds_of_both`): a session is opened exactly where a posted form opens one, also where a crash cut the
+//! request; each that is given, with whatever answer, is of a login that the identity provider recorded, for this
+//! provider, to its address and in its time, in these starts or before, where nobody else makes HMACs that match and no
+//! hash collides; what was acknowledged is kept, once, and no request opens two. [HEADLINE](HEADLINE.md) has it word by word.
 #![tactic(auto)]
 
 ghost use Rattle.both_providers.specs.Together.{TheHeadlineHoldsOfBoth};
 
-/// Over all starts of a service provider and of an identity provider: a session is opened exactly where a posted form opens one; each
-/// that is given is that of a login which the identity provider recorded, for this provider, to its address and in its time, with an
-/// answer that stands for the record: for each list of such records, where nobody else makes HMACs that match and no hash collides; and
-/// what the service provider acknowledged is kept, once: no request opens two sessions.
+/// Over all starts of a service provider and of an identity provider: a session is opened exactly where a posted form opens one, also
+/// where a crash cut the request; each that is given is that of a login which the identity provider recorded, for this provider, to its
+/// address and in its time, with an answer that stands for the record, or whose record its ledger had at first: for each list of such
+/// records, where nobody else makes HMACs that match and no hash collides; and what the service provider acknowledged is kept, once: no
+/// request opens two sessions.
 pub fn the_headline_holds_of_both()
     ensures { TheHeadlineHoldsOfBoth }
 {

@@ -13,6 +13,10 @@ pub record Image : Type 0 where
   pub zero : List ℕ
   pub one : List ℕ
 
+-- two empty files
+abbrev pub empty_image : Image
+empty_image = record { zero = []; one = [] }
+
 abbrev pub content : Image → FileNo → List ℕ
 content image Zero = image.zero
 content image One = image.one

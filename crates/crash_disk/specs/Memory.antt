@@ -67,6 +67,19 @@ pub record DiskInMemory : Type 0 where
   -- the count of faults
   pub faults : ℕ
 
+-- a disk in memory whose files hold this image, all of it synced, and that was asked for nothing yet
+abbrev pub holding : Image → DiskInMemory
+holding image = record {
+  start = image;
+  log = [];
+  failing = 0;
+  stopping = 0;
+  pick = 0;
+  stopped = false;
+  starved = false;
+  faults = 0;
+}
+
 -- what a disk in memory tells
 abbrev pub state_of : DiskInMemory → DiskState
 state_of m = replay (settled_image m.start) m.log

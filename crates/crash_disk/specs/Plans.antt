@@ -24,9 +24,10 @@ abbrev pub LeftAmid : List Change → DiskState → Image → Type 0
 LeftAmid [] disk image = MayLeave disk image
 LeftAmid (change ∷ plan) disk image = MayLeave disk image ⊎ MayLeave (begun change disk) image ⊎ LeftAmid plan (after change disk) image
 
--- From the old disk to the new one no changing calls were made but those of the plan for what the old disk tells: all of them,
--- in their order, where the answer is Ok, and else a beginning of them. A crash at any moment leaves what one amid them leaves,
--- so a call more shows even where it writes what stood there already.
+-- From the old disk to the new one no changing calls were made but those of the plan for what the old disk tells, as far as reads
+-- and crashes can tell: all of them, in their order, where the answer is Ok, and else a beginning of them. A crash at any moment
+-- leaves what one amid them leaves. So a call more is told apart but where it writes what stood there already, or syncs once more,
+-- in front of a sync of the plan.
 pub record Follows {D T E : Type 0} (shows : D → DiskShown) (plan : DiskState → List Change) (old new : D) (result : Result T E) : Type 0 where
   pub ends : IfSome (shows old).told (λ disk. IsSomeAnd (shows new).told (IsCarriedOut result (plan disk) disk))
   pub moments : IfSome (shows old).told (λ disk. LeavesOnly shows old new (LeftAmid (plan disk) disk))

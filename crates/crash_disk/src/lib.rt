@@ -15,8 +15,8 @@
 //! contract; an object tells at each moment or at none (`tells`). `left_since` is what a crash at some moment from one on
 //! might have left, so that a clause can speak of every moment inside a call (`specs/Moments.antt`).
 //!
-//! A plan is a list of changing calls in an order. That a run of calls follows a plan says that it made these and no other, all
-//! of them or a beginning (`specs/Plans.antt`).
+//! A plan is a list of changing calls in an order. That a run of calls follows a plan says that it made these, all of them or a
+//! beginning, and no other that reads or a crash at some moment could tell (`specs/Plans.antt`).
 //!
 //! A call answers [`Failed`] only where the count of faults rose in it. What it then did is no more than begun.
 //!

@@ -1,10 +1,10 @@
 //! A disk in memory.
-ghost use Rattle.std.specs.Prelude.{◌≡◌, ◌<◌, ◌≤◌, ◌^◌, ◌++◌, ℕ, Some, length, drop, [], true, false, IsTrue, IfSome, IfOk, OnOk, OnErr, IsErr};
+ghost use Rattle.std.specs.Prelude.{◌≡◌, ◌<◌, ◌≤◌, ◌^◌, ◌++◌, ℕ, Some, length, drop, true, false, IsTrue, IfSome, IfOk, OnOk, OnErr, IsErr};
 ghost use Rattle.crash_disk.specs.Counts.{CountsFaults, one_more};
-ghost use Rattle.crash_disk.specs.Disk.{Changes, after, begun, reads_of, read_from, settled};
+ghost use Rattle.crash_disk.specs.Disk.{Changes, after, begun, empty_image, reads_of, read_from, settled};
 ghost use Rattle.crash_disk.specs.InMemory.{shown_in_memory};
 ghost use Rattle.crash_disk.specs.Moments.{Elapses};
-ghost use Rattle.crash_disk.specs.Memory.{after_taken, state_of, IsAllowed, Calls, faulted, starved_by_call};
+ghost use Rattle.crash_disk.specs.Memory.{after_taken, holding, state_of, IsAllowed, Calls, faulted, starved_by_call};
 
 use crate::mem_file::MemFile;
 use crate::{Change, Disk, Failed, FileNo, Taken};
@@ -136,7 +136,7 @@ impl Model for MemDisk {
 impl MemDisk {
     /// Two empty files. It takes no memory.
     pub fn new(alloc: Global) -> MemDisk
-        ensures { result ≡ record { start = record { zero = []; one = [] }; log = []; failing = 0; stopping = 0; pick = 0; stopped = false; starved = false; faults = 0 } }
+        ensures { result ≡ holding empty_image }
     {
         MemDisk {
             start_zero: Blob::new(alloc),
@@ -155,7 +155,7 @@ impl MemDisk {
 
     /// Two files that hold these bytes, all of them synced.
     pub fn of(alloc: Global, zero: &[u8], one: &[u8]) -> Result<MemDisk, NoMemory>
-        ensures { IfOk result (λ disk. disk ≡ record { start = record { zero = zero.now; one = one.now }; log = []; failing = 0; stopping = 0; pick = 0; stopped = false; starved = false; faults = 0 }) }
+        ensures { IfOk result (λ disk. disk ≡ holding (record { zero = zero.now; one = one.now })) }
     {
         Ok(MemDisk {
             start_zero: Blob::of(alloc, zero)?,

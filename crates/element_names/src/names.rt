@@ -246,7 +246,8 @@ pub fn element_names<'a>(
 ) -> Result<RowNames, NameFault>
     requires { IsReady spaces.now }
     ensures named { OnOk result (IsNamed (scope_of spaces.now) name.now (map attribute_view attributes.now)) }
-    ensures resolved { IfOk result (λ names. IsResolvedElement spaces.now.table numbers.new.items (scope_of spaces.now) name.now (map attribute_view attributes.now) names) }
+    ensures resolved { IfOk result (λ names. IsResolvedElement spaces.now.table numbers.new.items
+        (scope_of spaces.now) name.now (map attribute_view attributes.now) names) }
     ensures grows { OnOk result (Grows numbers.old.items numbers.new.items) }
     ensures err { IfErr result (λ e. (e ≡ NameFault.NoMemory)
         ⊎ ((e ≡ NameFault.BadNames) × ¬ (IsNamed (scope_of spaces.now) name.now (map attribute_view attributes.now)))) }

@@ -16,12 +16,16 @@ pub fn moments_come_in_order()
 /// The bytes of a piece are as many as its event says, and lie in front.
 pub fn the_bytes_of_a_piece_lie_in_front()
     ensures count { (room conn n : ℕ) (coming : List Arrival) → (next_of room coming).event ≡ Piece conn n → length (next_of room coming).bytes ≡ n }
-    ensures front { (room conn n : ℕ) (coming : List Arrival) (before : List ℕ) → (next_of room coming).event ≡ Piece conn n → take n (in_front (next_of room coming).bytes before) ≡ (next_of room coming).bytes }
+    ensures front { (room conn n : ℕ) (coming : List Arrival) (before : List ℕ) →
+        (next_of room coming).event ≡ Piece conn n →
+        take n (in_front (next_of room coming).bytes before) ≡ (next_of room coming).bytes }
 {}
 
 /// Of a piece that is cut no byte is lost: those that are given and those that are still to come are its bytes.
 pub fn a_cut_piece_loses_nothing()
-    ensures { (room conn : ℕ) (bytes : List ℕ) (later : List Arrival) → room < length bytes → (rest : List ℕ) × ((next_of room (Bytes conn bytes ∷ later)).later ≡ Bytes conn rest ∷ later) × ((next_of room (Bytes conn bytes ∷ later)).bytes ++ rest ≡ bytes) }
+    ensures { (room conn : ℕ) (bytes : List ℕ) (later : List Arrival) → room < length bytes →
+        (rest : List ℕ) × ((next_of room (Bytes conn bytes ∷ later)).later ≡ Bytes conn rest ∷ later)
+        × ((next_of room (Bytes conn bytes ∷ later)).bytes ++ rest ≡ bytes) }
 {}
 
 /// Two sendings on a connection are as one of all their bytes, and one of no bytes is as none.

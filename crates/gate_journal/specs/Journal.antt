@@ -51,6 +51,10 @@ made_anew payloads horizon next kept = record {
   holds = record { version = 2; header = record { generation = kept.holds.header.generation + 1; horizon = horizon; next = next }; payloads = payloads };
 }
 
+-- The same with the horizon and the next number that the journal had.
+abbrev pub remade : List (List ℕ) → Kept → Kept
+remade payloads kept = made_anew payloads kept.holds.header.horizon kept.holds.header.next kept
+
 -- The image stands for the journal from before, or for the one that was made anew.
 abbrev pub IsOldOrNew : Kept → Kept → Image → Type 0
 IsOldOrNew old new image = (journal image ≡ Ok (Some old)) ⊎ (journal image ≡ Ok (Some new))

@@ -3,7 +3,7 @@ ghost use Rattle.std.specs.Prelude.{◌≡◌, ◌+◌, ◌-◌, ◌<◌, ◌^�
 ghost use Rattle.crash_disk.specs.Moments.{LeavesOnly};
 ghost use Rattle.crash_disk.specs.Plans.{Follows};
 ghost use Rattle.gate_journal.specs.Calls.{remaking};
-ghost use Rattle.gate_journal.specs.Journal.{Fits, IsOwn, IsOldOrNew, made_anew};
+ghost use Rattle.gate_journal.specs.Journal.{Fits, IsOwn, IsOldOrNew, made_anew, remade};
 ghost use Rattle.gate_journal.specs.Making.{IsWritable};
 ghost use Rattle.gate_journal.specs.Opening.{open_fault_of, CausesFaults};
 
@@ -101,16 +101,15 @@ impl Journal {
         requires whole { self.old.broken ≡ false }
         requires version { self.old.kept.holds.version ≡ 1 }
         requires fits { Fits kept.now }
-        ensures ok { OnOk result (self.new ≡ record { kept = made_anew kept.now self.old.kept.holds.header.horizon self.old.kept.holds.header.next self.old.kept; spare = None; broken = false }) }
+        ensures ok { OnOk result (self.new ≡ record { kept = remade kept.now self.old.kept; spare = None; broken = false }) }
         ensures failed { IsErrOf result OpenFault.DiskFault → self.new ≡ record self.old { broken = true } }
         ensures no_memory { IsErrOf result OpenFault.NoMemory → (self.new ≡ self.old) × (disk.new ≡ disk.old) }
         ensures not_foreign { IfErr result (λ e. open_fault_of e ≡ None) }
         ensures own { IsOwn (D.shows disk.new).told self.new }
         // A crash at any moment of the call leaves the journal from before it, or the new one.
-        ensures moments { LeavesOnly D.shows disk.old disk.new (IsOldOrNew self.old.kept (made_anew kept.now self.old.kept.holds.header.horizon self.old.kept.holds.header.next self.old.kept)) }
+        ensures moments { LeavesOnly D.shows disk.old disk.new (IsOldOrNew self.old.kept (remade kept.now self.old.kept)) }
         ensures faults { CausesFaults result (D.shows disk.old).faults (D.shows disk.new).faults }
-        ensures calls { Follows D.shows
-            (remaking (made_anew kept.now self.old.kept.holds.header.horizon self.old.kept.holds.header.next self.old.kept)) disk.old disk.new result }
+        ensures calls { Follows D.shows (remaking (remade kept.now self.old.kept)) disk.old disk.new result }
     {
         let header = Header {
             generation: self.header.generation + 1,

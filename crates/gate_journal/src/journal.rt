@@ -92,7 +92,9 @@ impl Model for Journal {
       broken = j.broken;
     } };
 
-    ghost invariant = { λ j. (j.end ≡ end_of j.records.items) × (j.end ≤ LONGEST_FILE) × (j.slot.items ≡ []) × (j.version ≡ 1 → j.header.generation < 2 ^ 64 - 1) × All (λ payload. length payload ≤ LONGEST_PAYLOAD) j.records.items
+    ghost invariant = { λ j. (j.end ≡ end_of j.records.items) × (j.end ≤ LONGEST_FILE) × (j.slot.items ≡ [])
+        × (j.version ≡ 1 → j.header.generation < 2 ^ 64 - 1)
+        × All (λ payload. length payload ≤ LONGEST_PAYLOAD) j.records.items
         × (j.version ≡ 1 → FitsVersion 1 j.records.items)
         × ForSome j.spare (λ n. n + 5 ≤ vec_capacity j.body)
         × ForSome j.spare (λ n. n ≤ vec_capacity j.slot)

@@ -50,8 +50,12 @@ pub(crate) fn head_of(alloc: Global, fields: &[u8]) -> Result<Vec<u8>, NoMemory>
 
 /// Commits a file of which all but the commit was written: a sync, the commit in a write of its own, a sync.
 pub(crate) fn commit<D: Disk>(disk: &mut D, file: FileNo) -> Result<(), Failed>
-    ensures moments { (holds : Committed) (other : List ℕ) → IfSome (D.shows disk.old).told (IsWritten file holds other) → LeavesOnly D.shows disk.old disk.new (IsMadeOrBlank file holds other) }
-    ensures ok { OnOk result ((holds : Committed) (other : List ℕ) → IfSome (D.shows disk.old).told (IsWritten file holds other) → IfSome (D.shows disk.new).told (IsMade file holds other)) }
+    ensures moments { (holds : Committed) (other : List ℕ) →
+        IfSome (D.shows disk.old).told (IsWritten file holds other) →
+        LeavesOnly D.shows disk.old disk.new (IsMadeOrBlank file holds other) }
+    ensures ok { OnOk result ((holds : Committed) (other : List ℕ) →
+        IfSome (D.shows disk.old).told (IsWritten file holds other) →
+        IfSome (D.shows disk.new).told (IsMade file holds other)) }
     ensures faults { CountsFaults result (D.shows disk.old).faults (D.shows disk.new).faults }
     ensures calls { Follows D.shows (λ _. committing file) disk.old disk.new result }
 {
@@ -80,7 +84,9 @@ pub(crate) fn put_head<D: Disk>(disk: &mut D, file: FileNo, head: &[u8]) -> Resu
     requires head { IsUnfinished head.now }
     requires short { IfSome (D.shows disk.old).told (λ d. IsShort file (reads_of d (other_file file)) d) }
     ensures moments { (other : List ℕ) → IfSome (D.shows disk.old).told (IsShort file other) → LeavesOnly D.shows disk.old disk.new (IsBlankBeside file other) }
-    ensures ok { OnOk result ((other : List ℕ) → IfSome (D.shows disk.old).told (IsShort file other) → IfSome (D.shows disk.new).told (Changing (IsBlankBeside file other) file (overwritten head.now 71 (0 ∷ [])) other)) }
+    ensures ok { OnOk result ((other : List ℕ) → IfSome (D.shows disk.old).told (IsShort file other) →
+        IfSome (D.shows disk.new).told
+        (Changing (IsBlankBeside file other) file (overwritten head.now 71 (0 ∷ [])) other)) }
     ensures faults { CountsFaults result (D.shows disk.old).faults (D.shows disk.new).faults }
     ensures calls { Follows D.shows (λ _. putting_header file head.now) disk.old disk.new result }
 {
@@ -93,7 +99,8 @@ pub(crate) fn begin_anew<D: Disk>(disk: &mut D, file: FileNo, fields: &[u8]) -> 
     requires long { IfSome (D.shows disk.old).told (λ d. 72 ≤ length (reads_of d file)) }
     requires fields { length fields.now ≡ 63 }
     ensures moments { (other : List ℕ) → IfSome (D.shows disk.old).told (IsClosed file other) → LeavesOnly D.shows disk.old disk.new (IsBlankBeside file other) }
-    ensures ok { OnOk result ((other : List ℕ) → IfSome (D.shows disk.old).told (IsClosed file other) → IfSome (D.shows disk.new).told (IsFilling file fields.now [] other)) }
+    ensures ok { OnOk result ((other : List ℕ) → IfSome (D.shows disk.old).told (IsClosed file other) →
+        IfSome (D.shows disk.new).told (IsFilling file fields.now [] other)) }
     ensures faults { CountsFaults result (D.shows disk.old).faults (D.shows disk.new).faults }
     ensures calls { Follows D.shows (λ _. beginning file fields.now) disk.old disk.new result }
 {

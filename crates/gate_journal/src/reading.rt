@@ -53,7 +53,10 @@ impl Model for Stored {
 
     ghost view = { λ s. record { version = s.version; header = s.header; payloads = s.bodies.records.items } };
 
-    ghost invariant = { λ s. (s.bodies.end ≡ end_of s.bodies.records.items) × (s.bodies.end ≤ LONGEST_FILE) × (s.version ≡ 1 → s.header.generation < 2 ^ 64 - 1) × All (λ payload. length payload ≤ LONGEST_PAYLOAD) s.bodies.records.items × (s.version ≡ 1 → FitsVersion 1 s.bodies.records.items) };
+    ghost invariant = { λ s. (s.bodies.end ≡ end_of s.bodies.records.items) × (s.bodies.end ≤ LONGEST_FILE)
+        × (s.version ≡ 1 → s.header.generation < 2 ^ 64 - 1)
+        × All (λ payload. length payload ≤ LONGEST_PAYLOAD) s.bodies.records.items
+        × (s.version ≡ 1 → FitsVersion 1 s.bodies.records.items) };
 }
 
 /// The number of eight bytes from a place on.

@@ -74,8 +74,12 @@ pub(crate) fn first_gate(records: &[Record]) -> u8
 /// Takes the commit off a file that has one. At every moment the file holds what it held before, or no journal.
 fn close<D: Disk>(disk: &mut D, file: FileNo) -> Result<(), Failed>
     requires { IfSome (D.shows disk.old).told (λ d. 72 ≤ length (reads_of d file)) }
-    ensures moments { (before : Option Committed) (other : List ℕ) → IfSome (D.shows disk.old).told (IsHolding file before other) → LeavesOnly D.shows disk.old disk.new (IsBeforeOrBlank file before other) }
-    ensures ok { OnOk result ((before : Option Committed) (other : List ℕ) → IfSome (D.shows disk.old).told (IsHolding file before other) → IfSome (D.shows disk.new).told (IsClosed file other)) }
+    ensures moments { (before : Option Committed) (other : List ℕ) →
+        IfSome (D.shows disk.old).told (IsHolding file before other) →
+        LeavesOnly D.shows disk.old disk.new (IsBeforeOrBlank file before other) }
+    ensures ok { OnOk result ((before : Option Committed) (other : List ℕ) →
+        IfSome (D.shows disk.old).told (IsHolding file before other) →
+        IfSome (D.shows disk.new).told (IsClosed file other)) }
     ensures faults { CountsFaults result (D.shows disk.old).faults (D.shows disk.new).faults }
     ensures calls { Follows D.shows (λ d. closing file (reads_of d file)) disk.old disk.new result }
 {
@@ -92,8 +96,12 @@ fn close<D: Disk>(disk: &mut D, file: FileNo) -> Result<(), Failed>
 fn clear<D: Disk>(disk: &mut D, file: FileNo, head: &[u8]) -> Result<(), Failed>
     requires head { IsUnfinished head.now }
     requires holding { IfSome (D.shows disk.old).told (λ d. (before : Option Committed) × IsHolding file before (reads_of d (other_file file)) d) }
-    ensures moments { (before : Option Committed) (other : List ℕ) → IfSome (D.shows disk.old).told (IsHolding file before other) → LeavesOnly D.shows disk.old disk.new (IsBeforeOrBlank file before other) }
-    ensures ok { OnOk result ((before : Option Committed) (other : List ℕ) → IfSome (D.shows disk.old).told (IsHolding file before other) → IfSome (D.shows disk.new).told (IsClosed file other)) }
+    ensures moments { (before : Option Committed) (other : List ℕ) →
+        IfSome (D.shows disk.old).told (IsHolding file before other) →
+        LeavesOnly D.shows disk.old disk.new (IsBeforeOrBlank file before other) }
+    ensures ok { OnOk result ((before : Option Committed) (other : List ℕ) →
+        IfSome (D.shows disk.old).told (IsHolding file before other) →
+        IfSome (D.shows disk.new).told (IsClosed file other)) }
     ensures faults { CountsFaults result (D.shows disk.old).faults (D.shows disk.new).faults }
     ensures calls { Follows D.shows (λ d. clearing file head.now (reads_of d file)) disk.old disk.new result }
 {
@@ -118,7 +126,8 @@ fn fill<D: Disk>(
     requires fits { Fits records.now }
     requires room { All (λ payload. length payload + 5 ≤ vec_capacity body.old) records.now }
     ensures moments { (other : List ℕ) → IfSome (D.shows disk.old).told (IsClosed file other) → LeavesOnly D.shows disk.old disk.new (IsBlankBeside file other) }
-    ensures ok { OnOk result ((other : List ℕ) → IfSome (D.shows disk.old).told (IsClosed file other) → IfSome (D.shows disk.new).told (IsFilling file fields.now (bodies_of records.now) other)) }
+    ensures ok { OnOk result ((other : List ℕ) → IfSome (D.shows disk.old).told (IsClosed file other) →
+        IfSome (D.shows disk.new).told (IsFilling file fields.now (bodies_of records.now) other)) }
     ensures faults { CountsFaults result (D.shows disk.old).faults (D.shows disk.new).faults }
     ensures calls { Follows D.shows (λ _. filling file fields.now records.now) disk.old disk.new result }
 {
@@ -149,8 +158,16 @@ pub(crate) fn make_beside<D: Disk>(
     requires fits { Fits records.now }
     requires room { All (λ payload. length payload + 5 ≤ vec_capacity body.old) records.now }
     requires holding { IfSome (D.shows disk.old).told (λ d. (before : Option Committed) × IsHolding file before (reads_of d (other_file file)) d) }
-    ensures moments { (before : Option Committed) (header : Header) (other : List ℕ) → fields.now ≡ fields_bytes header (gate_of records.now) → IsWritable header → IfSome (D.shows disk.old).told (IsHolding file before other) → LeavesOnly D.shows disk.old disk.new (IsBeforeOrMade file before (record { version = 2; header = header; payloads = records.now }) other) }
-    ensures ok { OnOk result ((before : Option Committed) (header : Header) (other : List ℕ) → fields.now ≡ fields_bytes header (gate_of records.now) → IsWritable header → IfSome (D.shows disk.old).told (IsHolding file before other) → IfSome (D.shows disk.new).told (IsMade file (record { version = 2; header = header; payloads = records.now }) other)) }
+    ensures moments { (before : Option Committed) (header : Header) (other : List ℕ) →
+        fields.now ≡ fields_bytes header (gate_of records.now) → IsWritable header →
+        IfSome (D.shows disk.old).told (IsHolding file before other) →
+        LeavesOnly D.shows disk.old disk.new
+        (IsBeforeOrMade file before (record { version = 2; header = header; payloads = records.now }) other) }
+    ensures ok { OnOk result ((before : Option Committed) (header : Header) (other : List ℕ) →
+        fields.now ≡ fields_bytes header (gate_of records.now) → IsWritable header →
+        IfSome (D.shows disk.old).told (IsHolding file before other) →
+        IfSome (D.shows disk.new).told
+        (IsMade file (record { version = 2; header = header; payloads = records.now }) other)) }
     ensures faults { CountsFaults result (D.shows disk.old).faults (D.shows disk.new).faults }
     ensures calls { Follows D.shows
         (λ d. making_beside file head.now fields.now records.now (reads_of d file)) disk.old disk.new result }

@@ -32,7 +32,8 @@ impl<'a> Model for FilePayloads<'a> {
 
     ghost view = { λ p. coming p.longest p.place p.gate p.bodies.now };
 
-    ghost invariant = { λ p. (is_ok (payloads_from p.longest p.place p.gate p.bodies.now) ≡ true) × (p.place + length p.bodies.now ≤ LONGEST_FILE) × (p.longest ≤ LONGEST_PAYLOAD) };
+    ghost invariant = { λ p. (is_ok (payloads_from p.longest p.place p.gate p.bodies.now) ≡ true)
+        × (p.place + length p.bodies.now ≤ LONGEST_FILE) × (p.longest ≤ LONGEST_PAYLOAD) };
 }
 
 impl<'a> FilePayloads<'a> {

@@ -58,7 +58,8 @@ fn is_visible(target: &[u8]) -> bool
 /// The place of the path of a target; none where a byte of it is not a visible character of ASCII.
 fn path_at(bytes: &[u8], target: Span) -> Option<Span>
     requires { IsWithin (length bytes.now) target }
-    ensures visible { MatchOption result (list_all is_ascii_graphic (span_bytes bytes.now target) ≡ false) (λ path. list_all is_ascii_graphic (span_bytes bytes.now target) ≡ true) }
+    ensures visible { MatchOption result (list_all is_ascii_graphic (span_bytes bytes.now target) ≡ false)
+        (λ path. list_all is_ascii_graphic (span_bytes bytes.now target) ≡ true) }
     ensures path { IfSome result (λ path. span_bytes bytes.now path ≡ path_of (span_bytes bytes.now target)) }
     ensures within { IfSome result (IsWithin (length bytes.now)) }
 {

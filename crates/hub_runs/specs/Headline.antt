@@ -80,7 +80,7 @@ AsksNobodyAbove asked =
     (held : Held) (answer : Answer) (r : HubRecord) (login : AskedLogin) (peer : LogoutPeer)
     → AsksFor asked.node.setup asked.request login peer → login.passive ≡ true
     → Answers asked.node.setup held asked.request asked.now answer (Some r)
-    → IsSpoken asked.node.setup login asked.now r answer
+    → IsSpoken asked.node.setup held login peer asked.now r answer
 
 -- Where no HMAC in the posted form is made by anybody but the provider above, and no hash collides: each login that is
 -- passed on, with whatever answer, is one that this signed; and where it is an identity provider of some setup, which

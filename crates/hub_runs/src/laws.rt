@@ -1,6 +1,8 @@
 //! The laws of whole runs, each the contract of a function that does nothing.
 ghost use Rattle.hub_runs.specs.Headline.{Headline, TheHeadlineHoldsOverStarts, key};
 ghost use Rattle.provider_run.specs.Headlines.{EachRunCarries, EachRunIsAStart};
+ghost use Rattle.std.specs.Prelude.{ℕ, List, Contains};
+ghost use Rattle.provider_node.specs.Histories.{AnyMoment};
 ghost use Rattle.provider_run.specs.Joining.{EachImageOfARunGoesOn};
 ghost use Rattle.identity_hub.specs.Step.{Answers};
 ghost use Rattle.hub_ledger.specs.Record.{hub_rules};
@@ -103,10 +105,14 @@ pub fn a_run_is_a_start()
 }
 
 /// Where a run is next behind starts of its hub, on a disk that tells, each image that a crash at one of its moments
-/// may leave is one from which a later start goes on, as behind a start of this run that was cut at that moment: so
-/// runs that a crash cut join into one service, of which the laws of starts speak.
+/// may leave is one from which a later start goes on, as behind a start of this run that was cut at that moment,
+/// inside the answer to the request that was asked then: so runs that a crash cut join into one service, of which the
+/// laws of starts speak, with the moments of all its requests, those that a crash cut too.
 pub fn each_image_of_a_run_goes_on<D: Disk>()
-    ensures { (disk : D) → EachImageOfARunGoesOn IsSetUp IsBadSetUp key hub_rules Answers (D.shows disk).left_since }
+    ensures any { (disk : D) → EachImageOfARunGoesOn IsSetUp IsBadSetUp key hub_rules Answers
+        (D.shows disk).left_since AnyMoment }
+    ensures at { (disk : D) (moments : List ℕ) → EachImageOfARunGoesOn IsSetUp IsBadSetUp key hub_rules Answers
+        (D.shows disk).left_since (Contains moments) }
 {
     hub_ledger::laws::images_hold_records();
 }

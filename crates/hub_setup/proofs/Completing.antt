@@ -75,24 +75,24 @@ is_set_up told lines loaded same whole all none =
 
 -- the texts of the peers may be in a document, and no two have one name where none is doubled
 record AreSound (loaded : Loaded) : Type 0 where
-  peers : AllByRecursion IsTextPeer loaded.peers
-  apart : loaded.doubled ≡ None → differ loaded.peers ≡ true
+  peers : AllByRecursion IsTextPeer loaded.read.peers
+  apart : loaded.read.doubled ≡ None → differ loaded.read.peers ≡ true
 
 sound_more : (told : Option (List File)) → AreWritable → (file : HubFile) (before after : Loaded) → (load file before).gives told after → AreSound before → AreSound after
 sound_more told law (named.Above file) before after h sound = subst AreSound (sym h.2) (record { peers = sound.peers; apart = sound.apart })
 sound_more told law (named.Peer names) before after (peer, there, is) sound =
     let texts = read_texts told names peer law there in
     subst AreSound (sym is) (record {
-      peers = all_push IsTextPeer before.peers peer sound.peers texts;
+      peers = all_push IsTextPeer before.read.peers peer sound.peers texts;
       apart = λ none.
-          let parts = none_doubled before.doubled names.line (is_some (place_of peer.peer.entity before.peers)) none in
-          differ_with before.peers peer (sound.apart parts.0) parts.1;
+          let parts = none_doubled before.read.doubled names.line (is_some (place_of peer.peer.entity before.read.peers)) none in
+          differ_with before.read.peers peer (sound.apart parts.0) parts.1;
     })
 
 count_more : (told : Option (List File)) (file : HubFile) (before after : Loaded) → (load file before).gives told after →
-    length after.peers ≡ length before.peers + cond (is_peer_file file) 1 0
-count_more told (named.Above file) before after h = omega (arith, ap (λ (l : Loaded). length l.peers) h.2)
-count_more told (named.Peer names) before after h = omega (arith, ap (λ (l : Loaded). length l.peers) h.2, length-append before.peers (h.0 ∷ []))
+    length after.read.peers ≡ length before.read.peers + cond (is_peer_file file) 1 0
+count_more told (named.Above file) before after h = omega (arith, ap (λ (l : Loaded). length l.read.peers) h.2)
+count_more told (named.Peer names) before after h = omega (arith, ap (λ (l : Loaded). length l.read.peers) h.2, length-append before.read.peers (h.0 ∷ []))
 
 -- ---- what is set up
 
@@ -112,12 +112,12 @@ pub usable : (told : Option (List File)) (file : List ℕ) (lines : configs.HubC
     (set_up_by file lines).gives told config → IsText lines.above.entity → IsText lines.above.base → IsText lines.above.listen → lines.above.skew ≤ MILLIS * MOST_SKEW →
     IfSome lines.above.next_in AreInOrder → count_by is_peer_file lines.files ≤ MAX_PEERS → IsUsable config
 usable told file lines config same law from (loaded, all, (unit, none, is)) entity base listen skew times few =
-    let made = made_from (sp_config.config_of lines.above loaded.above) loaded.peers config is in
+    let made = made_from (sp_config.config_of lines.above loaded.above) loaded.read.peers config is in
     let above = loaded_above told lines loaded same all in
     let texts = config_texts told lines.above loaded.above config.upstream law from above made.0 entity base listen in
     let within = config_bounds lines.above loaded.above config.upstream made.0 skew times in
     let sound = kept load told AreSound (sound_more told law) lines.files nothing loaded all (record { peers = tt; apart = λ none. refl }) in
-    let count = count_all load told is_peer_file (λ (l : Loaded). length l.peers) (count_more told) lines.files nothing loaded all in
+    let count = count_all load told is_peer_file (λ (l : Loaded). length l.read.peers) (count_more told) lines.files nothing loaded all in
     record {
       texts = record { entity = texts.entity; base = texts.base; service = texts.service };
       skew = within.0;

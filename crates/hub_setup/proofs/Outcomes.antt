@@ -12,26 +12,26 @@ use Rattle.sp_setup.specs.declared.loaded.Loaded as sp_loaded
 use Rattle.sp_setup.proofs.Outcomes as sp_outcomes
 use Rattle.sp_setup.proofs.Outcomes.{OneRegistry, NeverRefused}
 use Rattle.sp_setup.proofs.Readings.{ComesToOne, one_known, one_no_line, one_then, one_made, one_in_order, one_text}
-use Rattle.idp_setup.specs.Setup.{peer_of}
+use Rattle.idp_setup.specs.Setup.{peer_of, with_peer}
 use Rattle.idp_setup.proofs.Outcomes.{one_peer}
 use Rattle.identity_hub.specs.declared.config.HubConfig.{HubConfig}
 use Rattle.hub_setup.specs.declared.loaded.Loaded.{Loaded}
 use Rattle.hub_setup.specs.Config.{config_of}
-use Rattle.hub_setup.specs.Setup.{nothing, with_peer, load, set_up_by, set_up, IsSetUp, IsBadSetUp}
+use Rattle.hub_setup.specs.Setup.{nothing, load, set_up_by, set_up, IsSetUp, IsBadSetUp}
 
 module _ (one_registry : OneRegistry) (never : NeverRefused) where
   one_load : (files : List File) (line : HubFile) (before : Loaded) → ComesToOne files (load line before)
   one_load files (named.Above file) before =
       one_made files (sp.load file before.above) (λ (above : sp_loaded.Loaded). record before { above = above })
       (sp_outcomes.one_load one_registry never files file before.above)
-  one_load files (named.Peer names) before = one_made files (peer_of names) (λ (peer : LogoutPeer). with_peer names.line peer before) (one_peer files names)
+  one_load files (named.Peer names) before = one_made files (peer_of names) (λ (peer : LogoutPeer). record before { read = with_peer names.line peer before.read }) (one_peer files names)
 
   one_set_up_by : (files : List File) (config : List ℕ) (lines : configs.HubConfig) → ComesToOne files (set_up_by config lines)
   one_set_up_by files config lines =
-      one_then files (in_order load lines.files nothing) (λ loaded. no_line config loaded.doubled >>= λ apart. known (config_of lines loaded))
+      one_then files (in_order load lines.files nothing) (λ loaded. no_line config loaded.read.doubled >>= λ apart. known (config_of lines loaded))
       (one_in_order files load (one_load files) lines.files nothing)
       (λ loaded.
-      one_then files (no_line config loaded.doubled) (λ apart. known (config_of lines loaded)) (one_no_line files config loaded.doubled)
+      one_then files (no_line config loaded.read.doubled) (λ apart. known (config_of lines loaded)) (one_no_line files config loaded.read.doubled)
       (λ apart. one_known files (config_of lines loaded)))
 
   one_set_up : (files : List File) (config : List ℕ) → ComesToOne files (set_up config)

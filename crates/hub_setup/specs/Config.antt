@@ -11,4 +11,4 @@ use Rattle.owned_values.specs.Options.{◌>>=◌}
 abbrev pub config_of : configs.HubConfig → Loaded → Option HubConfig
 config_of lines loaded = do
   upstream ← sp.config_of lines.above loaded.above
-  Some (record { upstream = upstream; peers = loaded.peers })
+  Some (record { upstream = upstream; peers = loaded.read.peers })

@@ -1,16 +1,14 @@
 -- What a hub is set up with: its config, and the files that the config names. They are read right behind it, in the order of its
 -- lines, and those of a peer in the order in which its line names them.
-use Rattle.std.specs.Prelude.{ℕ, List, [], ◌∷◌, ◌++◌, Option, None, is_some}
+use Rattle.std.specs.Prelude.{ℕ, List, Option}
 use Rattle.saml_outside.specs.Files.{File}
 use Rattle.provider_config.specs.HubConfig as configs
 use Rattle.provider_config.specs.declared.config.TheConstants.{MAX_CONFIG_LENGTH}
 use Rattle.provider_config.specs.declared.hub_config.HubFile.{HubFile}
 use Rattle.provider_config.specs.declared.hub_config.HubFile.TheVariants as files
-use Rattle.peer_keys.specs.Peers.{place_of}
-use Rattle.peer_keys.specs.declared.peers.LogoutPeer.{LogoutPeer}
 use Rattle.sp_setup.specs.Files.{Reading, only, known, no_line, ◌>>=◌, in_order, text_of}
 use Rattle.sp_setup.specs.Setup as sp
-use Rattle.idp_setup.specs.Setup.{doubled_with, peer_of}
+use Rattle.idp_setup.specs.Setup.{no_peers, peer_of, with_peer}
 use Rattle.identity_hub.specs.declared.config.HubConfig.{HubConfig}
 use Rattle.hub_setup.specs.Config.{config_of}
 use Rattle.hub_setup.specs.declared.loaded.Loaded.{Loaded}
@@ -19,17 +17,12 @@ use Rattle.hub_setup.specs.declared.loaded.Loaded.{Loaded}
 
 -- nothing is read yet
 abbrev pub nothing : Loaded
-nothing = record { above = sp.nothing; peers = []; doubled = None }
-
--- With the peer of this line; where no line was found before whose peer has the name of one before it, this may be the first.
-abbrev pub with_peer : (line : ℕ) → LogoutPeer → Loaded → Loaded
-with_peer line peer before =
-    record before { peers = before.peers ++ peer ∷ []; doubled = doubled_with before.doubled line (is_some (place_of peer.peer.entity before.peers)) }
+nothing = record { above = sp.nothing; read = no_peers }
 
 -- what the files of a line add to what was read before, as at a service provider or as those of an identity provider's peer
 abbrev pub load : HubFile → Loaded → Reading Loaded
 load (files.Above file) before = sp.load file before.above >>= λ above. only (record before { above = above })
-load (files.Peer names) before = peer_of names >>= λ peer. only (with_peer names.line peer before)
+load (files.Peer names) before = peer_of names >>= λ peer. only (record before { read = with_peer names.line peer before.read })
 
 -- THE CONFIG
 
@@ -37,7 +30,7 @@ load (files.Peer names) before = peer_of names >>= λ peer. only (with_peer name
 abbrev pub set_up_by : (config : List ℕ) → configs.HubConfig → Reading HubConfig
 set_up_by config lines = do
   loaded ← in_order load lines.files nothing
-  apart ← no_line config loaded.doubled
+  apart ← no_line config loaded.read.doubled
   known (config_of lines loaded)
 
 -- what the config in this file sets up

@@ -3,10 +3,9 @@
 ghost use Rattle.std.specs.Prelude.{◌≡◌, ◌≤◌, IfOk, IfErr, OnOk};
 ghost use Rattle.sp_setup.specs.Faults.{IsFaultOf};
 ghost use Rattle.sp_setup.specs.Files.{in_order};
-ghost use Rattle.hub_setup.specs.Setup.{nothing, with_peer, load};
+ghost use Rattle.hub_setup.specs.Setup.{nothing, load};
 
-use idp_setup::read_peer_files;
-use peer_keys::{LogoutPeer, Peers};
+use idp_setup::{PeersRead, read_peer_files};
 use provider_config::HubFile;
 use saml_outside::{Files, NoMemory};
 use sp_setup::SetupFault;
@@ -17,10 +16,8 @@ use std::alloc::Global;
 pub(crate) struct Loaded {
     /// Those that a service provider's config names too.
     pub above: sp_setup::Loaded,
-    /// The peers, in the order of their lines.
-    pub peers: Peers,
-    /// The line of the first peer that has the name of one before it.
-    pub doubled: Option<u32>,
+    /// The peers, and whether two of them have one name.
+    pub read: PeersRead,
 }
 
 impl Loaded {
@@ -30,19 +27,8 @@ impl Loaded {
     {
         Loaded {
             above: sp_setup::Loaded::nothing(),
-            peers: Peers::new(alloc),
-            doubled: None,
+            read: PeersRead::nothing(alloc),
         }
-    }
-
-    /// Takes the peer of this line.
-    fn take_peer(&mut self, line: u32, peer: LogoutPeer) -> Result<(), NoMemory>
-        ensures { OnOk result (self.new ≡ with_peer line peer self.old) }
-    {
-        if self.doubled.is_none() && self.peers.place_of(peer.peer.entity.as_str()).is_some() {
-            self.doubled = Some(line);
-        }
-        self.peers.push(peer)
     }
 
     /// Reads the files that a line names, and takes what they hold.
@@ -64,7 +50,7 @@ impl Loaded {
             }
             HubFile::Peer(names) => {
                 let peer = read_peer_files(alloc, files, names)?;
-                match self.take_peer(names.line, peer) {
+                match self.read.take(names.line, peer) {
                     Ok(()) => Ok(()),
                     Err(NoMemory) => Err(SetupFault::NoMemory),
                 }

@@ -39,7 +39,7 @@ fn config_of(alloc: Global, lines: HubLines, loaded: Loaded) -> Option<HubConfig
     let setup = sp_setup::config_of(upstream_of(alloc, lines), loaded.above)?;
     Some(HubConfig {
         upstream: setup.config,
-        peers: loaded.peers,
+        peers: loaded.read.peers,
     })
 }
 
@@ -57,7 +57,7 @@ fn set_up_by<F: Files>(
     ensures never_falls { F.faults_of files.old ≤ F.faults_of files.new }
 {
     let loaded = Loaded::of_files(alloc, files, &lines.files)?;
-    if let Some(line) = loaded.doubled {
+    if let Some(line) = loaded.read.doubled {
         return Err(SetupFault::bad_file(alloc, file, u64::from(line)));
     }
     match config_of(alloc, lines, loaded) {

@@ -1,5 +1,5 @@
 -- When a login is passed on.
-use Rattle.std.specs.Prelude.{Option, Some}
+use Rattle.std.specs.Prelude.{Option, Some, slice_get}
 use Rattle.std.proofs.Common.{◌≡◌, ◌⊎◌, inl, inr, ℕ, true, false, List, sym, subst, refl, ap, ◌∙◌}
 use Rattle.crash_disk.specs.Counts.{Rose}
 use Rattle.http_wire.specs.declared.answer.Answer.{Answer}
@@ -12,6 +12,7 @@ use Rattle.ledger_records.specs.declared.hub_record.HubRecord.TheVariants as kin
 use Rattle.peer_keys.specs.declared.peers.LogoutPeer.{LogoutPeer}
 use Rattle.request_rows.specs.Rows.{RowsView}
 use Rattle.request_rows.specs.declared.row.AskedRow.{AskedRow}
+use Rattle.hub_ledger.specs.Draft.{first_id}
 use Rattle.hub_ledger.specs.Laws.{AnswerAlike, CompactionsChangeNoAnswer}
 use Rattle.hub_ledger.specs.Ledger.{Held}
 use Rattle.hub_ledger.specs.RowsOf.{Route, rows_of}
@@ -237,7 +238,7 @@ spoken : AsksOnce → (setup : HubConfig) (held : Held) (request : Request) (now
     (adds : Option HubRecord) (r : HubRecord) (asked : Asked) (peer : LogoutPeer)
     → steps.AsksFor setup request asked peer
     → asked.passive ≡ true → adds ≡ Some r → Answers setup held request now answer adds
-    → IsSpoken setup asked now r answer
+    → IsSpoken setup held asked peer now r answer
 spoken once setup held request now answer adds r asked peer asks passive some (steps.ByStatus status to is none) =
     absurd (cc)
 spoken once setup held request now answer adds r asked peer asks passive some (steps.ByMetadata role to is none) =
@@ -248,8 +249,16 @@ spoken once setup held request now answer adds r asked peer asks passive some
 spoken once setup held request now answer adds r asked peer asks passive some
     (steps.BySpeaking other its message bytes its_asks its_passive is named page shown) =
     let same : other ≡ asked = once setup.peers (sign_on setup) request.body other asked its_asks.is asks.is in
+    let known : Some its ≡ Some peer =
+    sym its_asks.known ∙ ap (λ (x : Asked). slice_get setup.peers x.peer) same ∙ asks.known in
+    let same_peer : its ≡ peer = cc in
+    let joined : Some r ≡ Some (steps.spoken_for setup held now (steps.below_of other its)) = sym some ∙ is in
+    let as_other : r ≡ steps.spoken_for setup held now (steps.below_of other its) = cc in
     record {
+      is = subst (λ (x : Asked). r ≡ steps.spoken_for setup held now (steps.below_of x peer)) same
+          (subst (λ (p : LogoutPeer). r ≡ steps.spoken_for setup held now (steps.below_of other p)) same_peer as_other);
       message = message;
+      named = subst (λ (x : HubRecord). first_id x ≡ Some message) (sym as_other) named;
       bytes = bytes;
       answers =
           subst (λ (x : Asked). IsNoPassiveAnswer setup.upstream.entity message x.request x.consumer x.relay now bytes)

@@ -12,6 +12,7 @@ use Rattle.peer_keys.specs.declared.peers.LogoutPeer.{LogoutPeer}
 use Rattle.request_rows.specs.declared.row.AskedRow.{AskedRow}
 use Rattle.hub_ledger.specs.Ledger.{Held}
 use Rattle.record_ledger.specs.Ledger.{held_with}
+use Rattle.hub_ledger.specs.Draft.{first_id}
 use Rattle.hub_ledger.specs.Record.{LAST, hub_rules}
 use Rattle.hub_ledger.specs.RowsOf.{Route}
 use Rattle.idp_rules.specs.declared.asked.Asked.{Asked}
@@ -22,7 +23,8 @@ use Rattle.provider_node.specs.Room as any
 use Rattle.provider_node.specs.Room.{IsRecordedOver}
 use Rattle.provider_node.specs.declared.codes.TheConstants.{NO_MEMORY}
 use Rattle.identity_hub.specs.declared.config.HubConfig.{HubConfig}
-use Rattle.identity_hub.specs.Step.{Answers, AsksFor, BringsLogin, IsAnswerFor, IsFor, Provider, backed_for}
+use Rattle.identity_hub.specs.Step.{Answers, AsksFor, BringsLogin, IsAnswerFor, IsFor, Provider, backed_for, below_of}
+use Rattle.identity_hub.specs.Step.{spoken_for}
 use Rattle.provider_node.specs.Step.{Serves}
 
 -- Over a ledger, at a moment, the form that a request posts brings a login that can be passed on: for this request
@@ -97,9 +99,13 @@ WhereverALoginIsBrought =
 
 -- ---- where the user may not be asked
 
--- The record of an answer is that of a Response without an Assertion, and this is the answer.
-pub record IsSpoken (setup : HubConfig) (asked : Asked) (now : ℕ) (r : HubRecord) (answer : Answer) : Type 0 where
+-- The record of an answer is that of a Response without an Assertion to the request of this peer, and this is the
+-- answer.
+pub record IsSpoken (setup : HubConfig) (held : Held) (asked : Asked) (peer : LogoutPeer) (now : ℕ) (r : HubRecord)
+    (answer : Answer) : Type 0 where
+  pub is : r ≡ spoken_for setup held now (below_of asked peer)
   pub message : List ℕ
+  pub named : first_id r ≡ Some message
   pub bytes : List ℕ
   pub answers : IsNoPassiveAnswer setup.upstream.entity message asked.request asked.consumer asked.relay now bytes
   pub answered : answer ≡ Full bytes
@@ -112,4 +118,4 @@ NothingIsAskedOfAUserWhoMayNotBeAsked =
     (setup : HubConfig) (held : Held) (request : Request) (now : ℕ) (answer : Answer) (r : HubRecord) (asked : Asked)
     (peer : LogoutPeer)
     → AsksFor setup request asked peer → asked.passive ≡ true → Answers setup held request now answer (Some r)
-    → IsSpoken setup asked now r answer
+    → IsSpoken setup held asked peer now r answer

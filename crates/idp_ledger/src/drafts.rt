@@ -98,7 +98,9 @@ pub fn draft_confirm(
     request: &str,
 ) -> Result<Option<Draft>, DraftFault>
     requires moment { now ≤ LAST }
-    ensures drafts { DraftsSome ledger.old ledger.new (not (is_waiting_now (rows_in ledger.old).lefts request.now now ledger.old.held.header.horizon)) (confirmed now request.now) result }
+    ensures drafts { DraftsSome ledger.old ledger.new
+        (not (is_waiting_now (rows_in ledger.old).lefts request.now now ledger.old.held.header.horizon))
+        (confirmed now request.now) result }
     ensures same { SameLedger ledger.old ledger.new }
     ensures spare { KeepsSpare ledger.old ledger.new }
 {
@@ -120,7 +122,8 @@ pub fn draft_confirm(
 pub fn draft_leave(ledger: &mut IdpLedger, now: u64, cookie: &str) -> Result<Draft, DraftFault>
     requires moment { now ≤ LAST }
     requires live { IsSome (session_found (rows_in ledger.old).sessions cookie.now now ledger.old.held.header.horizon) }
-    ensures drafts { Drafts ledger.old ledger.new (left ledger.old.key (next_number ledger.old.held) now cookie.now (last_peer (rows_in ledger.old).issues cookie.now)) result }
+    ensures drafts { Drafts ledger.old ledger.new (left ledger.old.key (next_number ledger.old.held) now cookie.now
+        (last_peer (rows_in ledger.old).issues cookie.now)) result }
     ensures same { SameLedger ledger.old ledger.new }
     ensures spare { KeepsSpare ledger.old ledger.new }
 {
@@ -191,7 +194,8 @@ pub fn draft_end(
 /// Whether the session at a place lives, is of a name, and an assertion was issued in it to a peer.
 fn is_open_to(ledger: &IdpLedger, place: usize, now: u64, peer: &str, name: &str) -> bool
     requires { place < length (rows_in ledger.now).sessions }
-    ensures { (row : SessionRow) → slice_get (rows_in ledger.now).sessions place ≡ Some row → result ≡ is_ending now ledger.now.held.header.horizon peer.now name.now [] (rows_in ledger.now).issues row }
+    ensures { (row : SessionRow) → slice_get (rows_in ledger.now).sessions place ≡ Some row →
+        result ≡ is_ending now ledger.now.held.header.horizon peer.now name.now [] (rows_in ledger.now).issues row }
 {
     let horizon = ledger.header().horizon;
     let rows = rows(ledger);
@@ -213,7 +217,9 @@ fn is_ending(
 ) -> bool
     requires place { place < length (rows_in ledger.now).sessions }
     requires set { IsSetOf set.now indexes.now }
-    ensures { (row : SessionRow) → slice_get (rows_in ledger.now).sessions place ≡ Some row → result ≡ is_ending now ledger.now.held.header.horizon peer.now name.now indexes.now (rows_in ledger.now).issues row }
+    ensures { (row : SessionRow) → slice_get (rows_in ledger.now).sessions place ≡ Some row →
+        result ≡ is_ending now ledger.now.held.header.horizon peer.now name.now indexes.now
+        (rows_in ledger.now).issues row }
 {
     let sessions = rows(ledger).sessions();
     is_listed(indexes, set, &sessions[place].index) && is_open_to(ledger, place, now, peer, name)

@@ -159,7 +159,8 @@ pub fn draft_round(
     requires some { ¬ (turns.now ≡ []) }
     requires asker { IsXmlAsker (option_copied asker) }
     requires turns { AreXmlTurns turns.now }
-    ensures drafts { Drafts ledger.old ledger.new (round ledger.old.key (next_number ledger.old.held) now cookies.now (option_copied asker.entry) turns.now skipped) result }
+    ensures drafts { Drafts ledger.old ledger.new (round ledger.old.key (next_number ledger.old.held) now cookies.now
+        (option_copied asker.entry) turns.now skipped) result }
     ensures same { SameLedger ledger.old ledger.new }
     ensures spare { KeepsSpare ledger.old ledger.new }
 {

@@ -16,7 +16,9 @@ use logout_turns::Turn;
 /// Whether the cookie and the index that an Issued draws are fresh, where it draws them.
 fn is_session_fresh(least: u64, r: &Issued) -> bool
     requires { r.now.first < 2 ^ 63 }
-    ensures { result ≡ are_fresh_numbers least (if_pending r.now.pending (record { number = r.now.first + 2; id = r.now.cookie } ∷ record { number = r.now.first + 3; id = r.now.index } ∷ [])) }
+    ensures { result ≡ are_fresh_numbers least (if_pending r.now.pending
+        (record { number = r.now.first + 2; id = r.now.cookie }
+        ∷ record { number = r.now.first + 3; id = r.now.index } ∷ [])) }
 {
     match &r.pending {
         Some(_) => {

@@ -50,7 +50,8 @@ impl Model for KeptRows {
       spare = record { pendings = s.pendings.spare; issues = s.sessions.spare; lefts = s.lefts.spare; rounds = s.rounds.spare };
     } };
 
-    ghost invariant = { λ s. AreBelow s.next s.pendings.numbers × AreBelow s.next s.sessions.numbers × AreBelow s.next s.lefts.numbers × AreBelow s.next s.rounds.numbers × (s.next ≤ 2 ^ 63) };
+    ghost invariant = { λ s. AreBelow s.next s.pendings.numbers × AreBelow s.next s.sessions.numbers
+        × AreBelow s.next s.lefts.numbers × AreBelow s.next s.rounds.numbers × (s.next ≤ 2 ^ 63) };
 }
 
 impl KeptRows {

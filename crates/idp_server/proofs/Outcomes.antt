@@ -1,8 +1,9 @@
 -- A logout that asks all others tells in the end whether each confirmed.
-use Rattle.std.specs.Prelude.{not, slice_get}
+use Rattle.std.specs.Prelude.{Contains, not, slice_get}
 use Rattle.std.proofs.Common.{◌≡◌, ℕ, zero, suc, ◌+◌, ◌≤◌, ◌==◌, Bool, true, false, ◌&&◌, ◌||◌, nat_lt, if◌then◌else◌, List, [], ◌∷◌, ◌++◌, length, Option, None, Some, refl, sym, subst, ap, ◌∙◌, arith, append-nil, append_assoc, length-append}
 use Rattle.std.proofs.lemmas.Bool.{ltb-false}
 use Rattle.std.proofs.lemmas.Bool.Decides.{nat_tests}
+use Rattle.std.proofs.lemmas.List.Elements.{Contains-append_right}
 use Rattle.http_wire.specs.declared.answer.Answer.TheVariants.{Full}
 use Rattle.ledger_records.specs.declared.idp_round.Round.{Round}
 use Rattle.ledger_records.specs.declared.idp_round.Told.{Told}
@@ -89,6 +90,7 @@ answers_push row (y ∷ later) x =
 
 -- the answers of a round behind the one for which it waits
 record OneMore (begun : Round) (later : List IdpRecord) (r : Told) (row : RoundRow) : Type 0 where
+  of : Contains (answers begun (later ++ kinds.Told r ∷ [])) r
   counted : length (answers begun (later ++ kinds.Told r ∷ [])) ≡ row.told + 1
   behind : round_behind (round_row begun) (later ++ kinds.Told r ∷ []) ≡ after_answer r.confirmed r.next row
 
@@ -104,7 +106,10 @@ one_more law begun later r row is waits =
     let long =
     ap length same ∙ length-append (answers begun later) (answer_in (round_behind first later) (kinds.Told r))
     ∙ ap (λ (ts : List Told). length (answers begun later) + length ts) here in
+    let joined = same ∙ ap (λ (ts : List Told). answers begun later ++ ts) here in
     record {
+      of = subst (λ (ts : List Told). Contains ts r) (sym joined)
+          (Contains-append_right (answers begun later) (r ∷ []) r (0, omega arith, refl));
       counted = omega (arith, long, told_is);
       behind = behind_push first later (kinds.Told r) ∙ ap (λ (x : RoundRow). round_after x (kinds.Told r)) (sym is)
           ∙ ap (λ (b : Bool). answered_if b r.confirmed r.next row) waits;
@@ -150,15 +155,15 @@ outcome_of law setup held now request peer confirms row r bytes are waits drafte
     of : IsRowOf held.records row
     of = row_of held.records found.place row found.there
 
-    round : InRound held.records r
-    round = record { before = of.before; begun = of.begun; later = of.later; are = of.are }
-
     same : Stays (round_row of.begun) (round_behind (round_row of.begun) of.later)
     same = stays (round_row of.begun) of.later
 
     more : OneMore of.begun of.later r row
     more = one_more law of.begun of.later r row of.is (subst (λ (q : List ℕ). waits_for q row ≡ true)
         (sym has.request_is) found.waits)
+
+    round : InRound held.records r
+    round = record { before = of.before; begun = of.begun; later = of.later; are = of.are; of = more.of }
 
     turns_are : row.turns ≡ of.begun.turns
     turns_are = ap (λ (x : RoundRow). x.turns) of.is ∙ same.turns

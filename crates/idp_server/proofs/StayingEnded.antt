@@ -21,7 +21,7 @@ use Rattle.idp_ledger.proofs.RuleLaws.{freshly_drawn}
 use Rattle.record_ledger.specs.Runs.{Event, Leads}
 use Rattle.record_ledger.proofs.Words.{same_text}
 use Rattle.provider_node.specs.Histories.{Includes}
-use Rattle.provider_node.proofs.Sessions.{IsShut, Sessions, open_there, sessions_by, shut_among, shut_one}
+use Rattle.provider_node.proofs.Sessions.{IsShut, Sessions, all_among, open_there, sessions_by, shut_among, shut_one}
 use Rattle.provider_node.proofs.StayingShut.{Becomes, KeepsSessions, More, Same, Shut, keeps_sessions, shut_behind, stays_shut}
 use Rattle.idp_server.specs.Histories.{AnEndedSessionStaysEnded, IsDead, IsEnded}
 
@@ -75,16 +75,6 @@ pub ended_behind : (held : Held) (r : IdpRecord) (cookie : List ℕ)
     → IsShut begun_sessions (rows_after (rows_of held.records) r).sessions cookie → IsEnded (held_with r held) cookie
 ended_behind held r cookie is =
     let shut = shut_behind_it held.records r cookie is in record { there = shut.there; ended = shut.shut }
-
-all_among : (test : List ℕ → Bool) (texts : List (List ℕ)) (text : List ℕ) → list_all test texts ≡ true
-    → is_among text texts ≡ true → test text ≡ true
-all_among test [] text all among = absurd (false≢true among)
-all_among test (first ∷ others) text all among =
-    let both = and_parts (test first) (list_all test others) all in
-    elim (or_cases (bytes_eq first text) (is_among text others) among) [
-      | inl here ↦ subst (λ (t : List ℕ). test t ≡ true) (same_text first text here) both.0
-      | inr there ↦ all_among test others text both.1 there
-    ]
 
 -- what it ends is ended behind it
 ends_it : (records : List IdpRecord) (r : IdpRecord) (cookie : List ℕ) → is_record records r ≡ true

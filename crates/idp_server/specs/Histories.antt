@@ -74,11 +74,12 @@ SessionsStayEndedInAService =
 -- OVER STARTS
 
 -- Over several starts, of which each opens what a crash of the one before it may have left, too: what was acknowledged
--- is in the history of every ledger that may be opened behind them, and a session that was ended is live in none.
+-- is in the history of every ledger that may be opened behind them, and a session that was ended, at first or by what
+-- was acknowledged, is live in none.
 abbrev pub WhatIsAcknowledgedIsKeptOverStarts : Type 0
 WhatIsAcknowledgedIsKeptOverStarts =
     (start : Held) (starts : List (Start Provider)) → AreRecords start.records
     → AreStarts idp_rules Answers start starts → AreKeptOver idp_rules Answers start starts
 
 abbrev pub SessionsStayEndedOverStarts : Type 0
-SessionsStayEndedOverStarts = StayClosedOverStarts idp_rules Answers IsEnded IsDead
+SessionsStayEndedOverStarts = StayClosedOverStarts idp_rules Answers IsEnded ends IsDead

@@ -1,5 +1,5 @@
 -- What becomes of a logout at which each other provider is asked in turn: whom it asks, and what it tells in the end.
-use Rattle.std.specs.Prelude.{◌≡◌, ℕ, not, List, [], ◌∷◌, ◌++◌, length, None, Some, slice_get}
+use Rattle.std.specs.Prelude.{◌≡◌, ℕ, not, List, [], ◌∷◌, ◌++◌, length, Contains, None, Some, slice_get}
 use Rattle.ledger_records.specs.declared.idp_round.Round.{Round}
 use Rattle.ledger_records.specs.declared.idp_round.Told.{Told}
 use Rattle.ledger_records.specs.declared.idp_record.IdpRecord.{IdpRecord}
@@ -14,12 +14,13 @@ use Rattle.idp_rules.specs.declared.config.IdpConfig.{IdpConfig}
 use Rattle.idp_server.specs.Messages.{AsksFirst, IsRequestTo, IsRoundEnd}
 use Rattle.idp_server.specs.Step.{Answers}
 
--- Records of a ledger in which a round began; what came later, with one answer more.
+-- Records of a ledger in which a round began; what came later, with one answer more, which is one of that round.
 pub record InRound (records : List IdpRecord) (r : Told) : Type 0 where
   pub before : List IdpRecord
   pub begun : Round
   pub later : List IdpRecord
   pub are : records ≡ before ++ kinds.Round begun ∷ later
+  pub of : Contains (answers begun (later ++ kinds.Told r ∷ [])) r
 
 abbrev pub with_answer : {records : List IdpRecord} {r : Told} → InRound records r → List IdpRecord
 with_answer {records} {r} round = round.later ++ kinds.Told r ∷ []

@@ -74,11 +74,13 @@ pub fn what_is_acknowledged_is_kept_over_starts()
     idp_ledger::laws::images_hold_records();
 }
 
-/// And a session that was ended is live in no ledger that may be opened behind them.
+/// And a session that was ended, at first or by what an answer acknowledged, is live in no ledger that may be opened
+/// behind them.
 pub fn sessions_stay_ended_over_starts()
     ensures { SessionsStayEndedOverStarts }
 {
     idp_ledger::laws::images_hold_records();
+    idp_ledger::laws::compactions_change_no_answer();
     an_ended_session_stays_ended();
 }
 

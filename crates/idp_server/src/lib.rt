@@ -49,9 +49,9 @@
 //! compaction, the disk does not fail and memory is found (`a_session_is_ended_exactly`); where the disk tells, what an
 //! answer acknowledged is in the history of every ledger that a crash may leave, and in none of these a session lives
 //! that was ended (`what_is_acknowledged_is_kept`); over each list of starts the first half holds
-//! (`what_is_acknowledged_is_kept_over_starts`), and a session that was ended at their start is live in no ledger that
-//! may be opened behind them (`sessions_stay_ended_over_starts`); a session that is ended is live at no later request
-//! (`sessions_stay_ended_in_a_service`), and each that a record ends is ended before the answer is sent
+//! (`what_is_acknowledged_is_kept_over_starts`), and a session that was ended at their start, or by what was
+//! acknowledged, is live in no ledger that may be opened behind them (`sessions_stay_ended_over_starts`); a session that
+//! is ended is live at no later request (`sessions_stay_ended_in_a_service`), and each that a record ends is ended before the answer is sent
 //! (`sessions_end_before_the_answer`); a session whose answer went out is found as it was left
 //! (`what_was_begun_is_as_left`, `sessions_stay_in_a_service`, `sessions_stay_over_starts`), and at 52 what was visible
 //! is, where the ledger was not broken (`what_is_visible_stays`). Of a logout that asks all others: the answer that

@@ -59,9 +59,9 @@ is_set_up told lines loaded whole all none =
 -- ---- what the files hold
 
 record IsSound (loaded : Loaded) : Type 0 where
-  peers : AllByRecursion IsTextPeer loaded.peers
+  peers : AllByRecursion IsTextPeer loaded.read.peers
   users : IfSome loaded.users (AllByRecursion IsTextUser)
-  apart : loaded.doubled ≡ None → differ loaded.peers ≡ true
+  apart : loaded.read.doubled ≡ None → differ loaded.read.peers ≡ true
 
 sound_more : (told : Option (List File)) → AreWritable → (file : IdpFile) (before after : Loaded) → (load file before).gives told after → IsSound before → IsSound after
 sound_more told law (named.Users name) before after (found, (bytes, there, says), is) sound =
@@ -70,20 +70,20 @@ sound_more told law (named.IdKey name) before after h sound = subst IsSound (sym
 sound_more told law (named.Peer names) before after (peer, there, is) sound =
     let texts = read_texts told names peer law there in
     subst IsSound (sym is) (record {
-      peers = all_push IsTextPeer before.peers peer sound.peers texts;
+      peers = all_push IsTextPeer before.read.peers peer sound.peers texts;
       users = sound.users;
       apart = λ none.
-          let parts = none_doubled before.doubled names.line (is_some (place_of peer.peer.entity before.peers)) none in
-          differ_with before.peers peer (sound.apart parts.0) parts.1;
+          let parts = none_doubled before.read.doubled names.line (is_some (place_of peer.peer.entity before.read.peers)) none in
+          differ_with before.read.peers peer (sound.apart parts.0) parts.1;
     })
 
 -- ---- how many peers there are
 
 count_more : (told : Option (List File)) (file : IdpFile) (before after : Loaded) → (load file before).gives told after →
-    length after.peers ≡ length before.peers + cond (is_peer_file file) 1 0
-count_more told (named.Users name) before after h = omega (arith, ap (λ (l : Loaded). length l.peers) h.2)
-count_more told (named.IdKey name) before after h = omega (arith, ap (λ (l : Loaded). length l.peers) h.2)
-count_more told (named.Peer names) before after h = omega (arith, ap (λ (l : Loaded). length l.peers) h.2, length-append before.peers (h.0 ∷ []))
+    length after.read.peers ≡ length before.read.peers + cond (is_peer_file file) 1 0
+count_more told (named.Users name) before after h = omega (arith, ap (λ (l : Loaded). length l.read.peers) h.2)
+count_more told (named.IdKey name) before after h = omega (arith, ap (λ (l : Loaded). length l.read.peers) h.2)
+count_more told (named.Peer names) before after h = omega (arith, ap (λ (l : Loaded). length l.read.peers) h.2, length-append before.read.peers (h.0 ∷ []))
 
 -- ---- what is set up
 
@@ -100,7 +100,7 @@ usable told text file lines config law spelled (loaded, all, (unit, none, is)) e
     let sound = kept load told IsSound (sound_more told law) lines.files nothing loaded all (record { peers = tt; users = tt; apart = λ none. refl }) in
     let made = made_from loaded.users loaded.id_key _ config is in
     let few = few_named text lines spelled in
-    let count = count_all load told is_peer_file (λ (l : Loaded). length l.peers) (count_more told) lines.files nothing loaded all in
+    let count = count_all load told is_peer_file (λ (l : Loaded). length l.read.peers) (count_more told) lines.files nothing loaded all in
     let users = subst (λ (o : Option (List User)). IfSome o (AllByRecursion IsTextUser)) made.2 sound.users in
     subst IsUsable made.3 (record {
       entity = entity;

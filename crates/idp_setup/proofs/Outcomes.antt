@@ -37,14 +37,14 @@ one_load files (named.Users name) before =
     one_made files (text_of MAX_USERS_LENGTH users name) (λ (found : List User). record before { users = Some found })
     (one_text files MAX_USERS_LENGTH users name)
 one_load files (named.IdKey name) before = one_made files (id_key_file name) (λ (key : List ℕ). record before { id_key = Some key }) (one_id_key files name)
-one_load files (named.Peer names) before = one_made files (peer_of names) (λ (peer : LogoutPeer). with_peer names.line peer before) (one_peer files names)
+one_load files (named.Peer names) before = one_made files (peer_of names) (λ (peer : LogoutPeer). record before { read = with_peer names.line peer before.read }) (one_peer files names)
 
 one_set_up_by : (files : List File) (config : List ℕ) (lines : configs.IdpConfig) → ComesToOne files (set_up_by config lines)
 one_set_up_by files config lines =
-    one_then files (in_order load lines.files nothing) (λ loaded. no_line config loaded.doubled >>= λ apart. known (config_of lines loaded))
+    one_then files (in_order load lines.files nothing) (λ loaded. no_line config loaded.read.doubled >>= λ apart. known (config_of lines loaded))
     (one_in_order files load (one_load files) lines.files nothing)
     (λ loaded.
-    one_then files (no_line config loaded.doubled) (λ apart. known (config_of lines loaded)) (one_no_line files config loaded.doubled)
+    one_then files (no_line config loaded.read.doubled) (λ apart. known (config_of lines loaded)) (one_no_line files config loaded.read.doubled)
     (λ apart. one_known files (config_of lines loaded)))
 
 one_set_up : (files : List File) (config : List ℕ) → ComesToOne files (set_up config)

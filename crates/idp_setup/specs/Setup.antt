@@ -16,6 +16,7 @@ use Rattle.sp_setup.specs.Files.{Reading, only, known, no_line, ◌>>=◌, in_or
 use Rattle.idp_rules.specs.declared.config.IdpConfig.{IdpConfig}
 use Rattle.idp_setup.specs.Config.{config_of}
 use Rattle.idp_setup.specs.declared.loaded.Loaded.{Loaded}
+use Rattle.idp_setup.specs.declared.peers_read.PeersRead.{PeersRead}
 
 -- THE NAMED FILES
 
@@ -27,9 +28,12 @@ peer_of names = do
   key_out ← key_file names.key_out
   only (record { peer = peer; key_in = key_in; key_out = key_out })
 
--- nothing is read yet
+-- no peer is read yet, and then nothing
+abbrev pub no_peers : PeersRead
+no_peers = record { peers = []; doubled = None }
+
 abbrev pub nothing : Loaded
-nothing = record { users = None; id_key = None; peers = []; doubled = None }
+nothing = record { users = None; id_key = None; read = no_peers }
 
 -- SAML Metadata, 2.3.2: a name stands for one provider. This is the line of the first peer that has the name of one before it: the
 -- line that was found before, or else this line, where the name of its peer is known.
@@ -38,15 +42,15 @@ doubled_with (Some first) line known = Some first
 doubled_with None line known = if known then Some line else None
 
 -- with the peer of this line
-abbrev pub with_peer : (line : ℕ) → LogoutPeer → Loaded → Loaded
+abbrev pub with_peer : (line : ℕ) → LogoutPeer → PeersRead → PeersRead
 with_peer line peer before =
-    record before { peers = before.peers ++ peer ∷ []; doubled = doubled_with before.doubled line (is_some (place_of peer.peer.entity before.peers)) }
+    record { peers = before.peers ++ peer ∷ []; doubled = doubled_with before.doubled line (is_some (place_of peer.peer.entity before.peers)) }
 
 -- what the files of a line add to what was read before
 abbrev pub load : IdpFile → Loaded → Reading Loaded
 load (files.Users name) before = text_of MAX_USERS_LENGTH users name >>= λ found. only (record before { users = Some found })
 load (files.IdKey name) before = id_key_file name >>= λ key. only (record before { id_key = Some key })
-load (files.Peer names) before = peer_of names >>= λ peer. only (with_peer names.line peer before)
+load (files.Peer names) before = peer_of names >>= λ peer. only (record before { read = with_peer names.line peer before.read })
 
 -- THE CONFIG
 
@@ -54,7 +58,7 @@ load (files.Peer names) before = peer_of names >>= λ peer. only (with_peer name
 abbrev pub set_up_by : (config : List ℕ) → configs.IdpConfig → Reading IdpConfig
 set_up_by config lines = do
   loaded ← in_order load lines.files nothing
-  apart ← no_line config loaded.doubled
+  apart ← no_line config loaded.read.doubled
   known (config_of lines loaded)
 
 -- what the config in this file sets up

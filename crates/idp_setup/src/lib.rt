@@ -20,12 +20,13 @@
 //! started with what is set up (`usable`). A config has one outcome (`laws::a_config_has_one_outcome`).
 #![tactic(auto)]
 
-mod fault;
 pub mod laws;
 mod loaded;
+mod peers_read;
 mod reading;
 mod setup;
 
+pub use peers_read::PeersRead;
 pub use reading::read_peer_files;
 pub use setup::set_up;
 pub use sp_setup::SetupFault;

@@ -3,10 +3,10 @@
 ghost use Rattle.std.specs.Prelude.{◌≡◌, ◌≤◌, IfOk, IfErr, OnOk};
 ghost use Rattle.sp_setup.specs.Faults.{IsFaultOf};
 ghost use Rattle.sp_setup.specs.Files.{in_order};
-ghost use Rattle.idp_setup.specs.Setup.{nothing, with_peer, load};
+ghost use Rattle.idp_setup.specs.Setup.{nothing, load};
 
+use crate::peers_read::PeersRead;
 use crate::reading::{read_id_key, read_peer_files, read_user_file};
-use peer_keys::{LogoutPeer, Peers};
 use provider_config::IdpFile;
 use saml_outside::{Files, NoMemory};
 use sp_setup::SetupFault;
@@ -20,10 +20,8 @@ pub(crate) struct Loaded {
     pub users: Option<Users>,
     /// The key from which IDs are made.
     pub id_key: Option<[u8; 32]>,
-    /// The peers, in the order of their lines.
-    pub peers: Peers,
-    /// The line of the first peer that has the name of one before it.
-    pub doubled: Option<u32>,
+    /// The peers, and whether two of them have one name.
+    pub read: PeersRead,
 }
 
 impl Loaded {
@@ -34,19 +32,8 @@ impl Loaded {
         Loaded {
             users: None,
             id_key: None,
-            peers: Peers::new(alloc),
-            doubled: None,
+            read: PeersRead::nothing(alloc),
         }
-    }
-
-    /// Takes the peer of this line.
-    fn take_peer(&mut self, line: u32, peer: LogoutPeer) -> Result<(), NoMemory>
-        ensures { OnOk result (self.new ≡ with_peer line peer self.old) }
-    {
-        if self.doubled.is_none() && self.peers.place_of(peer.peer.entity.as_str()).is_some() {
-            self.doubled = Some(line);
-        }
-        self.peers.push(peer)
     }
 
     /// Reads the files that a line names, and takes what they hold.
@@ -72,7 +59,7 @@ impl Loaded {
             }
             IdpFile::Peer(names) => {
                 let peer = read_peer_files(alloc, files, names)?;
-                match self.take_peer(names.line, peer) {
+                match self.read.take(names.line, peer) {
                     Ok(()) => Ok(()),
                     Err(NoMemory) => Err(SetupFault::NoMemory),
                 }

@@ -7,7 +7,6 @@ ghost use Rattle.sp_setup.specs.Faults.{IsFaultOf};
 ghost use Rattle.sp_setup.specs.Files.{whole, text_of, key_file, id_key_file, metadata_file};
 ghost use Rattle.idp_setup.specs.Setup.{peer_of};
 
-use crate::fault::bad_file;
 use metadata::{MetaFault, Peer, Role, read_peer};
 use peer_keys::LogoutPeer;
 use provider_config::PeerFiles;
@@ -31,7 +30,7 @@ fn read_named<F: Files>(
 {
     match read_file(alloc, files, name, limit)? {
         Some(bytes) => Ok(bytes),
-        None => Err(bad_file(alloc, name, 0)),
+        None => Err(SetupFault::bad_file(alloc, name, 0)),
     }
 }
 
@@ -44,7 +43,7 @@ fn read_key<F: Files>(alloc: Global, files: &mut F, name: &str) -> Result<Blob, 
 {
     let bytes = read_named(alloc, files, name, GREATEST_KEY)?;
     if bytes.len() < LEAST_KEY {
-        return Err(bad_file(alloc, name, 0));
+        return Err(SetupFault::bad_file(alloc, name, 0));
     }
     match Blob::of(alloc, &bytes) {
         Ok(key) => Ok(key),
@@ -65,7 +64,7 @@ pub(crate) fn read_id_key<F: Files>(
 {
     let bytes = read_named(alloc, files, name, GREATEST_KEY)?;
     if bytes.len() != ID_KEY {
-        return Err(bad_file(alloc, name, 0));
+        return Err(SetupFault::bad_file(alloc, name, 0));
     }
     let mut key = [0; ID_KEY];
     key.copy_from_slice(&bytes);
@@ -83,7 +82,7 @@ fn read_metadata<F: Files>(alloc: Global, files: &mut F, name: &str) -> Result<P
     match read_peer(alloc, &bytes, Role::Sp) {
         Ok(peer) => Ok(peer),
         Err(MetaFault::NoMemory) => Err(SetupFault::NoMemory),
-        Err(_) => Err(bad_file(alloc, name, 0)),
+        Err(_) => Err(SetupFault::bad_file(alloc, name, 0)),
     }
 }
 
@@ -101,7 +100,7 @@ pub(crate) fn read_user_file<F: Files>(
     let bytes = read_named(alloc, files, name, MAX_USERS_LENGTH as u64)?;
     match read_users(alloc, &bytes) {
         Ok(users) => Ok(users),
-        Err(UserFault::Line(line)) => Err(bad_file(alloc, name, u64::from(line))),
+        Err(UserFault::Line(line)) => Err(SetupFault::bad_file(alloc, name, u64::from(line))),
         Err(UserFault::NoMemory) => Err(SetupFault::NoMemory),
     }
 }

@@ -7,7 +7,6 @@ ghost use Rattle.idp_rules.specs.Config.{IsUsable};
 ghost use Rattle.idp_setup.specs.Config.{config_of};
 ghost use Rattle.idp_setup.specs.Setup.{set_up_by, IsSetUp, IsBadSetUp};
 
-use crate::fault::bad_file;
 use crate::loaded::Loaded;
 use idp_rules::IdpConfig;
 use provider_config::{ConfigFault, IdpLines, MAX_CONFIG_LENGTH, read_idp_config};
@@ -25,7 +24,7 @@ fn config_of(lines: IdpLines, loaded: Loaded) -> Option<IdpConfig>
         entity: lines.entity,
         base: lines.base,
         listen: lines.listen,
-        peers: loaded.peers,
+        peers: loaded.read.peers,
         users,
         id_key,
         skew: lines.skew,
@@ -48,8 +47,8 @@ fn set_up_by<F: Files>(
     ensures never_falls { F.faults_of files.old ≤ F.faults_of files.new }
 {
     let loaded = Loaded::of_files(alloc, files, &lines.files)?;
-    if let Some(line) = loaded.doubled {
-        return Err(bad_file(alloc, file, u64::from(line)));
+    if let Some(line) = loaded.read.doubled {
+        return Err(SetupFault::bad_file(alloc, file, u64::from(line)));
     }
     match config_of(lines, loaded) {
         Some(config) => Ok(config),
@@ -72,11 +71,11 @@ pub fn set_up<F: Files>(alloc: Global, files: &mut F, file: &str) -> Result<IdpC
 {
     canon_laws::a_spelled_tree_is_writable();
     let Some(bytes) = read_file(alloc, files, file, MAX_CONFIG_LENGTH as u64)? else {
-        return Err(bad_file(alloc, file, 0));
+        return Err(SetupFault::bad_file(alloc, file, 0));
     };
     match read_idp_config(alloc, &bytes) {
         Ok(lines) => set_up_by(alloc, files, file, lines),
-        Err(ConfigFault::Line(line)) => Err(bad_file(alloc, file, u64::from(line))),
+        Err(ConfigFault::Line(line)) => Err(SetupFault::bad_file(alloc, file, u64::from(line))),
         Err(ConfigFault::NoMemory) => Err(SetupFault::NoMemory),
     }
 }

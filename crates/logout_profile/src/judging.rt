@@ -46,8 +46,10 @@ fn judge_document(
 ) -> Result<Logout, Judged>
     requires now { now ≤ LAST }
     requires spelled { IsSpelled doc.now.text doc.now.tree }
-    ensures accepted { IfOk result (λ logout. (body : List ℕ) → Posts body field doc.now.text relay → IsAccepted peers.now (option_map (λ key. key.now) second.entry) address.now skew now body logout) }
-    ensures refused { IfErr result (λ judged. (body : List ℕ) → Posts body field doc.now.text relay → IsJudged (IsRefused peers.now (option_map (λ key. key.now) second.entry) address.now skew now body) judged) }
+    ensures accepted { IfOk result (λ logout. (body : List ℕ) → Posts body field doc.now.text relay →
+        IsAccepted peers.now (option_map (λ key. key.now) second.entry) address.now skew now body logout) }
+    ensures refused { IfErr result (λ judged. (body : List ℕ) → Posts body field doc.now.text relay →
+        IsJudged (IsRefused peers.now (option_map (λ key. key.now) second.entry) address.now skew now body) judged) }
 {
     let root = At {
         doc,

@@ -56,11 +56,14 @@ pub fn what_is_made_is_vouched_for()
 /// Of a form that is obeyed: the ID of a request holds characters that a document may hold, and its place is that of the peer
 /// whose key vouches for it; where there is one peer this is 0.
 pub fn what_an_obeyed_form_says()
-    ensures id { (peers : List LogoutPeer) (second : Option (List ℕ)) (address : List ℕ) (skew now : ℕ) (body : List ℕ) (request : LogoutRequest) (place : ℕ) (relay : Option (List ℕ)) →
+    ensures id { (peers : List LogoutPeer) (second : Option (List ℕ)) (address : List ℕ) (skew now : ℕ)
+        (body : List ℕ) (request : LogoutRequest) (place : ℕ) (relay : Option (List ℕ)) →
         IsAccepted peers second address skew now body (Ask request place relay) → IsText request.id }
-    ensures at { (peers : List LogoutPeer) (second : Option (List ℕ)) (address : List ℕ) (skew now : ℕ) (body : List ℕ) (request : LogoutRequest) (place : ℕ) (relay : Option (List ℕ)) →
+    ensures at { (peers : List LogoutPeer) (second : Option (List ℕ)) (address : List ℕ) (skew now : ℕ)
+        (body : List ℕ) (request : LogoutRequest) (place : ℕ) (relay : Option (List ℕ)) →
         (is : IsAccepted peers second address skew now body (Ask request place relay)) → place ≡ is.place }
-    ensures asks { (peer : LogoutPeer) (second : Option (List ℕ)) (address : List ℕ) (skew now : ℕ) (body : List ℕ) (request : LogoutRequest) (place : ℕ) (relay : Option (List ℕ)) →
+    ensures asks { (peer : LogoutPeer) (second : Option (List ℕ)) (address : List ℕ) (skew now : ℕ) (body : List ℕ)
+        (request : LogoutRequest) (place : ℕ) (relay : Option (List ℕ)) →
         IsAccepted (peer ∷ []) second address skew now body (Ask request place relay) → place ≡ 0 }
     ensures replies { (peer : LogoutPeer) (second : Option (List ℕ)) (address : List ℕ) (skew now : ℕ) (body : List ℕ) (response : LogoutResponse) (place : ℕ) →
         IsAccepted (peer ∷ []) second address skew now body (Reply response place) → place ≡ 0 }

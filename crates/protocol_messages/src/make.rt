@@ -117,7 +117,9 @@ fn answer(
     requires destination { IsText destination.now }
     requires request { IsText request.now }
     requires issued { issued ≤ LAST }
-    ensures { IfOk result (λ made. IsMadeAt issued (λ instant. message local.now (response_attributes id.now destination.now request.now instant) (issuer_made issuer.now)) made) }
+    ensures { IfOk result (λ made. IsMadeAt issued (λ instant.
+        message local.now (response_attributes id.now destination.now request.now instant)
+        (issuer_made issuer.now)) made) }
 {
     let instant = instant(alloc, issued)?;
     let mut made = Made::new(alloc, Ns::Samlp, local);
@@ -234,7 +236,8 @@ pub fn make_logout_response(
     requires destination { IsText destination.now }
     requires request { IsText request.now }
     requires issued { issued ≤ LAST }
-    ensures { IfOk result (λ made. IsMadeAt issued (logged_out id.now issuer.now destination.now request.now (if partial then failed partial_logout else succeeded)) made) }
+    ensures { IfOk result (λ made. IsMadeAt issued (logged_out id.now issuer.now destination.now request.now
+        (if partial then failed partial_logout else succeeded)) made) }
 {
     let mut made = answer(
         alloc,

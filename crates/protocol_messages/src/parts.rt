@@ -159,7 +159,8 @@ pub(crate) struct Status {
 ///
 /// `WrongShape`, exactly where there are several.
 fn read_inner(alloc: Global, code: At<'_, '_>) -> Result<Option<Text>, ShapeFault>
-    ensures ok { IfOk result (λ inner. option_map (value_inside (tree_of code.entry)) (at_most_one (children (tree_of code.entry) code.entry.node.0 (samlp (codes "StatusCode")))) ≡ Some inner) }
+    ensures ok { IfOk result (λ inner. option_map (value_inside (tree_of code.entry))
+        (at_most_one (children (tree_of code.entry) code.entry.node.0 (samlp (codes "StatusCode")))) ≡ Some inner) }
     ensures other { IfErr result (λ fault. IsShapeFault fault (at_most_one (children (tree_of code.entry) code.entry.node.0 (samlp (codes "StatusCode"))) ≡ None)) }
 {
     match at_most_one(code, samlp("StatusCode"))? {

@@ -45,7 +45,8 @@ pub struct ResponseHead {
 ///
 /// `WrongShape`, exactly where it has several.
 fn read_issuer_at_most(alloc: Global, at: At<'_, '_>) -> Result<Option<Text>, ShapeFault>
-    ensures ok { IfOk result (λ issuer. option_map (option_map (issuer_named (tree_of at.entry))) (at_most_one (children (tree_of at.entry) at.entry.node.0 (saml (codes "Issuer")))) ≡ Some issuer) }
+    ensures ok { IfOk result (λ issuer. option_map (option_map (issuer_named (tree_of at.entry)))
+        (at_most_one (children (tree_of at.entry) at.entry.node.0 (saml (codes "Issuer")))) ≡ Some issuer) }
     ensures other { IfErr result (λ fault. IsShapeFault fault (at_most_one (children (tree_of at.entry) at.entry.node.0 (saml (codes "Issuer"))) ≡ None)) }
 {
     match at_most_one(at, saml("Issuer"))? {

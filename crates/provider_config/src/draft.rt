@@ -123,9 +123,20 @@ impl Model for Draft {
 
     ghost Value = { drafts.Found };
 
-    ghost view = { λ d. record { entity = d.entity; base = d.base; listen = d.listen; skew = d.skew; files = d.files.items; next_in = d.next_in; guard = d.guard; asked = d.asked.items; opened = d.opened.items } };
+    ghost view = { λ d. record {
+      entity = d.entity;
+      base = d.base;
+      listen = d.listen;
+      skew = d.skew;
+      files = d.files.items;
+      next_in = d.next_in;
+      guard = d.guard;
+      asked = d.asked.items;
+      opened = d.opened.items;
+    } };
 
-    ghost invariant = { λ d. ForSome d.entity IsText × ForSome d.base IsText × ForSome d.listen IsText × ForSome d.skew (λ milliseconds. milliseconds ≤ MILLIS * MOST_SKEW) × ForSome d.next_in spec.AreInOrder };
+    ghost invariant = { λ d. ForSome d.entity IsText × ForSome d.base IsText × ForSome d.listen IsText
+        × ForSome d.skew (λ milliseconds. milliseconds ≤ MILLIS * MOST_SKEW) × ForSome d.next_in spec.AreInOrder };
 }
 
 impl Draft {

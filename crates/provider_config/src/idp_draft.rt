@@ -87,7 +87,8 @@ impl Model for IdpDraft {
 
     ghost view = { λ d. record { entity = d.entity; base = d.base; listen = d.listen; skew = d.skew; sign = d.sign; fanout = d.fanout; files = d.files.items } };
 
-    ghost invariant = { λ d. ForSome d.entity IsText × ForSome d.base IsText × ForSome d.listen IsText × ForSome d.skew (λ milliseconds. milliseconds ≤ MILLIS * MOST_SKEW) };
+    ghost invariant = { λ d. ForSome d.entity IsText × ForSome d.base IsText × ForSome d.listen IsText
+        × ForSome d.skew (λ milliseconds. milliseconds ≤ MILLIS * MOST_SKEW) };
 }
 
 impl IdpDraft {

@@ -82,9 +82,10 @@ module _ {Setup R : Type 0}
 
     in_serving : ServingLeaves rules Answers setup found request now told image → Contains found.records r ⊎ Is
     in_serving (AtFirst same may) = inl (in_found (ledger_in rules image) held found r is same there)
-    in_serving (InCompaction (inl same) amid) = inl (in_found (ledger_in rules image) held found r is same there)
-    in_serving (InCompaction (inr (made, room, same)) amid) = inl
-        (among_compacted rules now found made r room.made (in_found (ledger_in rules image) held made r is same there))
+    in_serving (InCompaction room left) = ⊎_elim
+        (λ same. inl (in_found (ledger_in rules image) held found r is same there)) (λ (made, compacts, same). inl
+        (among_compacted rules now found made r compacts (in_found (ledger_in rules image) held made r is same there)))
+        left.stands
     in_serving (InCommit one left) = in_commit one left.stands
 
 module _ {Setup R : Type 0} (rules : RecordRules R) (Answers : AnswersBy Setup R) where

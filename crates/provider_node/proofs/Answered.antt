@@ -43,9 +43,9 @@ module _ {Setup R : Type 0} (rules : RecordRules R) (Answers : AnswersBy Setup R
       plainly (steps.Plain answers whole) = (inl answers, whole)
       plainly (steps.Recorded r answers place whole) = absurd (never answer r answers)
       plainly (steps.RecordedAfterCompaction held r room answers place whole) =
-          absurd (never room.other room.wanted room.wants)
+          absurd (never room.room.other room.room.wanted room.room.wants)
       plainly (steps.NoPlace held r another room answers unplaced is whole) =
-          absurd (never room.other room.wanted room.wants)
+          absurd (never room.room.other room.room.wanted room.room.wants)
       plainly (steps.Failed wanted other wants risen is broken) = absurd (never other wanted wants)
       plainly (steps.Starved held (inl same) is whole) = (inr is, subst (IsWhole old new) same whole)
-      plainly (steps.Starved held (inr room) is whole) = absurd (never room.other room.wanted room.wants)
+      plainly (steps.Starved held (inr room) is whole) = absurd (never room.room.other room.room.wanted room.room.wants)

@@ -15,7 +15,7 @@ use Rattle.record_ledger.specs.Rules.{RecordRules}
 use Rattle.record_ledger.specs.Calls.{committing, opening}
 use Rattle.record_ledger.specs.Ledger.{Held, ledger_in, taken}
 use Rattle.provider_node.specs.Calls.{Begins, CompactionCalls}
-use Rattle.provider_node.specs.Step.{Adding, AnswersBy, Provider, IsWhole, IsBroken, MakesRoom, Serves, ServesOnDisk}
+use Rattle.provider_node.specs.Step.{Adding, AnswersBy, HasPlace, Provider, IsWhole, IsBroken, MakesRoom, Serves, ServesOnDisk}
 use Rattle.provider_node.specs.Step.{ServingCalls, Plain, Recorded, RecordedAfterCompaction, NoPlace, Failed, Starved}
 use Rattle.provider_node.specs.Step.{NotOpened, StarvedAtOpening, StepsOnDisk, Strange}
 use Rattle.provider_node.specs.Node.{CompactsFound, MadeAnew, Stays, Fails}
@@ -93,29 +93,32 @@ module _ {Setup R : Type 0} (rules : RecordRules R) (Answers : AnswersBy Setup R
   module _ (found : Held R) (old new : Provider Setup R) (request : Request) (now : ℕ) (Risen : Type 0) where
     -- it failed
     uncompacted : (fault : OpenFault) (other : Answer) (wanted : R) (told later : Option DiskState)
-        → Answers old.setup found request now other (Some wanted) → CompactsFound rules now found (Err fault) old new
-        → (IsErrOf {T = Unit {0}} (Err fault) DiskFault → Risen) → CompactionCalls rules now found told later
+        → Answers old.setup found request now other (Some wanted) → ¬ (HasPlace rules found wanted)
+        → CompactsFound rules now found (Err fault) old new → (IsErrOf {T = Unit {0}} (Err fault) DiskFault → Risen) → CompactionCalls rules now found told later
         (Err fault) → ServesOnDisk rules Answers found request now Risen (Fixed (code_of fault)) old new told later
-    uncompacted fault other wanted told later wants (MadeAnew held is made whole) risen calls = cc
-    uncompacted fault other wanted told later wants (Stays is whole) risen calls = let same : fault ≡ NoMemory = cc in
+    uncompacted fault other wanted told later wants none (MadeAnew held is made whole) risen calls = cc
+    uncompacted fault other wanted told later wants none (Stays is whole) risen calls = let same : fault ≡ NoMemory = cc in
         record {
           serves = Starved found (inl refl) (ap (λ (f : OpenFault). Fixed (code_of f)) same) whole;
           calls = subst (λ (f : OpenFault). CompactionCalls rules now found told later (Err f)) same calls;
         }
-    uncompacted fault other wanted told later wants (Fails is broken) risen calls = let same : fault ≡ DiskFault = cc in
+    uncompacted fault other wanted told later wants none (Fails is broken) risen calls = let same : fault ≡ DiskFault = cc in
         record {
           serves = Failed wanted other wants (risen is) (ap (λ (f : OpenFault). Fixed (code_of f)) same) broken;
-          calls = inl (subst (λ (f : OpenFault). CompactionCalls rules now found told later (Err f)) same calls);
+          calls = inl (
+            none,
+            subst (λ (f : OpenFault). CompactionCalls rules now found told later (Err f)) same calls,
+          );
         }
 
     -- a compaction that made no room
     pub serves_unmade : (result : Result (Unit {0}) OpenFault) (other : Answer) (wanted : R) (told later : Option
-        DiskState) → Answers old.setup found request now other (Some wanted) → CompactsFound rules now found result
-        old new → (IsErrOf result DiskFault → Risen) → CompactionCalls rules now found told later result → IfErr result
+        DiskState) → Answers old.setup found request now other (Some wanted) → ¬ (HasPlace rules found wanted)
+        → CompactsFound rules now found result old new → (IsErrOf result DiskFault → Risen) → CompactionCalls rules now found told later result → IfErr result
         (λ fault. ServesOnDisk rules Answers found request now Risen (Fixed (code_of fault)) old new told later)
-    serves_unmade (Ok u) other wanted told later wants compacts risen calls = tt
-    serves_unmade (Err fault) other wanted told later wants compacts risen calls =
-        uncompacted fault other wanted told later wants compacts risen calls
+    serves_unmade (Ok u) other wanted told later wants none compacts risen calls = tt
+    serves_unmade (Err fault) other wanted told later wants none compacts risen calls =
+        uncompacted fault other wanted told later wants none compacts risen calls
 
   -- a ledger that was not opened
   why : (disk : Option DiskState) (held : Held R) (file : FileNo) (place : ℕ) → IfSome disk (λ d.

@@ -1,6 +1,6 @@
 -- The histories of what a provider's disk may hold, from turn to turn.
 use Rattle.std.specs.Prelude.{Contains, map, IfSome, IsSome, Option, None, Some, Ok}
-use Rattle.std.proofs.Common.{◌≡◌, ◌⊎◌, ⊎_elim, inl, inr, ℕ, suc, ◌≤◌, List, [], ◌∷◌, ◌++◌, All, sym, subst, refl, ap}
+use Rattle.std.proofs.Common.{◌≡◌, ◌⊎◌, ⊎_elim, inl, inr, ℕ, zero, suc, ◌≤◌, List, [], ◌∷◌, ◌++◌, All, sym, subst, refl, ap}
 use Rattle.std.proofs.Common.{◌∙◌, true, false, append_assoc, arith}
 use Rattle.std.proofs.lemmas.List.{append-nil}
 use Rattle.std.proofs.lemmas.List.Elements.{All-from_recursion, Contains-append_left, Contains-append_right}
@@ -121,6 +121,12 @@ moments_are IsMoment (turn ∷ past) is = (
       (λ now there. is now (Contains-append_right (map (λ one. one.now) (asked_by turn)) (moments_of past) now there)),
 )
 
+pub moment_at : {N : Type 0} (IsMoment : ℕ → Type 0) (asked : List (Asked N)) (one : Asked N)
+    → AllByRecursion (λ (x : Asked N). IsMoment x.now) asked → Contains asked one → IsMoment one.now
+moment_at IsMoment [] one all there = absurd (omega (arith, there.1))
+moment_at {N} IsMoment (x ∷ xs) one all (zero, less, is) = subst (λ (a : Asked N). IsMoment a.now) is all.0
+moment_at IsMoment (x ∷ xs) one all (suc k, less, is) = moment_at IsMoment xs one all.1 (k, omega (arith, less), is)
+
 -- ---- what is known of a provider, its disk and the records that were acknowledged
 
 -- the numbers of a record that is added were not drawn before
@@ -151,8 +157,8 @@ module _ {Setup R : Type 0} (rules : RecordRules R) (Answers : AnswersBy Setup R
     serving_left : (told : Option DiskState) (image : Image) → ServingLeaves
         rules Answers setup found request now told image → HoldsWhatCame rules IsMoment start records image
     serving_left told image (steps.AtFirst is may) = (found, is, came)
-    serving_left told image (steps.InCompaction (inl is) amid) = (found, is, came)
-    serving_left told image (steps.InCompaction (inr (held, room, is)) amid) = (held, is, roomed held (inr room))
+    serving_left told image (steps.InCompaction room left) = ⊎_elim (λ is. (found, is, came)) (λ (held, made, is).
+        (held, is, compacted rules IsMoment start records now found held moment made came)) left.stands
     serving_left told image (steps.InCommit one left) =
         let over = roomed one.held (⊎_elim (λ same. inl same.0) (λ made. inr made.0) one.over) in
         ⊎_elim (λ is. (one.held, is, over)) (λ is. (

@@ -1,6 +1,7 @@
 -- That runs that a crash cut join.
-use Rattle.std.specs.Prelude.{IfSome, IsSome, Option, Some}
+use Rattle.std.specs.Prelude.{Contains, IfSome, IsSome, map, Option, Some}
 use Rattle.std.proofs.Common.{◌≡◌, ◌⊎◌, inl, inr, ℕ, List, [], ◌∷◌, ◌++◌, sym, subst, refl, ap, ◌∙◌, arith}
+use Rattle.std.proofs.lemmas.List.Elements.{Contains-append_right}
 use Rattle.crash_disk.specs.Disk.{Image, DiskState, MayLeave, image_of, settled_image}
 use Rattle.crash_disk.specs.Moments.{Leaves}
 use Rattle.crash_disk.specs.Soundness.{only-settled_image}
@@ -8,15 +9,16 @@ use Rattle.conn_table.specs.Table.{Table}
 use Rattle.http_wire.specs.Requests.{Request}
 use Rattle.serve_loop.specs.Serving.{LeftInside}
 use Rattle.serve_loop.specs.Turns.{Run, Turn, asked_by, asked_in}
-use Rattle.serve_loop.specs.Worlds.{World}
+use Rattle.serve_loop.specs.Worlds.{NodeLeaves, World}
 use Rattle.serve_loop.proofs.InOrder.{inside_split, inside_turn}
 use Rattle.record_ledger.specs.Rules.{RecordRules}
 use Rattle.record_ledger.specs.Ledger.{Held}
 use Rattle.provider_node.specs.Step.{AnswersBy, Provider, StepLeaves}
-use Rattle.provider_node.specs.Histories.{IsProviders}
+use Rattle.provider_node.specs.Histories.{IsProviders, moments_of}
 use Rattle.provider_node.specs.Joining.{EachImageGoesOn, GoesOn, InOpening, InServing, IsCutOf}
-use Rattle.provider_node.specs.Starts.{AreStarts, Cut, Goes, InAnswer, IsNext, IsServed, LeftBy, Served, Start}
+use Rattle.provider_node.specs.Starts.{AreStartsAt, Cut, GoesAt, InAnswer, IsNextAt, IsServed, LeftByAt, Served, Start}
 use Rattle.provider_node.specs.Starts.{told_before}
+use Rattle.provider_node.proofs.Histories.{AreMoments, moment_at, moments_are}
 
 -- a disk that was synced as an image
 settled_reads : (image : Image) → MayLeave (settled_image image) image
@@ -25,26 +27,33 @@ settled_reads image = record {
   one = record { no_shorter = omega arith; no_longer = omega arith; elsewhere = λ i below outside. refl };
 }
 
-module _ {Setup R : Type 0} (rules : RecordRules R) (Answers : AnswersBy Setup R) where
-  -- a run was cut inside the answer to one request: what was done before it
+module _ {Setup R : Type 0} (rules : RecordRules R) (Answers : AnswersBy Setup R) (IsMoment : ℕ → Type 0) where
+  -- a run was cut inside the answer to the request of one turn: what was done before it, and what is left inside
   record CutAt (first : World (Provider Setup R)) (turns : List (Turn (Provider Setup R))) (image : Image) : Type 0
     where
       past : List (Turn (Provider Setup R))
       later : List (Turn (Provider Setup R))
+      turn : Turn (Provider Setup R)
       kept : Table
       last : World (Provider Setup R)
-      are : turns ≡ later ++ past
+      are : turns ≡ later ++ turn ∷ past
       run : Run (IsProviders rules Answers) first past kept last
+      inside : LeftInside (StepLeaves rules Answers) (asked_by turn) image
       request : Request
       now : ℕ
+      at : IsMoment now
       left : StepLeaves rules Answers last.node last.disk request now image
 
+  -- what a crash inside an answer leaves, at such a moment
+  abbrev LeavesAt : NodeLeaves (Provider Setup R)
+  LeavesAt old disk request now image = IsMoment now × StepLeaves rules Answers old disk request now image
+
   cut_at : (first last : World (Provider Setup R)) (turns : List (Turn (Provider Setup R)))
-      (kept : Table) (image : Image) → Run (IsProviders rules Answers) first turns kept last
+      (kept : Table) (image : Image) → Run (IsProviders rules Answers) first turns kept last → AreMoments IsMoment turns
       → LeftInside (StepLeaves rules Answers) (asked_in turns) image → CutAt first turns image
-  cut_at first last [] kept image run inside = absurd (omega (arith, inside.1.1))
-  cut_at first last (turn ∷ past) kept image (old, earlier, given, did, next, does) inside =
-      of_case (λ before. cut_at first earlier past old image did before)
+  cut_at first last [] kept image run are inside = absurd (omega (arith, inside.1.1))
+  cut_at first last (turn ∷ past) kept image (old, earlier, given, did, next, does) are inside =
+      of_case (λ before. cut_at first earlier past old image did are.1 before)
       (inside_split (StepLeaves rules Answers) (asked_in past) (asked_by turn) image inside)
     where
       of_case : (LeftInside (StepLeaves rules Answers) (asked_in past) image → CutAt first past image)
@@ -54,40 +63,60 @@ module _ {Setup R : Type 0} (rules : RecordRules R) (Answers : AnswersBy Setup R
           record {
             past = cut.past;
             later = turn ∷ cut.later;
+            turn = cut.turn;
             kept = cut.kept;
             last = cut.last;
             are = ap (λ (l : List (Turn (Provider Setup R))). turn ∷ l) cut.are;
             run = cut.run;
+            inside = cut.inside;
             request = cut.request;
             now = cut.now;
+            at = cut.at;
             left = cut.left;
           }
       of_case cut_before (inr here) =
-          let (asked, told, asks, might) = inside_turn
-          (IsProviders rules Answers) (StepLeaves rules Answers) turn old given kept last does image here in
+          let (asked, told, asks, (at, might)) = inside_turn (IsProviders rules Answers) LeavesAt turn old given kept
+          last does image (here.0, here.1, (moment_at IsMoment (asked_by turn) here.0 are.0 here.1, here.2)) in
           let node = ap (λ (w : World (Provider Setup R)). w.node) next.same in
           let disk = ap (λ (w : World (Provider Setup R)). w.disk) next.same in
           record {
             past = past;
-            later = turn ∷ [];
+            later = [];
+            turn = turn;
             kept = old;
             last = earlier;
             are = refl;
             run = did;
+            inside = here;
             request = asked.request;
             now = asked.now;
+            at = at;
             left = subst (λ (p : Provider Setup R). StepLeaves
                 rules Answers p earlier.disk asked.request asked.now image) node (subst (λ (d : Option DiskState).
                 StepLeaves rules Answers given.node d asked.request asked.now image) disk might);
           }
 
+  -- the moments of the turns that were done before one are among those of all
+  past_moments : (turns later : List (Turn (Provider Setup R))) (turn : Turn (Provider Setup R))
+      (past : List (Turn (Provider Setup R))) → turns ≡ later ++ turn ∷ past
+      → (now : ℕ) → Contains (moments_of past) now → Contains (moments_of turns) now
+  past_moments turns [] turn past are now there =
+      subst (λ (l : List (Turn (Provider Setup R))). Contains (moments_of l) now) (sym are)
+      (Contains-append_right (map (λ one. one.now) (asked_by turn)) (moments_of past) now there)
+  past_moments turns (other ∷ later) turn past are now there =
+      subst (λ (l : List (Turn (Provider Setup R))). Contains (moments_of l) now) (sym are)
+      (Contains-append_right (map (λ one. one.now) (asked_by other)) (moments_of (later ++ turn ∷ past)) now
+      (past_moments (later ++ turn ∷ past) later turn past refl now there))
+
   module _ (start : Held R) (earlier : List (Start (Provider Setup R))) (before : Option DiskState)
       (IsFirst : World (Provider Setup R) → Type 0) (turns : List (Turn (Provider Setup R))) (image : Image)
-      (were : AreStarts rules Answers start earlier) (is_next : IsNext rules Answers start earlier (Cut before)) where
+      (were : AreStartsAt rules Answers IsMoment start earlier)
+      (is_next : IsNextAt rules Answers IsMoment start earlier (Cut before)) where
     -- a start on a disk that was synced as an image that the last one may leave
-    goes_next : (one : Start (Provider Setup R)) → LeftBy rules Answers one image
-        → (later : Start (Provider Setup R)) (told : Option DiskState) → told_before later ≡ told → told ≡ Some
-        (settled_image image) → Goes rules Answers later → IsNext rules Answers start (one ∷ earlier) later
+    goes_next : (one : Start (Provider Setup R)) → LeftByAt rules Answers IsMoment one image
+        → (later : Start (Provider Setup R)) (told : Option DiskState) → told_before later ≡ told
+        → told ≡ Some (settled_image image) → GoesAt rules Answers IsMoment later
+        → IsNextAt rules Answers IsMoment start (one ∷ earlier) later
     goes_next one left later told same is goes =
         let tells : told_before later ≡ Some (settled_image image) = same ∙ is in
         record {
@@ -95,13 +124,14 @@ module _ {Setup R : Type 0} (rules : RecordRules R) (Answers : AnswersBy Setup R
           reads = subst
               (λ (o : Option DiskState). IfSome o (λ d. MayLeave d (image_of d))) (sym tells) (settled_reads image);
           left = λ other may. let only = only-settled_image image other (subst
-              (λ (o : Option DiskState). Leaves o other) tells may) in subst (LeftBy rules Answers one) (sym only) left;
+              (λ (o : Option DiskState). Leaves o other) tells may) in subst (LeftByAt rules Answers IsMoment one) (sym only) left;
           goes = goes;
         }
 
     goes_on : (one : Start (Provider Setup R))
-        → IsCutOf rules Answers before IsFirst turns one → IsNext rules Answers start earlier one
-        → LeftBy rules Answers one image → GoesOn rules Answers start earlier before IsFirst turns image
+        → IsCutOf rules Answers IsMoment before IsFirst turns image one
+        → IsNextAt rules Answers IsMoment start earlier one → LeftByAt rules Answers IsMoment one image
+        → GoesOn rules Answers IsMoment start earlier before IsFirst turns image
     goes_on one cut next left = record {
       one = one;
       cut = cut;
@@ -112,29 +142,35 @@ module _ {Setup R : Type 0} (rules : RecordRules R) (Answers : AnswersBy Setup R
 
     served_next : (first last : World (Provider Setup R)) (past : List (Turn (Provider Setup R))) (kept : Table)
         → IsServed rules Answers before first past kept last
-        → IsNext rules Answers start earlier (Served before first past kept last)
-    served_next first last past kept served =
-        record { tells = is_next.tells; reads = is_next.reads; left = is_next.left; goes = (served, λ now there. tt) }
+        → ((now : ℕ) → Contains (moments_of past) now → IsMoment now)
+        → IsNextAt rules Answers IsMoment start earlier (Served before first past kept last)
+    served_next first last past kept served at =
+        record { tells = is_next.tells; reads = is_next.reads; left = is_next.left; goes = (served, at) }
 
     in_serving : (first last : World (Provider Setup R)) (kept : Table)
-        → IsFirst first → IsServed rules Answers before first turns kept last → LeftInside (StepLeaves rules Answers)
-        (asked_in turns) image → GoesOn rules Answers start earlier before IsFirst turns image
-    in_serving first last kept is_first served inside =
-        let cut = cut_at first last turns kept image served.run inside in
+        → IsFirst first → IsServed rules Answers before first turns kept last
+        → ((now : ℕ) → Contains (moments_of turns) now → IsMoment now)
+        → LeftInside (StepLeaves rules Answers) (asked_in turns) image
+        → GoesOn rules Answers IsMoment start earlier before IsFirst turns image
+    in_serving first last kept is_first served at inside =
+        let cut = cut_at first last turns kept image served.run (moments_are IsMoment turns at) inside in
         goes_on (Served before first cut.past cut.kept cut.last)
-        (InServing first cut.past cut.later cut.kept cut.last is_first cut.are cut.run) (served_next first cut.last
-        cut.past cut.kept (record { opened = served.opened; at = served.at; tells = served.tells; run = cut.run }))
-        (InAnswer cut.request cut.now tt cut.left)
+        (InServing first cut.past cut.later cut.turn cut.kept cut.last is_first cut.are cut.run cut.inside)
+        (served_next first cut.last cut.past cut.kept
+        (record { opened = served.opened; at = served.at; tells = served.tells; run = cut.run })
+        (λ now there. at now (past_moments turns cut.later cut.turn cut.past cut.are now there)))
+        (InAnswer cut.request cut.now cut.at cut.left)
 
-  pub each_image_goes_on : (IsFirst : World (Provider Setup R) → Type 0) → EachImageGoesOn rules Answers IsFirst
-  each_image_goes_on IsFirst start earlier before turns image were next ran (inl left) =
-      goes_on start earlier before IsFirst turns image were next (Cut before) InOpening next left
-  each_image_goes_on IsFirst start earlier before turns image were next (inl bare) (inr inside) =
+  pub each_image_goes_on : (IsFirst : World (Provider Setup R) → Type 0)
+      → EachImageGoesOn rules Answers IsMoment IsFirst
+  each_image_goes_on IsFirst start earlier before turns image were next at ran (inl left) =
+      goes_on start earlier before IsFirst turns image were next (Cut before) (InOpening left) next left
+  each_image_goes_on IsFirst start earlier before turns image were next at (inl bare) (inr inside) =
       absurd (omega (
         arith,
         (subst (λ (l : List (Turn (Provider Setup R))). LeftInside (StepLeaves rules Answers) (asked_in l) image) bare
             inside).1.1,
       ))
-  each_image_goes_on IsFirst start earlier before turns image were next
+  each_image_goes_on IsFirst start earlier before turns image were next at
       (inr (first, last, kept, is_first, served)) (inr inside) =
-      in_serving start earlier before IsFirst turns image were next first last kept is_first served inside
+      in_serving start earlier before IsFirst turns image were next first last kept is_first served at inside

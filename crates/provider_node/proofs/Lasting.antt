@@ -1,7 +1,7 @@
 -- What was acknowledged is kept from then on, also inside later answers.
 use Rattle.std.specs.Prelude.{Contains, is_some, IsSome, Option, None, Some}
 use Rattle.std.specs.List.{AllByRecursion}
-use Rattle.std.proofs.Common.{◌≡◌, ◌∙◌, List, [], ◌∷◌, ◌++◌, ℕ, zero, suc, refl, sym, subst, ap, arith, ⊎_elim}
+use Rattle.std.proofs.Common.{◌≡◌, ◌∙◌, List, [], ◌∷◌, ◌++◌, ℕ, refl, sym, subst, ap, arith, ⊎_elim}
 use Rattle.crash_disk.specs.Disk.{Image}
 use Rattle.conn_table.specs.Table.{Table}
 use Rattle.serve_loop.specs.Serving.{LeavesInOrder, LeavesSince, LeftInside}
@@ -17,8 +17,8 @@ use Rattle.provider_node.specs.Step.{AnswersBy, Provider, StepLeaves}
 use Rattle.provider_node.specs.Histories.{AreBehind, Another, CameFrom, HoldsWhatCame, Includes, IsAtStart, IsProviders}
 use Rattle.provider_node.specs.Histories.{This, moments_of}
 use Rattle.provider_node.specs.Lasting.{AreInEachSince, AreKeptSince, StayIn}
-use Rattle.provider_node.proofs.Histories.{AreMoments, DrawsAbove, Holds, all_told, moments_are, asked_goes, begins}
-use Rattle.provider_node.proofs.Histories.{holds_same, step_left}
+use Rattle.provider_node.proofs.Histories.{AreMoments, DrawsAbove, Holds, all_told, asked_goes, begins, moment_at}
+use Rattle.provider_node.proofs.Histories.{holds_same, moments_are, step_left}
 use Rattle.std.specs.Option.{option_to_list}
 
 -- ---- a history in which more records were added is one in which fewer were
@@ -101,12 +101,6 @@ module _ {Setup R : Type 0} (rules : RecordRules R) (Answers : AnswersBy Setup R
     abbrev LeavesAt : NodeLeaves (Provider Setup R)
     LeavesAt old disk request now image = IsMoment now × StepLeaves rules Answers old disk request now image
 
-    at_one : (asked : List (Asked (Provider Setup R))) (one : Asked (Provider Setup R)) → AllByRecursion
-        (λ (x : Asked (Provider Setup R)). IsMoment x.now) asked → Contains asked one → IsMoment one.now
-    at_one [] one all there = absurd (omega (arith, there.1))
-    at_one (x ∷ xs) one all (zero, less, is) = subst (λ (a : Asked (Provider Setup R)). IsMoment a.now) is all.0
-    at_one (x ∷ xs) one all (suc k, less, is) = at_one xs one all.1 (k, omega (arith, less), is)
-
     -- the records that were acknowledged, what is known then, and that they stay, whatever requests come later
     abbrev Follows : (turns : List (Turn (Provider Setup R))) (kept : Table) (now : World (Provider Setup R))
         → Run (IsProviders rules Answers) first turns kept now → Type 0
@@ -131,7 +125,7 @@ module _ {Setup R : Type 0} (rules : RecordRules R) (Answers : AnswersBy Setup R
         ∙ (all_told rules Answers first before past old tells did).1 in
         let in_turn : HaveInside earlier (asked_by turn) = λ image among. let (asked, then, asks, might) = inside_turn
         (IsProviders rules Answers) LeavesAt turn old given kept now does image
-        (among.0, among.1, (at_one (asked_by turn) among.0 moments.0 among.1, among.2)) in
+        (among.0, among.1, (moment_at IsMoment (asked_by turn) among.0 moments.0 among.1, among.2)) in
         step_left rules Answers law numbers IsMoment first.node.ledger.held
         earlier given tells_now asks.answers.reads found asked.now might.0 asked.request image might.1 in (
           records,

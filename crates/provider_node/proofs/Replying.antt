@@ -77,7 +77,11 @@ module _ {Setup R Reply : Type 0} (replies : ReplyRules Setup R Reply) (rules : 
   again old anew request reply are wants full made key =
       let other = answer_of old.held request reply full.r (record { wants = wants; is = full.is }) in
       record {
-        room = record { wanted = full.r; other = other.0; wants = other.1; none = full.none; are = are; made = made.0 };
+        room = record {
+          room = record { wanted = full.r; other = other.0; wants = other.1; none = full.none };
+          are = are;
+          made = made.0;
+        };
         whole = record { setup = refl; key = key; unbroken = made.1; is = refl };
         wants = law.still old.held anew.held request reply are made.0 wants;
         some = law.stands old.held anew.held request reply are made.0 wants ∙ some_of _ full.r full.is;

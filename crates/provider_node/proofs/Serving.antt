@@ -10,9 +10,9 @@ use Rattle.gate_journal.specs.declared.fault.OpenFault.{OpenFault}
 use Rattle.gate_journal.specs.declared.fault.OpenFault.TheVariants.{DiskFault, Foreign, NoMemory}
 use Rattle.gate_journal.specs.Format.{journal}
 use Rattle.gate_journal.specs.Opening.{open_fault_of}
-use Rattle.record_ledger.specs.Rules.{RecordRules, AreRecords}
+use Rattle.record_ledger.specs.Rules.{RecordRules}
 use Rattle.record_ledger.specs.Ledger.{Held, kept_of, ledger_in, held_with}
-use Rattle.record_ledger.specs.Compacting.{Compacts, IsOldOrCompacted}
+use Rattle.record_ledger.specs.Compacting.{Compacts}
 use Rattle.provider_node.specs.Calls.{CompactingLeaves, CompactionCalls, MakesCompaction}
 use Rattle.provider_node.specs.Step.{Adding, AnswersBy, Ledger, Owns, Provider, HasPlace, IsWhole, MakesRoom}
 use Rattle.provider_node.specs.Step.{ServesOnDisk, Recorded, RecordedAfterCompaction, Starved, Failed, ServingLeaves}
@@ -124,7 +124,7 @@ module _ {Setup R : Type 0} (rules : RecordRules R) (Answers : AnswersBy Setup R
     calls = subst (λ (o : Option DiskState). MakesCompaction rules now old.ledger.held told o) (sym same) compacted;
   }
   served_later (Lost other page risen is broken begun) = record {
-    serves = Failed room.wanted room.other room.wants risen is
+    serves = Failed room.room.wanted room.room.other room.room.wants risen is
         (record { setup = broken.setup ∙ first.setup; key = broken.key ∙ first.key; is_broken = broken.is_broken });
     calls = inr (adding anew.ledger.held between (inr (room, compacted)) r other (pages other page) place, begun);
   }
@@ -133,15 +133,10 @@ module _ {Setup R : Type 0} (rules : RecordRules R) (Answers : AnswersBy Setup R
   -- what a compaction leaves, of a ledger that had no place for a record
   pub room_leaves : (setup : Setup) (found : Held R) (request : Request) (now : ℕ)
       (told : Option DiskState) (wanted : R) (other : Answer) → Answers setup found request now other (Some wanted)
-      → ¬ (HasPlace rules found wanted) → AreRecords rules found.records → (image : Image)
+      → ¬ (HasPlace rules found wanted) → (image : Image)
       → CompactingLeaves rules now found told image → ServingLeaves rules Answers setup found request now told image
-  room_leaves setup found request now told wanted other wants none are image left = of_case left.stands
-    where
-      of_case : IsOldOrCompacted rules now found image → ServingLeaves rules Answers setup found request now told image
-      of_case (inl same) = InCompaction (inl same) left.amid
-      of_case (inr (held, made, is)) = InCompaction (inr
-          (held, record { wanted = wanted; other = other; wants = wants; none = none; are = are; made = made }, is))
-          left.amid
+  room_leaves setup found request now told wanted other wants none image left =
+      InCompaction (record { wanted = wanted; other = other; wants = wants; none = none }) left
 
   -- before the first call
   pub first_leaves : (setup : Setup) (ledger : Ledger R) (request : Request) (now : ℕ) (told : Option DiskState)

@@ -2,7 +2,7 @@
 use Rattle.std.specs.Prelude.{Contains, IsSome, Option, None, Some, filter, slice_get}
 use Rattle.std.proofs.Common.{◌≡◌, inl, inr, ℕ, suc, ◌<◌, max, Bool, true, false, cond, ◌&&◌, ◌||◌, not, nat_lt, List}
 use Rattle.std.proofs.Common.{[], ◌∷◌, ◌++◌, map, sym, subst, refl, ap, ◌∙◌, arith}
-use Rattle.std.specs.List.{find, list_any}
+use Rattle.std.specs.List.{find, list_all, list_any}
 use Rattle.std.specs.Option.{option_and_then}
 use Rattle.std.specs.Str.{bytes_eq}
 use Rattle.std.proofs.lemmas.Bool.{and_parts, false≢true, false_from_ne_true, lt-ltb, not-true, or_cases, or_left}
@@ -78,6 +78,17 @@ module _ {X : Type 0} where
       by_test false here none later = let rest = later none in (suc rest.0, rest.1, rest.2)
 
 -- where a key is among some, there are some
+-- what holds of all holds of one among them
+pub all_among : (test : List ℕ → Bool) (texts : List (List ℕ)) (text : List ℕ) → list_all test texts ≡ true
+    → is_among text texts ≡ true → test text ≡ true
+all_among test [] text all among = absurd (false≢true among)
+all_among test (first ∷ others) text all among =
+    let both = and_parts (test first) (list_all test others) all in
+    elim (or_cases (bytes_eq first text) (is_among text others) among) [
+      | inl here ↦ subst (λ (t : List ℕ). test t ≡ true) (same_text first text here) both.0
+      | inr there ↦ all_among test others text both.1 there
+    ]
+
 pub some_among : (key : List ℕ) (keys : List (List ℕ)) → is_among key keys ≡ true → is_empty keys ≡ true → ⊥
 some_among key [] among none = let clash : false ≡ true = among in cc
 some_among key (first ∷ others) among none = let clash : false ≡ true = none in cc

@@ -1,10 +1,10 @@
 -- That what was acknowledged is kept over several starts.
-use Rattle.std.specs.Prelude.{IfSome, IsSome, Option, None, Some, Ok}
-use Rattle.std.proofs.Common.{◌≡◌, inl, inr, ℕ, List, [], ◌∷◌, ◌++◌, sym, subst, refl, ap, ◌∙◌}
+use Rattle.std.specs.Prelude.{Contains, IfSome, IsSome, Option, None, Some, Ok}
+use Rattle.std.proofs.Common.{◌≡◌, inl, inr, ℕ, Bool, true, List, [], ◌∷◌, ◌++◌, sym, subst, refl, ap, ◌∙◌}
 use Rattle.crash_disk.specs.Disk.{DiskState, Image, MayLeave, image_of}
 use Rattle.crash_disk.specs.Moments.{Leaves}
 use Rattle.serve_loop.specs.Worlds.{World}
-use Rattle.record_ledger.specs.Rules.{RecordRules}
+use Rattle.record_ledger.specs.Rules.{AreRecords, RecordRules}
 use Rattle.record_ledger.specs.Ledger.{Held, LeftByOpening, ledger_in, migrated, taken}
 use Rattle.record_ledger.specs.Laws.{ImagesHoldRecords}
 use Rattle.record_ledger.specs.Runs as events
@@ -193,15 +193,32 @@ pub kept_over : {Setup R : Type 0} (rules : RecordRules R) (Answers : AnswersBy 
     → AreStarts rules Answers start starts → AreKeptOver rules Answers start starts
 kept_over rules Answers law numbers start starts are = kept_over_at rules Answers law numbers AnyMoment start starts are
 
-pub closed_over : {Setup R : Type 0} (rules : RecordRules R) (Answers : AnswersBy Setup R)
-    (law : ImagesHoldRecords rules) (numbers : DrawsAbove rules Answers) (IsClosed IsOver : Held R → List ℕ → Type 0)
-    → AClosedSessionStaysClosed rules IsClosed IsOver → StayClosedOverStarts rules Answers IsClosed IsOver
-closed_over
-    {Setup} {R} rules Answers law numbers IsClosed IsOver stays start held starts image token are begun closed left is =
-    let opens = (kept_over rules Answers law numbers start starts begun).kept image left in
-    let same : opens.held ≡ held = (let e = sym opens.opens ∙ is in cc) in
-    subst
-    (λ (h : Held R). IsOver h token) same (stays start opens.held opens.came.events token are closed opens.came.leads)
+-- a session that one of these records closed is over behind a history in which they were added
+abbrev pub StayOver : {R : Type 0} → RecordRules R → (closes : List ℕ → R → Bool) (IsOver : Held R → List ℕ → Type 0)
+    → Type 0
+StayOver {R} rules closes IsOver = (start : Held R) → AreRecords rules start.records → (r : R) (token : List ℕ)
+    → closes token r ≡ true → (events : List (Event R)) (records : List R) (held : Held R)
+    → Includes events records → Contains records r → Leads rules start events held → IsOver held token
+
+module _ {Setup R : Type 0} (rules : RecordRules R) (Answers : AnswersBy Setup R) (law : ImagesHoldRecords rules)
+    (numbers : DrawsAbove rules Answers) (IsClosed : Held R → List ℕ → Type 0) (closes : List ℕ → R → Bool)
+    (IsOver : Held R → List ℕ → Type 0) where
+  pub closed_over : AClosedSessionStaysClosed rules IsClosed IsOver → StayOver rules closes IsOver
+      → StayClosedOverStarts rules Answers IsClosed closes IsOver
+  closed_over stays over start starts are begun = let kept = kept_over rules Answers law numbers start starts begun in
+      let opened : (image : Image) (held : Held R) → LeftBehind rules Answers start starts image
+      → taken (ledger_in rules image) ≡ Ok held → CameFrom rules AnyMoment start kept.records held =
+      (λ image held left is. let opens = kept.kept image left in
+      let same : opens.held ≡ held = (let e = sym opens.opens ∙ is in cc) in
+      subst (CameFrom rules AnyMoment start kept.records) same opens.came) in
+      record {
+        at_first = λ token closed image held left is. let came = opened image held left is in
+            stays start held came.events token are closed came.leads;
+        records = kept.records;
+        are = kept.are;
+        since = λ r token has closing image held left is. let came = opened image held left is in
+            over start are r token closing came.events kept.records held came.includes has came.leads;
+      }
 
 -- what else holds of the histories of what is kept, where it holds of each
 abbrev pub kept_over_so : {Setup R : Type 0} (rules : RecordRules R) (Answers : AnswersBy Setup R) (IsSo : Held R → List

@@ -1,17 +1,20 @@
 -- What happened since a record was added.
 use Rattle.std.specs.Prelude.{Contains}
-use Rattle.std.proofs.Common.{◌≡◌, inl, inr, ℕ, zero, suc, ◌<◌, ◌+◌, ◌==◌, if◌then◌else◌, Bool, true, false, List, []}
-use Rattle.std.proofs.Common.{◌∷◌, ◌++◌, sym, subst, ap, ◌∙◌, arith}
+use Rattle.std.proofs.Common.{◌≡◌, ◌⊎◌, ⊎_elim, inl, inr, ℕ, zero, suc, ◌<◌, ◌+◌, ◌==◌, if◌then◌else◌, Bool, true, false, List, []}
+use Rattle.std.proofs.Common.{◌∷◌, ◌++◌, refl, sym, subst, ap, ◌∙◌, arith}
+use Rattle.std.proofs.lemmas.Bool.{cases_lt}
 use Rattle.std.proofs.lemmas.List.Elements.{All-contains}
 use Rattle.crash_disk.specs.Torn.{other_file}
 use Rattle.record_ledger.specs.Rules.{RecordRules}
 use Rattle.record_ledger.specs.Ledger.{Held, held_with}
 use Rattle.record_ledger.specs.Compacting.{Compacts}
 use Rattle.record_ledger.specs.Laws.{ImagesHoldRecords}
+use Rattle.record_ledger.proofs.Staying.{visible_records_stay}
 use Rattle.record_ledger.specs.Runs as events
 use Rattle.record_ledger.specs.Runs.{CompactsAt, EndsBehind, Event, Adds, Opens, Leads}
 use Rattle.provider_node.specs.Histories.{Another, CameFrom, CompactsWhere, Includes, This}
-use Rattle.provider_node.specs.Staying.{SessionsStayInAService, SessionsStayOverStarts, WasAdded, WhatWasOpenedIsAsLeft}
+use Rattle.provider_node.specs.Staying.{RowIsAsLeft, SessionsStayInAService, SessionsStayOverStarts, WasAdded}
+use Rattle.provider_node.specs.Staying.{WhatWasOpenedIsAsLeft}
 use Rattle.provider_node.specs.Step.{AnswersBy}
 use Rattle.provider_node.proofs.Histories.{DrawsAbove, what_is_kept}
 use Rattle.provider_node.proofs.Starts.{kept_over_at, last_event}
@@ -75,6 +78,40 @@ module _ {R : Type 0} (rules : RecordRules R) where
       by_version h true less = less
       by_version h false less = less
 
+  -- it is that at the start, or one of these moments
+  abbrev IsHorizon : (moments : List ℕ) (start : Held R) → ℕ → Type 0
+  IsHorizon moments start horizon = (horizon ≡ start.header.horizon) ⊎ Contains moments horizon
+
+  horizon_before : (moments : List ℕ) (start held : Held R) (events : List (Event R)) → Leads rules start events held
+      → CompactsAt moments events → IsHorizon moments start held.header.horizon
+  horizon_before moments start held [] leads at = inl (ap (λ (h : Held R). h.header.horizon) leads)
+  horizon_before moments start held (Adds x ∷ past) leads at =
+      subst (λ (h : Held R). IsHorizon moments start h.header.horizon) (sym leads.4)
+      (horizon_before moments start leads.0 past leads.1 at)
+  horizon_before moments start held (events.Compacts now ∷ past) leads at =
+      of_case (horizon_before moments start leads.0 past leads.1 at.1) leads.2
+    where
+      of_case : IsHorizon moments start leads.0.header.horizon → Compacts rules now leads.0 held
+          → IsHorizon moments start held.header.horizon
+      of_case earlier (inl (last, same)) =
+          subst (λ (h : Held R). IsHorizon moments start h.header.horizon) (sym same) earlier
+      of_case earlier (inr (less, made)) = elim (cases_lt leads.0.header.horizon now) [
+        | inl above ↦ let same : now ≡ held.header.horizon = omega (arith, above, made.horizon) in
+            inr (subst (Contains moments) same at.0)
+        | inr over ↦ let same : leads.0.header.horizon ≡ held.header.horizon = omega (arith, over, made.horizon) in
+            subst (IsHorizon moments start) same earlier
+      ]
+  horizon_before moments start held (Opens ∷ past) leads at =
+      subst (λ (h : Held R). IsHorizon moments start h.header.horizon) (sym leads.2)
+      (by_version leads.0 (leads.0.version == 1) (horizon_before moments start leads.0 past leads.1 at))
+    where
+      by_version : (h : Held R) (b : Bool) → IsHorizon moments start h.header.horizon
+          → IsHorizon moments start (if b then record h
+          { file = other_file h.file; version = 2; header = record (h.header) { generation = h.header.generation + 1 } }
+          else h).header.horizon
+      by_version h true is = is
+      by_version h false is = is
+
 -- what is said of all events is said of those before and since
 module _ {R : Type 0} where
   later_at : (moments : List ℕ) (later past : List (Event R))
@@ -122,6 +159,25 @@ stood {R} rules moments start held records r came there =
             (all_at moments w.past (past_at moments w.later (Adds r ∷ w.past) both)) ends;
         each = ends.each;
       };
+    }
+
+pub row_as_left : {R : Type 0} (rules : RecordRules R) (moments : List ℕ) (start held : Held R) (records : List R)
+    (r : R) → CameFrom rules (Contains moments) start records held → Contains records r
+    → RowIsAsLeft rules moments start r held
+row_as_left {R} rules moments start held records r came there =
+    let w = was_added rules start held came.events records r came.leads came.includes there in
+    let both : CompactsWhere
+    (Contains moments) (w.later ++ Adds r ∷ w.past) = subst (CompactsWhere (Contains moments)) w.is came.at in
+    let former = horizon_before rules moments start w.before w.past w.led
+    (all_at moments w.past (past_at moments w.later (Adds r ∷ w.past) both)) in
+    record {
+      events = came.events;
+      leads = came.leads;
+      was = w;
+      stays = λ visible. visible_records_stay rules (held_with r w.before) held w.later moments w.before.records [] r
+          w.leads (later_at moments w.later (Adds r ∷ w.past) both) refl (λ now horizon at is. visible now horizon at
+          (⊎_elim (λ same. ⊎_elim (λ first. inl (same ∙ first))
+          (λ one. inr (subst (Contains moments) (sym same) one)) former) inr is));
     }
 
 -- Where a session that was opened is as it was left in each ledger that came by events, it is so in a service and over

@@ -48,7 +48,8 @@ module _ {Setup R : Type 0} (rules : RecordRules R) (Answers : AnswersBy Setup R
     no_place : (held : Held R)
         → MakesRoom rules Answers old.setup found request now held → ¬ (HasPlace rules found (recorded found))
     no_place held made place =
-        made.none (subst (HasPlace rules found) (its_own found (inl refl) made.other made.wanted made.wants) place)
+        let room = made.room in
+        room.none (subst (HasPlace rules found) (its_own found (inl refl) room.other room.wanted room.wants) place)
 
     -- and behind it there is one
     place_behind : (held : Held R) → MakesRoom rules Answers old.setup found request now held

@@ -24,7 +24,7 @@ abbrev pub IsAmid : (plan : DiskState → List Change) → (told : Option DiskSt
 IsAmid plan told image = IfSome told (λ disk. LeftAmid (plan disk) disk image)
 
 module _ {R : Type 0} (rules : RecordRules R) (now : ℕ) (found : Held R) where
-  -- So it is of the calls of one compaction of a ledger at a moment. At the last generation it makes no call.
+  -- So it is of the calls of one compaction of a ledger at a moment, which makes none at the last generation.
   abbrev pub OfCompaction : ((plan : DiskState → List Change) → Type 0) → Type 0
   OfCompaction Goes =
       Goes (λ disk. []) ⊎ ((made : Held R) × IsCompacted rules now found made × Goes (compacting rules made))

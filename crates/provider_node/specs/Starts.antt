@@ -1,6 +1,6 @@
 -- What became of a ledger over several starts of its provider, with crashes between: each start opens what the one
 -- before it may have left.
-use Rattle.std.specs.Prelude.{◌≡◌, ℕ, true, List, [], ◌∷◌, ◌++◌, Contains, Option, Some, IfSome, IsSome, Ok}
+use Rattle.std.specs.Prelude.{◌≡◌, ℕ, Bool, true, List, [], ◌∷◌, ◌++◌, Contains, Option, None, Some, IfSome, IsSome, Ok}
 use Rattle.crash_disk.specs.Disk.{Image, DiskState, MayLeave, image_of}
 use Rattle.crash_disk.specs.Moments.{Leaves}
 use Rattle.conn_table.specs.Table.{Table}
@@ -34,6 +34,12 @@ abbrev pub turns_of : {N : Type 0} → Start N → List (Turn N)
 turns_of (Cut before) = []
 turns_of (Served before first turns kept last) = turns
 turns_of (Unopened first turns kept last) = turns
+
+-- the world in which a start that served ended
+abbrev pub last_of : {N : Type 0} → Start N → Option (World N)
+last_of (Cut before) = None
+last_of (Served before first turns kept last) = Some last
+last_of (Unopened first turns kept last) = Some last
 
 -- the requests that a node was asked in starts, in order
 abbrev pub asked_over : {N : Type 0} → List (Start N) → List (Asked N)
@@ -169,10 +175,24 @@ module _ {Setup R : Type 0} (rules : RecordRules R) (Answers : AnswersBy Setup R
   abbrev pub AreKeptOver : (start : Held R) → (starts : List (Start (Provider Setup R))) → Type 0
   AreKeptOver = AreKeptOverAt rules Answers AnyMoment
 
--- A session that is closed at the start is over in each ledger that may be opened behind starts.
-abbrev pub StayClosedOverStarts : {Setup R : Type 0}
-    → RecordRules R → AnswersBy Setup R → (IsClosed IsOver : Held R → List ℕ → Type 0) → Type 0
-StayClosedOverStarts {Setup} {R} rules Answers IsClosed IsOver =
-    (start held : Held R) (starts : List (Start (Provider Setup R))) (image : Image) (token : List ℕ)
-    → AreRecords rules start.records → AreStarts rules Answers start starts → IsClosed start token
-    → LeftBehind rules Answers start starts image → taken (ledger_in rules image) ≡ Ok held → IsOver held token
+-- `IsClosed` says that the session of a token is closed in a ledger, `closes` that a record closes it, and `IsOver` that
+-- it is found live at no moment.
+module _ {Setup R : Type 0} (rules : RecordRules R) (Answers : AnswersBy Setup R)
+    (IsClosed : Held R → List ℕ → Type 0) (closes : List ℕ → R → Bool) (IsOver : Held R → List ℕ → Type 0) where
+  module _ (start : Held R) (starts : List (Start (Provider Setup R))) where
+    -- the session of a token is over in each ledger that may be opened behind starts
+    abbrev pub IsOverBehind : List ℕ → Type 0
+    IsOverBehind token = (image : Image) (held : Held R) → LeftBehind rules Answers start starts image
+        → taken (ledger_in rules image) ≡ Ok held → IsOver held token
+
+    -- So it is of each session that was closed at first, and of each that was closed by one of the records for which
+    -- the answers of the starts stand.
+    pub record AreOverBehind : Type 0 where
+      pub at_first : (token : List ℕ) → IsClosed start token → IsOverBehind token
+      pub records : List R
+      pub are : AreAcknowledgedIn Answers starts records
+      pub since : (r : R) (token : List ℕ) → Contains records r → closes token r ≡ true → IsOverBehind token
+
+  abbrev pub StayClosedOverStarts : Type 0
+  StayClosedOverStarts = (start : Held R) (starts : List (Start (Provider Setup R))) → AreRecords rules start.records
+      → AreStarts rules Answers start starts → AreOverBehind start starts

@@ -1,5 +1,5 @@
 -- What happened since a record was added, and that what a record stands for is found as it was left.
-use Rattle.std.specs.Prelude.{◌≡◌, ℕ, List, ◌∷◌, ◌++◌, Contains, IsSome, Some, Ok}
+use Rattle.std.specs.Prelude.{◌≡◌, ℕ, List, [], ◌∷◌, ◌++◌, Contains, IsSome, Some, Ok}
 use Rattle.crash_disk.specs.Disk.{Image}
 use Rattle.crash_disk.specs.Moments.{Leaves}
 use Rattle.conn_table.specs.Table.{Table}
@@ -7,7 +7,7 @@ use Rattle.serve_loop.specs.Turns.{Run, Turn}
 use Rattle.serve_loop.specs.Worlds.{World}
 use Rattle.record_ledger.specs.Rules.{RecordRules}
 use Rattle.record_ledger.specs.Ledger.{Held, held_with, ledger_in, taken}
-use Rattle.record_ledger.specs.Runs.{Event, Adds, Leads}
+use Rattle.record_ledger.specs.Runs.{Event, Adds, IsVisibleThroughout, Leads, Stays}
 use Rattle.provider_node.specs.Step.{AnswersBy, Provider}
 use Rattle.provider_node.specs.Histories.{AreAcknowledged, HoldsWhatCame, IsAtStart, IsProviders, moments_of}
 use Rattle.provider_node.specs.Starts.{AreAcknowledgedIn, AreStartsAt, LeftBehindAt, Start}
@@ -23,8 +23,18 @@ module _ {R : Type 0} (rules : RecordRules R) (start held : Held R) (events : Li
     pub led : Leads rules start past before
     pub leads : Leads rules (held_with r before) later held
 
+module _ {R : Type 0} (rules : RecordRules R) (moments : List ℕ) (start : Held R) (r : R) (held : Held R) where
+  -- The row of a record stands, as it was left, in a ledger which came from another one by events: the record was added
+  -- by one of them. Where the row is visible at each of these moments the record is there, and the records that name it,
+  -- by which the row is closed or spent, are those that were added since.
+  pub record RowIsAsLeft : Type 0 where
+    pub events : List (Event R)
+    pub leads : Leads rules start events held
+    pub was : WasAdded rules start held events r
+    pub stays : IsVisibleThroughout rules start.header.horizon moments r → Stays rules r [] was.later held
+
 -- `Opened` says that a record among these opened a session, and `IsAsLeft` how that stands in a ledger which came from
--- another one by events, with compactions at these moments.
+-- another one by events, with compactions at these moments. Of rows that is `RowIsAsLeft`, where a record is its own row.
 module _ {R X : Type 0} (rules : RecordRules R)
     (Opened : List R → X → Type 0) (IsAsLeft : (moments : List ℕ) (start : Held R) → X → Held R → Type 0) where
   -- the image stands for such a ledger, or one is opened from it

@@ -12,7 +12,7 @@ use Rattle.record_ledger.specs.Ledger.{Held, OpenedLedger, IsFitting, IsOwn, led
 use Rattle.record_ledger.specs.Calls.{opening, committing}
 use Rattle.record_ledger.specs.Drafts.{is_full}
 use Rattle.record_ledger.specs.Compacting.{Compacts}
-use Rattle.provider_node.specs.Calls.{BeginsCompaction, Begins, CommittingLeaves, IsAmidCompaction, Makes}
+use Rattle.provider_node.specs.Calls.{BeginsCompaction, Begins, CommittingLeaves, CompactingLeaves, Makes}
 use Rattle.provider_node.specs.Calls.{MakesCompaction, OpeningLeaves}
 use Rattle.provider_node.specs.declared.codes.TheConstants.{DISK_FAULT, FOREIGN, FULL, NO_MEMORY}
 
@@ -66,13 +66,16 @@ module _ {Setup R : Type 0} (old new : Provider Setup R) where
 
 module _ {Setup R : Type 0} (rules : RecordRules R)
     (Answers : AnswersBy Setup R) (setup : Setup) (found : Held R) (request : Request) (now : ℕ) where
-  -- A record was to be added to the ledger that was found, which holds records, there was no place for it, and one
-  -- compaction made this of the ledger.
-  pub record MakesRoom (held : Held R) : Type 0 where
+  -- A record was to be added to the ledger that was found, and there was no place for it.
+  pub record WantsRoom : Type 0 where
     pub wanted : R
     pub other : Answer
     pub wants : Answers setup found request now other (Some wanted)
     pub none : ¬ (HasPlace rules found wanted)
+
+  -- So it was, the ledger holds records, and one compaction made this of it.
+  pub record MakesRoom (held : Held R) : Type 0 where
+    pub room : WantsRoom
     pub are : AreRecords rules found.records
     pub made : Compacts rules now found held
 
@@ -88,13 +91,11 @@ module _ {Setup R : Type 0} (rules : RecordRules R)
     pub place : HasPlace rules held r
 
   -- What a crash while a request is served over a ledger may leave, with what the disk tells as that begins: this
-  -- ledger, before a call; it, or it after the one compaction, amid the calls of this; either with the record that the
-  -- request adds or without, amid those of its commit.
+  -- ledger, before a call; it, or it after the one compaction, amid the calls of this, where there was no place for a
+  -- record; either with the record that the request adds or without, amid those of its commit.
   pub data ServingLeaves (told : Option DiskState) (image : Image) : Type 0 where
     AtFirst : ledger_in rules image ≡ Ok (Some found) → IfSome told (λ d. MayLeave d image) → ServingLeaves told image
-    InCompaction : (ledger_in rules image ≡ Ok (Some found))
-        ⊎ ((held : Held R) × MakesRoom held × (ledger_in rules image ≡ Ok (Some held)))
-        → IsAmidCompaction rules now found told image → ServingLeaves told image
+    InCompaction : WantsRoom → CompactingLeaves rules now found told image → ServingLeaves told image
     InCommit : (one : Adding told) → CommittingLeaves rules one.r one.held one.disk image → ServingLeaves told image
 
 module _ {Setup R : Type 0} (rules : RecordRules R) (Answers : AnswersBy Setup R)
@@ -132,10 +133,11 @@ module _ {Setup R : Type 0} (rules : RecordRules R) (Answers : AnswersBy Setup R
         × MakesCompaction rules now found told between × Makes (committing rules held r) between later
     ServingCalls (NoPlace held r another room answers still is whole) = MakesCompaction rules now found told later
     ServingCalls (Starved held (inr room) is whole) = MakesCompaction rules now found told later
-    -- a beginning of those of a compaction, or of a commit: over the ledger that was found, or behind all those of the
-    -- one compaction
+    -- a beginning of those of a compaction, where there was no place for the record, or of a commit: over the ledger
+    -- that was found, or behind all those of the one compaction
     ServingCalls (Failed wanted other wants risen is broken) =
-        BeginsCompaction rules now found told later ⊎ ((one : Adding rules Answers old.setup found request now told)
+        (¬ (HasPlace rules found wanted) × BeginsCompaction rules now found told later)
+        ⊎ ((one : Adding rules Answers old.setup found request now told)
         × Begins (committing rules one.held one.r) one.disk later)
     -- no call
     ServingCalls other = later ≡ told

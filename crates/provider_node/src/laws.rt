@@ -1,6 +1,8 @@
 //! The laws of a provider of any role, each the contract of a function that does nothing.
+ghost use Rattle.std.specs.Prelude.{Contains};
 ghost use Rattle.provider_node.specs.Added.{WhatIsNewIsOfTheRequest};
 ghost use Rattle.provider_node.specs.Starving.{WhatIsVisibleStays};
+ghost use Rattle.provider_node.specs.Staying.{RowIsAsLeft, WhatWasOpenedIsAsLeft};
 
 use crate::role::Role;
 
@@ -8,6 +10,13 @@ use crate::role::Role;
 /// stood nowhere before, is one that this request adds, whatever was answered.
 pub fn what_is_new_is_of_the_request<R: Role>()
     ensures { WhatIsNewIsOfTheRequest R.Rows.rules R.answers }
+{}
+
+/// Each row for whose record an answer went out is as it was left in each image that has in its history what was
+/// acknowledged, over requests, compactions and starts: where it is visible at each of their moments its record stands
+/// there, and those that name it are those that were added since.
+pub fn each_row_stays<R: Role>()
+    ensures { WhatWasOpenedIsAsLeft R.Rows.rules (λ records r. Contains records r) (RowIsAsLeft R.Rows.rules) }
 {}
 
 /// Where there was no memory for an answer and the ledger was not broken, each row that was visible at the moment of

@@ -21,17 +21,17 @@
 //! In the same case a step says which changing calls it makes on its disk (`StepsOnDisk`; `specs/Calls.antt`): none
 //! where nothing is recorded; those of the opening of a broken ledger, of one compaction that made room and of one
 //! commit, in this order, all of them or, where the disk failed, a beginning. `StepLeaves` says what a crash inside may
-//! leave: no more than one amid these calls. `specs/Node.antt` says the same of a restart and a compaction, and
+//! leave: no more than one amid these calls. A call more is excluded as far as reads and crashes can tell it. `specs/Node.antt` says the same of a restart and a compaction, and
 //! `specs/Replies.antt` what a role says.
 //!
 //! `specs/Histories.antt` says what was acknowledged over a service, and how its ledger came from the one at the start,
 //! with compactions at the moments of its requests alone; `specs/Lasting.antt` that it is kept since then, inside later
 //! answers too; `specs/Staying.antt` what happened since a record was added, and that the session which it opened is
-//! found as it was left; `specs/Added.antt` that what stands anew is of the request; `specs/Changes.antt` what a
+//! found as it was left, and so is each row; `specs/Added.antt` that what stands anew is of the request; `specs/Changes.antt` what a
 //! request may do to a ledger; `specs/Room.antt` where there is room for a record, at once or behind one compaction;
 //! `specs/Recorded.antt` that the record of an answer is kept; `specs/Starving.antt` that nothing visible is lost where
-//! there was no memory; and `specs/Joining.antt` that a later start goes on from whatever a crash left of a run. The
-//! laws of any role are in [`laws`].
+//! there was no memory; and `specs/Joining.antt` that a later start goes on from whatever a crash left of a run, inside the
+//! answer that it cut. The laws of any role are in [`laws`].
 //!
 //! # What is proved
 //!
@@ -46,10 +46,11 @@
 //! `StepLeaves` is what a crash inside may leave, amid these calls. A record that stands in an image that a crash may
 //! leave, and stood nowhere before, is one that this request adds, whatever was answered
 //! (`laws::what_is_new_is_of_the_request`); where there was no memory and the ledger was not broken what was visible
-//! stays visible (`laws::what_is_visible_stays`). Over them: what was acknowledged in a service and how its ledger came
+//! stays visible (`laws::what_is_visible_stays`); and each row of an acknowledged record is as it was left, while it is
+//! visible at each moment of the runs (`laws::each_row_stays`). Over them: what was acknowledged in a service and how its ledger came
 //! from the one at the start (`specs/Histories.antt`), the worlds between requests (`specs/Points.antt`), lists of
 //! starts with crashes between, each of which opens what one may have left (`specs/Starts.antt`), and that runs which a
-//! crash cut join into one service (`specs/Joining.antt`). A compaction in a history is bound to a moment of the run. A
+//! crash cut join into one service, with the moments of their requests (`specs/Joining.antt`). A compaction in a history is bound to a moment of the run. A
 //! page is made before its record is written, and a second try comes only behind a compaction that ended; `start`,
 //! `restart` and `compact` give what the disk stands for, or a fault by its cause. The laws of each provider say these
 //! of its own answers; `code_of` gives the code of a fault.

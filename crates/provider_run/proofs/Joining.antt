@@ -39,8 +39,9 @@ module _ {Setup R : Type 0} (SetsUp : SetUpBy Setup) (IsBad : BadSetUpBy) (key :
             key rules Answers hold told file before opened node tells begins turns serves.kept serves.last serves.run,
       )) (did runs)
 
-  pub each_image_of_a_run_goes_on : EachImageOfARunGoesOn SetsUp IsBad key rules Answers left
-  each_image_of_a_run_goes_on told file budget before turns result after start earlier image runs were next might =
-      each_image_goes_on rules Answers
-      (IsBegun SetsUp key rules told file before) start earlier before.disk turns image were next
+  pub each_image_of_a_run_goes_on : (IsMoment : ℕ → Type 0)
+      → EachImageOfARunGoesOn SetsUp IsBad key rules Answers left IsMoment
+  each_image_of_a_run_goes_on IsMoment told file budget before turns result after start earlier image runs were next at
+      might = each_image_goes_on rules Answers IsMoment
+      (IsBegun SetsUp key rules told file before) start earlier before.disk turns image were next at
       (ran told file budget before turns result after next.tells runs) (⊎_elim (λ left. inl left.stands) inr might)

@@ -32,13 +32,13 @@ fn listen_and_serve<R: RunsProvider, L: Link, D: Disk, C: Clock>(
 ) -> Result<Ended, RunFault>
     requires { OwnsDisk R.Role.Rows.rules node.old (D.shows disk.old).told }
     // Where it was set up and started so, this is how the run goes.
-    ensures runs { (turns : List (Turn _))
+    ensures runs { let opened = outside (D.shows disk.old) (L.shows link.old) (C.to_come clock.old) in
+        let after = outside (D.shows disk.new) (L.shows link.new) (C.to_come clock.new) in
+        (turns : List (Turn _))
         × ((told : Option (List File)) (file : List ℕ) (before : Outside) →
-        Begins R.sets_up R.Role.key R.Role.Rows.rules told file before node.old
-        (outside (D.shows disk.old) (L.shows link.old) (C.to_come clock.old)) →
+        Begins R.sets_up R.Role.key R.Role.Rows.rules told file before node.old opened →
         Runs R.sets_up R.is_bad R.Role.key R.Role.Rows.rules R.Role.answers (D.shows disk.new).left_since told file
-        budget before turns result
-        (outside (D.shows disk.new) (L.shows link.new) (C.to_come clock.new)))
+        budget before turns result after)
         × LeavesOnly D.shows disk.old disk.new
         (MightLeave (StepLeaves R.Role.Rows.rules R.Role.answers) (D.shows disk.old).told turns) }
     ensures disk_never_falls { (D.shows disk.old).faults ≤ (D.shows disk.new).faults }
@@ -61,10 +61,13 @@ fn run_by<R: RunsProvider, L: Link, D: Disk, C: Clock>(
     budget: u64,
 ) -> Result<Ended, RunFault>
     // Where it was set up so, this is how the run goes.
-    ensures runs { (turns : List (Turn _)) × ((told : Option (List File)) (file : List ℕ) → R.sets_up told file role
-        → Runs R.sets_up R.is_bad R.Role.key R.Role.Rows.rules R.Role.answers (D.shows disk.new).left_since
-        told file budget (outside (D.shows disk.old) (L.shows link.old) (C.to_come clock.old)) turns result
-        (outside (D.shows disk.new) (L.shows link.new) (C.to_come clock.new))) × LeavesOnly D.shows disk.old disk.new
+    ensures runs { let before = outside (D.shows disk.old) (L.shows link.old) (C.to_come clock.old) in
+        let after = outside (D.shows disk.new) (L.shows link.new) (C.to_come clock.new) in
+        (turns : List (Turn _))
+        × ((told : Option (List File)) (file : List ℕ) → R.sets_up told file role →
+        Runs R.sets_up R.is_bad R.Role.key R.Role.Rows.rules R.Role.answers (D.shows disk.new).left_since told file
+        budget before turns result after)
+        × LeavesOnly D.shows disk.old disk.new
         (RunLeaves R.Role.Rows.rules R.Role.answers (D.shows disk.old).told turns) }
     ensures disk_never_falls { (D.shows disk.old).faults ≤ (D.shows disk.new).faults }
     ensures link_never_falls { (L.shows link.old).faults ≤ (L.shows link.new).faults }
@@ -98,12 +101,13 @@ pub fn run<R: RunsProvider, F: Files, L: Link, D: Disk, C: Clock>(
 ) -> Result<Ended, RunFault>
     // The run goes so, it carries the headline of its role, and a crash at any moment of it leaves what one inside the
     // opening or inside an answer may leave.
-    ensures runs { (turns : List (Turn _)) × Runs R.sets_up R.is_bad R.Role.key R.Role.Rows.rules R.Role.answers
-        (D.shows disk.new).left_since (F.holds files.old) config.now budget
-        (outside (D.shows disk.old) (L.shows link.old) (C.to_come clock.old)) turns result
-        (outside (D.shows disk.new) (L.shows link.new) (C.to_come clock.new)) × R.headline (D.shows disk.new).left_since
-        (F.holds files.old) config.now (outside (D.shows disk.old) (L.shows link.old) (C.to_come clock.old)) turns
-        (outside (D.shows disk.new) (L.shows link.new) (C.to_come clock.new)) × LeavesOnly D.shows disk.old disk.new
+    ensures runs { let before = outside (D.shows disk.old) (L.shows link.old) (C.to_come clock.old) in
+        let after = outside (D.shows disk.new) (L.shows link.new) (C.to_come clock.new) in
+        (turns : List (Turn _))
+        × Runs R.sets_up R.is_bad R.Role.key R.Role.Rows.rules R.Role.answers (D.shows disk.new).left_since
+        (F.holds files.old) config.now budget before turns result after
+        × R.headline (D.shows disk.new).left_since (F.holds files.old) config.now before turns after
+        × LeavesOnly D.shows disk.old disk.new
         (RunLeaves R.Role.Rows.rules R.Role.answers (D.shows disk.old).told turns) }
 
     // Each fault has a cause.

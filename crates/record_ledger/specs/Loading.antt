@@ -6,7 +6,7 @@ use Rattle.gate_journal.specs.declared.fault.OpenFault.{OpenFault}
 use Rattle.gate_journal.specs.declared.fault.OpenFault.TheVariants.{DiskFault, Foreign, NoMemory}
 use Rattle.gate_journal.specs.Format.{Kept, journal}
 use Rattle.gate_journal.specs.Calls.{remaking}
-use Rattle.gate_journal.specs.Journal.{made_anew}
+use Rattle.gate_journal.specs.Journal.{remade}
 use Rattle.record_ledger.specs.declared.opening.Loaded.{Loaded}
 use Rattle.record_ledger.specs.Rules.{RecordRules, records_of}
 use Rattle.record_ledger.specs.Ledger.{Held, held_of, ledger_in, some_held, taken}
@@ -17,8 +17,7 @@ IsVersion version = (version ≡ 1) ⊎ (version ≡ 2)
 
 -- The journal in version 2: made anew with these payloads where it has version 1.
 abbrev pub in_version_2 : List (List ℕ) → Kept → Kept
-in_version_2 payloads kept =
-    if kept.holds.version == 1 then made_anew payloads kept.holds.header.horizon kept.holds.header.next kept else kept
+in_version_2 payloads kept = if kept.holds.version == 1 then remade payloads kept else kept
 
 -- the changing calls of that
 abbrev pub to_version_2 : List (List ℕ) → Kept → DiskState → List Change

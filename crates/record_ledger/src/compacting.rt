@@ -32,7 +32,9 @@ fn flags_of<S: Standing>(
     horizon: u64,
 ) -> Result<Vec<bool>, NoMemory>
     requires { AreRead S.rules journal.now.kept.holds.payloads }
-    ensures { IfOk result (λ flags. (records : List S.Record) → records_of S.rules 2 journal.now.kept.holds.payloads ≡ Ok records → AreFlags S.rules now horizon records flags.items) }
+    ensures { IfOk result (λ flags. (records : List S.Record) →
+        records_of S.rules 2 journal.now.kept.holds.payloads ≡ Ok records →
+        AreFlags S.rules now horizon records flags.items) }
 {
     S::laws_hold();
     journal.records_fit();

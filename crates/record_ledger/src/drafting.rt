@@ -46,7 +46,8 @@ impl<S: Standing> DraftedRecord<S> {
 impl<S: Standing> RecordLedger<S> {
     /// How many rows there are of a record's kind, where there are as many as there may be, or more.
     fn full_rows(&self, entry: &S::Record) -> Option<u32>
-        ensures some { IfSome result (λ kept. (is_full S.rules self.now.held.records entry.now ≡ true) × (S.rules.rows_of_kind self.now.held.records entry.now ≡ Some kept)) }
+        ensures some { IfSome result (λ kept. (is_full S.rules self.now.held.records entry.now ≡ true)
+            × (S.rules.rows_of_kind self.now.held.records entry.now ≡ Some kept)) }
         ensures none { IfNone result (is_full S.rules self.now.held.records entry.now ≡ false) }
     {
         S::laws_hold();

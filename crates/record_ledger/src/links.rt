@@ -35,7 +35,9 @@ impl Links {
     /// Links the record whose row has an ID to the one at a place.
     fn link(&mut self, id: &str, place: u32)
         requires { ArePlaced self.old }
-        ensures links { (p : ℕ) → p < length self.old.numbers.listed → has_number (slice_index self.old.numbers.listed p) id.now ≡ true → self.new.links.items ≡ set self.old.links.items (slice_index self.old.places.items p) (Some place) }
+        ensures links { (p : ℕ) → p < length self.old.numbers.listed →
+            has_number (slice_index self.old.numbers.listed p) id.now ≡ true →
+            self.new.links.items ≡ set self.old.links.items (slice_index self.old.places.items p) (Some place) }
         ensures long { length self.new.links.items ≡ length self.old.links.items }
         ensures numbers { self.new.numbers ≡ self.old.numbers }
         ensures places { self.new.places ≡ self.old.places }
@@ -49,7 +51,9 @@ impl Links {
     /// Links the records whose rows have these IDs to the one at a place.
     fn link_all<S: Standing>(&mut self, ids: &[Text], place: u32)
         requires { ArePlaced self.old }
-        ensures links { (records : List S.Record) → AreRows S.rules S.link_rules records self.old → HaveRows S.rules S.link_rules records ids.now → LinksThem S.rules S.link_rules records ids.now place self.old.links.items self.new.links.items }
+        ensures links { (records : List S.Record) → AreRows S.rules S.link_rules records self.old →
+            HaveRows S.rules S.link_rules records ids.now →
+            LinksThem S.rules S.link_rules records ids.now place self.old.links.items self.new.links.items }
         ensures numbers { self.new.numbers ≡ self.old.numbers }
         ensures places { self.new.places ≡ self.old.places }
     {
@@ -77,7 +81,8 @@ impl Links {
     /// The place of the record to which a record is itself linked, none for other records.
     fn own_link<S: Standing>(&self, entry: &S::Record) -> Option<u32>
         requires { ArePlaced self.now }
-        ensures { (records : List S.Record) → AreRows S.rules S.link_rules records self.now → S.rules.is_record records entry.now ≡ true → IsOwnLink S.rules S.link_rules records entry.now result }
+        ensures { (records : List S.Record) → AreRows S.rules S.link_rules records self.now →
+            S.rules.is_record records entry.now ≡ true → IsOwnLink S.rules S.link_rules records entry.now result }
     {
         S::laws_hold();
         let id = S::within(entry)?;
@@ -88,7 +93,9 @@ impl Links {
     /// Takes the record behind the others, and links to it those that it names, or it to the one that it names itself.
     pub(crate) fn take<S: Standing>(&mut self, entry: &S::Record) -> Result<(), NoMemory>
         requires { CanTake S.rules S.link_rules self.old entry.now }
-        ensures { OnOk result ((records : List S.Record) → IsLinked S.rules S.link_rules records self.old → S.rules.is_record records entry.now ≡ true → IsLinked S.rules S.link_rules (records ++ entry.now ∷ []) self.new) }
+        ensures { OnOk result ((records : List S.Record) → IsLinked S.rules S.link_rules records self.old →
+            S.rules.is_record records entry.now ≡ true →
+            IsLinked S.rules S.link_rules (records ++ entry.now ∷ []) self.new) }
     {
         S::laws_hold();
         let place = self.links.len() as u32;
@@ -102,7 +109,8 @@ impl Links {
     /// `take` of a record that is not needed any more, so that there is one place where it is let go.
     pub(crate) fn take_own<S: Standing>(&mut self, entry: S::Record) -> Result<(), NoMemory>
         requires { CanTake S.rules S.link_rules self.old entry }
-        ensures { OnOk result ((records : List S.Record) → IsLinked S.rules S.link_rules records self.old → S.rules.is_record records entry ≡ true → IsLinked S.rules S.link_rules (records ++ entry ∷ []) self.new) }
+        ensures { OnOk result ((records : List S.Record) → IsLinked S.rules S.link_rules records self.old →
+            S.rules.is_record records entry ≡ true → IsLinked S.rules S.link_rules (records ++ entry ∷ []) self.new) }
     {
         self.take::<S>(&entry)
     }

@@ -58,7 +58,10 @@ impl<S: Standing> Loaded<S> {
     fn load_one(&mut self, alloc: Global, payload: &[u8], version: u8) -> Result<bool, NoMemory>
         requires few { CanLoad S.rules S.row_rules.stands version self.old.standing self.old.payloads.items }
         requires short { length payload.now ≤ LONGEST_PAYLOAD }
-        ensures { IfOk result (λ is. (payloads : List (List ℕ)) → IsLoaded S.rules S.row_rules.stands version payloads self.old.standing self.old.payloads.items → LoadsOne S.rules S.row_rules.stands version payloads payload.now is self.new.standing self.new.payloads.items) }
+        ensures { IfOk result (λ is. (payloads : List (List ℕ)) →
+            IsLoaded S.rules S.row_rules.stands version payloads self.old.standing self.old.payloads.items →
+            LoadsOne S.rules S.row_rules.stands version payloads payload.now is
+            self.new.standing self.new.payloads.items) }
     {
         S::laws_hold();
         let Some(entry) = S::read(alloc, payload, version)? else {
@@ -75,7 +78,9 @@ impl<S: Standing> Loaded<S> {
 
     /// The same with the rows ready to be asked for. Where there is no memory all is let go.
     fn ready(self, alloc: Global) -> Result<Loaded<S>, NoMemory>
-        ensures { IfOk result (λ loaded. (version : ℕ) (payloads : List (List ℕ)) → IsLoaded S.rules S.row_rules.stands version payloads self.standing self.payloads.items → IsLoaded S.rules (StandReady S.row_rules) version payloads loaded.standing loaded.payloads.items) }
+        ensures { IfOk result (λ loaded. (version : ℕ) (payloads : List (List ℕ)) →
+            IsLoaded S.rules S.row_rules.stands version payloads self.standing self.payloads.items →
+            IsLoaded S.rules (StandReady S.row_rules) version payloads loaded.standing loaded.payloads.items) }
     {
         let standing = self.standing.ready(alloc)?;
         Ok(Loaded {
@@ -139,7 +144,9 @@ fn take<S: Standing, D: Disk>(
 ) -> Result<(Journal, S), OpenFault>
     requires own { IsJournalsOwn (D.shows disk.old).told journal }
     requires whole { journal.broken ≡ false }
-    ensures gives { IsVersion journal.kept.holds.version → Gives (λ pair. held_in S.rules pair.0.kept) open_fault_of result (taken (some_held (held_of S.rules journal.kept))) }
+    ensures gives { IsVersion journal.kept.holds.version →
+        Gives (λ pair. held_in S.rules pair.0.kept) open_fault_of result
+        (taken (some_held (held_of S.rules journal.kept))) }
     ensures whole { IfOk result (λ pair. (pair.0.broken ≡ false) × StandsFor S.rules (StandReady S.row_rules) pair.0.kept.holds pair.1) }
     ensures own { IfOk result (λ pair. IsJournalsOwn (D.shows disk.new).told pair.0) }
     ensures err { OnErr result ((image : Image) → Leaves (D.shows disk.new).told image → Leaves (D.shows disk.old).told image ⊎ IsOk (ledger_in S.rules image)) }
@@ -159,7 +166,9 @@ fn open_both<S: Standing, D: Disk>(alloc: Global, disk: &mut D) -> Result<(Journ
     ensures gives { IfSome (D.shows disk.old).told (λ d. Gives (λ pair. held_in S.rules pair.0.kept) open_fault_of result (taken (ledger_in S.rules (image_of d)))) }
     ensures whole { IfOk result (λ pair. (pair.0.broken ≡ false) × StandsFor S.rules (StandReady S.row_rules) pair.0.kept.holds pair.1) }
     ensures own { IfOk result (λ pair. IsJournalsOwn (D.shows disk.new).told pair.0) }
-    ensures err { OnErr result (((image : Image) → Leaves (D.shows disk.old).told image → IsOk (ledger_in S.rules image)) → (image : Image) → Leaves (D.shows disk.new).told image → IsOk (ledger_in S.rules image)) }
+    ensures err { OnErr result (
+        ((image : Image) → Leaves (D.shows disk.old).told image → IsOk (ledger_in S.rules image)) →
+        (image : Image) → Leaves (D.shows disk.new).told image → IsOk (ledger_in S.rules image)) }
     ensures moments { LeavesOnly D.shows disk.old disk.new (LeftByOpening S.rules (D.shows disk.old).told) }
     ensures faults { CausesFaults result (D.shows disk.old).faults (D.shows disk.new).faults }
     ensures calls { Follows D.shows (opening S.rules) disk.old disk.new result }

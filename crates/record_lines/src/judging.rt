@@ -28,7 +28,9 @@ fn read_one<S: Standing>(
     standing: &mut S,
 ) -> Result<bool, NoMemory>
     requires { (payloads : List (List ℕ)) × AreRead S.rules S.row_rules.stands version payloads standing.old × (length payloads < 4294967295) }
-    ensures { IfOk result (λ is. (payloads : List (List ℕ)) → AreRead S.rules S.row_rules.stands version payloads standing.old → ReadsOne S.rules S.row_rules.stands version payloads payload.now is standing.new) }
+    ensures { IfOk result (λ is. (payloads : List (List ℕ)) →
+        AreRead S.rules S.row_rules.stands version payloads standing.old →
+        ReadsOne S.rules S.row_rules.stands version payloads payload.now is standing.new) }
 {
     let Some(entry) = S::read(alloc, payload, version)? else {
         return Ok(false);

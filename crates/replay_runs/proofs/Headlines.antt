@@ -1,6 +1,7 @@
 -- The whole sentence, over a run of the deployment.
 use Rattle.std.specs.Prelude.{ℕ, Bool, Option, Result, Ok, Err}
 use Rattle.std.proofs.Common.{◌≡◌, List, [], refl, subst, sym, ◌∙◌}
+use Rattle.crash_disk.specs.Disk.{empty_image}
 use Rattle.gate_journal.specs.Format.{file_of}
 use Rattle.record_ledger.specs.Laws.{ImagesHoldRecords}
 use Rattle.record_ledger.specs.Ledger.{Held, empty_ledger, ledger_in, taken}
@@ -19,7 +20,7 @@ use Rattle.schedule_replay.specs.Deployments.{Deployment}
 use Rattle.schedule_replay.specs.Runs.{Ends, Ran}
 use Rattle.replay_starts.specs.Replayed.{AReplayIsStarts}
 use Rattle.both_providers.specs.Together.{TheHeadlineHoldsOfBoth}
-use Rattle.replay_runs.specs.Runs.{Begun, Carries, Goes, IsBeginning, NotBegun, empty_image, idp_rules_of, sp_rules}
+use Rattle.replay_runs.specs.Runs.{Begun, Carries, Goes, IsBeginning, NotBegun, idp_rules_of, sp_rules}
 
 -- what two empty files are opened as
 opens_empty : {R : Type 0} (rules : RecordRules R) → taken (ledger_in rules empty_image) ≡ Ok empty_ledger

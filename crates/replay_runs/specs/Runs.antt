@@ -1,6 +1,6 @@
 -- Runs of a schedule over the deployment, and what is carried over them.
 use Rattle.std.specs.Prelude.{◌≡◌, ℕ, Bool, false, List, [], Option, Result, Ok, Err}
-use Rattle.crash_disk.specs.Disk.{Image}
+use Rattle.crash_disk.specs.Disk.{empty_image}
 use Rattle.record_ledger.specs.Rules.{RecordRules}
 use Rattle.record_ledger.specs.Ledger.{ledger_in, taken, empty_ledger}
 use Rattle.provider_node.specs.Starts.{Start}
@@ -27,10 +27,6 @@ sp_rules = provider_rules request_rules sp.Answers
 
 abbrev pub idp_rules_of : Rules idp.Provider
 idp_rules_of = provider_rules idp_rules idp.Answers
-
--- two empty files
-abbrev pub empty_image : Image
-empty_image = record { zero = []; one = [] }
 
 -- A provider was started over an empty disk, which is its own: it holds what that is opened as, and no call is to fail or to stop the
 -- disk.
@@ -68,4 +64,4 @@ pub data Goes (steps : List Step) (quiet : Bool) (sp_starts : List (Start sp.Pro
 -- this makes HMACs that match in the forms that were posted and no hash collides; and no request opened two, over all restarts, stops and
 -- failures of the disks, those whose answer was lost included.
 abbrev pub Carries : List (Start sp.Provider) → List (Start idp.Provider) → Type 0
-Carries sp_starts idp_starts = Headline empty_ledger sp_starts idp_starts
+Carries sp_starts idp_starts = Headline empty_ledger sp_starts empty_ledger idp_starts

@@ -1,7 +1,8 @@
 // Schedules are replayed over the deployment.
 
-ghost use Rattle.std.specs.Prelude.{◌≡◌, ◌≤◌, List, [], false, Some, IfOk, Err};
-ghost use Rattle.crash_disk.specs.Memory.{state_of};
+ghost use Rattle.std.specs.Prelude.{◌≡◌, ◌≤◌, List, false, Some, IfOk, Err};
+ghost use Rattle.crash_disk.specs.Disk.{empty_image};
+ghost use Rattle.crash_disk.specs.Memory.{holding, state_of};
 ghost use Rattle.saml_outside.specs.Counts.{Rose};
 ghost use Rattle.record_ledger.specs.Ledger.{ledger_in, taken};
 ghost use Rattle.provider_node.specs.Step.{OwnsDisk};
@@ -35,7 +36,7 @@ fn without_faults(disk: &mut MemDisk)
 
 /// Starts the service provider over an empty disk. Where that fails, there was no memory.
 fn start_sp(alloc: Global, disk: &mut MemDisk) -> Result<SpNode, NoMemory>
-    requires { disk.old ≡ record { start = record { zero = []; one = [] }; log = []; failing = 0; stopping = 0; pick = 0; stopped = false; starved = false; faults = 0 } }
+    requires { disk.old ≡ holding empty_image }
     ensures setup { IfOk result (λ node. node.setup ≡ service_provider) }
     ensures started { IfOk result (λ node. IsStarted request_rules (alone node disk.new)) }
     ensures own { IfOk result (λ node. OwnsDisk request_rules node (Some (state_of disk.new))) }
@@ -50,7 +51,7 @@ fn start_sp(alloc: Global, disk: &mut MemDisk) -> Result<SpNode, NoMemory>
 
 /// Starts the identity provider over an empty disk. Where that fails, there was no memory.
 fn start_idp(alloc: Global, disk: &mut MemDisk) -> Result<IdpNode, NoMemory>
-    requires { disk.old ≡ record { start = record { zero = []; one = [] }; log = []; failing = 0; stopping = 0; pick = 0; stopped = false; starved = false; faults = 0 } }
+    requires { disk.old ≡ holding empty_image }
     ensures setup { IfOk result (λ node. IsIdpConfig node.setup) }
     ensures started { IfOk result (λ node. IsStarted idp_rules (alone node disk.new)) }
     ensures own { IfOk result (λ node. OwnsDisk idp_rules node (Some (state_of disk.new))) }
@@ -69,8 +70,8 @@ fn start_both(
     sp_disk: &mut MemDisk,
     idp_disk: &mut MemDisk,
 ) -> Result<(SpNode, IdpNode), NoMemory>
-    requires sp_empty { sp_disk.old ≡ record { start = record { zero = []; one = [] }; log = []; failing = 0; stopping = 0; pick = 0; stopped = false; starved = false; faults = 0 } }
-    requires idp_empty { idp_disk.old ≡ record { start = record { zero = []; one = [] }; log = []; failing = 0; stopping = 0; pick = 0; stopped = false; starved = false; faults = 0 } }
+    requires sp_empty { sp_disk.old ≡ holding empty_image }
+    requires idp_empty { idp_disk.old ≡ holding empty_image }
     ensures started { IfOk result (λ (sp, idp). IsBeginning (beginning (alone sp sp_disk.new) (alone idp idp_disk.new))) }
     ensures sp_own { IfOk result (λ (sp, idp). OwnsDisk request_rules sp (Some (state_of sp_disk.new))) }
     ensures idp_own { IfOk result (λ (sp, idp). OwnsDisk idp_rules idp (Some (state_of idp_disk.new))) }

@@ -133,10 +133,8 @@ module _ {Setup R : Type 0} (rules : RecordRules R) where
         → Stands rules image
     serving_stands setup found request now told image written (steps.AtFirst is may) =
         (found, is, as_it_stands found written)
-    serving_stands setup found request now told image written (steps.InCompaction (inl is) amid) =
-        (found, is, as_it_stands found written)
-    serving_stands setup found request now told image written (steps.InCompaction (inr (held, room, is)) amid) =
-        (held, is, as_it_stands held (compacted_written rules now found held room.made written))
+    serving_stands setup found request now told image written (steps.InCompaction room left) =
+        compacting_stands rules found told now image written left
     serving_stands setup found request now told image written (steps.InCommit one left) = of_case left.stands
       where
         over : ((one.held ≡ found) × (one.disk ≡ told))

@@ -138,7 +138,11 @@ pub fn draft_end(
 ) -> Result<Option<Draft>, DraftFault>
     requires moment { now ≤ LAST }
     requires text { is_xml_text request.now ≡ true }
-    ensures drafts { DraftsSome ledger.old ledger.new (is_empty (ending now ledger.old.held.header.horizon issuer.now name.now indexes.now (rows_in ledger.old).opened)) (ended ledger.old.key (next_number ledger.old.held) now (ending now ledger.old.held.header.horizon issuer.now name.now indexes.now (rows_in ledger.old).opened) request.now) result }
+    ensures drafts { DraftsSome ledger.old ledger.new
+        (is_empty (ending now ledger.old.held.header.horizon issuer.now name.now indexes.now (rows_in ledger.old).opened))
+        (ended ledger.old.key (next_number ledger.old.held) now
+        (ending now ledger.old.held.header.horizon issuer.now name.now indexes.now (rows_in ledger.old).opened)
+        request.now) result }
     ensures same { SameLedger ledger.old ledger.new }
     ensures spare { KeepsSpare request_row_rules ledger.old ledger.new }
 {
@@ -168,7 +172,9 @@ pub fn draft_confirm(
     request: &str,
 ) -> Result<Option<Draft>, DraftFault>
     requires moment { now ≤ LAST }
-    ensures drafts { DraftsSome ledger.old ledger.new (not (is_waiting_now (rows_in ledger.old).left request.now now ledger.old.held.header.horizon)) (confirmed now request.now) result }
+    ensures drafts { DraftsSome ledger.old ledger.new
+        (not (is_waiting_now (rows_in ledger.old).left request.now now ledger.old.held.header.horizon))
+        (confirmed now request.now) result }
     ensures same { SameLedger ledger.old ledger.new }
     ensures spare { KeepsSpare request_row_rules ledger.old ledger.new }
 {

@@ -181,7 +181,12 @@ impl KeptRows {
     pub fn put_asked(&mut self, row: AskedRow)
         requires few { length self.old.rows.asked < ROW_LIMIT }
         requires room { 0 < self.old.rows.spare.asked }
-        ensures rows { self.new ≡ record self.old { rows = record self.old.rows { asked = self.old.rows.asked ++ row ∷ []; spare = record self.old.rows.spare { asked = self.new.rows.spare.asked } } } }
+        ensures rows { self.new ≡ record self.old {
+          rows = record self.old.rows {
+            asked = self.old.rows.asked ++ row ∷ [];
+            spare = record self.old.rows.spare { asked = self.new.rows.spare.asked };
+          };
+        } }
         ensures room { self.old.rows.spare.asked ≤ self.new.rows.spare.asked + 1 }
     {
         match &mut self.stage {
@@ -194,7 +199,12 @@ impl KeptRows {
     pub fn put_opened(&mut self, row: OpenedRow)
         requires few { length self.old.rows.opened < ROW_LIMIT }
         requires room { 0 < self.old.rows.spare.opened }
-        ensures rows { self.new ≡ record self.old { rows = record self.old.rows { opened = self.old.rows.opened ++ row ∷ []; spare = record self.old.rows.spare { opened = self.new.rows.spare.opened } } } }
+        ensures rows { self.new ≡ record self.old {
+          rows = record self.old.rows {
+            opened = self.old.rows.opened ++ row ∷ [];
+            spare = record self.old.rows.spare { opened = self.new.rows.spare.opened };
+          };
+        } }
         ensures room { self.old.rows.spare.opened ≤ self.new.rows.spare.opened + 1 }
     {
         match &mut self.stage {
@@ -206,7 +216,12 @@ impl KeptRows {
     /// Puts a row behind those of logouts, where there is room. It takes no memory.
     pub fn put_left(&mut self, row: LeftRow)
         requires { 0 < self.old.rows.spare.left }
-        ensures rows { self.new ≡ record self.old { rows = record self.old.rows { left = self.old.rows.left ++ row ∷ []; spare = record self.old.rows.spare { left = self.new.rows.spare.left } } } }
+        ensures rows { self.new ≡ record self.old {
+          rows = record self.old.rows {
+            left = self.old.rows.left ++ row ∷ [];
+            spare = record self.old.rows.spare { left = self.new.rows.spare.left };
+          };
+        } }
         ensures room { self.old.rows.spare.left ≤ self.new.rows.spare.left + 1 }
     {
         match &mut self.stage {

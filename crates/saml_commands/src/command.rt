@@ -10,7 +10,7 @@ use crate::limits::{MOST_EVENTS, MOST_START};
 use saml_outside::Text;
 use saml_time::LAST;
 use schedules::MOST_LOGINS;
-use text_lines::number_of;
+use text_lines::{number_of, positive};
 
 /// As what a provider serves, or whose records are printed.
 #[derive(Clone, Copy, Debug, PartialEq, Eq)]
@@ -74,30 +74,6 @@ fn check_at<'w>(config: &'w str, body: &'w str, now: &str) -> Option<Command<'w>
     Some(Command::Check { config, body, now })
 }
 
-/// The number of events that a word says, from 1 on.
-fn events_of(word: &str) -> Option<u64>
-    ensures { result ≡ positive MOST_EVENTS word.now }
-{
-    let events = number_of(word, MOST_EVENTS)?;
-    if events == 0 {
-        return None;
-    }
-    Some(events)
-}
-
-/// The number of logins that a word says, from 1 on.
-fn logins_of(word: &str) -> Option<u64>
-    ensures value { result ≡ positive MOST_LOGINS word.now }
-    ensures some { IfSome result (λ logins. 1 ≤ logins) }
-    ensures few { IfSome result (λ logins. logins ≤ MOST_LOGINS) }
-{
-    let logins = number_of(word, u64::from(MOST_LOGINS))?;
-    if logins == 0 {
-        return None;
-    }
-    Some(logins)
-}
-
 /// The number from which a schedule is made, as a word says it.
 fn start_of(word: &str) -> Option<u64>
     ensures value { result ≡ number_of MOST_START word.now }
@@ -113,7 +89,7 @@ fn make_of<'w>(logins: &str, start: &str) -> Option<Command<'w>>
         ≡ option_and_then (λ count. option_map (Make count) (number_of MOST_START start.now)) (positive MOST_LOGINS logins.now) }
     ensures moment { IfSome result HasMoment }
 {
-    let logins = logins_of(logins)?;
+    let logins = positive(logins, u64::from(MOST_LOGINS))?;
     let start = start_of(start)?;
     Some(Command::Make {
         logins: logins as u32,
@@ -140,7 +116,7 @@ fn serve_of<'w>(word: &str, config: &'w str, events: &str) -> Option<Command<'w>
     ensures moment { IfSome result HasMoment }
 {
     let role = role_of(word)?;
-    let events = events_of(events)?;
+    let events = positive(events, MOST_EVENTS)?;
     Some(Command::Serve {
         role,
         config,

@@ -84,9 +84,11 @@ fn run_as<F: Files, L: Link, D: Disk, C: Clock>(
     clock: &mut C,
     events: u64,
 ) -> Result<Ended, RunFault>
-    ensures runs { (turns : TurnsOf role)
-        × RunsAs role (D.shows disk.new).left_since (F.holds files.old) config.now events (outside (D.shows disk.old) (L.shows link.old) (C.to_come clock.old)) turns result (outside (D.shows disk.new) (L.shows link.new) (C.to_come clock.new))
-        × HeadlineAs role (D.shows disk.new).left_since (F.holds files.old) config.now (outside (D.shows disk.old) (L.shows link.old) (C.to_come clock.old)) turns (outside (D.shows disk.new) (L.shows link.new) (C.to_come clock.new))
+    ensures runs { let before = outside (D.shows disk.old) (L.shows link.old) (C.to_come clock.old) in
+        let after = outside (D.shows disk.new) (L.shows link.new) (C.to_come clock.new) in
+        (turns : TurnsOf role)
+        × RunsAs role (D.shows disk.new).left_since (F.holds files.old) config.now events before turns result after
+        × HeadlineAs role (D.shows disk.new).left_since (F.holds files.old) config.now before turns after
         × LeavesOnly D.shows disk.old disk.new (RunLeavesAs role (D.shows disk.old).told turns) }
     ensures read_fault { result ≡ Err RunFault.ReadFault → Rose (F.faults_of files.old) (F.faults_of files.new) }
     ensures disk_fault { result ≡ Err RunFault.DiskFault → Rose (D.shows disk.old).faults (D.shows disk.new).faults }
@@ -121,9 +123,11 @@ pub(crate) fn run_provider<L: Link, D: Disk, C: Clock, F: Files, K: Sink>(
     files: &mut F,
     out: &mut K,
 ) -> Status
-    ensures ends { (ran : Ran)
-        × DoesCommand (D.shows disk.new).left_since (F.holds files.old) (Serve role config.now events) (outside (D.shows disk.old) (L.shows link.old) (C.to_come clock.old)) ran (outside (D.shows disk.new) (L.shows link.new) (C.to_come clock.new))
-        × CommandCarries (D.shows disk.new).left_since (F.holds files.old) (Serve role config.now events) (outside (D.shows disk.old) (L.shows link.old) (C.to_come clock.old)) ran (outside (D.shows disk.new) (L.shows link.new) (C.to_come clock.new))
+    ensures ends { let before = outside (D.shows disk.old) (L.shows link.old) (C.to_come clock.old) in
+        let after = outside (D.shows disk.new) (L.shows link.new) (C.to_come clock.new) in
+        (ran : Ran)
+        × DoesCommand (D.shows disk.new).left_since (F.holds files.old) (Serve role config.now events) before ran after
+        × CommandCarries (D.shows disk.new).left_since (F.holds files.old) (Serve role config.now events) before ran after
         × EndsAfter ran (OfCommand (F.holds files.old) ran (Serve role config.now events)) (K.taken out.old) (K.taken out.new) result
         × LeavesOnly D.shows disk.old disk.new (RanLeaves (D.shows disk.old).told ran) }
     ensures read_fault { result ≡ Status.ReadFault → Rose (F.faults_of files.old) (F.faults_of files.new) }

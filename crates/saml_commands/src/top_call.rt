@@ -67,7 +67,8 @@ fn run_canon<F: Files, K: Sink>(
     file: &str,
     id: Option<&str>,
 ) -> Status
-    ensures ends { EndsWith (OfCommand (F.holds files.old) Unserved (Canon file.now (option_map (λ text. text.now) id.entry))) (K.taken out.old) (K.taken out.new) result }
+    ensures ends { EndsWith (OfCommand (F.holds files.old) Unserved
+        (Canon file.now (option_map (λ text. text.now) id.entry))) (K.taken out.old) (K.taken out.new) result }
     ensures same { F.holds files.new ≡ F.holds files.old }
     ensures read_fault { result ≡ Status.ReadFault → Rose (F.faults_of files.old) (F.faults_of files.new) }
     ensures write_fault { result ≡ Status.WriteFault → Rose (K.faults_of out.old) (K.faults_of out.new) }
@@ -155,7 +156,9 @@ fn answer_form<F: Files>(
 ) -> Result<Answer, ReadStop>
     requires now { now ≤ LAST }
     requires bounds { IsWithinBounds setup }
-    ensures ok { IfOk result (λ answer. OfFile (OfJudged (rows_of setup.asked.items setup.opened.items) setup.config now) (F.holds files.old) body.now GREATEST_BODY answer) }
+    ensures ok { IfOk result (λ answer.
+        OfFile (OfJudged (rows_of setup.asked.items setup.opened.items) setup.config now)
+        (F.holds files.old) body.now GREATEST_BODY answer) }
     ensures same { F.holds files.new ≡ F.holds files.old }
     ensures err { result ≡ Err ReadStop.ReadFault → Rose (F.faults_of files.old) (F.faults_of files.new) }
     ensures never_falls { F.faults_of files.old ≤ F.faults_of files.new }
@@ -222,13 +225,11 @@ fn run_command<L: Link, D: Disk, C: Clock, F: Files, K: Sink>(
     out: &mut K,
 ) -> Status
     requires { HasMoment command }
-    ensures ends { (ran : Ran)
-        × DoesCommand (D.shows disk.new).left_since (F.holds files.old) (command_view command.entry)
-        (outside (D.shows disk.old) (L.shows link.old) (C.to_come clock.old)) ran
-        (outside (D.shows disk.new) (L.shows link.new) (C.to_come clock.new))
-        × CommandCarries (D.shows disk.new).left_since (F.holds files.old) (command_view command.entry)
-        (outside (D.shows disk.old) (L.shows link.old) (C.to_come clock.old)) ran
-        (outside (D.shows disk.new) (L.shows link.new) (C.to_come clock.new))
+    ensures ends { let before = outside (D.shows disk.old) (L.shows link.old) (C.to_come clock.old) in
+        let after = outside (D.shows disk.new) (L.shows link.new) (C.to_come clock.new) in
+        (ran : Ran)
+        × DoesCommand (D.shows disk.new).left_since (F.holds files.old) (command_view command.entry) before ran after
+        × CommandCarries (D.shows disk.new).left_since (F.holds files.old) (command_view command.entry) before ran after
         × EndsAfter ran (OfCommand (F.holds files.old) ran (command_view command.entry)) (K.taken out.old) (K.taken out.new) result
         × LeavesOnly D.shows disk.old disk.new (RanLeaves (D.shows disk.old).told ran) }
     ensures read_fault { result ≡ Status.ReadFault → Rose (F.faults_of files.old) (F.faults_of files.new) }
@@ -285,13 +286,11 @@ pub fn run<L: Link, D: Disk, C: Clock, F: Files, K: Sink>(
     // might leave has in its history the records for which the answers up to that point stand, where the disk tells. What was answered
     // is what the words ask for, and a crash at any moment leaves of the disk what one inside the opening of a ledger or inside an
     // answer may leave.
-    ensures ends { (ran : Ran)
-        × Does (D.shows disk.new).left_since words.now (F.holds files.old)
-        (outside (D.shows disk.old) (L.shows link.old) (C.to_come clock.old)) ran
-        (outside (D.shows disk.new) (L.shows link.new) (C.to_come clock.new))
-        × Carries (D.shows disk.new).left_since words.now (F.holds files.old)
-        (outside (D.shows disk.old) (L.shows link.old) (C.to_come clock.old)) ran
-        (outside (D.shows disk.new) (L.shows link.new) (C.to_come clock.new))
+    ensures ends { let before = outside (D.shows disk.old) (L.shows link.old) (C.to_come clock.old) in
+        let after = outside (D.shows disk.new) (L.shows link.new) (C.to_come clock.new) in
+        (ran : Ran)
+        × Does (D.shows disk.new).left_since words.now (F.holds files.old) before ran after
+        × Carries (D.shows disk.new).left_since words.now (F.holds files.old) before ran after
         × EndsAfter ran (Answers words.now (F.holds files.old) ran) (K.taken out.old) (K.taken out.new) result
         × LeavesOnly D.shows disk.old disk.new (RanLeaves (D.shows disk.old).told ran) }
 

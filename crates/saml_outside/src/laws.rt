@@ -13,7 +13,9 @@ pub fn a_count_rose_where_it_is_greater_or_at_its_end()
 /// Where an object tells its files, the content alone decides what reading one answers, but for a failure and for want
 /// of memory.
 pub fn the_content_decides_the_answer()
-    ensures { (files : List File) (name into : List ℕ) (limit : ℕ) (answer : FileRead) → Reads (Some files) name limit answer into → answer ≢ FileRead.Failed → answer ≢ FileRead.NoMemory → (answer, into) ≡ answer_of (bytes_of files name) limit }
+    ensures { (files : List File) (name into : List ℕ) (limit : ℕ) (answer : FileRead) →
+        Reads (Some files) name limit answer into → answer ≢ FileRead.Failed → answer ≢ FileRead.NoMemory →
+        (answer, into) ≡ answer_of (bytes_of files name) limit }
 {}
 
 /// The file in front hides those of its name, and no others.

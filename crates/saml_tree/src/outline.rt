@@ -45,7 +45,8 @@ impl<'a> Outline<'a> {
     /// Adds the token at the front of `left`, the end of the text. A refusal says that the token has no place there.
     pub(crate) fn take(&mut self, markup: &Markup<'_>, left: &str) -> Result<(), TreeFault>
         requires tail { (front : List ℕ) × (self.old.names.text ≡ front ++ left.now) }
-        requires token { (token : Token) × (attributes : List Attribute) × Shows token markup.now attributes × (behind : List ℕ) × (left.now ≡ print_token token ++ behind) }
+        requires token { (token : Token) × (attributes : List Attribute) × Shows token markup.now attributes
+            × (behind : List ℕ) × (left.now ≡ print_token token ++ behind) }
         ensures text { self.new.names.text ≡ self.old.names.text }
         ensures ok { OnOk result ((token : Token) (attributes : List Attribute) → Shows token markup.now attributes →
             next_outline (outline_view self.old) token ≡ Some (outline_view self.new)) }

@@ -8,7 +8,7 @@ use crate::step::{LAST_MOMENT, MOST_CALLS, MOST_PIECE, Pick, Step};
 use owned_values::{NoMemory, Text};
 use post_agent::Site;
 use std::alloc::Global;
-use text_lines::{number_of, words_of};
+use text_lines::{number_of, positive, words_of};
 
 /// The agent that a word names.
 fn agent_of(word: &str) -> Option<char>
@@ -29,17 +29,6 @@ fn site_of(word: &str) -> Option<Site>
         "idp" => Some(Site::Idp),
         _ => None,
     }
-}
-
-/// The number from 1 on that a word says.
-fn positive(word: &str, most: u64) -> Option<u64>
-    ensures { result ≡ spec.positive most word.now }
-{
-    let number = number_of(word, most)?;
-    if number == 0 {
-        return None;
-    }
-    Some(number)
 }
 
 /// What a disk is to hold behind a stop, as a word says it.

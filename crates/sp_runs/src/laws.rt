@@ -1,6 +1,8 @@
 //! The laws of whole runs, each the contract of a function that does nothing.
 ghost use Rattle.sp_runs.specs.Headline.{Headline};
 ghost use Rattle.provider_run.specs.Headlines.{EachRunCarries, EachRunIsAStart};
+ghost use Rattle.std.specs.Prelude.{ℕ, List, Contains};
+ghost use Rattle.provider_node.specs.Histories.{AnyMoment};
 ghost use Rattle.provider_run.specs.Joining.{EachImageOfARunGoesOn};
 ghost use Rattle.sp_server.specs.Step.{Answers};
 ghost use Rattle.request_ledger.specs.Record.{request_rules};
@@ -102,10 +104,13 @@ pub fn a_run_carries_the_headline<D: Disk>()
 
 /// Where a run is next behind starts of its provider, on a disk that tells, each image that a crash at one of its
 /// moments may leave is one from which a later start goes on, as behind a start of this run that was cut at that
-/// moment: so runs that a crash cut join into one service, of which the laws of starts speak.
+/// moment, inside the answer to the request that was asked then: so runs that a crash cut join into one service, of
+/// which the laws of starts speak, with the moments of all its requests, those that a crash cut too.
 pub fn each_image_of_a_run_goes_on<D: Disk>()
-    ensures { (disk : D) → EachImageOfARunGoesOn IsServedBy IsBadFile key request_rules Answers
-        (D.shows disk).left_since }
+    ensures any { (disk : D) → EachImageOfARunGoesOn IsServedBy IsBadFile key request_rules Answers
+        (D.shows disk).left_since AnyMoment }
+    ensures at { (disk : D) (moments : List ℕ) → EachImageOfARunGoesOn IsServedBy IsBadFile key request_rules Answers
+        (D.shows disk).left_since (Contains moments) }
 {
     images_hold_records();
 }

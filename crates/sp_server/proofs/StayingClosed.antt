@@ -1,18 +1,22 @@
 -- That a closed session stays closed.
-use Rattle.std.proofs.Common.{false, ◌++◌, List, [], ◌∷◌, sym, subst, refl}
+use Rattle.std.proofs.Common.{◌≡◌, ℕ, Bool, true, false, ◌++◌, List, [], ◌∷◌, sym, subst, refl}
 use Rattle.std.specs.Str.{bytes_eq}
+use Rattle.std.proofs.lemmas.Bool.{false≢true}
 use Rattle.ledger_records.specs.declared.sp_record.SpRecord.{SpRecord}
 use Rattle.ledger_records.specs.declared.sp_record.SpRecord.TheVariants as kinds
 use Rattle.request_rows.specs.declared.row.OpenedRow.{OpenedRow}
 use Rattle.request_ledger.specs.Laws.{CompactionsChangeNoAnswer}
-use Rattle.request_ledger.specs.Record.{drawn, request_rules}
-use Rattle.request_ledger.specs.RowsOf.{SpRows, closed_if, is_among, opened_row, opened_rows, rows_after, rows_of}
+use Rattle.request_ledger.specs.Record.{drawn, is_open, is_record, request_rules}
+use Rattle.request_ledger.specs.RowsOf.{SpRows, closed_if, closes, is_among, opened_row, opened_rows, rows_after, rows_of}
 use Rattle.request_ledger.proofs.KeptRecords.{kept_are_records}
+use Rattle.request_ledger.proofs.LawWords.{parts}
 use Rattle.request_ledger.proofs.RowLaws.{rows_of-push}
 use Rattle.request_ledger.proofs.RuleLaws.{freshly_drawn}
-use Rattle.provider_node.proofs.Sessions.{Sessions, sessions_by}
-use Rattle.provider_node.proofs.StayingShut.{Becomes, KeepsSessions, More, Same, Shut, keeps_sessions, stays_shut}
-use Rattle.sp_server.specs.Logouts.{AClosedSessionStaysClosed, IsClosed}
+use Rattle.record_ledger.proofs.Words.{same_text}
+use Rattle.provider_node.proofs.Sessions.{IsShut, Sessions, all_among, open_there, sessions_by, shut_among, shut_one}
+use Rattle.provider_node.proofs.Starts.{StayOver}
+use Rattle.provider_node.proofs.StayingShut.{Becomes, KeepsSessions, More, Same, Shut, keeps_sessions, shut_behind, stays_shut}
+use Rattle.sp_server.specs.Logouts.{AClosedSessionStaysClosed, IsClosed, IsOver}
 
 -- a session is found by its token until it ends, unless it is closed
 abbrev pub opened_sessions : Sessions OpenedRow
@@ -41,3 +45,33 @@ pub stays_closed : CompactionsChangeNoAnswer → AClosedSessionStaysClosed
 stays_closed law =
     stays_shut request_rules opened_sessions opened_rows (keeps law) IsClosed
     (λ held token closed. record { there = closed.there; shut = closed.shut })
+
+-- ---- a record that closes a session
+
+shut_behind_it : (records : List SpRecord) (r : SpRecord) (token : List ℕ)
+    → IsShut opened_sessions (rows_after (rows_of records) r).opened token
+    → IsShut opened_sessions (opened_rows (records ++ r ∷ [])) token
+shut_behind_it records r token is =
+    subst (λ (rows : SpRows). IsShut opened_sessions rows.opened token) (sym (rows_of-push records r)) is
+
+-- what it closes is closed behind it
+closes_it : (records : List SpRecord) (r : SpRecord) (token : List ℕ) → is_record records r ≡ true
+    → closes token r ≡ true → IsShut opened_sessions (opened_rows (records ++ r ∷ [])) token
+closes_it records (kinds.Ended r) token is closing =
+    let rows = opened_rows records in
+    let free = all_among (is_open rows) r.tokens token (parts records (kinds.Ended r) is).free closing in
+    shut_behind_it records (kinds.Ended r) token
+    (shut_among opened_sessions rows _ token r.tokens refl (open_there opened_sessions rows token free) closing)
+closes_it records (kinds.Left r) token is closing =
+    let rows = opened_rows records in
+    let free = (parts records (kinds.Left r) is).free in
+    subst (IsShut opened_sessions (opened_rows (records ++ kinds.Left r ∷ []))) (same_text r.token token closing)
+    (shut_behind_it records (kinds.Left r) r.token
+    (shut_one opened_sessions rows _ r.token refl (open_there opened_sessions rows r.token free)))
+closes_it records other token is closing = absurd (false≢true closing)
+
+-- and stays closed over a history in which the record was added
+pub stays_over : CompactionsChangeNoAnswer → StayOver request_rules closes IsOver
+stays_over law start are r token closing =
+    shut_behind request_rules opened_sessions opened_rows (keeps law) start are r token
+    (λ before is. closes_it before.records r token is closing)

@@ -4,6 +4,7 @@ use Rattle.std.specs.Prelude.{List, ◌++◌}
 use Rattle.std.specs.List.{flat_map}
 use Rattle.request_ledger.specs.Ledger.{Held}
 use Rattle.request_ledger.specs.Record.{request_rules, AreRecords}
+use Rattle.request_ledger.specs.RowsOf.{closes}
 use Rattle.request_ledger.specs.Runs.{AreDifferent, request_opened, requests_opened}
 use Rattle.provider_node.specs.Histories.{AnyMoment}
 use Rattle.provider_node.specs.Starts.{AreKeptOverSo, OpensWhatCameSo, Start, LeftBehind, AreStarts, StayClosedOverStarts}
@@ -24,6 +25,7 @@ WhatIsAcknowledgedIsKeptOnceOverStarts =
     (start : Held) (starts : List (Start Provider)) → AreRecords start.records
     → AreStarts request_rules Answers start starts → AreKeptOnceOver start starts
 
--- And a session that was closed is live in no ledger that may be opened behind them.
+-- And a session that was closed, at first or by what was acknowledged, is live in no ledger that may be opened behind
+-- them.
 abbrev pub SessionsStayClosedOverStarts : Type 0
-SessionsStayClosedOverStarts = StayClosedOverStarts request_rules Answers IsClosed IsOver
+SessionsStayClosedOverStarts = StayClosedOverStarts request_rules Answers IsClosed closes IsOver

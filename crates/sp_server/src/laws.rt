@@ -33,11 +33,13 @@ pub fn what_is_acknowledged_is_kept_once_over_starts()
     request_ledger::laws::no_request_opens_twice_in_a_run();
 }
 
-/// And a session that was closed is live in no ledger that may be opened behind them.
+/// And a session that was closed, at first or by what an answer acknowledged, is live in no ledger that may be opened
+/// behind them.
 pub fn sessions_stay_closed_over_starts()
     ensures { SessionsStayClosedOverStarts }
 {
     request_ledger::laws::images_hold_records();
+    request_ledger::laws::compactions_change_no_answer();
     a_closed_session_stays_closed();
 }
 

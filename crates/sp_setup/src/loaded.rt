@@ -173,7 +173,8 @@ impl Loaded {
         named: &NamedFile,
     ) -> Result<(), SetupFault>
         ensures ok { OnOk result ((load_file named.now.role named.now.name self.old).gives (F.holds files.old) self.new) }
-        ensures err { IfErr result (IsFaultOf ((load_file named.now.role named.now.name self.old).fails (F.holds files.old)) (F.faults_of files.old) (F.faults_of files.new)) }
+        ensures err { IfErr result (IsFaultOf ((load_file named.now.role named.now.name self.old).fails
+            (F.holds files.old)) (F.faults_of files.old) (F.faults_of files.new)) }
         ensures same { F.holds files.new ≡ F.holds files.old }
         ensures never_falls { F.faults_of files.old ≤ F.faults_of files.new }
     {

@@ -18,7 +18,7 @@
 //! # What is proved
 //!
 //! What a file's lines say: `Lines::next_said` gives each line that is neither empty nor a comment with its number, and
-//! the first line that is no text; `parts_of`, `Words::next_word` and `number_of` are exact. The test of a text is
+//! the first line that is no text; `parts_of`, `Words::next_word`, `number_of` and `positive` are exact. The test of a text is
 //! XML's word (`laws::a_text_is_one_of_xml`).
 #![tactic(auto)]
 
@@ -28,5 +28,5 @@ mod number;
 mod word;
 
 pub use line::{Lines, Said};
-pub use number::number_of;
+pub use number::{number_of, positive};
 pub use word::{Parts, Words, parts_of, words_of};

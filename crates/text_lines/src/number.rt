@@ -1,9 +1,9 @@
 // Numbers as people write them.
 
-ghost use Rattle.std.specs.Prelude.{◌≡◌};
+ghost use Rattle.std.specs.Prelude.{◌≡◌, ◌≤◌, IfSome};
 ghost use Rattle.std.specs.List.{list_all};
 ghost use Rattle.std.specs.Char.{is_ascii_digit};
-ghost use Rattle.text_lines.specs.Numbers.{has_leading_zero, is_decimal, number_of};
+ghost use Rattle.text_lines.specs.Numbers.{has_leading_zero, is_decimal, number_of, positive};
 
 /// Whether a zero stands in front of other digits.
 fn has_leading_zero(word: &[u8]) -> bool
@@ -41,4 +41,17 @@ pub fn number_of(word: &str, most: u64) -> Option<u64>
         Ok(number) if number <= most => Some(number),
         _ => None,
     }
+}
+
+/// The same, from 1 on: none where the word spells 0.
+pub fn positive(word: &str, most: u64) -> Option<u64>
+    ensures value { result ≡ positive most word.now }
+    ensures first { IfSome result (λ number. 1 ≤ number) }
+    ensures last { IfSome result (λ number. number ≤ most) }
+{
+    let number = number_of(word, most)?;
+    if number == 0 {
+        return None;
+    }
+    Some(number)
 }

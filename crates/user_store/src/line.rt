@@ -7,7 +7,7 @@ use crate::user::{User, VALUE_LENGTH};
 use hex::FromHexError;
 use owned_values::{Attributes, Blob, NoMemory, Text};
 use std::alloc::Global;
-use text_lines::{number_of, parts_of, words_of};
+use text_lines::{parts_of, positive, words_of};
 
 /// The most rounds of PBKDF2.
 pub const MOST_ROUNDS: u64 = 100_000;
@@ -26,10 +26,7 @@ fn rounds_of(word: &str) -> Option<u32>
     ensures value { result ≡ spec.rounds_of word.now }
     ensures some { IfSome result (λ rounds. 1 ≤ rounds) }
 {
-    let rounds = number_of(word, MOST_ROUNDS)?;
-    if rounds == 0 {
-        return None;
-    }
+    let rounds = positive(word, MOST_ROUNDS)?;
     Some(rounds as u32)
 }
 

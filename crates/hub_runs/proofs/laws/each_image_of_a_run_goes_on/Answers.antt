@@ -1,3 +1,5 @@
+use Rattle.std.specs.Prelude.{Contains}
+use Rattle.provider_node.specs.Histories.{AnyMoment}
 use Rattle.provider_run.proofs.Joining.{each_image_of_a_run_goes_on}
 use Rattle.hub_ledger.specs.Record.{hub_rules}
 use Rattle.identity_hub.specs.Step.{Answers}
@@ -6,6 +8,9 @@ use Rattle.hub_runs.specs.Headline.{key}
 use Rattle.hub_runs.proofs.laws.each_image_of_a_run_goes_on.Goals as goal
 
 pub returns : goal.returns
-returns g c =
-    λ disk. each_image_of_a_run_goes_on IsSetUp IsBadSetUp key hub_rules Answers c.images_hold_records.ensures
-    (g.D.Disk.shows disk).left_since
+returns g c = record {
+  any = λ disk. each_image_of_a_run_goes_on IsSetUp IsBadSetUp key hub_rules Answers c.images_hold_records.ensures
+      (g.D.Disk.shows disk).left_since AnyMoment;
+  at = λ disk moments. each_image_of_a_run_goes_on IsSetUp IsBadSetUp key hub_rules Answers c.images_hold_records.ensures
+      (g.D.Disk.shows disk).left_since (Contains moments);
+}

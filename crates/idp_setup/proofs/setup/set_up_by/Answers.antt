@@ -10,7 +10,7 @@ returns-in-Some-clause-err g c =
     let held = g.F.Files.holds c.args.files.now in
     let loaded = c.in_ok-loaded.loaded in
     let all = rw c.deref.ensures.value at c.in_ok-loaded.ensures.ok in
-    let line : loaded.doubled ≡ Some c.from.result = c.in-Some.is ∙ ap Some (sym c.from.ensures) in
+    let line : loaded.read.doubled ≡ Some c.from.result = c.in-Some.is ∙ ap Some (sym c.from.ensures) in
     told ((set_up_by c.args.file.now (config_view c.args.lines)).fails held) (g.F.Files.faults_of c.args.files.now) (g.F.Files.faults_of c.of_files.new.files)
     c.args.file.now c.from.result c.bad_file.result (inr (loaded, all, inl (refl, line))) c.bad_file.ensures
 

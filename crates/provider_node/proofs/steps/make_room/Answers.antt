@@ -34,7 +34,7 @@ returns-clause-serves g c = let old = seen c.args.ledger.now in
     let Risen : Type 0 = Rose (g.D.Disk.shows c.args.disk.now).faults (g.D.Disk.shows c.compact.new.disk).faults in
     serves_unmade g.R.Rows.Standing.rules g.R.Role.answers old.held (provider c.args.role.now old)
     (provider c.args.role.now new) request c.args.now Risen c.compact.result other.0 full.r (g.D.Disk.shows
-    c.args.disk.now).told (g.D.Disk.shows c.compact.new.disk).told other.1 (compacts_found c.args.now c.compact.result
+    c.args.disk.now).told (g.D.Disk.shows c.compact.new.disk).told other.1 full.none (compacts_found c.args.now c.compact.result
     (provider c.args.role.now old) (provider c.args.role.now new) c.requires.can.whole refl e.key e.ok e.failed (λ is.
     ap seen (e.no_memory is).0) e.not_foreign) e.faults.failed (compaction_calls g.D.Disk.shows g.R.Rows.Standing.rules
     c.args.disk.now c.compact.new.disk c.args.now old.held c.compact.result (λ is. (e.no_memory is).1) e.calls)
@@ -50,4 +50,4 @@ returns-clause-moments g c = let old = seen c.args.ledger.now in
     (CompactingLeaves g.R.Rows.Standing.rules c.args.now old.held told) _ (compacting_leaves g.D.Disk.shows
     g.R.Rows.Standing.rules c.args.disk.now c.compact.new.disk c.args.now old.held c.compact.result
     c.compact.ensures.moments c.compact.ensures.calls) (room_leaves g.R.Rows.Standing.rules g.R.Role.answers
-    c.args.role.now old.held request c.args.now told full.r other.0 other.1 full.none c.holds_records.ensures)
+    c.args.role.now old.held request c.args.now told full.r other.0 other.1 full.none)

@@ -6,8 +6,8 @@ use Rattle.provider_config.specs.declared.hub_config.HubFile.TheVariants.{Peer}
 use Rattle.sp_setup.specs.Faults.{IsFaultOf}
 use Rattle.sp_setup.specs.Files.{only}
 use Rattle.sp_setup.proofs.Telling.{handed_on, first_fails}
-use Rattle.idp_setup.specs.Setup.{peer_of}
-use Rattle.hub_setup.specs.Setup.{with_peer, load}
+use Rattle.idp_setup.specs.Setup.{peer_of, with_peer}
+use Rattle.hub_setup.specs.Setup.{load}
 use Rattle.hub_setup.proofs.loaded.Loaded.load.Goals as goal
 
 pub returns-in_err-peer-in-Peer-clause-err : goal.returns-in_err-peer-in-Peer-clause-err
@@ -20,5 +20,5 @@ returns-in_err-peer-in-Peer-clause-err g c =
     subst (λ (named : HubFile). IfErr c.from_residual-in_err-peer-in-Peer.result (IsFaultOf ((load named loaded).fails held) before now)) (sym c.in-Peer.is)
     (handed_on (IsFaultOf ((load (Peer names) loaded).fails held) before now) c.from_residual-in_err-peer-in-Peer.result
     c.in_err-peer-in-Peer.field-0.0 c.from_residual-in_err-peer-in-Peer.ensures.1
-    (first_fails held (peer_of names) (λ (peer : LogoutPeer). only (with_peer names.line peer loaded)) before now c.in_err-peer-in-Peer.field-0.0
+    (first_fails held (peer_of names) (λ (peer : LogoutPeer). only (record loaded { read = with_peer names.line peer loaded.read })) before now c.in_err-peer-in-Peer.field-0.0
     c.in_err-peer-in-Peer.ensures.err))

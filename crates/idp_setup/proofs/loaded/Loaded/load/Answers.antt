@@ -19,5 +19,5 @@ returns-in_err-peer-in-Peer-clause-err g c =
     subst (λ (named : IdpFile). IfErr c.from_residual-in_err-peer-in-Peer.result (IsFaultOf ((load named loaded).fails held) before now)) (sym c.in-Peer.is)
     (handed_on (IsFaultOf ((load (Peer names) loaded).fails held) before now) c.from_residual-in_err-peer-in-Peer.result
     c.in_err-peer-in-Peer.field-0.0 c.from_residual-in_err-peer-in-Peer.ensures.1
-    (first_fails held (peer_of names) (λ (peer : LogoutPeer). only (with_peer names.line peer loaded)) before now c.in_err-peer-in-Peer.field-0.0
+    (first_fails held (peer_of names) (λ (peer : LogoutPeer). only (record loaded { read = with_peer names.line peer loaded.read })) before now c.in_err-peer-in-Peer.field-0.0
     c.in_err-peer-in-Peer.ensures.err))
