@@ -1,5 +1,5 @@
 //! The table of connections.
-ghost use Rattle.std.specs.Prelude.{◌≡◌, ◌≢◌, ℕ, ◌≤◌, ◌↔◌, [], IfOk, IfSome, IfNone, None, IsSomeAnd, IsTrue};
+ghost use Rattle.std.specs.Prelude.{◌≡◌, ◌≢◌, ℕ, ◌≤◌, ◌↔◌, IfOk, IfSome, IfNone, None, IsSomeAnd, IsTrue};
 ghost use Rattle.std.specs.FinMap as map;
 ghost use Rattle.slab.specs.Slab.{get};
 ghost use Rattle.http_wire.specs.Requests.{Reads, Whole};

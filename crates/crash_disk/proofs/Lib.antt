@@ -1,3 +1,4 @@
 pub mod Following
 pub mod RangeLaws
 mod Faults
+mod Calls

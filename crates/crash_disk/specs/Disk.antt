@@ -1,5 +1,5 @@
 -- The disk rule: what a read of a disk gives, and what a crash may leave of it.
-use Rattle.std.specs.Prelude.{◌≡◌, ℕ, ◌+◌, ◌<◌, ◌≤◌, min, max, List, [], ◌∷◌, ◌++◌, length, take, drop, slice_index, Option, None, Some, IsSomeAnd, Result, Ok, Err}
+use Rattle.std.specs.Prelude.{◌≡◌, ◌⊎◌, ℕ, ◌+◌, ◌<◌, ◌≤◌, min, max, List, [], ◌∷◌, ◌++◌, length, take, drop, slice_index, Option, None, Some, IsSomeAnd, Result, Ok, Err}
 use Rattle.std.specs.Option.{option_map}
 use Rattle.crash_disk.specs.Ranges.{IsOutside}
 use Rattle.crash_disk.specs.declared.range.Range.{Range}
@@ -41,10 +41,11 @@ pub record FileMayLeave (file : FileState) (left : List ℕ) : Type 0 where
   -- any bytes in each range that was written and at every place from the least length on, and the old bytes elsewhere.
   pub elsewhere : (i : ℕ) → i < file.least → IsOutside i file.written → slice_index left i ≡ slice_index file.kept i
 
--- A disk: its two files.
+-- A disk: its two files, and the changing calls that it took, in their order.
 pub record DiskState : Type 0 where
   pub zero : FileState
   pub one : FileState
+  pub calls : List Change
 
 abbrev pub file_of : DiskState → FileNo → FileState
 file_of disk Zero = disk.zero
@@ -71,9 +72,13 @@ IsSettled disk = (image : Image) → MayLeave disk image → image ≡ image_of 
 abbrev pub settled : List ℕ → FileState
 settled bytes = record { reads = bytes; kept = bytes; least = length bytes; greatest = length bytes; written = [] }
 
--- a disk whose two files were synced
+-- two files as a disk that took no call yet
+abbrev pub files : FileState → FileState → DiskState
+files zero one = record { zero = zero; one = one; calls = [] }
+
+-- one whose two files were synced
 abbrev pub settled_image : Image → DiskState
-settled_image image = record { zero = settled image.zero; one = settled image.one }
+settled_image image = files (settled image.zero) (settled image.one)
 
 -- the file with these bytes now, and their length among those that it had since its last sync
 abbrev pub now_reads : List ℕ → FileState → FileState
@@ -101,14 +106,18 @@ abbrev pub on_file : FileNo → (FileState → FileState) → DiskState → Disk
 on_file Zero change disk = record disk { zero = change disk.zero }
 on_file One change disk = record disk { one = change disk.one }
 
+-- what a changing call does to the files of a disk
+abbrev pub changed : Change → DiskState → DiskState
+changed (Write file at bytes) disk = on_file file (after_write at bytes) disk
+changed (Cut file n) disk = on_file file (after_cut n) disk
+changed (Sync file) disk = on_file file after_sync disk
+
 -- the disk after a changing call that succeeded
 abbrev pub after : Change → DiskState → DiskState
-after (Write file at bytes) disk = on_file file (after_write at bytes) disk
-after (Cut file n) disk = on_file file (after_cut n) disk
-after (Sync file) disk = on_file file after_sync disk
+after change disk = record (changed change disk) { calls = disk.calls ++ change ∷ [] }
 
--- The disk in which a changing call was begun. A write or a cut that failed counts as one that was begun; a sync that
--- failed does nothing.
+-- The disk in which a changing call was begun, as far as a crash can tell. A write or a cut that failed counts as one that
+-- was begun; a sync that failed does nothing.
 abbrev pub begun : Change → DiskState → DiskState
 begun (Write file at bytes) disk = after (Write file at bytes) disk
 begun (Cut file n) disk = after (Cut file n) disk
@@ -118,11 +127,16 @@ begun (Sync file) disk = disk
 abbrev pub LeavesAtMost : DiskState → DiskState → Type 0
 LeavesAtMost that this = (image : Image) → MayLeave this image → MayLeave that image
 
+-- A changing call failed in a disk: a crash leaves no more than where it was begun, and the disk took this call or none.
+pub record FailsIn (change : Change) (disk now : DiskState) : Type 0 where
+  pub leaves : LeavesAtMost (begun change disk) now
+  pub took : (now.calls ≡ disk.calls) ⊎ (now.calls ≡ disk.calls ++ change ∷ [])
+
 -- What a changing call does to what a disk tells. A disk that does not tell goes on not telling.
 abbrev pub Changes : {T E : Type 0} → Change → Option DiskState → Result T E → Option DiskState → Type 0
 Changes change told (Ok _) now = now ≡ option_map (after change) told
 Changes change None (Err _) now = now ≡ None
-Changes change (Some disk) (Err _) now = IsSomeAnd now (LeavesAtMost (begun change disk))
+Changes change (Some disk) (Err _) now = IsSomeAnd now (FailsIn change disk)
 
 -- What a read of at most `size` bytes from a place on gives: as many as are there and fit.
 abbrev pub read_from : List ℕ → ℕ → ℕ → List ℕ

@@ -1,6 +1,6 @@
 -- That disks in memory keep the disk rule.
 use Rattle.std.specs.Prelude.{Result, Ok, Err, is_ok, if◌then◌else◌, ◌==◌}
-use Rattle.std.proofs.Common.{◌≡◌, ◌⊎◌, inl, inr, Bool, true, false, ℕ, ◌+◌, ◌<◌, ◌≤◌, ◌^◌, None, Some, List, [], ◌∷◌, ◌++◌, length, take, sym, ◌∙◌, ap, subst, arith, length-append}
+use Rattle.std.proofs.Common.{◌≡◌, ◌⊎◌, inl, inr, Bool, true, false, ℕ, ◌+◌, ◌<◌, ◌≤◌, ◌^◌, None, Some, List, [], ◌∷◌, ◌++◌, length, take, refl, sym, ◌∙◌, ap, subst, arith, length-append}
 use Rattle.std.proofs.lemmas.List.{take_all, take-append-le}
 use Rattle.std.proofs.lemmas.Bool.{cases_lt}
 use Rattle.crash_disk.specs.declared.file_no.FileNo.TheVariants.{Zero, One}
@@ -8,7 +8,7 @@ use Rattle.crash_disk.specs.declared.change.Change.{Change}
 use Rattle.crash_disk.specs.declared.change.Change.TheVariants.{Write, Cut, Sync}
 use Rattle.crash_disk.specs.declared.change.Taken.{Taken}
 use Rattle.crash_disk.specs.Counts.{CountsFaults, one_more}
-use Rattle.crash_disk.specs.Disk.{Image, DiskState, MayLeave, LeavesAtMost, Changes, FileState, FileMayLeave, after_write, after_cut, settled_image, begun}
+use Rattle.crash_disk.specs.Disk.{Image, DiskState, MayLeave, LeavesAtMost, FailsIn, Changes, FileState, FileMayLeave, after_write, after_cut, settled_image, begun}
 use Rattle.crash_disk.specs.Moments.{DiskShown, IsMadeByCalls, Elapses}
 use Rattle.crash_disk.specs.Memory.{DiskInMemory, state_of, LeftSince, left_by, replay, after_taken, answered, after_call, starved_by_call, faulted, Calls, Changing, Starved, Reading}
 use Rattle.crash_disk.specs.Soundness.{IsSoundDisk, sound-begun, sound-replay, sound-settled_image, left_by_a_crash, only-settled_image, replay-push, outside-push}
@@ -39,9 +39,9 @@ at_most_begun (Cut One n) disk image may = record { zero = may.zero; one = after
 at_most_begun (Sync file) disk image may = may
 
 -- a stop leaves one of the images of the disk in which the call was begun
-stopped_at_most : (pick : ℕ) (change : Change) (disk : DiskState) → IsSoundDisk disk → LeavesAtMost (begun change disk) (settled_image (left_by pick (begun change disk)))
+stopped_at_most : (pick : ℕ) (change : Change) (disk : DiskState) → IsSoundDisk disk → LeavesAtMost (begun change disk) (after_taken (Some pick) change disk)
 stopped_at_most pick change disk sound image may =
-    let is = only-settled_image (left_by pick (begun change disk)) image may in
+    let is = only-settled_image (left_by pick (begun change disk)) image (record { zero = may.zero; one = may.one }) in
     subst (MayLeave (begun change disk)) (sym is) (left_by_a_crash pick (begun change disk) (sound-begun change disk sound))
 
 -- how a call changed a disk in memory
@@ -75,9 +75,10 @@ changes_by change old new (Ok x) (stopped_in pick ok start log) = absurd (cc)
 changes_by change old new (Ok x) (nothing ok start log) = absurd (cc)
 changes_by change old new (Err e) (did ok start log) = absurd (cc)
 changes_by change old new (Err e) (stopped_in pick ok start log) =
-    subst (LeavesAtMost (begun change (state_of old))) (sym (pushed old new (record { change = change; stop = Some pick }) start log)) (stopped_at_most pick change (state_of old) (sound-state old))
+    subst (FailsIn change (state_of old)) (sym (pushed old new (record { change = change; stop = Some pick }) start log))
+    (record { leaves = stopped_at_most pick change (state_of old) (sound-state old); took = inr refl })
 changes_by change old new (Err e) (nothing ok start log) =
-    subst (LeavesAtMost (begun change (state_of old))) (sym (unchanged old new start log)) (at_most_begun change (state_of old))
+    subst (FailsIn change (state_of old)) (sym (unchanged old new start log)) (record { leaves = at_most_begun change (state_of old); took = inl refl })
 
 pub changes_in_memory : {T E : Type 0} (change : Change) (old new : DiskInMemory) (result : Result T E) → Calls change old result new → Changes change (Some (state_of old)) result (Some (state_of new))
 changes_in_memory change old new result calls = changes_by change old new result (how_changed change old new (is_ok result) calls)

@@ -31,7 +31,7 @@ left_by pick disk = record { zero = picked pick disk.zero; one = picked pick dis
 -- the disk after a changing call that it took: it was done, or the disk stopped in it and was started again
 abbrev pub after_taken : Option ℕ → Change → DiskState → DiskState
 after_taken None change disk = after change disk
-after_taken (Some pick) change disk = settled_image (left_by pick (begun change disk))
+after_taken (Some pick) change disk = record (settled_image (left_by pick (begun change disk))) { calls = disk.calls ++ change ∷ [] }
 
 -- the disk after these calls, the first of them first
 abbrev pub replay : DiskState → List Taken → DiskState

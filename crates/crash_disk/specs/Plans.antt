@@ -1,7 +1,7 @@
 -- Plans: changing calls in an order, and how far a run of calls of a disk went in one.
 use Rattle.std.specs.Prelude.{◌≡◌, ◌⊎◌, List, [], ◌∷◌, IfSome, IsSomeAnd, Result, Ok, Err}
 use Rattle.crash_disk.specs.declared.change.Change.{Change}
-use Rattle.crash_disk.specs.Disk.{Image, DiskState, MayLeave, LeavesAtMost, after, begun}
+use Rattle.crash_disk.specs.Disk.{Image, DiskState, MayLeave, FailsIn, after, begun}
 use Rattle.crash_disk.specs.Moments.{DiskShown, LeavesOnly}
 
 -- the disk after all calls of a plan, each of which succeeded
@@ -12,7 +12,7 @@ after_all (change ∷ plan) disk = after_all plan (after change disk)
 -- A plan was begun: its calls were made in their order up to one, which was the last that succeeded, or failed.
 abbrev pub IsBegun : List Change → DiskState → DiskState → Type 0
 IsBegun [] disk now = now ≡ disk
-IsBegun (change ∷ plan) disk now = (now ≡ disk) ⊎ LeavesAtMost (begun change disk) now ⊎ IsBegun plan (after change disk) now
+IsBegun (change ∷ plan) disk now = (now ≡ disk) ⊎ FailsIn change disk now ⊎ IsBegun plan (after change disk) now
 
 -- A plan was carried out: all of it where the answer is Ok, and else a beginning.
 abbrev pub IsCarriedOut : {T E : Type 0} → Result T E → List Change → DiskState → DiskState → Type 0
@@ -24,10 +24,8 @@ abbrev pub LeftAmid : List Change → DiskState → Image → Type 0
 LeftAmid [] disk image = MayLeave disk image
 LeftAmid (change ∷ plan) disk image = MayLeave disk image ⊎ MayLeave (begun change disk) image ⊎ LeftAmid plan (after change disk) image
 
--- From the old disk to the new one no changing calls were made but those of the plan for what the old disk tells, as far as reads
--- and crashes can tell: all of them, in their order, where the answer is Ok, and else a beginning of them. A crash at any moment
--- leaves what one amid them leaves. So a call more is told apart but where it writes what stood there already, or syncs once more,
--- in front of a sync of the plan.
+-- From the old disk to the new one it took no changing calls but those of the plan for what the old disk tells: all of them, in
+-- their order, where the answer is Ok, and else a beginning of them. A crash at any moment leaves what one amid them leaves.
 pub record Follows {D T E : Type 0} (shows : D → DiskShown) (plan : DiskState → List Change) (old new : D) (result : Result T E) : Type 0 where
   pub ends : IfSome (shows old).told (λ disk. IsSomeAnd (shows new).told (IsCarriedOut result (plan disk) disk))
   pub moments : IfSome (shows old).told (λ disk. LeavesOnly shows old new (LeftAmid (plan disk) disk))

@@ -9,7 +9,7 @@ use Rattle.crash_disk.specs.declared.file_no.FileNo.TheVariants.{Zero, One}
 use Rattle.crash_disk.specs.declared.change.Change.{Change}
 use Rattle.crash_disk.specs.declared.change.Change.TheVariants.{Write, Cut, Sync}
 use Rattle.crash_disk.specs.declared.change.Taken.{Taken}
-use Rattle.crash_disk.specs.Disk.{Image, FileState, FileMayLeave, DiskState, MayLeave, image_of, settled, settled_image, overwritten, after_write, after_cut, after, begun}
+use Rattle.crash_disk.specs.Disk.{Image, FileState, FileMayLeave, DiskState, MayLeave, image_of, settled, settled_image, overwritten, after_write, after_cut, changed, after, begun}
 use Rattle.crash_disk.specs.Memory.{IsSound, is_pending, marked, marked_from, picked, left_by, after_taken, replay, DiskInMemory, state_of, LeftSince}
 
 pub outside-push : (i : ℕ) (ranges : List Range) (range : Range) → IsOutside i (ranges ++ range ∷ []) → IsOutside i ranges × ((i < range.start) ⊎ (range.end ≤ i))
@@ -126,13 +126,16 @@ pub record IsSoundDisk (disk : DiskState) : Type 0 where
   pub zero : IsSound disk.zero
   pub one : IsSound disk.one
 
+pub sound-changed : (change : Change) (disk : DiskState) → IsSoundDisk disk → IsSoundDisk (changed change disk)
+sound-changed (Write Zero at bytes) disk sound = record { zero = sound-write disk.zero at bytes sound.zero; one = sound.one }
+sound-changed (Write One at bytes) disk sound = record { zero = sound.zero; one = sound-write disk.one at bytes sound.one }
+sound-changed (Cut Zero n) disk sound = record { zero = sound-cut disk.zero n sound.zero; one = sound.one }
+sound-changed (Cut One n) disk sound = record { zero = sound.zero; one = sound-cut disk.one n sound.one }
+sound-changed (Sync Zero) disk sound = record { zero = sound-settled disk.zero.reads; one = sound.one }
+sound-changed (Sync One) disk sound = record { zero = sound.zero; one = sound-settled disk.one.reads }
+
 pub sound-after : (change : Change) (disk : DiskState) → IsSoundDisk disk → IsSoundDisk (after change disk)
-sound-after (Write Zero at bytes) disk sound = record { zero = sound-write disk.zero at bytes sound.zero; one = sound.one }
-sound-after (Write One at bytes) disk sound = record { zero = sound.zero; one = sound-write disk.one at bytes sound.one }
-sound-after (Cut Zero n) disk sound = record { zero = sound-cut disk.zero n sound.zero; one = sound.one }
-sound-after (Cut One n) disk sound = record { zero = sound.zero; one = sound-cut disk.one n sound.one }
-sound-after (Sync Zero) disk sound = record { zero = sound-settled disk.zero.reads; one = sound.one }
-sound-after (Sync One) disk sound = record { zero = sound.zero; one = sound-settled disk.one.reads }
+sound-after change disk sound = let is = sound-changed change disk sound in record { zero = is.zero; one = is.one }
 
 pub sound-begun : (change : Change) (disk : DiskState) → IsSoundDisk disk → IsSoundDisk (begun change disk)
 sound-begun (Write file at bytes) disk sound = sound-after (Write file at bytes) disk sound
@@ -144,7 +147,8 @@ sound-settled_image image = record { zero = sound-settled image.zero; one = soun
 
 sound-after_taken : (stop : Option ℕ) (change : Change) (disk : DiskState) → IsSoundDisk disk → IsSoundDisk (after_taken stop change disk)
 sound-after_taken None change disk sound = sound-after change disk sound
-sound-after_taken (Some pick) change disk sound = sound-settled_image (left_by pick (begun change disk))
+sound-after_taken (Some pick) change disk sound =
+    let is = sound-settled_image (left_by pick (begun change disk)) in record { zero = is.zero; one = is.one }
 
 pub sound-replay : (disk : DiskState) (log : List Taken) → IsSoundDisk disk → IsSoundDisk (replay disk log)
 sound-replay disk [] sound = sound

@@ -22,7 +22,7 @@ leaves_begun change None (Ok x) now image is reads left = subst (λ (o : Option 
 leaves_begun change None (Err e) now image is reads left = subst (λ (o : Option DiskState). Leaves o image) is left
 leaves_begun change (Some disk) (Ok x) now image is reads left = after_at_most change disk image reads (subst (λ (o : Option DiskState). Leaves o image) is left)
 leaves_begun change (Some disk) (Err e) None image is reads left = absurd left
-leaves_begun change (Some disk) (Err e) (Some new) image is reads left = is image left
+leaves_begun change (Some disk) (Err e) (Some new) image is reads left = is.leaves image left
 
 -- a sync leaves no more than before it
 pub leaves_sync : {T E : Type 0} (change : Change) (told : Option DiskState) (result : Result T E) (now : Option DiskState) (image : Image)

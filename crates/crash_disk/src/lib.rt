@@ -10,20 +10,20 @@
 //! ```
 //!
 //! A contract sees what a disk tells of itself: of each file what a read gives, what the last sync kept, the least and
-//! the greatest length since then, and the ranges that were written since then. The disk rule, in `specs/Disk.antt`,
-//! says which images a crash may leave of that. A disk that does not tell, as one over real files, meets the same
+//! the greatest length since then, and the ranges that were written since then; and which changing calls it took, in their
+//! order. The disk rule, in `specs/Disk.antt`, says which images a crash may leave of that. A disk that does not tell, as one over real files, meets the same
 //! contract; an object tells at each moment or at none (`tells`). `left_since` is what a crash at some moment from one on
 //! might have left, so that a clause can speak of every moment inside a call (`specs/Moments.antt`).
 //!
-//! A plan is a list of changing calls in an order. That a run of calls follows a plan says that it made these, all of them or a
-//! beginning, and no other that reads or a crash at some moment could tell (`specs/Plans.antt`).
+//! A plan is a list of changing calls in an order. That a run of calls follows a plan says that the disk took these, all of
+//! them or a beginning, and no other (`specs/Plans.antt`).
 //!
 //! A call answers [`Failed`] only where the count of faults rose in it. What it then did is no more than begun.
 //!
 //! # What is proved
 //!
-//! The disk rule as definitions (`specs/Disk.antt`): what a read gives and which images a crash may leave now, and at
-//! some moment since a call began. The trait `Disk` says it of every disk that tells, and a disk tells at each moment
+//! The disk rule as definitions (`specs/Disk.antt`): what a read gives, which changing calls were taken, and which images
+//! a crash may leave now, and at some moment since a call began. The trait `Disk` says it of every disk that tells, and a disk tells at each moment
 //! or at none (`tells_always`); a call fails only where the count of faults rose. `MemDisk` keeps the rule with an
 //! exact outcome for each call (`calls`), also where it is told to fail or to stop; a stop leaves one of the images
 //! that a crash may leave (`laws::a_stop_leaves_what_a_crash_may_leave`).

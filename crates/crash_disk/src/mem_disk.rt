@@ -1,7 +1,7 @@
 //! A disk in memory.
-ghost use Rattle.std.specs.Prelude.{◌≡◌, ◌<◌, ◌≤◌, ◌^◌, ◌++◌, ℕ, Some, length, drop, true, false, IsTrue, IfSome, IfOk, OnOk, OnErr, IsErr};
+ghost use Rattle.std.specs.Prelude.{◌≡◌, ◌<◌, ◌≤◌, ◌^◌, ◌++◌, ◌∷◌, [], ℕ, Some, length, drop, true, false, IsTrue, IfSome, IfOk, OnOk, OnErr, IsErr};
 ghost use Rattle.crash_disk.specs.Counts.{CountsFaults, one_more};
-ghost use Rattle.crash_disk.specs.Disk.{Changes, after, begun, empty_image, reads_of, read_from, settled};
+ghost use Rattle.crash_disk.specs.Disk.{Changes, changed, begun, files, empty_image, reads_of, read_from, settled};
 ghost use Rattle.crash_disk.specs.InMemory.{shown_in_memory};
 ghost use Rattle.crash_disk.specs.Moments.{Elapses};
 ghost use Rattle.crash_disk.specs.Memory.{after_taken, holding, state_of, IsAllowed, Calls, faulted, starved_by_call};
@@ -14,8 +14,8 @@ use std::marker::Model;
 
 /// Does what a changing call asks of the two files, or leaves them as they were where there is no memory.
 fn apply(zero: &mut MemFile, one: &mut MemFile, change: &Change) -> Result<(), NoMemory>
-    requires { IsAllowed change.now (record { zero = zero.old; one = one.old }) }
-    ensures ok { OnOk result (record { zero = zero.new; one = one.new } ≡ after change.now (record { zero = zero.old; one = one.old })) }
+    requires { IsAllowed change.now (files zero.old one.old) }
+    ensures ok { OnOk result (files zero.new one.new ≡ changed change.now (files zero.old one.old)) }
     ensures zero_err { OnErr result (zero.new ≡ zero.old) }
     ensures one_err { OnErr result (one.new ≡ one.old) }
 {
@@ -43,8 +43,8 @@ fn apply(zero: &mut MemFile, one: &mut MemFile, change: &Change) -> Result<(), N
 
 /// Begins what a changing call asks: a sync does nothing yet.
 fn begin(zero: &mut MemFile, one: &mut MemFile, change: &Change) -> Result<(), NoMemory>
-    requires { IsAllowed change.now (record { zero = zero.old; one = one.old }) }
-    ensures ok { OnOk result (record { zero = zero.new; one = one.new } ≡ begun change.now (record { zero = zero.old; one = one.old })) }
+    requires { IsAllowed change.now (files zero.old one.old) }
+    ensures ok { OnOk result (let now = begun change.now (files zero.old one.old) in record { zero = zero.new; one = one.new; calls = now.calls } ≡ now) }
     ensures zero_err { OnErr result (zero.new ≡ zero.old) }
     ensures one_err { OnErr result (one.new ≡ one.old) }
 {
@@ -61,8 +61,8 @@ fn take(
     change: &Change,
     stop: Option<u8>,
 ) -> Result<(), NoMemory>
-    requires { IsAllowed change.now (record { zero = zero.old; one = one.old }) }
-    ensures ok { OnOk result (record { zero = zero.new; one = one.new } ≡ after_taken stop change.now (record { zero = zero.old; one = one.old })) }
+    requires { IsAllowed change.now (files zero.old one.old) }
+    ensures ok { OnOk result (record { zero = zero.new; one = one.new; calls = change.now ∷ [] } ≡ after_taken stop change.now (files zero.old one.old)) }
     ensures zero_err { OnErr result (zero.new ≡ zero.old) }
     ensures one_err { OnErr result (one.new ≡ one.old) }
 {
@@ -113,7 +113,7 @@ pub struct MemDisk {
 }
 
 impl Model for MemDisk {
-    ghost use Rattle.std.specs.Prelude.{◌≡◌};
+    ghost use Rattle.std.specs.Prelude.{◌≡◌, map};
     ghost use Rattle.crash_disk.specs.Disk.{DiskState, settled_image};
     ghost use Rattle.crash_disk.specs.Memory.{DiskInMemory, replay};
 
@@ -130,7 +130,7 @@ impl Model for MemDisk {
       faults = m.faults;
     } };
 
-    ghost invariant = { λ m. record { zero = m.zero; one = m.one } ≡ replay (settled_image (record { zero = m.start_zero; one = m.start_one })) m.log.items };
+    ghost invariant = { λ m. record { zero = m.zero; one = m.one; calls = map (λ t. t.change) m.log.items } ≡ replay (settled_image (record { zero = m.start_zero; one = m.start_one })) m.log.items };
 }
 
 impl MemDisk {

@@ -1,5 +1,6 @@
 pub mod Bindings
 pub mod TableIndexing
+pub mod Ranking
 mod NamedElements
 mod NameKeys
 mod Differing

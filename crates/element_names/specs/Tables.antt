@@ -1,9 +1,11 @@
 -- A table of texts, each once, and the numbers that its texts have.
-use Rattle.std.specs.Prelude.{◌≡◌, ℕ, ◌==◌, ◌<◌, length, slice_index_or, List, [], ◌∷◌, ◌++◌, String, Some, if◌then◌else◌, slice_get}
+use Rattle.std.specs.Prelude.{◌≡◌, ℕ, ◌==◌, ◌<◌, length, slice_index, slice_index_or, List, [], ◌∷◌, ◌++◌, String, Some, if◌then◌else◌, slice_get}
 use Rattle.std.specs.List.{list_any}
 use Rattle.std.specs.declared.alloc.Global.{Global}
 use Rattle.std.specs.BTreeMap.{BTreeMap, get_by_text}
+use Rattle.std.specs.Ordering.{nat_cmp}
 use Rattle.std.specs.Str.{bytes_eq}
+use Rattle.xml_spec.specs.Canonical.{byte_order}
 
 -- the table with a text, at the end where it was not there before
 abbrev pub added : List (List ℕ) → List ℕ → List (List ℕ)
@@ -22,3 +24,10 @@ pub record IsIndexed (table : List (List ℕ)) (numbers : Index) : Type 0 where
 pub record HasEachOnce (table : List (List ℕ)) : Type 0 where
   pub each : (one other : ℕ) → one < length table → other < length table →
       (one == other) ≡ bytes_eq (slice_index_or table one []) (slice_index_or table other [])
+
+-- each number has a rank: two ranks are in the order that the bytes of the texts are in
+pub record AreRanks (table : List (List ℕ)) (ranks : List ℕ) : Type 0 where
+  pub count : length ranks ≡ length table
+  pub order : (one other : ℕ) → one < length table → other < length table →
+      nat_cmp (slice_index ranks one) (slice_index ranks other)
+      ≡ byte_order (slice_index_or table one []) (slice_index_or table other [])

@@ -9,25 +9,28 @@
 //! ```
 //!
 //! Each namespace has a number in a table, so that two names are in one namespace where their numbers are the same. The
-//! numbers of all attributes stand in one list.
+//! numbers of all attributes stand in one list. Once a document is read its table gets the rank of each namespace, so that
+//! two are put in order in a time that does not grow with their names.
 //!
 //! # What is proved
 //!
 //! The names of an element by Namespaces in XML 1.0: `Spaces::enter` and `leave` keep which prefix is bound to which
 //! namespace; `element_names` gives the number of the namespace of each name exactly where the names keep the rules
 //! (`named`, `resolved`), else BadNames (`err`). Two numbers of a `Table` have one namespace only where they are the
-//! same (`Table::is_same`).
+//! same (`Table::is_same`), and `RankedTable::order` gives the order of their bytes.
 #![tactic(auto)]
 
 mod distinct;
 mod fault;
 mod names;
 mod qualified;
+mod ranked;
 mod spaces;
 mod table;
 
 pub use fault::NameFault;
 pub use names::{Room, RowNames, element_names};
 pub use qualified::is_declaration;
+pub use ranked::RankedTable;
 pub use spaces::{NONE, Spaces, XMLNS};
 pub use table::Table;

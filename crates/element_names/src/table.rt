@@ -3,10 +3,10 @@
 ghost use Rattle.std.specs.Prelude.{◌≡◌, ◌<◌, [], length, Some, false, MatchOption, OnOk, OnErr, IfOk, IfErr, slice_get, slice_index_or};
 ghost use Rattle.std.specs.List.{list_any};
 ghost use Rattle.std.specs.Str.{bytes_eq};
-ghost use Rattle.element_names.specs.Tables.{added, HasEachOnce};
+ghost use Rattle.element_names.specs.Tables.{added, HasEachOnce, AreRanks};
 
 use crate::fault::NameFault;
-use std::alloc::Global;
+use std::alloc::{AllocError, Global};
 use std::collections::BTreeMap;
 use std::marker::Model;
 
@@ -94,5 +94,18 @@ impl Table {
     {
         let _ = &self.texts;
         one == other
+    }
+
+    /// The rank of each text among them all, by its number: the texts are gone over once, in the order of their bytes.
+    pub(crate) fn ranks(&self, alloc: Global) -> Result<Vec<usize>, AllocError>
+        ensures { IfOk result (λ ranks. AreRanks self.now ranks.items) }
+    {
+        let mut ranks = vec![in alloc; 0; self.texts.len()]?;
+        let mut rank = 0;
+        for number in self.numbers.values() {
+            ranks[*number as usize] = rank;
+            rank += 1;
+        }
+        Ok(ranks)
     }
 }

@@ -5,16 +5,16 @@ use Rattle.std.specs.Option.{option_map, option_map_or, option_and_then, is_some
 use Rattle.std.specs.declared.cmp.Ordering.{Ordering}
 use Rattle.xml_spec.specs.Tree.{Attribute, Nodes}
 use Rattle.xml_spec.specs.Numbering.{from_node}
-use Rattle.std.specs.Ordering.{ordering_then}
-use Rattle.std.proofs.lemmas.Cmp.{nat_list_cmp_total, tied_itself}
-use Rattle.xml_spec.specs.Characters.{prefix_of, local_of}
-use Rattle.xml_spec.specs.Bytes.{is_empty}
-use Rattle.xml_spec.specs.Names.{Scope, ExpandedName, outermost, inner_scope, xmlns_namespace, namespace_of, declared_prefix, is_declaration, proper_attributes, attribute_name}
-use Rattle.xml_spec.specs.Canonical.{scope_at, byte_order, expanded_order, inserted, sorted, written_attributes}
+use Rattle.xml_spec.specs.Characters.{local_of}
+use Rattle.xml_spec.specs.Names.{Scope, ExpandedName, outermost, inner_scope, xmlns_namespace, declared_prefix, is_declaration, proper_attributes, attribute_name}
+use Rattle.xml_spec.specs.Canonical.{scope_at, expanded_order, inserted, sorted, written_attributes}
 use Rattle.saml_tree.specs.Documents.{attributes_of}
-use Rattle.saml_tree.specs.NodeNames.{ShownName, attribute_at, attribute_name_at, shown_attribute_name}
+use Rattle.saml_tree.specs.NodeNames.{ShownName, attribute_at, shown_attribute_name}
+use Rattle.saml_tree.specs.declared.node.NodeNo.{NodeNo}
+use Rattle.saml_tree.specs.declared.node.NameAt.TheVariants as places
 use Rattle.saml_tree.specs.Elements.{attributes_in}
-use Rattle.excl_c14n.specs.NodeByNode.{scope_inside, attribute_order_in, number_order, is_proper_number}
+use Rattle.excl_c14n.specs.Pairs.{space_at}
+use Rattle.excl_c14n.specs.NodeByNode.{scope_inside, attribute_name_of, attribute_order_in, number_order, is_proper_number}
 use Rattle.excl_c14n.proofs.Sorting.{map-sorted}
 
 -- the numbers from `from` up to the count whose attributes declare nothing, sorted
@@ -138,50 +138,38 @@ all_ordered scope tree n count from order counted is first = which (attributes_o
         ∙ sym (map-sorted Some (attribute_order_in scope) (found_order scope)
         (λ a b. refl) (proper_attributes attributes))
 
--- the expanded name that these parts make
-pub expanded_parts : (scope : Scope) (o : Option Attribute) (prefix local namespace : List ℕ) → IsSome o →
-    IfSome o (λ a. (prefix ≡ prefix_of a.name) × (local ≡ local_of a.name)) → namespace ≡ cond (is_empty prefix) [] (namespace_of scope prefix) →
-    let named : ExpandedName = record { namespace = namespace; local = local } in
-    named ≡ attribute_name scope (option_map_or (λ (a : Attribute). a.name) o [])
-expanded_parts scope None prefix local namespace there parts is = absurd (let clash : false ≡ true = there in cc)
-expanded_parts scope (Some a) prefix local namespace there parts is =
-    (λ i. record { namespace = is i; local = local })
-    ∙ (λ i. record { namespace = cond (is_empty (parts.0 i)) [] (namespace_of scope (parts.0 i)); local = parts.1 i })
-
--- names in one namespace are ordered by their local parts
-pub same_namespace : (one other : List ℕ) (order : Ordering) → one ≡ other → ordering_then (byte_order one other) order ≡ order
-same_namespace one other order same =
-    ap (λ space. ordering_then (byte_order one space) order) (sym same) ∙ ap (λ o. ordering_then o order) (tied_itself nat_list_cmp_total one)
-
--- the namespace that is shown of the name of an attribute that declares nothing
-pub shown_namespace : (tree : Nodes) (n i : ℕ) (name : ShownName) → IsSome (attribute_at tree n i) →
-    IfSome (attribute_at tree n i) (λ a. declared_prefix a.name ≡ None) → attribute_name_at tree n i ≡ Some name →
-    (name.namespace ≡ cond (is_empty name.prefix) [] (namespace_of (scope_inside tree n) name.prefix))
-    × IfSome (attribute_at tree n i) (λ a. (name.prefix ≡ prefix_of a.name) × (name.local ≡ local_of a.name))
-shown_namespace tree n i name there proper is = which (attributes_of (from_node tree n)) refl there proper is
+-- the expanded name of an attribute that declares nothing, by its place and its local part
+pub expanded_attribute : (tree : Nodes) (n : NodeNo) (i : ℕ) (local : List ℕ) → IsSome (attribute_at tree n.0 i) →
+    IfSome (attribute_at tree n.0 i) (λ a. declared_prefix a.name ≡ None) → IfSome (attribute_at tree n.0 i) (λ a. local ≡ local_of a.name) →
+    let named : ExpandedName = record { namespace = space_at tree (places.Attribute n i); local = local } in
+    named ≡ attribute_name (scope_inside tree n.0) (attribute_name_of tree n.0 i)
+expanded_attribute tree n i local there proper part = which (attributes_of (from_node tree n.0)) there proper part
   where
-    the_name : {X : Type 0} (x y : X) → Some x ≡ Some y → x ≡ y
-    the_name x y e = cc
-
-    which : (o : Option (List Attribute)) → attributes_of (from_node tree n) ≡ o → IsSome (option_and_then (λ attributes. slice_get attributes i) o) →
+    which : (o : Option (List Attribute)) → IsSome (option_and_then (λ attributes. slice_get attributes i) o) →
         IfSome (option_and_then (λ attributes. slice_get attributes i) o) (λ a. declared_prefix a.name ≡ None) →
-        option_and_then (λ attributes. option_map (shown_attribute_name (inner_scope attributes (scope_at outermost tree n))) (slice_get attributes i)) o ≡ Some name →
-        (name.namespace ≡ cond (is_empty name.prefix) [] (namespace_of (inner_scope (unwrap_or o []) (scope_at outermost tree n)) name.prefix))
-        × IfSome (option_and_then (λ attributes. slice_get attributes i) o) (λ a. (name.prefix ≡ prefix_of a.name) × (name.local ≡ local_of a.name))
-    which None here there proper is = absurd (let clash : None ≡ Some name = is in cc)
-    which (Some attributes) here there proper is = at (slice_get attributes i) there proper is
+        IfSome (option_and_then (λ attributes. slice_get attributes i) o) (λ a. local ≡ local_of a.name) →
+        let named : ExpandedName = record {
+          namespace =
+              unwrap_or (option_map (λ (name : ShownName). name.namespace)
+              (option_and_then (λ attributes. option_map (shown_attribute_name (inner_scope attributes (scope_at outermost tree n.0))) (slice_get attributes i)) o)) [];
+          local = local;
+        } in
+        named ≡ attribute_name (inner_scope (unwrap_or o []) (scope_at outermost tree n.0))
+        (option_map_or (λ (a : Attribute). a.name) (option_and_then (λ attributes. slice_get attributes i) o) [])
+    which None there proper part = absurd (let clash : false ≡ true = there in cc)
+    which (Some attributes) there proper part = at (slice_get attributes i) there proper part
       where
-        at : (o : Option Attribute) → IsSome o → IfSome o (λ a. declared_prefix a.name ≡ None) →
-            option_map (shown_attribute_name (inner_scope attributes (scope_at outermost tree n))) o ≡ Some name →
-            (name.namespace ≡ cond (is_empty name.prefix) [] (namespace_of (inner_scope attributes (scope_at outermost tree n)) name.prefix))
-            × IfSome o (λ a. (name.prefix ≡ prefix_of a.name) × (name.local ≡ local_of a.name))
-        at None there proper is = absurd (let clash : None ≡ Some name = is in cc)
-        at (Some a) there proper is =
-            let inner = inner_scope attributes (scope_at outermost tree n) in
-            let same : shown_attribute_name inner a ≡ name = the_name (shown_attribute_name inner a) name is in
-            let prefix : prefix_of a.name ≡ name.prefix = ap (λ (s : ShownName). s.prefix) same in (
-              sym (ap (λ (s : ShownName). s.namespace) same)
-                  ∙ ap (λ d. cond (is_some d) xmlns_namespace (attribute_name inner a.name).namespace) proper
-                  ∙ ap (λ p. cond (is_empty p) [] (namespace_of inner p)) prefix,
-              (sym prefix, sym (ap (λ (s : ShownName). s.local) same)),
-            )
+        at : (o : Option Attribute) → IsSome o → IfSome o (λ a. declared_prefix a.name ≡ None) → IfSome o (λ a. local ≡ local_of a.name) →
+            let inner = inner_scope attributes (scope_at outermost tree n.0) in
+            let named : ExpandedName = record {
+              namespace = unwrap_or (option_map (λ (name : ShownName). name.namespace) (option_map (shown_attribute_name inner) o)) [];
+              local = local;
+            } in
+            named ≡ attribute_name inner (option_map_or (λ (a : Attribute). a.name) o [])
+        at None there proper part = absurd (let clash : false ≡ true = there in cc)
+        at (Some a) there proper part =
+            let inner = inner_scope attributes (scope_at outermost tree n.0) in
+            λ j. record {
+              namespace = cond (is_some (proper j)) xmlns_namespace (attribute_name inner a.name).namespace;
+              local = part j;
+            }

@@ -1,6 +1,6 @@
 -- Where a name goes among names in order.
 use Rattle.std.proofs.Common.{◌≡◌, ℕ, zero, suc, ◌+◌, ◌-◌, ◌<◌, ◌≤◌, Bool, filter, true, false, not, List, [], ◌∷◌, length, map, get_or, IsTrue, refl, sym, ap, ◌∙◌, subst, arith}
-use Rattle.std.specs.List.{AllByRecursion, insert, range_with_len}
+use Rattle.std.specs.List.{All, AllByRecursion, insert, range_with_len}
 use Rattle.std.specs.Cmp.{IsTotalOrder}
 use Rattle.std.specs.declared.cmp.Ordering.{Ordering}
 use Rattle.std.specs.declared.cmp.Ordering.TheVariants.{Less, Equal, Greater}
@@ -12,9 +12,10 @@ use Rattle.xml_spec.specs.Names.{Scope, ExpandedName, attribute_name}
 use Rattle.xml_spec.specs.Canonical.{expanded_order, inserted}
 use Rattle.xml_spec.proofs.Sorting.{sorted_is_non_descending}
 use Rattle.xml_spec.specs.Laws.{IsNonDescending}
+use Rattle.saml_tree.specs.NodeNames.{IsNameAt}
 use Rattle.excl_c14n.specs.Shown.{expanded_of}
 use Rattle.excl_c14n.specs.declared.order.Expanded.{Expanded}
-use Rattle.excl_c14n.specs.NodeByNode.{attribute_name_of, namespace_by_prefix, number_order, is_proper_number}
+use Rattle.excl_c14n.specs.NodeByNode.{attribute_name_of, number_order, is_proper_number}
 use Rattle.excl_c14n.proofs.Ordered.{IsOrder}
 use Rattle.excl_c14n.proofs.Sorting.{map-sorted, insert_is_inserted}
 
@@ -64,26 +65,26 @@ falls f R o y (x ∷ xs) (suc m) zero d up h le above =
     below_falls R o y (f x) (f (get_or xs m d)) (each_mapped f (λ z. IsTrue (is_le (R (f x) z))) xs m d up.0 (omega arith)) above
 falls f R o y (x ∷ xs) (suc m) (suc k) d up h le above = falls f R o y xs m k d up.1 (omega arith) (omega arith) above
 
-pub all_above : (name : Expanded) (names : List Expanded) (m : ℕ) → IsNonDescending expanded_order (map expanded_of names) → m < length names →
-    ((d : Expanded) → is_le (expanded_order (expanded_of name) (expanded_of (get_or names m d))) ≡ false) →
-    (k : ℕ) (d : Expanded) → k ≤ m → is_le (expanded_order (expanded_of name) (expanded_of (get_or names k d))) ≡ false
-all_above name names m up h above k d le = falls expanded_of expanded_order expanded_order_is_total (expanded_of name) names m k d up h le (above d)
+pub all_above : (tree : Nodes) (name : Expanded) (names : List Expanded) (m : ℕ) → IsNonDescending expanded_order (map (expanded_of tree) names) → m < length names →
+    ((d : Expanded) → is_le (expanded_order (expanded_of tree name) (expanded_of tree (get_or names m d))) ≡ false) →
+    (k : ℕ) (d : Expanded) → k ≤ m → is_le (expanded_order (expanded_of tree name) (expanded_of tree (get_or names k d))) ≡ false
+all_above tree name names m up h above k d le = falls (expanded_of tree) expanded_order expanded_order_is_total (expanded_of tree name) names m k d up h le (above d)
 
 -- the expanded name of attribute i of node n
 abbrev name_at : Scope → Nodes → ℕ → ℕ → ExpandedName
 name_at scope tree n i = attribute_name scope (attribute_name_of tree n i)
 
--- the names of attributes, kept beside their numbers, each with the prefix that stands for its namespace
+-- the names of attributes, kept beside their numbers, each with a place of the document for its namespace
 pub record AreNamesOf (scope : Scope) (tree : Nodes) (n : ℕ) (order : List ℕ) (names : List Expanded) : Type 0 where
-  pub same : map expanded_of names ≡ map (name_at scope tree n) order
-  pub bound : AllByRecursion (λ (kept : Expanded). kept.namespace.now ≡ namespace_by_prefix scope kept.prefix.now) names
+  pub same : map (expanded_of tree) names ≡ map (name_at scope tree n) order
+  pub there : AllByRecursion (λ (kept : Expanded). IsNameAt tree kept.namespace) names
   pub long : length names ≡ length order
 
 pub no_names : (scope : Scope) (tree : Nodes) (n : ℕ) (order : List ℕ) (names : List Expanded) → order ≡ [] → names ≡ [] →
     AreNamesOf scope tree n order names
 no_names scope tree n order names none no_name =
     subst (λ xs. AreNamesOf scope tree n xs names) (sym none)
-    (subst (AreNamesOf scope tree n []) (sym no_name) (record { same = refl; bound = tt; long = refl }))
+    (subst (AreNamesOf scope tree n []) (sym no_name) (record { same = refl; there = tt; long = refl }))
 
 map_insert : {X Y : Type 0} (f : X → Y) (xs : List X) (p : ℕ) (x : X) → p ≤ length xs → map f (insert xs p x) ≡ insert (map f xs) p (f x)
 map_insert f [] zero x h = refl
@@ -112,9 +113,9 @@ length_insert (y ∷ ys) (suc p) x h = let later : length (insert ys p x) ≡ le
 -- one more name and its number, put at one place
 pub one_more_named : (scope : Scope) (tree : Nodes) (n i place : ℕ) (name : Expanded) (order new : List ℕ) (names put seen : List Expanded) →
     AreNamesOf scope tree n order names → seen ≡ names → place ≤ length seen →
-    expanded_of name ≡ name_at scope tree n i → name.namespace.now ≡ namespace_by_prefix scope name.prefix.now →
+    expanded_of tree name ≡ name_at scope tree n i → IsNameAt tree name.namespace →
     new ≡ insert order place i → put ≡ insert names place name → AreNamesOf scope tree n new put
-one_more_named scope tree n i place name order new names put seen are seen_is within is bound new_is put_is =
+one_more_named scope tree n i place name order new names put seen are seen_is within is there new_is put_is =
     let seen_long : length seen ≡ length names = ap length seen_is in
     let h : place ≤ length names = omega arith in
     let long : length names ≡ length order = are.long in
@@ -123,47 +124,45 @@ one_more_named scope tree n i place name order new names put seen are seen_is wi
     let more_names : length put ≡ length names + 1 = ap length put_is ∙ length_insert names place name h in
     record {
       same =
-          ap (map expanded_of) put_is ∙ map_insert expanded_of names place name h
+          ap (map (expanded_of tree)) put_is ∙ map_insert (expanded_of tree) names place name h
           ∙ (λ j. insert (are.same j) place (is j))
           ∙ sym (map_insert (name_at scope tree n) order place i h') ∙ ap (map (name_at scope tree n)) (sym new_is);
-      bound =
-          subst (AllByRecursion (λ (kept : Expanded). kept.namespace.now ≡ namespace_by_prefix scope kept.prefix.now)) (sym put_is)
-          (each_insert (λ (kept : Expanded). kept.namespace.now ≡ namespace_by_prefix scope kept.prefix.now) names place name h bound are.bound);
+      there =
+          subst (AllByRecursion (λ (kept : Expanded). IsNameAt tree kept.namespace)) (sym put_is)
+          (each_insert (λ (kept : Expanded). IsNameAt tree kept.namespace) names place name h there are.there);
       long = omega arith;
     }
 
 pub names_in_order : (scope : Scope) (tree : Nodes) (n count from : ℕ) (order : List ℕ) (names seen : List Expanded) →
     AreNamesOf scope tree n order names → IsOrder scope tree n count from order → seen ≡ names →
-    IsNonDescending expanded_order (map expanded_of seen)
+    IsNonDescending expanded_order (map (expanded_of tree) seen)
 names_in_order scope tree n count from order names seen are is seen_is =
     let numbers = filter (is_proper_number tree n) (range_with_len from (count - from)) in
     subst (IsNonDescending expanded_order)
-    (sym (ap (map expanded_of) seen_is ∙ are.same ∙ ap (map (name_at scope tree n)) is
+    (sym (ap (map (expanded_of tree)) seen_is ∙ are.same ∙ ap (map (name_at scope tree n)) is
     ∙ map-sorted (name_at scope tree n) (number_order scope tree n) expanded_order (λ i j. refl) numbers))
     (sorted_is_non_descending expanded_order expanded_order_is_total (map (name_at scope tree n) numbers))
 
--- a prefix that two names have stands for one namespace
-pub one_namespace : (scope : Scope) (tree : Nodes) (n : ℕ) (name : Expanded) (order : List ℕ) (names seen : List Expanded) →
-    AreNamesOf scope tree n order names → seen ≡ names → name.namespace.now ≡ namespace_by_prefix scope name.prefix.now →
-    (k : ℕ) (d : Expanded) → k < length seen → name.prefix.now ≡ (get_or seen k d).prefix.now → name.namespace.now ≡ (get_or seen k d).namespace.now
-one_namespace scope tree n name order names seen are seen_is bound k d h alike =
-    let each = subst (AllByRecursion (λ (kept : Expanded). kept.namespace.now ≡ namespace_by_prefix scope kept.prefix.now)) (sym seen_is) are.bound in
-    bound ∙ ap (namespace_by_prefix scope) alike
-    ∙ sym (each_at (λ (kept : Expanded). kept.namespace.now ≡ namespace_by_prefix scope kept.prefix.now) seen k d each h)
+-- the names have places of the document
+pub all_there : (scope : Scope) (tree : Nodes) (n : ℕ) (order : List ℕ) (names seen : List Expanded) → AreNamesOf scope tree n order names → seen ≡ names →
+    All (λ (kept : Expanded). IsNameAt tree kept.namespace) seen
+all_there scope tree n order names seen are seen_is k d h =
+    each_at (λ (kept : Expanded). IsNameAt tree kept.namespace) seen k d
+    (subst (AllByRecursion (λ (kept : Expanded). IsNameAt tree kept.namespace)) (sym seen_is) are.there) h
 
 -- the number of a name goes where the name goes
 pub put_where_named : (scope : Scope) (tree : Nodes) (n i place : ℕ) (name : Expanded) (order new : List ℕ) (names seen : List Expanded) →
-    AreNamesOf scope tree n order names → seen ≡ names → expanded_of name ≡ name_at scope tree n i → place ≤ length seen →
-    ((k : ℕ) (d : Expanded) → k < place → is_le (expanded_order (expanded_of name) (expanded_of (get_or seen k d))) ≡ false) →
-    ((d : Expanded) → place < length seen → is_le (expanded_order (expanded_of name) (expanded_of (get_or seen place d))) ≡ true) →
+    AreNamesOf scope tree n order names → seen ≡ names → expanded_of tree name ≡ name_at scope tree n i → place ≤ length seen →
+    ((k : ℕ) (d : Expanded) → k < place → is_le (expanded_order (expanded_of tree name) (expanded_of tree (get_or seen k d))) ≡ false) →
+    ((d : Expanded) → place < length seen → is_le (expanded_order (expanded_of tree name) (expanded_of tree (get_or seen place d))) ≡ true) →
     new ≡ insert order place i → new ≡ inserted (number_order scope tree n) i order
 put_where_named scope tree n i place name order new names seen are seen_is is within above at put =
     let long : length names ≡ length order = are.long in
     let seen_long : length seen ≡ length names = ap length seen_is in
-    let named : (k : ℕ) → k < length order → name_at scope tree n (get_or order k 0) ≡ expanded_of (get_or seen k name) =
-    λ k h. sym (get_or-map (name_at scope tree n) order k 0 (expanded_of name) h)
-    ∙ ap (λ zs. get_or zs k (expanded_of name)) (sym are.same ∙ ap (map expanded_of) (sym seen_is))
-    ∙ get_or-map expanded_of seen k name (expanded_of name) (omega arith) in
+    let named : (k : ℕ) → k < length order → name_at scope tree n (get_or order k 0) ≡ expanded_of tree (get_or seen k name) =
+    λ k h. sym (get_or-map (name_at scope tree n) order k 0 (expanded_of tree name) h)
+    ∙ ap (λ zs. get_or zs k (expanded_of tree name)) (sym are.same ∙ ap (map (expanded_of tree)) (sym seen_is))
+    ∙ get_or-map (expanded_of tree) seen k name (expanded_of tree name) (omega arith) in
     put ∙ insert_is_inserted (number_order scope tree n) i order place 0 (omega arith)
     (λ k h. (λ j. is_le (expanded_order (sym is j) (named k (omega arith) j))) ∙ above k name h)
     (λ h. (λ j. is_le (expanded_order (sym is j) (named place h j))) ∙ at name (omega arith))

@@ -6,8 +6,7 @@ use Rattle.std.specs.Option.{option_map_or}
 use Rattle.std.specs.declared.cmp.Ordering.{Ordering}
 use Rattle.xml_spec.specs.Tree.{Attribute, Nodes, NoNodes, Element, Text, Comment, Instruction}
 use Rattle.xml_spec.specs.Numbering.{size, from_node}
-use Rattle.xml_spec.specs.Bytes.{is_empty}
-use Rattle.xml_spec.specs.Names.{Binding, Scope, outermost, namespace_of, attribute_name, inner_scope, is_declaration}
+use Rattle.xml_spec.specs.Names.{Binding, Scope, outermost, attribute_name, inner_scope, is_declaration}
 use Rattle.xml_spec.specs.Canonical.{scope_at, escape_text, byte_order, expanded_order, sorted, once, used_prefixes, listed_prefix, is_rendered_anew, written_declarations, written_attributes, print_start, print_end, print_instruction}
 use Rattle.xml_spec.specs.Laws.{IsAscending}
 use Rattle.saml_tree.specs.NodeNames.{attribute_at}
@@ -22,10 +21,6 @@ wanted_prefixes listed scope rendered name attributes =
 -- the order of attributes in this scope, by their expanded names
 abbrev pub attribute_order_in : Scope → Attribute → Attribute → Ordering
 attribute_order_in scope a b = expanded_order (attribute_name scope a.name) (attribute_name scope b.name)
-
--- the namespace of an attribute's name with this prefix
-abbrev pub namespace_by_prefix : Scope → List ℕ → List ℕ
-namespace_by_prefix scope prefix = if is_empty prefix then [] else namespace_of scope prefix
 
 -- the name of attribute i of node n, empty where there is none
 abbrev pub attribute_name_of : Nodes → ℕ → ℕ → List ℕ

@@ -1,5 +1,5 @@
 //! The prefixes of a PrefixList.
-ghost use Rattle.std.specs.Prelude.{◌≡◌, ◌==◌, length, map, codes, IfOk, if◌then◌else◌};
+ghost use Rattle.std.specs.Prelude.{◌≡◌, ◌==◌, length, map, IfOk};
 ghost use Rattle.xml_spec.specs.Canonical.{listed_prefix};
 ghost use Rattle.excl_c14n.specs.Levels.{is_among};
 

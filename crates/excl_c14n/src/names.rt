@@ -4,7 +4,6 @@ ghost use Rattle.std.specs.Option.{option_map};
 ghost use Rattle.xml_spec.specs.Characters.{prefix_of, local_of};
 ghost use Rattle.xml_spec.specs.Numbering.{from_node};
 ghost use Rattle.xml_spec.specs.Names.{HasNames, declared_prefix};
-ghost use Rattle.saml_tree.specs.Documents.{name_of};
 ghost use Rattle.saml_tree.specs.NodeNames.{attribute_at};
 ghost use Rattle.saml_tree.specs.Elements.{IsElement, name_in};
 ghost use Rattle.canon_octets.specs.Names.{joined_name};

@@ -1,76 +1,72 @@
 //! The order in which attributes are written.
 ghost use Rattle.std.specs.Prelude.{◌≡◌, ℕ, ◌<◌, ◌≤◌, map, length, slice_index_or, true, false, Some, None, IsSome, IfSome, OnOk};
+ghost use Rattle.std.specs.List.{All};
 ghost use Rattle.std.specs.Ordering.{is_le};
 ghost use Rattle.xml_spec.specs.Names.{HasNames, declared_prefix, attribute_name};
 ghost use Rattle.xml_spec.specs.Numbering.{from_node};
 ghost use Rattle.xml_spec.specs.Canonical.{expanded_order, written_attributes};
 ghost use Rattle.xml_spec.specs.Laws.{IsNonDescending};
-ghost use Rattle.saml_tree.specs.NodeNames.{attribute_at};
+ghost use Rattle.saml_tree.specs.NodeNames.{attribute_at, IsNameAt};
 ghost use Rattle.saml_tree.specs.Elements.{IsElement, attributes_in};
-ghost use Rattle.excl_c14n.specs.NodeByNode.{attribute_name_of, namespace_by_prefix, scope_inside};
+ghost use Rattle.excl_c14n.specs.NodeByNode.{attribute_name_of, scope_inside};
 ghost use Rattle.excl_c14n.specs.Shown.{expanded_of};
 ghost use Rattle.excl_c14n.specs.declared.order.Expanded.{Expanded};
 
-use crate::names::declared;
+use crate::names::{attribute_parts, declared};
 use owned_values::NoMemory;
-use saml_tree::{Doc, NodeNo};
+use saml_tree::{Doc, NameAt, NodeNo};
 use std::alloc::Global;
 use std::cmp::Ordering;
 
-/// An expanded name (Namespaces in XML 1.0, 2.1), with the prefix that stands for its namespace.
+/// An expanded name (Namespaces in XML 1.0, 2.1), with a place that speaks of its namespace.
 #[derive(Clone, Copy)]
 struct Expanded<'d> {
-    prefix: &'d str,
-    namespace: &'d str,
+    namespace: NameAt,
     local: &'d str,
 }
 
-/// The order of two expanded names: by the namespace, then by the local part (Canonical XML 1.0, 2.2). One prefix stands
-/// for one namespace.
-fn compare(a: Expanded<'_>, b: Expanded<'_>) -> Ordering
-    requires { a.prefix.now ≡ b.prefix.now → a.namespace.now ≡ b.namespace.now }
-    ensures { result ≡ expanded_order (record { namespace = a.entry.namespace.now; local = a.entry.local.now })
-        (record { namespace = b.entry.namespace.now; local = b.entry.local.now }) }
+/// The order of two expanded names: by the namespace, then by the local part (Canonical XML 1.0, 2.2). The time does not
+/// grow with the namespaces' names, which many elements may share.
+fn compare(doc: &Doc<'_>, a: Expanded<'_>, b: Expanded<'_>) -> Ordering
+    requires one { IsNameAt doc.now.tree a.namespace }
+    requires other { IsNameAt doc.now.tree b.namespace }
+    ensures { result ≡ expanded_order (expanded_of doc.now.tree a.entry) (expanded_of doc.now.tree b.entry) }
 {
-    if a.prefix == b.prefix {
-        return a.local.cmp(b.local);
-    }
-    a.namespace.cmp(b.namespace).then(a.local.cmp(b.local))
+    doc.namespace_order(a.namespace, b.namespace)
+        .then(a.local.cmp(b.local))
 }
 
 /// The expanded name of attribute i of node n, which declares nothing.
 fn name_of_attribute<'d>(doc: &'d Doc<'_>, n: NodeNo, i: usize) -> Expanded<'d>
     requires there { IsSome (attribute_at doc.now.tree n.0 i) }
     requires proper { IfSome (attribute_at doc.now.tree n.0 i) (λ a. declared_prefix a.name ≡ None) }
-    ensures name { record { namespace = result.namespace.now; local = result.local.now }
+    ensures name { expanded_of doc.now.tree result
         ≡ attribute_name (scope_inside doc.now.tree n.0) (attribute_name_of doc.now.tree n.0 i) }
-    ensures prefix { result.namespace.now ≡ namespace_by_prefix (scope_inside doc.now.tree n.0) result.prefix.now }
+    ensures place { IsNameAt doc.now.tree result.namespace }
 {
-    let name = doc.attr_name(n, i);
+    let (_, local) = attribute_parts(doc, n, i);
     Expanded {
-        prefix: name.prefix,
-        namespace: name.namespace,
-        local: name.local,
+        namespace: NameAt::Attribute(n, i),
+        local,
     }
 }
 
-/// Where a name goes among these ones, which are in order: in front of the first that is not below it. One prefix stands
-/// for one namespace.
-fn place_of(name: Expanded<'_>, names: &[Expanded<'_>]) -> usize
-    requires prefixes { (k : ℕ) → (d : Expanded) → k < length names.now →
-        name.prefix.now ≡ (slice_index_or names.now k d).prefix.now → name.namespace.now ≡ (slice_index_or names.now k d).namespace.now }
-    requires order { IsNonDescending expanded_order (map expanded_of names.now) }
+/// Where a name goes among these ones, which are in order: in front of the first that is not below it.
+fn place_of(doc: &Doc<'_>, name: Expanded<'_>, names: &[Expanded<'_>]) -> usize
+    requires there { IsNameAt doc.now.tree name.namespace }
+    requires places { All (λ kept. IsNameAt doc.now.tree kept.namespace) names.now }
+    requires order { IsNonDescending expanded_order (map (expanded_of doc.now.tree) names.now) }
     ensures within { result ≤ length names.now }
     ensures above { (k : ℕ) → (d : Expanded) → k < result →
-        is_le (expanded_order (expanded_of name.entry) (expanded_of (slice_index_or names.now k d))) ≡ false }
+        is_le (expanded_order (expanded_of doc.now.tree name.entry) (expanded_of doc.now.tree (slice_index_or names.now k d))) ≡ false }
     ensures place { (d : Expanded) → result < length names.now →
-        is_le (expanded_order (expanded_of name.entry) (expanded_of (slice_index_or names.now result d))) ≡ true }
+        is_le (expanded_order (expanded_of doc.now.tree name.entry) (expanded_of doc.now.tree (slice_index_or names.now result d))) ≡ true }
 {
     let mut low = 0;
     let mut high = names.len();
     while low < high {
         let middle = low + (high - low) / 2;
-        if compare(name, names[middle]).is_le() {
+        if compare(doc, name, names[middle]).is_le() {
             high = middle;
         } else {
             low = middle + 1;
@@ -116,7 +112,7 @@ pub(crate) fn put_in_order<'d>(
             continue;
         }
         let name = name_of_attribute(doc, n, i);
-        let place = place_of(name, order.names.as_slice());
+        let place = place_of(doc, name, order.names.as_slice());
         order.names.insert(place, name)?;
         order.numbers.insert(place, i)?;
     }

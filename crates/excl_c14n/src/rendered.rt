@@ -1,5 +1,5 @@
 //! The prefixes that the elements around a place have rendered.
-ghost use Rattle.std.specs.Prelude.{◌≡◌, ◌<◌, List, [], ◌∷◌, length, drop, IfOk, OnOk};
+ghost use Rattle.std.specs.Prelude.{◌≡◌, ◌<◌, List, [], ◌∷◌, length, drop, OnOk};
 ghost use Rattle.xml_spec.specs.Names.{Binding, namespace_of};
 ghost use Rattle.xml_spec.specs.Canonical.{is_rendered_anew};
 ghost use Rattle.saml_tree.specs.NodeNames.{IsNameAt};

@@ -3,9 +3,11 @@ use Rattle.std.specs.Prelude.{◌==◌, nat_lt, if◌then◌else◌, IfSome, IfN
 use Rattle.std.specs.Option.{option_map}
 use Rattle.std.proofs.Common.{◌≡◌, inl, inr, Bool, true, false, ℕ, [], refl, sym, ◌∙◌, ap, subst, arith}
 use Rattle.crash_disk.specs.declared.file_no.FileNo.TheVariants.{Zero, One}
-use Rattle.crash_disk.specs.Disk.{Image, DiskState, MayLeave, IsSettled, image_of, reads_of, settled_image}
+use Rattle.crash_disk.specs.Disk.{Image, DiskState, MayLeave, IsSettled, image_of, reads_of}
+use Rattle.crash_disk.specs.Plans.{after_all}
 use Rattle.crash_disk.specs.Soundness.{only-settled_image}
 use Rattle.crash_disk.specs.Moments.{Leaves}
+use Rattle.gate_journal.specs.Calls.{syncing_both}
 use Rattle.gate_journal.specs.Format.{Committed, Kept, Fault, joined, journal, file_of}
 use Rattle.gate_journal.specs.Making.{IsMadeOrBlank, IsMade, first_journal, read_of}
 use Rattle.gate_journal.specs.Opening.{Opens, IsEmptyOrNone}
@@ -39,6 +41,10 @@ pub no_journal_told : (told : Option DiskState) (zero one : Option Committed) �
 no_journal_told None zero one gives is = length_blank [] (omega arith)
 no_journal_told (Some d) zero one gives is = gives ∙ ap Ok (joined_none zero one is).0
 
+-- what a crash leaves of a disk whose files were both synced
+only-synced : (d : DiskState) → IsSettled (after_all syncing_both d)
+only-synced d image may = only-settled_image (image_of d) image (record { zero = may.zero; one = may.one })
+
 module _ (told : Option DiskState) (d : DiskState) (is : told ≡ Some d) (reads : IfSome told (λ d. MayLeave d (image_of d))) where
   -- before the syncs each image stands for itself
   pub opens_now : (image : Image) → Leaves told image → Opens d image
@@ -48,18 +54,18 @@ module _ (told : Option DiskState) (d : DiskState) (is : told ≡ Some d) (reads
   law = at_some told (λ d. MayLeave d (image_of d)) d is reads
 
   -- behind them what is read is left
-  pub opens_synced : (now : Option DiskState) → now ≡ Some (settled_image (image_of d)) → (image : Image) → Leaves now image → Opens d image
+  pub opens_synced : (now : Option DiskState) → now ≡ Some (after_all syncing_both d) → (image : Image) → Leaves now image → Opens d image
   opens_synced now synced image left =
-      let may : MayLeave (settled_image (image_of d)) image = subst (λ (o : Option DiskState). Leaves o image) synced left in
-      (image_of d, law, inl (ap journal (only-settled_image (image_of d) image may)))
+      let may : MayLeave (after_all syncing_both d) image = subst (λ (o : Option DiskState). Leaves o image) synced left in
+      (image_of d, law, inl (ap journal (only-synced d image may)))
 
   -- and while the first journal is made, there is none, or it
-  pub opens_making : (now : Option DiskState) (zero one : Option Committed) → now ≡ Some (settled_image (image_of d)) → IfSome now (λ d. file_of (reads_of d Zero) ≡ Ok zero) → IfSome now (λ d. file_of (reads_of d One) ≡ Ok one)
+  pub opens_making : (now : Option DiskState) (zero one : Option Committed) → now ≡ Some (after_all syncing_both d) → IfSome now (λ d. file_of (reads_of d Zero) ≡ Ok zero) → IfSome now (λ d. file_of (reads_of d One) ≡ Ok one)
       → joined (Ok zero) (Ok one) ≡ Ok None → (image : Image) → IsMadeOrBlank Zero first_journal (read_of now One) image → Opens d image
   opens_making now zero one synced zero_is one_is none image (cases, beside) =
       let parts = joined_none zero one none in
-      let z : file_of d.zero.reads ≡ Ok None = at_some now (λ d. file_of (reads_of d Zero) ≡ Ok zero) (settled_image (image_of d)) synced zero_is ∙ ap Ok parts.0 in
-      let o : file_of d.one.reads ≡ Ok None = at_some now (λ d. file_of (reads_of d One) ≡ Ok one) (settled_image (image_of d)) synced one_is ∙ ap Ok parts.1 in
+      let z : file_of d.zero.reads ≡ Ok None = at_some now (λ d. file_of (reads_of d Zero) ≡ Ok zero) (after_all syncing_both d) synced zero_is ∙ ap Ok parts.0 in
+      let o : file_of d.one.reads ≡ Ok None = at_some now (λ d. file_of (reads_of d One) ≡ Ok one) (after_all syncing_both d) synced one_is ∙ ap Ok parts.1 in
       let start : journal (image_of d) ≡ Ok None = ap (λ (r : Result (Option Committed) ℕ). joined r (file_of d.one.reads)) z ∙ ap (λ (r : Result (Option Committed) ℕ). joined (Ok None) r) o in
       let other : file_of image.one ≡ Ok None = ap file_of (beside ∙ ap (λ (t : Option DiskState). read_of t One) synced) ∙ o in
       elim cases [
@@ -68,16 +74,16 @@ module _ (told : Option DiskState) (d : DiskState) (is : told ≡ Some d) (reads
       ]
 
 -- the disk of a journal that was found
-pub own_found : (told : Option DiskState) (j : OpenedJournal) (zero one : Option Committed) → j.broken ≡ false → IfSome told (λ d. (d' : DiskState) × (d ≡ settled_image (image_of d'))) → IfSome told (λ d. file_of (reads_of d Zero) ≡ Ok zero)
+pub own_found : (told : Option DiskState) (j : OpenedJournal) (zero one : Option Committed) → j.broken ≡ false → IfSome told (λ d. (d' : DiskState) × (d ≡ after_all syncing_both d')) → IfSome told (λ d. file_of (reads_of d Zero) ≡ Ok zero)
     → IfSome told (λ d. file_of (reads_of d One) ≡ Ok one) → joined (Ok zero) (Ok one) ≡ Ok (Some j.kept) → IsOwn told j
 own_found None j zero one whole settled zero_is one_is found = tt
 own_found (Some d) j zero one whole (d', is) zero_is one_is found =
     own_settled (Some d) j whole (
-      subst IsSettled (sym is) (λ image may. only-settled_image (image_of d') image may),
+      subst IsSettled (sym is) (λ image may. only-synced d' image may),
       ap (λ (r : Result (Option Committed) ℕ). joined r (file_of d.one.reads)) zero_is ∙ ap (λ (r : Result (Option Committed) ℕ). joined (Ok zero) r) one_is ∙ found,
     )
 
-pub synced_told : (told now : Option DiskState) → now ≡ option_map (λ d. settled_image (image_of d)) told → IfSome now (λ d. (d' : DiskState) × (d ≡ settled_image (image_of d')))
+pub synced_told : (told now : Option DiskState) → now ≡ option_map (after_all syncing_both) told → IfSome now (λ d. (d' : DiskState) × (d ≡ after_all syncing_both d'))
 synced_told None now is = rw is tt
 synced_told (Some d) now is = rw is (d, refl)
 

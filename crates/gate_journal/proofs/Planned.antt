@@ -6,7 +6,8 @@ use Rattle.crash_disk.specs.declared.change.Change.{Change}
 use Rattle.crash_disk.specs.declared.change.Change.TheVariants.{Sync}
 use Rattle.crash_disk.specs.declared.file_no.FileNo.{FileNo}
 use Rattle.crash_disk.specs.declared.file_no.FileNo.TheVariants.{Zero, One}
-use Rattle.crash_disk.specs.Disk.{DiskState, reads_of, image_of, settled_image}
+use Rattle.crash_disk.specs.Disk.{DiskState, reads_of, image_of}
+use Rattle.crash_disk.specs.Plans.{after_all}
 use Rattle.gate_journal.specs.Calls.{putting_header, closing, clearing, beginning, preparing_first, syncing_both, making_first, where_none, opening}
 use Rattle.gate_journal.specs.Making.{fields_bytes, head_bytes, first_journal}
 use Rattle.std.specs.Int.{w32, to_be_bytes}
@@ -58,7 +59,7 @@ no_payloads [] none = refl
 no_payloads (payload ∷ payloads) none = absurd (omega arith)
 
 -- there is no journal yet, so the first one is made
-pub nothing_there : (told now : Option DiskState) (zero one : Option Committed) → IfSome told (λ d. now ≡ Some (settled_image (image_of d))) →
+pub nothing_there : (told now : Option DiskState) (zero one : Option Committed) → IfSome told (λ d. now ≡ Some (after_all syncing_both d)) →
     IfSome now (λ d. file_of (reads_of d Zero) ≡ Ok zero) → IfSome now (λ d. file_of (reads_of d One) ≡ Ok one) → joined (Ok zero) (Ok one) ≡ Ok None →
     IfSome told (λ d. syncing_both ++ making_first (reads_of d Zero) ≡ opening d)
 nothing_there None now zero one is a b none = tt
@@ -69,7 +70,7 @@ nothing_there (Some d) now zero one is a b none =
     ap (λ found. syncing_both ++ where_none found (making_first (reads_of d Zero))) (sym nothing)
 
 -- there is a journal, so no more is done
-pub something_there : (told now : Option DiskState) (zero one : Option Committed) (kept : Kept) → IfSome told (λ d. now ≡ Some (settled_image (image_of d))) →
+pub something_there : (told now : Option DiskState) (zero one : Option Committed) (kept : Kept) → IfSome told (λ d. now ≡ Some (after_all syncing_both d)) →
     IfSome now (λ d. file_of (reads_of d Zero) ≡ Ok zero) → IfSome now (λ d. file_of (reads_of d One) ≡ Ok one) → joined (Ok zero) (Ok one) ≡ Ok (Some kept) →
     IfSome told (λ d. syncing_both ≡ opening d)
 something_there None now zero one kept is a b some = tt

@@ -15,8 +15,8 @@
 //! that, with the room that was reserved and whether a call has failed. Each call that changes the disk says what a
 //! crash at any moment of it may leave: `append` the records from before with the new one or without, `open_journal`
 //! and `reopen` what an image at their start stood for, `compact` and `migrate` the journal from before or the new one.
-//! Its clause `calls` says which changing calls it makes, in their order, and no other that reads or a crash could tell
-//! (`specs/Calls.antt`): an opening writes nothing but the first journal where there is none.
+//! Its clause `calls` says which changing calls it makes, in their order and no other (`specs/Calls.antt`): an opening
+//! writes nothing but the first journal where there is none.
 //!
 //! [`Failed`] and [`OpenFault::DiskFault`] come only where the disk's count of faults rose. After [`Failed`] the journal
 //! is broken, and is opened again by `reopen`. [`OpenFault::Foreign`] comes exactly where the files stand for no list
@@ -32,9 +32,9 @@
 //! are exact. At every moment during and after a call each image that a crash may leave stands for the list before or
 //! with the new record (`append`), for the old journal or the new one (`compact`, `migrate`), or for what an image at
 //! the start stood for (`open_journal`, `reopen`). Each of these calls makes the changing calls of the disk that its
-//! plan names, in their order, and no other that reads or a crash could tell: all of them where it answers Ok, and else
-//! a beginning; an opening writes nothing but the first journal where there is none (`calls`: `Follows` of crash_disk,
-//! over the plans of `specs/Calls.antt`). DiskFault comes only where the disk's count rose, and breaks the journal; want of memory leaves
+//! plan names, in their order and no other: all of them where it answers Ok, and else a beginning; an opening writes
+//! nothing but the first journal where there is none (`calls`: `Follows` of crash_disk, over the plans of
+//! `specs/Calls.antt`). DiskFault comes only where the disk's count rose, and breaks the journal; want of memory leaves
 //! journal and disk as they were in `compact`, `migrate` and `reserve`, the calls with a journal that take memory.
 #![tactic(auto)]
 

@@ -3,10 +3,10 @@ ghost use Rattle.std.specs.Prelude.{◌≡◌, ◌<◌, ◌≤◌, ◌^◌, None
 ghost use Rattle.std.specs.Option.{option_map};
 ghost use Rattle.owned_values.specs.Gives.{Gives};
 ghost use Rattle.crash_disk.specs.Counts.{CountsFaults};
-ghost use Rattle.crash_disk.specs.Disk.{image_of, reads_of, settled_image};
+ghost use Rattle.crash_disk.specs.Disk.{image_of, reads_of};
 ghost use Rattle.crash_disk.specs.Moments.{Leaves, LeavesOnly};
 ghost use Rattle.crash_disk.specs.Torn.{IsQuietDisk};
-ghost use Rattle.crash_disk.specs.Plans.{Follows};
+ghost use Rattle.crash_disk.specs.Plans.{Follows, after_all};
 ghost use Rattle.gate_journal.specs.Calls.{making_first, opening, preparing_first, syncing_both};
 ghost use Rattle.gate_journal.specs.Format.{file_of, joined, journal};
 ghost use Rattle.gate_journal.specs.Making.{IsBlankBeside, IsMadeOrBlank, IsWritten, IsMade, fields_bytes, head_bytes, first_journal, read_of};
@@ -27,7 +27,7 @@ const TOO_LONG: u64 = 134_217_729;
 
 /// Syncs both files, so that a crash leaves what a read gives.
 fn sync_both<D: Disk>(disk: &mut D) -> Result<(), Failed>
-    ensures ok { OnOk result ((D.shows disk.new).told ≡ option_map (λ d. settled_image (image_of d)) (D.shows disk.old).told) }
+    ensures ok { OnOk result ((D.shows disk.new).told ≡ option_map (after_all syncing_both) (D.shows disk.old).told) }
     ensures moments { LeavesOnly D.shows disk.old disk.new (Leaves (D.shows disk.old).told) }
     ensures faults { CountsFaults result (D.shows disk.old).faults (D.shows disk.new).faults }
     ensures calls { Follows D.shows (λ _. syncing_both) disk.old disk.new result }

@@ -1,5 +1,5 @@
 //! How a Response is sent.
-ghost use Rattle.std.specs.Prelude.{◌≡◌, ◌++◌, IfOk, None, IsTrue};
+ghost use Rattle.std.specs.Prelude.{◌≡◌, IfOk, None, IsTrue};
 ghost use Rattle.std.specs.Option.{option_map, ForSome};
 ghost use Rattle.element_make.specs.Made.{IsMade, written};
 ghost use Rattle.http_wire.specs.Answers.{answer, is_one_line};

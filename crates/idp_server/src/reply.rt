@@ -104,30 +104,19 @@ impl Reply {
     {
         match self {
             Reply::InSession { cookie, ask, .. } => {
-                let draft = draft_issue(ledger, now, cookie.as_str(), ask)?;
-                Ok(Some(draft))
+                Ok(Some(draft_issue(ledger, now, cookie.as_str(), ask)?))
             }
-            Reply::Passive { ask } => {
-                let draft = draft_speak(ledger, now, ask)?;
-                Ok(Some(draft))
-            }
-            Reply::Question { ask } => {
-                let draft = draft_pending(ledger, now, ask)?;
-                Ok(Some(draft))
-            }
+            Reply::Passive { ask } => { Ok(Some(draft_speak(ledger, now, ask)?)) }
+            Reply::Question { ask } => { Ok(Some(draft_pending(ledger, now, ask)?)) }
             Reply::Login {
                 pending,
                 user,
                 attributes,
                 ..
             } => {
-                let draft = draft_login(ledger, now, pending.as_str(), user.as_str(), attributes)?;
-                Ok(Some(draft))
+                Ok(Some(draft_login(ledger, now, pending.as_str(), user.as_str(), attributes)?))
             }
-            Reply::Leave { cookie, .. } => {
-                let draft = draft_leave(ledger, now, cookie.as_str())?;
-                Ok(Some(draft))
-            }
+            Reply::Leave { cookie, .. } => { Ok(Some(draft_leave(ledger, now, cookie.as_str())?)) }
             Reply::End { asked, name, .. } => {
                 let (user, request) = (asked.name.as_str(), asked.id.as_str());
                 draft_end(ledger, now, name.as_str(), user, &asked.indexes, request)
@@ -139,8 +128,7 @@ impl Reply {
                 plan,
             } => {
                 let turns = plan.turns.as_slice();
-                let draft = draft_round(ledger, now, cookies, asker.as_ref(), turns, plan.skipped)?;
-                Ok(Some(draft))
+                Ok(Some(draft_round(ledger, now, cookies, asker.as_ref(), turns, plan.skipped)?))
             }
             Reply::Told {
                 request,

@@ -1,9 +1,9 @@
 //! Whom an identity provider asks.
-ghost use Rattle.std.specs.Prelude.{◌≡◌, ◌∷◌, ◌++◌, ℕ, List, [], map, option_copied, IfOk};
+ghost use Rattle.std.specs.Prelude.{◌≡◌, ◌∷◌, ◌++◌, ℕ, List, [], option_copied, IfOk};
 ghost use Rattle.std.specs.Str.{bytes_eq};
 ghost use Rattle.std.specs.List.{list_any};
 ghost use Rattle.owned_values.specs.Options.{is_there};
-ghost use Rattle.logout_fanout.specs.Plan.{can_be_asked, has_address, indexes_of, is_among, is_skipped, skipped, turns};
+ghost use Rattle.logout_fanout.specs.Plan.{can_be_asked, has_address, indexes_of, is_among, skipped, turns};
 
 use logout_turns::{Part, Turn, Turns};
 use owned_values::{NoMemory, Text, Texts};

@@ -1,6 +1,6 @@
 // Under which key the root is vouched for.
 
-ghost use Rattle.std.specs.Prelude.{◌≡◌, ◌∷◌, [], ℕ, List, IfErr, OnOk};
+ghost use Rattle.std.specs.Prelude.{◌≡◌, ◌∷◌, ℕ, List, IfErr, OnOk};
 ghost use Rattle.std.specs.Option.{option_map, option_to_list};
 ghost use Rattle.tree_read.specs.Views.{tree_of};
 ghost use Rattle.logout_profile.specs.Keys.{IsVouched, IsNotVouched};

@@ -1,7 +1,6 @@
 // Answers are read (RFC 9112, 2 to 5).
 
 ghost use Rattle.std.specs.Prelude.{◌≡◌, [], IfSome, unwrap_or};
-ghost use Rattle.std.specs.List.{list_all};
 ghost use Rattle.std.specs.Option.{option_map};
 ghost use Rattle.http.specs.StatusCode.{IsStatusCode, reason_phrase};
 ghost use Rattle.http_wire.specs.Answers.{is_one_line};

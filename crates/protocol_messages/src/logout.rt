@@ -1,6 +1,6 @@
 // Requests and responses of a logout (SAML Core, 3.7).
 
-ghost use Rattle.std.specs.Prelude.{◌≡◌, IfOk, IfErr, OnOk, Some, None, codes, map};
+ghost use Rattle.std.specs.Prelude.{◌≡◌, IfOk, IfErr, Some, None, codes, map};
 ghost use Rattle.std.specs.Option.{option_map};
 ghost use Rattle.saml_names.specs.Names.{saml, samlp};
 ghost use Rattle.tree_read.specs.Children.{children};

@@ -4,9 +4,8 @@ ghost use Rattle.std.specs.Prelude.{◌≡◌, ◌≤◌, IfOk, OnOk, if◌then�
 ghost use Rattle.std.specs.List.{AllByRecursion};
 ghost use Rattle.saml_time.specs.Instant.{TellsInFull};
 ghost use Rattle.xml_spec.specs.Characters.{IsText, IsNoColonName};
-ghost use Rattle.xml_spec.specs.Tree.{Attribute};
 ghost use Rattle.saml_names.specs.Uris.{partial_logout};
-ghost use Rattle.element_make.specs.Made.{Made, MadeNodes, NothingMade, alone, joined};
+ghost use Rattle.element_make.specs.Made.{Made, NothingMade, alone, joined};
 ghost use Rattle.protocol_messages.specs.Making.{with_text, issuer_made, message, status_code_made, succeeded, failed, authn_request, response_attributes, response, session_indexes, logout_request, request_end, logged_out, IsMadeAt, IsMadeFrom};
 
 use element_make::{Made, Ns};

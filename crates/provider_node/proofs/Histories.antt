@@ -24,10 +24,11 @@ use Rattle.record_ledger.specs.Runs.{Event, Adds, Opens, Leads}
 use Rattle.record_ledger.proofs.Records.{record_there}
 use Rattle.provider_node.specs.declared.codes.TheConstants.{DISK_FAULT, FOREIGN, FULL, NO_MEMORY}
 use Rattle.serve_loop.proofs.Telling.{goes_on_reading, goes_on_telling}
+use Rattle.provider_node.specs.Node.{provider_rules}
 use Rattle.provider_node.specs.Histories.{Another, AreAcknowledged, AreBehind, AreKept, AreKeptSo, CameFrom}
 use Rattle.provider_node.specs.Histories.{CompactsWhere, Includes, moments_of, ForCode, ForNone, ForRecord}
 use Rattle.provider_node.specs.Histories.{HoldsWhatCame, HoldsWhatCameSo, IsAtStart, IsProviders, Nothing, Stands}
-use Rattle.provider_node.specs.Histories.{StepOf, This}
+use Rattle.provider_node.specs.Histories.{This}
 use Rattle.provider_node.specs.Calls.{CompactingLeaves}
 use Rattle.provider_node.specs.Node as node
 use Rattle.provider_node.specs.Node.{CompactionLeaves}
@@ -407,14 +408,14 @@ module _ {Setup R : Type 0} (rules : RecordRules R) (Answers : AnswersBy Setup R
   pub all_told : (first last : World (Provider Setup R)) (turns : List (Turn (Provider Setup R))) (kept : Table)
       → IsSome first.disk → Run (IsProviders rules Answers) first turns kept last → AreTold turns × IsSome last.disk
   all_told first last turns kept tells run =
-      goes_on_telling (OwnsDisk rules) (StepOf rules Answers) (StepLeaves rules Answers) first turns kept last run tells
+      goes_on_telling (provider_rules rules Answers) first turns kept last run tells
 
   pub some_left : (first last : World (Provider Setup R)) (turns : List (Turn (Provider Setup R))) (kept : Table)
       → IsAtStart rules first → IsSome first.disk
       → Run (IsProviders rules Answers) first turns kept last → (image : Image) × Leaves last.disk image
   some_left first last turns kept at tells run =
       an_image last.disk (all_told first last turns kept tells run).1 (goes_on_reading
-      (OwnsDisk rules) (StepOf rules Answers) (StepLeaves rules Answers) first turns kept last run at.reads)
+      (provider_rules rules Answers) first turns kept last run at.reads)
 
   pub what_is_kept : (law : ImagesHoldRecords rules) (numbers : DrawsAbove rules Answers) (first last : World
       (Provider Setup R)) (turns : List (Turn (Provider Setup R))) (kept : Table) → IsAtStart rules first → IsSome

@@ -78,8 +78,7 @@ module _ {Setup R Reply : Type 0} (replies : ReplyRules Setup R Reply) (rules : 
       let other = answer_of old.held request reply full.r (record { wants = wants; is = full.is }) in
       record {
         room = record {
-          room = record { wanted = full.r; other = other.0; wants = other.1; none = full.none };
-          are = are;
+          room = record { wanted = full.r; other = other.0; wants = other.1; none = full.none; are = are };
           made = made.0;
         };
         whole = record { setup = refl; key = key; unbroken = made.1; is = refl };

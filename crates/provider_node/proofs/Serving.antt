@@ -10,7 +10,7 @@ use Rattle.gate_journal.specs.declared.fault.OpenFault.{OpenFault}
 use Rattle.gate_journal.specs.declared.fault.OpenFault.TheVariants.{DiskFault, Foreign, NoMemory}
 use Rattle.gate_journal.specs.Format.{journal}
 use Rattle.gate_journal.specs.Opening.{open_fault_of}
-use Rattle.record_ledger.specs.Rules.{RecordRules}
+use Rattle.record_ledger.specs.Rules.{AreRecords, RecordRules}
 use Rattle.record_ledger.specs.Ledger.{Held, kept_of, ledger_in, held_with}
 use Rattle.record_ledger.specs.Compacting.{Compacts}
 use Rattle.provider_node.specs.Calls.{CompactingLeaves, CompactionCalls, MakesCompaction}
@@ -133,10 +133,10 @@ module _ {Setup R : Type 0} (rules : RecordRules R) (Answers : AnswersBy Setup R
   -- what a compaction leaves, of a ledger that had no place for a record
   pub room_leaves : (setup : Setup) (found : Held R) (request : Request) (now : ℕ)
       (told : Option DiskState) (wanted : R) (other : Answer) → Answers setup found request now other (Some wanted)
-      → ¬ (HasPlace rules found wanted) → (image : Image)
+      → ¬ (HasPlace rules found wanted) → AreRecords rules found.records → (image : Image)
       → CompactingLeaves rules now found told image → ServingLeaves rules Answers setup found request now told image
-  room_leaves setup found request now told wanted other wants none image left =
-      InCompaction (record { wanted = wanted; other = other; wants = wants; none = none }) left
+  room_leaves setup found request now told wanted other wants none are image left =
+      InCompaction (record { wanted = wanted; other = other; wants = wants; none = none; are = are }) left
 
   -- before the first call
   pub first_leaves : (setup : Setup) (ledger : Ledger R) (request : Request) (now : ℕ) (told : Option DiskState)

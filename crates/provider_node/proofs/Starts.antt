@@ -11,8 +11,9 @@ use Rattle.record_ledger.specs.Runs as events
 use Rattle.record_ledger.specs.Runs.{Event, Adds, Opens, Leads}
 use Rattle.serve_loop.proofs.Telling.{goes_on_reading}
 use Rattle.provider_node.specs.Step.{AnswersBy, Provider, OwnsDisk, StepLeaves}
+use Rattle.provider_node.specs.Node.{provider_rules}
 use Rattle.provider_node.specs.Histories.{AnyMoment, Another, CameFrom, CompactsWhere, HoldsWhatCame, Includes, Nothing}
-use Rattle.provider_node.specs.Histories.{StepOf, This}
+use Rattle.provider_node.specs.Histories.{This}
 use Rattle.provider_node.specs.Points.{AClosedSessionStaysClosed}
 use Rattle.provider_node.specs.Starts.{AreKeptOver, AreKeptOverAt, AreKeptOverSo, LeftBehind, OpensWhatCameSo}
 use Rattle.provider_node.specs.Starts.{AreStarts, AreStartsAt, Behind, Cut, InAnswer, InCompaction, IsNextAt}
@@ -148,8 +149,7 @@ module _ {Setup R : Type 0} (rules : RecordRules R) (Answers : AnswersBy Setup R
       let came = opened_told rules IsMoment start was.records before mid next.tells next.reads
       (λ i left. was.kept i (next.left i left)) served.opened in
       let told = all_told rules Answers first last turns kept served.tells served.run in
-      let reads = goes_on_reading (OwnsDisk rules)
-      (StepOf rules Answers) (StepLeaves rules Answers) first turns kept last served.run served.at.reads in
+      let reads = goes_on_reading (provider_rules rules Answers) first turns kept last served.run served.at.reads in
       let (records, are, holds) = known rules Answers law numbers IsMoment mid first last turns kept
       (begins rules IsMoment first served.at) told.0 (moments_are IsMoment turns next.goes.1) served.run in
       let (image, left) = an_image last.disk told.1 reads in
@@ -164,7 +164,7 @@ module _ {Setup R : Type 0} (rules : RecordRules R) (Answers : AnswersBy Setup R
   one_more (Unopened first turns kept last) earlier next was = let goes = next.goes.0 in
       let told = all_told rules Answers first last turns kept next.tells goes.run in
       let reads = goes_on_reading
-      (OwnsDisk rules) (StepOf rules Answers) (StepLeaves rules Answers) first turns kept last goes.run next.reads in
+      (provider_rules rules Answers) first turns kept last goes.run next.reads in
       let knows = known_behind rules Answers law numbers IsMoment start was.records first last turns kept
       (unopened first was.records goes.own goes.holds (λ i left. was.kept i (next.left i left))) told.0
       (moments_are IsMoment turns next.goes.1) goes.run in

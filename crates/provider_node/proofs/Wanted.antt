@@ -55,7 +55,7 @@ module _ {Setup R : Type 0} (rules : RecordRules R) (Answers : AnswersBy Setup R
     place_behind : (held : Held R) → MakesRoom rules Answers old.setup found request now held
         → HasRoom rules found now recorded → IsBehind rules found now held × HasPlace rules held (recorded held)
     place_behind held made (inl place) = absurd (no_place held made place)
-    place_behind held made (inr there) = (inr (made.are, made.made), there held made.made)
+    place_behind held made (inr there) = (inr (made.room.are, made.made), there held made.made)
 
     added_over : (held : Held R) → IsRecordedOver rules found now recorded held → IsBehind rules found now held
         → (r : R) → Answers old.setup held request now answer (Some r) → new.ledger.held ≡ held_with r held → IsAdded

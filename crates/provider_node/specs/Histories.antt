@@ -10,16 +10,14 @@ use Rattle.serve_loop.specs.Turns.{Asked, Turn, asked_by}
 use Rattle.record_ledger.specs.Rules.{RecordRules, AreRecords}
 use Rattle.record_ledger.specs.Ledger.{Held, ledger_in}
 use Rattle.record_ledger.specs.Runs.{Event, Adds, Compacts, Leads}
-use Rattle.provider_node.specs.Step.{AnswersBy, Provider, OwnsDisk, StepsOnDisk, StepLeaves}
+use Rattle.provider_node.specs.Node.{provider_rules}
+use Rattle.provider_node.specs.Step.{AnswersBy, Provider, OwnsDisk, StepLeaves}
 use Rattle.std.specs.Option.{option_to_list}
 
 module _ {Setup R : Type 0} (rules : RecordRules R) (Answers : AnswersBy Setup R) where
   -- what an answer of a provider does, with the calls on its disk, and what a crash may leave
-  abbrev pub StepOf : NodeStep (Provider Setup R)
-  StepOf old disk request now before after = StepsOnDisk rules Answers old disk request now (Rose before after)
-
   abbrev pub IsProviders : NodeStep (Provider Setup R)
-  IsProviders = IsAnswered (OwnsDisk rules) StepOf (StepLeaves rules Answers)
+  IsProviders = IsAnswered (provider_rules rules Answers)
 
 -- WHAT IS ACKNOWLEDGED
 

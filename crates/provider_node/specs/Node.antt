@@ -1,17 +1,19 @@
 -- What a restart and a compaction of a provider do.
 use Rattle.std.specs.Prelude.{◌≡◌, ℕ, true, false, Option, IfSome, IsSomeAnd, IsOk, Result, Ok, Err, OnOk, OnErr}
 use Rattle.owned_values.specs.Gives.{Gives}
+use Rattle.crash_disk.specs.Counts.{Rose}
 use Rattle.crash_disk.specs.Disk.{Image, DiskState, MayLeave, image_of}
 use Rattle.crash_disk.specs.Plans.{IsCarriedOut}
 use Rattle.gate_journal.specs.declared.fault.OpenFault.{OpenFault}
 use Rattle.gate_journal.specs.declared.fault.OpenFault.TheVariants.{DiskFault, NoMemory}
 use Rattle.gate_journal.specs.Opening.{open_fault_of}
+use Rattle.serve_loop.specs.Worlds.{NodeRules}
 use Rattle.record_ledger.specs.Rules.{RecordRules}
 use Rattle.record_ledger.specs.Ledger.{Held, ledger_in, taken}
 use Rattle.record_ledger.specs.Calls.{opening}
 use Rattle.record_ledger.specs.Compacting.{Compacts}
 use Rattle.provider_node.specs.Calls.{CompactingLeaves, CompactionCalls, Makes, OpeningLeaves}
-use Rattle.provider_node.specs.Step.{Provider, IsFound, IsWhole, IsBroken}
+use Rattle.provider_node.specs.Step.{AnswersBy, Provider, IsFound, IsWhole, IsBroken, OwnsDisk, StepsOnDisk, StepLeaves}
 
 -- What a crash may leave of the disk can be opened.
 abbrev pub MayOpen : {R : Type 0} → RecordRules R → Option DiskState → Type 0
@@ -62,3 +64,15 @@ module _ {Setup R : Type 0} (rules : RecordRules R) (old : Provider Setup R) (di
           → old.ledger.broken ≡ true → IsFound rules disk found
           → Makes (opening rules) disk opened → CompactingLeaves rules now found opened image → CompactionLeaves
       InRestart : old.ledger.broken ≡ true → OpeningLeaves rules disk image → CompactionLeaves
+
+-- What is said of the calls of a provider.
+abbrev pub provider_rules : {Setup R : Type 0} → RecordRules R → AnswersBy Setup R → NodeRules (Provider Setup R)
+provider_rules records Answers = record {
+  own = OwnsDisk records;
+  step = λ old disk request now before after. StepsOnDisk records Answers old disk request now (Rose before after);
+  leaves = StepLeaves records Answers;
+  reopens = λ old disk before after result new later. Restarts records old disk result new later;
+  reopening_leaves = λ old disk. OpeningLeaves records disk;
+  compacts = λ old disk now before after result new later. CompactionOf records old disk now result new later;
+  compaction_leaves = CompactionLeaves records;
+}

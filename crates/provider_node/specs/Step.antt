@@ -66,17 +66,17 @@ module _ {Setup R : Type 0} (old new : Provider Setup R) where
 
 module _ {Setup R : Type 0} (rules : RecordRules R)
     (Answers : AnswersBy Setup R) (setup : Setup) (found : Held R) (request : Request) (now : ℕ) where
-  -- A record was to be added to the ledger that was found, and there was no place for it.
+  -- A record was to be added to the ledger that was found, which holds records, and there was no place for it.
   pub record WantsRoom : Type 0 where
     pub wanted : R
     pub other : Answer
     pub wants : Answers setup found request now other (Some wanted)
     pub none : ¬ (HasPlace rules found wanted)
+    pub are : AreRecords rules found.records
 
-  -- So it was, the ledger holds records, and one compaction made this of it.
+  -- So it was, and one compaction made this of the ledger.
   pub record MakesRoom (held : Held R) : Type 0 where
     pub room : WantsRoom
-    pub are : AreRecords rules found.records
     pub made : Compacts rules now found held
 
   -- A record that a request adds, from the moment on at which it is begun to be written: over the ledger that was

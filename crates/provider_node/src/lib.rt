@@ -21,7 +21,7 @@
 //! In the same case a step says which changing calls it makes on its disk (`StepsOnDisk`; `specs/Calls.antt`): none
 //! where nothing is recorded; those of the opening of a broken ledger, of one compaction that made room and of one
 //! commit, in this order, all of them or, where the disk failed, a beginning. `StepLeaves` says what a crash inside may
-//! leave: no more than one amid these calls. A call more is excluded as far as reads and crashes can tell it. `specs/Node.antt` says the same of a restart and a compaction, and
+//! leave: no more than one amid these calls. `specs/Node.antt` says the same of a restart and a compaction, and
 //! `specs/Replies.antt` what a role says.
 //!
 //! `specs/Histories.antt` says what was acknowledged over a service, and how its ledger came from the one at the start,

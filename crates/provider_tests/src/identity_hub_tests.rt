@@ -114,8 +114,8 @@ fn seen<N: Node>(
     site: Site,
     bytes: &[u8],
 ) -> Result<What, NoMemory>
-    requires { N.own node.old (Some (state_of disk.old)) }
-    ensures { N.own node.new (Some (state_of disk.new)) }
+    requires { N.rules.own node.old (Some (state_of disk.old)) }
+    ensures { N.rules.own node.new (Some (state_of disk.new)) }
 {
     let Found::Whole(request) = request_of(bytes) else {
         return Ok(What::Status);
@@ -133,8 +133,8 @@ fn sent<N: Node>(
     agent: &mut Agent,
     outgoing: &Option<Outgoing>,
 ) -> Result<What, NoMemory>
-    requires { N.own node.old (Some (state_of disk.old)) }
-    ensures { N.own node.new (Some (state_of disk.new)) }
+    requires { N.rules.own node.old (Some (state_of disk.old)) }
+    ensures { N.rules.own node.new (Some (state_of disk.new)) }
 {
     match outgoing {
         Some(request) => seen(node, disk, agent, request.site, request.bytes.as_slice()),

@@ -1,5 +1,5 @@
 //! What no clause says: that there is memory for each call.
-ghost use Rattle.std.specs.Prelude.{◌≡◌, ◌∷◌, [], IfOk};
+ghost use Rattle.std.specs.Prelude.{IfOk};
 ghost use Rattle.sp_answers.specs.Answers.{HoldsTexts};
 
 use metadata::Peer;

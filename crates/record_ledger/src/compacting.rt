@@ -1,5 +1,5 @@
 //! How records are left out that no one can ask for any more.
-ghost use Rattle.std.specs.Prelude.{◌≡◌, ◌<◌, ℕ, List, None, Ok, true, false, length, IfOk, IfErr, IsErrOf, OnOk};
+ghost use Rattle.std.specs.Prelude.{◌≡◌, ◌<◌, List, None, Ok, true, false, length, IfOk, IfErr, IsErrOf, OnOk};
 ghost use Rattle.crash_disk.specs.Moments.{LeavesOnly};
 ghost use Rattle.ledger_rules.specs.Kept.{selected};
 ghost use Rattle.gate_journal.specs.Opening.{open_fault_of, CausesFaults};

@@ -1,5 +1,4 @@
 //! The laws of a ledger.
-ghost use Rattle.std.specs.Prelude.{ℕ};
 ghost use Rattle.record_ledger.specs.Laws.{ImagesHoldRecords, VisibleRecordsStay};
 
 use crate::standing::Standing;

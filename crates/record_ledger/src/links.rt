@@ -1,5 +1,5 @@
 //! Which record is linked to which.
-ghost use Rattle.std.specs.Prelude.{◌≡◌, ◌<◌, ◌++◌, ◌∷◌, [], ℕ, List, None, Some, true, map, length, slice_index, set, IfSome, OnOk};
+ghost use Rattle.std.specs.Prelude.{◌≡◌, ◌<◌, ◌++◌, ◌∷◌, [], ℕ, List, Some, true, map, length, slice_index, set, IfSome, OnOk};
 ghost use Rattle.ledger_rules.specs.Numbers.{has_number, AreBelow};
 
 use crate::standing::Standing;
@@ -17,8 +17,7 @@ pub(crate) struct Links {
 
 impl Links {
     ghost use Rattle.std.specs.Option.{option_to_list};
-    ghost use Rattle.record_ledger.specs.Rules.{RecordRules};
-    ghost use Rattle.record_ledger.specs.Linking.{LinkRules, LinkLaws, AreRows, ArePlaced, CanTake, HaveRows, IsLinked, IsOwnLink, LinksThem};
+    ghost use Rattle.record_ledger.specs.Linking.{AreRows, ArePlaced, CanTake, HaveRows, IsLinked, IsOwnLink, LinksThem};
 
     /// No links.
     pub(crate) fn new<S: Standing>(alloc: Global) -> Links

@@ -1,5 +1,5 @@
 //! What records stand for.
-ghost use Rattle.std.specs.Prelude.{◌≡◌, ◌≤◌, ◌<◌, ◌^◌, ◌∷◌, ◌++◌, ◌↔◌, [], ℕ, List, Some, All, IsTrue, IfOk, IfSome, OnOk, length, option_copied};
+ghost use Rattle.std.specs.Prelude.{◌≡◌, ◌≤◌, ◌<◌, ◌^◌, ◌∷◌, ◌++◌, ◌↔◌, [], List, Some, All, IsTrue, IfOk, IfSome, OnOk, length, option_copied};
 ghost use Rattle.ledger_rules.specs.Numbers.{NUMBER_END};
 ghost use Rattle.record_ledger.specs.Rules.{RecordRules, RowRules, CanPut, next_of};
 ghost use Rattle.record_ledger.specs.Drafts.{capped};

@@ -1,6 +1,5 @@
 //! The fields of a line.
-ghost use Rattle.std.specs.Prelude.{◌≡◌, ◌∷◌, ◌++◌, [], map, codes, IfOk, OnOk};
-ghost use Rattle.std.specs.List.{flat_map};
+ghost use Rattle.std.specs.Prelude.{◌≡◌, ◌∷◌, ◌++◌, map, codes, IfOk, OnOk};
 ghost use Rattle.record_lines.specs.Lines.{Attributes as Listed, secret_piece, text_piece, attribute_name, value_pieces, spaced, shown, line};
 ghost use Rattle.record_lines.specs.Views.{field_view};
 

@@ -1,5 +1,5 @@
 //! The lines of a hub's records.
-ghost use Rattle.std.specs.Prelude.{◌≡◌, map, IfOk};
+ghost use Rattle.std.specs.Prelude.{◌≡◌, map};
 ghost use Rattle.record_lines.specs.HubLines.{routed, backed, hub_spoke, hub_line};
 ghost use Rattle.record_lines.specs.Views.{field_view};
 

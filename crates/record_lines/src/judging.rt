@@ -1,5 +1,5 @@
 //! What two files of a journal are judged as.
-ghost use Rattle.std.specs.Prelude.{◌≡◌, ◌<◌, ◌∷◌, ◌++◌, ℕ, [], List, Ok, Err, IfOk, IsOk, MatchOption, length, take};
+ghost use Rattle.std.specs.Prelude.{◌≡◌, ◌<◌, ℕ, List, Ok, Err, IfOk, IsOk, MatchOption, length, take};
 ghost use Rattle.gate_journal.specs.Format.{end_of, joined};
 ghost use Rattle.record_ledger.specs.Rules.{records_of};
 ghost use Rattle.record_lines.specs.Judging.{AreRead, IsJudged, ReadsOne};

@@ -1,5 +1,5 @@
 //! Who asks for a logout, and whom it tells.
-ghost use Rattle.std.specs.Prelude.{◌≡◌, ◌∷◌, ◌++◌, map, OnOk};
+ghost use Rattle.std.specs.Prelude.{◌≡◌, ◌++◌, map, OnOk};
 ghost use Rattle.record_lines.specs.Lines.{Asker as Asks, Turns as Told, text_piece, turn_pieces, spaced, shown};
 
 use crate::field::put_text;

@@ -15,17 +15,18 @@ use Rattle.schedule_replay.specs.declared.fault.ReplayFault.TheVariants.{NoMemor
 use Rattle.schedule_replay.specs.declared.tally.Tally.{Tally}
 use Rattle.schedule_replay.specs.Asked.{asked_in_run}
 use Rattle.schedule_replay.specs.Deployments.{Deployment}
-use Rattle.schedule_replay.specs.Hosts.{Host, Rules, told}
+use Rattle.serve_loop.specs.Worlds.{NodeRules}
+use Rattle.schedule_replay.specs.Hosts.{Host, told}
 use Rattle.schedule_replay.specs.Runs.{Ends, Ran, alone, beginning}
-use Rattle.replay_starts.specs.Providers.{provider_rules}
+use Rattle.provider_node.specs.Node.{provider_rules}
 use Rattle.replay_starts.specs.Replayed.{AreStartsOf}
 use Rattle.both_providers.specs.Together.{Headline}
 use Rattle.replay_runs.specs.Deployed.{service_provider, IsIdpConfig}
 
-abbrev pub sp_rules : Rules sp.Provider
+abbrev pub sp_rules : NodeRules sp.Provider
 sp_rules = provider_rules request_rules sp.Answers
 
-abbrev pub idp_rules_of : Rules idp.Provider
+abbrev pub idp_rules_of : NodeRules idp.Provider
 idp_rules_of = provider_rules idp_rules idp.Answers
 
 -- A provider was started over an empty disk, which is its own: it holds what that is opened as, and no call is to fail or to stop the

@@ -4,7 +4,7 @@ ghost use Rattle.std.specs.Prelude.{◌≡◌, ◌≤◌, List, false, Some, IfO
 ghost use Rattle.crash_disk.specs.Disk.{empty_image};
 ghost use Rattle.crash_disk.specs.Memory.{holding, state_of};
 ghost use Rattle.saml_outside.specs.Counts.{Rose};
-ghost use Rattle.record_ledger.specs.Ledger.{ledger_in, taken};
+ghost use Rattle.record_ledger.specs.Ledger.{taken};
 ghost use Rattle.provider_node.specs.Step.{OwnsDisk};
 ghost use Rattle.request_ledger.specs.Record.{request_rules};
 ghost use Rattle.idp_ledger.specs.Record.{idp_rules};

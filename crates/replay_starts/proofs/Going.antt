@@ -25,7 +25,8 @@ use Rattle.provider_node.specs.Step.{AnswersBy, OwnsDisk, Provider}
 use Rattle.provider_node.specs.Node.{CompactionLeaves}
 use Rattle.provider_node.proofs.Serving.{settled}
 use Rattle.schedule_replay.specs.Hosts.{Compacts, Host, Known, Outcome, Recovers, Restarts, Serves, Takes, resumed, told}
-use Rattle.replay_starts.specs.Providers.{IsStartedFrom, provider_rules}
+use Rattle.provider_node.specs.Node.{provider_rules}
+use Rattle.replay_starts.specs.Providers.{IsStartedFrom}
 use Rattle.replay_starts.proofs.Standing.{compaction_stands, opened_stays, opening_stands, step_stands, whole_stands}
 use Rattle.replay_starts.proofs.Worlds.{does_unclocked, still}
 

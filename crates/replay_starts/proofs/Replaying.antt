@@ -19,9 +19,10 @@ use Rattle.schedule_replay.specs.declared.sending.Sending.{Sending}
 use Rattle.schedule_replay.specs.Asked.{BothAsked, asked_doing, asked_exchanging, asked_if_any, asked_in_rounds, asked_on, asked_replaying, none_asked, then_asked}
 use Rattle.schedule_replay.specs.Counting.{restarted as count}
 use Rattle.schedule_replay.specs.Deployments.{Arrives, ArrivesIfAny, Deployment, Exchanges, Hears, Obeys, OnSite, Rounds, Starts, bytes_of, piece_at, shows, unconnected}
-use Rattle.schedule_replay.specs.Hosts.{Brings, Compacts, Host, Known, Outcome, Restarts, Rules, Sent, Serves, Silent}
+use Rattle.serve_loop.specs.Worlds.{NodeRules}
+use Rattle.schedule_replay.specs.Hosts.{Brings, Compacts, Host, Known, Outcome, Restarts, Sent, Serves, Silent}
 use Rattle.schedule_replay.specs.Steps.{Does, Replays, Requests, RequestsTwo, armed, saying_none}
-use Rattle.replay_starts.specs.Providers.{provider_rules}
+use Rattle.provider_node.specs.Node.{provider_rules}
 use Rattle.replay_starts.specs.Replayed.{AReplayIsStarts}
 use Rattle.replay_starts.proofs.Going.{LetsGo, SoFar, asked_as, begun, compacted, known_so, left_behind, restarted, served, stopped_so, taken_so, unconnected_at}
 use Rattle.replay_starts.proofs.Worlds.{still}
@@ -66,10 +67,10 @@ module _ {S A P B : Type 0} (sp_rules : RecordRules A) (SpAnswers : AnswersBy S 
   abbrev Requested : Type 0
   Requested = BothAsked (Provider S A) (Provider P B)
 
-  abbrev sp : Rules (Provider S A)
+  abbrev sp : NodeRules (Provider S A)
   sp = provider_rules sp_rules SpAnswers
 
-  abbrev idp : Rules (Provider P B)
+  abbrev idp : NodeRules (Provider P B)
   idp = provider_rules idp_rules IdpAnswers
 
   abbrev SpSoFar : Host (Provider S A) → Table → List (Asked (Provider S A)) → Type 0
@@ -267,7 +268,7 @@ module _ {S A P B : Type 0} (sp_rules : RecordRules A) (SpAnswers : AnswersBy S 
   -- ---- restarts and compactions
 
   obeyed : (number : ℕ) (site : Site) (word : List ℕ)
-      (call : (N : Type 0) → Rules N → Host N → Result (Unit {0}) OpenFault → Host N → Type 0) (before after : World)
+      (call : (N : Type 0) → NodeRules N → Host N → Result (Unit {0}) OpenFault → Host N → Type 0) (before after : World)
       (asked : Requested) → LetsGo sp_rules SpAnswers sp_start sp_hold (call (Provider S A) sp)
       → LetsGo idp_rules IdpAnswers idp_start idp_hold (call (Provider P B) idp)
       → Obeys sp idp number site word call before after → Loose before asked → Loose after asked

@@ -12,7 +12,8 @@ use Rattle.schedule_replay.specs.Asked.{asked_in_run}
 use Rattle.schedule_replay.specs.Deployments.{Deployment}
 use Rattle.schedule_replay.specs.Hosts.{Host, told}
 use Rattle.schedule_replay.specs.Runs.{Ran}
-use Rattle.replay_starts.specs.Providers.{IsStartedFrom, provider_rules}
+use Rattle.provider_node.specs.Node.{provider_rules}
+use Rattle.replay_starts.specs.Providers.{IsStartedFrom}
 
 -- These are starts of a provider, from the ledger on that it held at first, each of which opens what is left behind the
 -- ones before it. In them it was asked these requests and no other, and its disk may leave nothing at last but what is left

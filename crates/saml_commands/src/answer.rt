@@ -3,7 +3,7 @@
 ghost use Rattle.std.specs.Prelude.{◌≡◌, ◌≢◌, ◌≤◌, IfOk};
 ghost use Rattle.saml_outside.specs.Counts.{Rose};
 ghost use Rattle.saml_commands.specs.Answers.{BadFile, Foreign, file_number, text_of, status_of};
-ghost use Rattle.saml_commands.specs.Running.{EndsWith, Prints};
+ghost use Rattle.saml_commands.specs.Running.{EndsWith};
 
 use crate::status::Status;
 use crash_disk::FileNo;

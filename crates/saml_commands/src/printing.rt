@@ -1,6 +1,6 @@
 // A sink as a place of the canonical form.
 
-ghost use Rattle.std.specs.Prelude.{◌≡◌, ℕ, List, [], ◌++◌, false, true, take, OnOk, OnErr};
+ghost use Rattle.std.specs.Prelude.{◌≡◌, ℕ, [], false, true, take, OnOk, OnErr};
 ghost use Rattle.saml_commands.specs.Passing.{Appends, passing_of};
 ghost use Rattle.saml_commands.specs.Composing.{appends_by_passing};
 

@@ -1,6 +1,6 @@
 // What `records ROLE` answers for the files of the folder.
 
-ghost use Rattle.std.specs.Prelude.{◌≡◌, ◌≢◌, ◌≤◌, ℕ, List, [], Ok, Err, false, IfOk, IsOk};
+ghost use Rattle.std.specs.Prelude.{◌≡◌, ◌≢◌, ◌≤◌, List, [], Ok, Err, false, IfOk, IsOk};
 ghost use Rattle.saml_outside.specs.Counts.{Rose};
 ghost use Rattle.record_ledger.specs.Rules.{records_of};
 ghost use Rattle.record_lines.specs.Judging.{lines};

@@ -1,6 +1,6 @@
 // What `sp`, `idp` and `hub` do and print.
 
-ghost use Rattle.std.specs.Prelude.{◌≡◌, ◌≢◌, ◌≤◌, ◌⊎◌, ℕ, List, Option, Result, Err, IfOk, codes, if◌then◌else◌};
+ghost use Rattle.std.specs.Prelude.{◌≡◌, ◌≢◌, ◌≤◌, ◌⊎◌, Err, IfOk, codes, if◌then◌else◌};
 ghost use Rattle.crash_disk.specs.Moments.{LeavesOnly};
 ghost use Rattle.saml_outside.specs.Counts.{Rose};
 ghost use Rattle.provider_run.specs.Runs.{IsServed, outside};

@@ -6,7 +6,6 @@ ghost use Rattle.xml_spec.specs.declared.TheConstants.{MAX_DOCUMENT_LENGTH};
 ghost use Rattle.crash_disk.specs.Moments.{LeavesOnly};
 ghost use Rattle.saml_outside.specs.Counts.{Rose};
 ghost use Rattle.provider_run.specs.Runs.{outside};
-ghost use Rattle.saml_commands.specs.Canon.{OfCanon};
 ghost use Rattle.saml_commands.specs.Check.{rows_of, OfJudged};
 ghost use Rattle.saml_commands.specs.Vouch.{OfVouch};
 ghost use Rattle.sp_setup.specs.declared.limits.TheConstants.{GREATEST_KEY};

@@ -1,6 +1,6 @@
 // What `vouch` answers for the bytes of a file and a key.
 
-ghost use Rattle.std.specs.Prelude.{◌≡◌, ◌≤◌, length, IfOk, Some};
+ghost use Rattle.std.specs.Prelude.{◌≤◌, length, IfOk, Some};
 ghost use Rattle.xml_spec.specs.declared.TheConstants.{MAX_DOCUMENT_LENGTH};
 ghost use Rattle.saml_commands.specs.Running.{IsVerdictOf};
 ghost use Rattle.saml_commands.specs.Documents.{OfElement};

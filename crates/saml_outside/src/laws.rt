@@ -1,5 +1,5 @@
 //! Laws of the definitions that the contracts cite. Each function does nothing: what it ensures is the law.
-ghost use Rattle.std.specs.Prelude.{◌≡◌, ◌≢◌, ◌^◌, ◌-◌, ◌<◌, ◌↔◌, ◌⊎◌, ◌∷◌, ◌++◌, ℕ, List, Option, Result, []};
+ghost use Rattle.std.specs.Prelude.{◌≡◌, ◌≢◌, ◌^◌, ◌-◌, ◌<◌, ◌↔◌, ◌⊎◌, ◌∷◌, ◌++◌, ℕ, List, Option, []};
 ghost use Rattle.saml_outside.specs.Counts.{Rose};
 ghost use Rattle.saml_outside.specs.Files.{File, Reads, answer_of, bytes_of};
 ghost use Rattle.saml_outside.specs.Sinks.{then_bytes};

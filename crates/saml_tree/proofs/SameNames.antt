@@ -1,9 +1,9 @@
 -- Names that are in one namespace, by the namespaces that are kept.
 use Rattle.std.proofs.Common.{◌≡◌, ℕ, ◌<◌, true, false, Bool, cond, List, [], length, get_or, Option, Some, None, IsSome, IsTrue, ◌↔◌, refl, sym, ap, ◌∙◌, subst}
 use Rattle.std.specs.List.{slice_get}
-use Rattle.std.specs.Option.{option_map, option_map_or, option_and_then}
+use Rattle.std.specs.Option.{option_map, option_map_or, option_and_then, unwrap_or}
 use Rattle.std.specs.Str.{bytes_eq}
-use Rattle.std.proofs.lemmas.Option.{slice_get-get_or, slice_get_within}
+use Rattle.std.proofs.lemmas.Option.{slice_get-get_or, slice_get_within, unwrap_or-slice_get}
 use Rattle.std.proofs.lemmas.Slice.Eq.{bytes_eq-Decides}
 use Rattle.xml_spec.specs.Tree.{Attribute, Nodes}
 use Rattle.xml_spec.specs.Numbering.{from_node}
@@ -38,6 +38,10 @@ same_spaces table one other m n same is_one is_other in_one in_other e =
       λ h. let both : Some x ≡ Some y = sym first ∙ h ∙ second in
           e ∙ (bytes_eq-Decides x y).1 (let equal : x ≡ y = cc in equal),
     )
+
+-- the text of a number is the one that is found
+pub found_text : (table : List (List ℕ)) (o : Option (List ℕ)) (n : ℕ) → o ≡ slice_get table n → get_or table n [] ≡ unwrap_or o []
+found_text table o n is = sym (ap (λ found. unwrap_or found []) is ∙ unwrap_or-slice_get table n [])
 
 -- a text that is found has a number of the table
 pub in_table : (table : List (List ℕ)) (o : Option (List ℕ)) (n : ℕ) → o ≡ slice_get table n → IsSome o → n < length table
@@ -90,12 +94,15 @@ module _ (rows : List Row) (names : Names) (tree : Nodes) (shaped : IsShaped row
       some_namespace None k = k
       some_namespace (Some b) k = refl
 
+  pub kept_text : (place : NameAt) (found : Kept) → found ≡ kept_for tree place → IsNameAt tree place → kept_at names found ≡ namespace_at tree place
+  kept_text place found e h = ap (kept_at names) e ∙ kept_is place h
+
   pub kept_there : (place : NameAt) (found : Kept) → found ≡ kept_for tree place → IsNameAt tree place → IsSome (kept_at names found)
-  kept_there place found e h = subst IsSome (sym (ap (kept_at names) e ∙ kept_is place h)) (namespace_there place h)
+  kept_there place found e h = subst IsSome (sym (kept_text place found e h)) (namespace_there place h)
 
   pub same_kept : (one other : NameAt) (a b : Kept) (same : Bool) → a ≡ kept_for tree one → b ≡ kept_for tree other → IsNameAt tree one →
       IsNameAt tree other → IsTrue same ↔ (kept_at names a ≡ kept_at names b) → IsTrue same ↔ (namespace_at tree one ≡ namespace_at tree other)
   same_kept one other a b same e f h k d =
-      let first = ap (kept_at names) e ∙ kept_is one h in
-      let second = ap (kept_at names) f ∙ kept_is other k in
+      let first = kept_text one a e h in
+      let second = kept_text other b f k in
       (λ t. sym first ∙ d.0 t ∙ second, λ u. d.1 (first ∙ u ∙ sym second))

@@ -1,10 +1,11 @@
 // A document that was read.
 
-ghost use Rattle.std.specs.Prelude.{◌≡◌, ℕ, ◌<◌, ◌++◌, ◌↔◌, List, [], length, map, take, string_bytes, Some, IsTrue, OnOk, OnErr, IfOk, IfErr, IfSome, IsSome, ◌^◌};
+ghost use Rattle.std.specs.Prelude.{◌≡◌, ℕ, ◌<◌, ◌++◌, ◌↔◌, List, [], length, map, take, string_bytes, unwrap_or, Some, IsTrue, OnOk, OnErr, IfOk, IfErr, IfSome, IsSome, ◌^◌};
 ghost use Rattle.std.specs.Option.{option_map};
 ghost use Rattle.xml_spec.specs.Numbering.{size, from_node, kids_of, rest_of, first_kid_of, next_of, parent_of, elements_before};
 ghost use Rattle.xml_spec.specs.Identifiers.{identifiers, node_with};
 ghost use Rattle.xml_spec.specs.Document.{IsRange};
+ghost use Rattle.xml_spec.specs.Canonical.{byte_order};
 ghost use Rattle.saml_tree.specs.Documents.{IsSpelled, IsWritten, kind_of, name_of, attributes_of, text_of};
 ghost use Rattle.saml_tree.specs.NodeNames.{ShownName, name_at, attribute_at, attribute_name_at, IsNameAt, namespace_at};
 ghost use Rattle.tree_rows.specs.Rows.{node, nodes_at};
@@ -23,6 +24,7 @@ use crate::names::{Kept, Names, shown_name};
 use crate::node::{Name, NameAt, NodeKind, NodeNo};
 use element_names::is_declaration;
 use owned_values::NoMemory;
+use std::cmp::Ordering;
 use std::marker::Model;
 use tree_rows::{Leaf, Rows, Shape};
 use xml_chars::Span;
@@ -277,6 +279,15 @@ impl<'a> Doc<'a> {
         ensures { IsTrue result ↔ (namespace_at self.now.tree one ≡ namespace_at self.now.tree other) }
     {
         self.names.is_same(self.kept(one), self.kept(other))
+    }
+
+    /// The order of the namespaces at two places, byte by byte. The time does not grow with the namespaces' names.
+    pub fn namespace_order(&self, one: NameAt, other: NameAt) -> Ordering
+        requires one { IsNameAt self.now.tree one }
+        requires other { IsNameAt self.now.tree other }
+        ensures { result ≡ byte_order (unwrap_or (namespace_at self.now.tree one) []) (unwrap_or (namespace_at self.now.tree other) []) }
+    {
+        self.names.order(self.kept(one), self.kept(other))
     }
 
     /// Whether the value of attribute i of an element is `s`, byte by byte.

@@ -21,8 +21,8 @@
 //! none, then XmlLimit, BadNames and DuplicateId, each exactly and the first that holds of the whole text. Every call
 //! on `Doc` is exact on the tree and the node's number (`root` to `by_id`, `put_text`, `put_attr`); `span` is the
 //! element's range in the very bytes that were read, and `bytes_of` gives those bytes for as long as they live;
-//! `namespace_at` and `same_namespace` are exact, and `written_name` and `written_attr_name` show names as they are
-//! written.
+//! `namespace_at`, `same_namespace` and `namespace_order` are exact, and `written_name` and `written_attr_name` show
+//! names as they are written.
 #![tactic(auto)]
 
 mod beyond;

@@ -1,6 +1,7 @@
 // The names of a document: whether they keep the rules of Namespaces in XML 1.0, and which namespace each is in.
 
-ghost use Rattle.std.specs.Prelude.{◌≡◌, ◌<◌, ◌^◌, ◌⊎◌, ◌↔◌, Some, IsSome, IsTrue, IfOk, IfErr, OnOk, slice_get};
+ghost use Rattle.std.specs.Prelude.{◌≡◌, ◌<◌, ◌^◌, ◌⊎◌, ◌↔◌, [], unwrap_or, Some, IsSome, IsTrue, IfOk, IfErr, OnOk, slice_get};
+ghost use Rattle.xml_spec.specs.Canonical.{byte_order};
 ghost use Rattle.xml_spec.specs.Names.{HasNames};
 ghost use Rattle.tree_rows.specs.Rows.{nodes_at};
 ghost use Rattle.tree_rows.specs.Shaped.{IsShaped};
@@ -11,8 +12,9 @@ ghost use Rattle.saml_tree.specs.Views.{name_view};
 ghost use Rattle.saml_tree.specs.Resolved.{IsNamedShape, Moves, IsResolvedShape, AreResolved, kept_at};
 
 use crate::node::{Name, NodeNo, TreeFault};
-use element_names::{NONE, NameFault, Room, RowNames, Spaces, Table, XMLNS, element_names};
+use element_names::{NONE, NameFault, RankedTable, Room, RowNames, Spaces, XMLNS, element_names};
 use std::alloc::Global;
+use std::cmp::Ordering;
 use tree_rows::{Rows, Shape};
 use xml_tokens::WrittenName;
 
@@ -44,7 +46,7 @@ pub(crate) enum Kept {
 /// The namespaces of a document's names: a table, the numbers of all attributes, and what each row has of them.
 #[derive(Debug, Drop)]
 pub(crate) struct Names {
-    pub(crate) table: Table,
+    pub(crate) table: RankedTable,
     pub(crate) attributes: Vec<u32>,
     pub(crate) rows: Vec<RowNames>,
 }
@@ -77,6 +79,15 @@ impl Names {
         ensures { IsTrue result ↔ (kept_at self.now one ≡ kept_at self.now other) }
     {
         self.table.is_same(self.number(one), self.number(other))
+    }
+
+    /// The order of two namespaces that are kept.
+    pub(crate) fn order(&self, one: Kept, other: Kept) -> Ordering
+        requires one { IsSome (kept_at self.now one) }
+        requires other { IsSome (kept_at self.now other) }
+        ensures { result ≡ byte_order (unwrap_or (kept_at self.now one) []) (unwrap_or (kept_at self.now other) []) }
+    {
+        self.table.order(self.number(one), self.number(other))
     }
 }
 
@@ -141,8 +152,9 @@ pub(crate) fn resolve<'a>(alloc: Global, rows: &Rows<'a>) -> Result<Names, TreeF
         let names = row_names(alloc, &mut spaces, rows.shape(k), &mut room, &mut numbers)?;
         named.push(names)?;
     }
+    let table = RankedTable::of(alloc, spaces.table)?;
     Ok(Names {
-        table: spaces.table,
+        table,
         attributes: numbers,
         rows: named,
     })

@@ -7,7 +7,8 @@ use Rattle.schedule_replay.specs.declared.host.HeldHost.{HeldHost}
 use Rattle.schedule_replay.specs.declared.stage.Stage.{Stage}
 use Rattle.schedule_replay.specs.declared.tally.Tally.{Tally}
 use Rattle.schedule_replay.specs.Deployments.{Deployment, OnSite}
-use Rattle.schedule_replay.specs.Hosts.{Host, Rules}
+use Rattle.serve_loop.specs.Worlds.{NodeRules}
+use Rattle.schedule_replay.specs.Hosts.{Host}
 use Rattle.schedule_replay.specs.Views.{SameHost, SameStage}
 
 pub where_ok : {T E A B : Type 0} (result : Result T E) → OnOk result A → (A → B) → OnOk result B
@@ -25,7 +26,7 @@ same_stage old mid new first second = record {
 }
 
 -- what is done at one node is done there too where more was counted before
-pub counted_on : {S P : Type 0} (sp : Rules S) (idp : Rules P) (site : Site) (does : (N : Type 0) → Rules N → Host N → Host N → Type 0)
+pub counted_on : {S P : Type 0} (sp : NodeRules S) (idp : NodeRules P) (site : Site) (does : (N : Type 0) → NodeRules N → Host N → Host N → Type 0)
     (more : Tally → Tally) (before behind : Deployment S P) → OnSite sp idp site does before behind
     → OnSite sp idp site does (record before { tally = more before.tally }) (record behind { tally = more behind.tally })
 counted_on sp idp Sp does more before behind (did, is) = (did, ap (λ (w : Deployment _ _). record w { tally = more w.tally }) is)

@@ -13,7 +13,8 @@ use Rattle.schedule_replay.specs.declared.sending.Sending.{Sending}
 use Rattle.schedule_replay.specs.Counting.{restarted}
 use Rattle.schedule_replay.specs.Deployments.{Deployment, OnSite, Hears, Arrives, ArrivesIfAny, Rounds, Starts, Exchanges, Obeys, bytes_of, piece_at, shows, unconnected}
 use Rattle.schedule_replay.specs.Faults.{faults_in, stops_taken}
-use Rattle.schedule_replay.specs.Hosts.{Host, Rules, Outcome, Silent, Sent, Brings, Compacts, Known, Recovers, Restarts, Serves, Takes, resumed}
+use Rattle.serve_loop.specs.Worlds.{NodeRules}
+use Rattle.schedule_replay.specs.Hosts.{Host, Outcome, Silent, Sent, Brings, Compacts, Known, Recovers, Restarts, Serves, Takes, resumed}
 use Rattle.schedule_replay.specs.Lines.{result_words}
 use Rattle.schedule_replay.proofs.Calling.{made_called}
 use Rattle.schedule_replay.proofs.Going.{Goes, Went, goes_nowhere, goes_then, still_runs, went_again, went_on}
@@ -86,7 +87,7 @@ module _ (only : CallsFailWhereSet) where
   goes_on : (old new : DiskInMemory) → IsMadeByCalls (Some old) (Some new) → old.stopped ≡ false → new.stopped ≡ false → Went 0 old new
   goes_on old new made ran runs = went_on old new ran runs (made_called old new made) (no_more old new made runs)
 
-  module _ {N : Type 0} (rules : Rules N) where
+  module _ {N : Type 0} (rules : NodeRules N) where
     -- a connection starts: the log is as long as before
     serves_start : (now conn : ℕ) (before after : Host N) → Serves rules now (Taken conn) before after → before.disk.stopped ≡ false
         → Went 0 before.disk after.disk
@@ -158,8 +159,8 @@ tells_of stops asked restarts old mid new few moves tells = record {
       omega arith;
 }
 
-module _ {S P : Type 0} (sp : Rules S) (idp : Rules P) where
-  on_site : (stops : ℕ) (site : Site) (does : (N : Type 0) → Rules N → Host N → Host N → Type 0) (before after : Deployment S P)
+module _ {S P : Type 0} (sp : NodeRules S) (idp : NodeRules P) where
+  on_site : (stops : ℕ) (site : Site) (does : (N : Type 0) → NodeRules N → Host N → Host N → Type 0) (before after : Deployment S P)
       → ((old new : Host S) → does S sp old new → old.disk.stopped ≡ false → Went stops old.disk new.disk)
       → ((old new : Host P) → does P idp old new → old.disk.stopped ≡ false → Went stops old.disk new.disk)
       → OnSite sp idp site does before after → Moves stops (counts_of before) (counts_of after)
@@ -206,7 +207,7 @@ module _ {S P : Type 0} where
   shown_all number site words (Some result) before after is =
       as_counted 0 before after _ is (record { sp = refl; idp = refl; counted = omega arith })
 
-module _ (only : CallsFailWhereSet) {S P : Type 0} (sp : Rules S) (idp : Rules P) where
+module _ (only : CallsFailWhereSet) {S P : Type 0} (sp : NodeRules S) (idp : NodeRules P) where
   arrives : (number : ℕ) (sending : Sending) (piece : List ℕ) (before after : Deployment S P) → Arrives sp idp number sending piece before after
       → Passes0 (counts_of before) (counts_of after)
   arrives number sending piece before after a =
@@ -257,7 +258,7 @@ module _ (only : CallsFailWhereSet) {S P : Type 0} (sp : Rules S) (idp : Rules P
       (in_rounds number size first second e.rounds e.both after e.arrive))
 
   -- a call that a schedule asks for
-  obeys : (number : ℕ) (site : Site) (word : List ℕ) (call : (N : Type 0) → Rules N → Host N → Result (Unit {0}) OpenFault → Host N → Type 0)
+  obeys : (number : ℕ) (site : Site) (word : List ℕ) (call : (N : Type 0) → NodeRules N → Host N → Result (Unit {0}) OpenFault → Host N → Type 0)
       (before after : Deployment S P)
       → ((known : Option (Result (Unit {0}) OpenFault)) (old new : Host S) → Known sp (call S sp) known old new → old.disk.stopped ≡ false
       → Went (stops_behind known) old.disk new.disk)

@@ -13,7 +13,8 @@ use Rattle.schedule_replay.specs.declared.fault.ReplayFault.TheVariants.{WriteFa
 use Rattle.schedule_replay.specs.declared.tally.Tally.{Tally}
 use Rattle.schedule_replay.specs.Counting.{nothing_counted}
 use Rattle.schedule_replay.specs.Deployments.{Deployment}
-use Rattle.schedule_replay.specs.Hosts.{Host, Rules}
+use Rattle.serve_loop.specs.Worlds.{NodeRules}
+use Rattle.schedule_replay.specs.Hosts.{Host}
 use Rattle.schedule_replay.specs.Runs.{Ends, Ran, alone, beginning, shown}
 use Rattle.schedule_replay.specs.Steps.{Does, Replays, is_starved}
 use Rattle.schedule_replay.specs.Views.{HasNodes}
@@ -47,7 +48,7 @@ printed_part quiet first before after earlier lines n was is =
 
 -- ---- what was done
 
-module _ {S P : Type 0} (sp : Rules S) (idp : Rules P) where
+module _ {S P : Type 0} (sp : NodeRules S) (idp : NodeRules P) where
   -- one step more
   pub one_more : (done : ℕ) (steps : List Step) (step : Step) (first before after : Deployment S P) (earlier : List ℕ) →
       Replays sp idp done steps first earlier before → slice_get steps done ≡ Some step → Does sp idp (done + 1) step before after →

@@ -12,7 +12,7 @@ use Rattle.schedules.specs.declared.step.Step.TheVariants as steps
 use Rattle.schedule_replay.specs.declared.sending.Sending.{Sending}
 use Rattle.schedule_replay.specs.Deployments.{Deployment}
 use Rattle.schedule_replay.specs.Faults.{DisksRunOn, FailuresAreSet, FaultsAreSetOrOfStops, IsRunning, RestartsAreAskedOrSet, StopsAreSet, asks_restart, disk_of, failures_set, faults_in, is_node, restarts_asked, sets_failure, sets_stop, stops_set}
-use Rattle.schedule_replay.specs.Hosts.{Rules}
+use Rattle.serve_loop.specs.Worlds.{NodeRules}
 use Rattle.schedule_replay.specs.Steps.{Does, Replays, armed, is_starved, pick_number, saying_none}
 use Rattle.schedule_replay.proofs.Calling.{flag}
 use Rattle.schedule_replay.proofs.Going.{Goes, goes_failing, goes_faults, goes_nowhere, goes_stopping}
@@ -75,7 +75,7 @@ module _ {S P : Type 0} where
   not_counted number None before = refl
   not_counted number (Some request) before = refl
 
-module _ (only : CallsFailWhereSet) {S P : Type 0} (sp : Rules S) (idp : Rules P) where
+module _ (only : CallsFailWhereSet) {S P : Type 0} (sp : NodeRules S) (idp : NodeRules P) where
   does : (number : ℕ) (step : Step) (before after : Deployment S P) → Does sp idp number step before after
       → Passes (flag (asks_restart step)) (λ site. flag (sets_failure site step)) (λ site. flag (sets_stop site step)) (counts_of before)
       (counts_of after)

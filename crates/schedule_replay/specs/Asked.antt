@@ -8,7 +8,8 @@ use Rattle.schedules.specs.declared.step.Step.{Step}
 use Rattle.schedules.specs.declared.step.Step.TheVariants as steps
 use Rattle.schedule_replay.specs.declared.sending.Sending.{Sending}
 use Rattle.schedule_replay.specs.Deployments.{Deployment, ArrivesIfAny, Exchanges, OnSite, Rounds, bytes_of, piece_at}
-use Rattle.schedule_replay.specs.Hosts.{Outcome, Rules, Brings}
+use Rattle.serve_loop.specs.Worlds.{NodeRules}
+use Rattle.schedule_replay.specs.Hosts.{Outcome, Brings}
 use Rattle.schedule_replay.specs.Runs.{Ran}
 use Rattle.schedule_replay.specs.Steps.{Does, Replays}
 
@@ -23,7 +24,7 @@ none_asked = record { sp = []; idp = [] }
 abbrev pub then_asked : {S P : Type 0} → BothAsked S P → BothAsked S P → BothAsked S P
 then_asked earlier later = record { sp = earlier.sp ++ later.sp; idp = earlier.idp ++ later.idp }
 
-module _ {S P : Type 0} (sp : Rules S) (idp : Rules P) where
+module _ {S P : Type 0} (sp : NodeRules S) (idp : NodeRules P) where
   -- a piece came to its node, and may have completed a request
   abbrev pub asked_on : (site : Site) (clock conn : ℕ) (piece : List ℕ) (known : Option Outcome)
       (before after : Deployment S P) → OnSite sp idp site (λ _ node. Brings node clock conn piece known) before after

@@ -12,7 +12,8 @@ use Rattle.post_agent.specs.States.{State}
 use Rattle.schedule_replay.specs.declared.sending.Sending.{Sending}
 use Rattle.schedule_replay.specs.declared.tally.Tally.{Tally}
 use Rattle.schedule_replay.specs.Counting.{counted, restarted}
-use Rattle.schedule_replay.specs.Hosts.{Host, Rules, Outcome, Silent, Sent, Serves, Brings, Known, without_connections}
+use Rattle.serve_loop.specs.Worlds.{NodeRules}
+use Rattle.schedule_replay.specs.Hosts.{Host, Outcome, Silent, Sent, Serves, Brings, Known, without_connections}
 use Rattle.schedule_replay.specs.Lines.{line, answer_words, stopped_words, result_words}
 
 -- The clock of both nodes, the nodes, what each agent keeps, what was counted, and the lines of the step that is done.
@@ -67,9 +68,9 @@ Hears number sending (Some (Sent path bytes)) before after =
     ≡ saying number (answer_words sending.request.site seen)
     (record before { agents = after.agents; tally = counted path seen before.tally }))
 
-module _ {S P : Type 0} (sp : Rules S) (idp : Rules P) where
+module _ {S P : Type 0} (sp : NodeRules S) (idp : NodeRules P) where
   -- something is done at one node, by its rules, and the other is as it was
-  abbrev pub OnSite : Site → ((N : Type 0) → Rules N → Host N → Host N → Type 0) → Deployment S P → Deployment S P
+  abbrev pub OnSite : Site → ((N : Type 0) → NodeRules N → Host N → Host N → Type 0) → Deployment S P → Deployment S P
       → Type 0
   OnSite Sp does before after = does S sp before.sp after.sp × (after ≡ record before { sp = after.sp })
   OnSite Idp does before after = does P idp before.idp after.idp × (after ≡ record before { idp = after.idp })
@@ -112,7 +113,7 @@ module _ {S P : Type 0} (sp : Rules S) (idp : Rules P) where
 
   -- A node does what a schedule asks for, and how that ended is printed, by this word where it ended well.
   pub record Obeys (number : ℕ) (site : Site) (word : List ℕ)
-      (call : (N : Type 0) → Rules N → Host N → Result (Unit {0}) OpenFault → Host N → Type 0)
+      (call : (N : Type 0) → NodeRules N → Host N → Result (Unit {0}) OpenFault → Host N → Type 0)
       (before after : Deployment S P) : Type 0 where
     pub known : Option (Result (Unit {0}) OpenFault)
     pub behind : Deployment S P

@@ -11,7 +11,7 @@ use Rattle.schedules.specs.declared.step.Step.{Step}
 use Rattle.schedules.specs.declared.step.Step.TheVariants.{Restart, Crash, Fail, Compact}
 use Rattle.schedule_replay.specs.Deployments.{Deployment}
 use Rattle.schedule_replay.specs.Faults.{FailuresAreSet, IsRunning, RestartsAreAskedOrSet, disk_of, failures_set, faults_if_stopped, faults_in, restarts_asked, stops_in, stops_set, stops_taken}
-use Rattle.schedule_replay.specs.Hosts.{Rules}
+use Rattle.serve_loop.specs.Worlds.{NodeRules}
 use Rattle.schedule_replay.specs.Lines.{line}
 use Rattle.schedule_replay.specs.Steps.{Replays, is_starved}
 
@@ -58,7 +58,7 @@ faults : (faults_in before ≡ 1) × (faults_in refused ≡ 3) × (faults_if_sto
 faults = (refl, refl, refl, refl)
 
 -- one step sets a failure, which is then to come
-a_failure_is_set : {S P : Type 0} (sp : Rules S) (idp : Rules P) (first : Deployment S P) → is_starved first ≡ false
+a_failure_is_set : {S P : Type 0} (sp : NodeRules S) (idp : NodeRules P) (first : Deployment S P) → is_starved first ≡ false
     → Replays sp idp 1 (Fail Sp 1 ∷ []) first (first.lines ++ line 1 (codes "armed"))
     (record first { sp = record first.sp { disk = record first.sp.disk { failing = 1 } }; lines = [] })
 a_failure_is_set sp idp first fed =
@@ -70,7 +70,7 @@ a_failure_is_set sp idp first fed =
 
 -- Where no step sets a failure or a stop and none was to come, no call fails, and no restart is counted but those that
 -- were asked for.
-nothing_set : {S P : Type 0} (sp : Rules S) (idp : Rules P) → FailuresAreSet sp idp → RestartsAreAskedOrSet sp idp
+nothing_set : {S P : Type 0} (sp : NodeRules S) (idp : NodeRules P) → FailuresAreSet sp idp → RestartsAreAskedOrSet sp idp
     → (done : ℕ) (all : List Step) (first : Deployment S P) (text : List ℕ) (last : Deployment S P)
     → Replays sp idp done all first text last
     → ((site : Site) → IsRunning site first × ((disk_of site first).failing ≡ 0) × ((disk_of site first).stopping ≡ 0))

@@ -6,7 +6,7 @@ use Rattle.post_agent.specs.declared.site.Site.TheVariants.{Sp, Idp}
 use Rattle.schedules.specs.declared.step.Step.{Step}
 use Rattle.schedules.specs.declared.step.Step.TheVariants as steps
 use Rattle.schedule_replay.specs.Deployments.{Deployment}
-use Rattle.schedule_replay.specs.Hosts.{Rules}
+use Rattle.serve_loop.specs.Worlds.{NodeRules}
 use Rattle.schedule_replay.specs.Steps.{Replays}
 
 -- this is that node
@@ -67,7 +67,7 @@ disk_of Idp world = world.idp.disk
 abbrev pub IsRunning : {S P : Type 0} → Site → Deployment S P → Type 0
 IsRunning site world = (disk_of site world).stopped ≡ false
 
-module _ {S P : Type 0} (sp : Rules S) (idp : Rules P) where
+module _ {S P : Type 0} (sp : NodeRules S) (idp : NodeRules P) where
   -- the faults of all those steps in which a node's disk stopped
   abbrev pub faults_of_stops : (site : Site) (done : ℕ) (all : List Step) (first : Deployment S P) (text : List ℕ)
       (last : Deployment S P) → Replays sp idp done all first text last → ℕ

@@ -14,37 +14,7 @@ use Rattle.conn_table.specs.Events.{Piece}
 use Rattle.conn_table.specs.Table.{Table}
 use Rattle.serve_loop.specs.Serving.{MightLeave}
 use Rattle.serve_loop.specs.Turns.{Turn, Full, StarvedStart, Answered, Refused, StarvedPiece, Does, event_at}
-use Rattle.serve_loop.specs.Worlds.{NodeStep, NodeLeaves, NodeOwns, World, IsAnswered, world}
-
--- What a node's own contract says of its calls, in the words of serve_loop's trait `Node`.
-pub record Rules (N : Type 0) : Type 1 where
-  -- the disk is its own
-  pub own : NodeOwns N
-  -- what an answer does, and what a crash inside it may leave
-  pub step : NodeStep N
-  pub leaves : NodeLeaves N
-  -- what a restart does, and what a crash inside it may leave
-  pub reopens : N → Option DiskState → ℕ → ℕ → Result (Unit {0}) OpenFault → N → Option DiskState → Type 0
-  pub reopening_leaves : N → Option DiskState → Image → Type 0
-  -- what a compaction at a moment does, and what a crash inside it may leave
-  pub compacts : N → Option DiskState → ℕ → ℕ → ℕ → Result (Unit {0}) OpenFault → N → Option DiskState → Type 0
-  pub compaction_leaves : N → Option DiskState → ℕ → Image → Type 0
-
-abbrev pub rules :
-    {N : Type 0} → NodeOwns N → NodeStep N → NodeLeaves N
-    → (N → Option DiskState → ℕ → ℕ → Result (Unit {0}) OpenFault → N → Option DiskState → Type 0)
-    → (N → Option DiskState → Image → Type 0)
-    → (N → Option DiskState → ℕ → ℕ → ℕ → Result (Unit {0}) OpenFault → N → Option DiskState → Type 0)
-    → (N → Option DiskState → ℕ → Image → Type 0) → Rules N
-rules own step leaves reopens reopening_leaves compacts compaction_leaves = record {
-  own = own;
-  step = step;
-  leaves = leaves;
-  reopens = reopens;
-  reopening_leaves = reopening_leaves;
-  compacts = compacts;
-  compaction_leaves = compaction_leaves;
-}
+use Rattle.serve_loop.specs.Worlds.{NodeRules, World, IsAnswered, world}
 
 -- a node, its disk, and the connections that it keeps
 pub record Host (N : Type 0) : Type 0 where
@@ -87,10 +57,10 @@ outcome_of (Refused conn piece status) = Sent None (fixed status)
 outcome_of (StarvedPiece conn piece) = Sent None (fixed 52)
 outcome_of turn = Silent
 
-module _ {N : Type 0} (rules : Rules N) where
+module _ {N : Type 0} (rules : NodeRules N) where
   -- A link event: at this moment of the clock this turn of serving is done, as serve_loop defines it.
   pub record Serves (now : ℕ) (turn : Turn N) (before after : Host N) : Type 0 where
-    pub does : Does (IsAnswered rules.own rules.step rules.leaves) before.kept (world_of now before) turn after.kept (world_of now after)
+    pub does : Does (IsAnswered rules) before.kept (world_of now before) turn after.kept (world_of now after)
     pub leaves : Leaving before after (MightLeave rules.leaves (told before) (turn ∷ []))
 
   -- A piece comes on a connection, and this comes of it.

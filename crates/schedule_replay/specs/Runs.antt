@@ -10,7 +10,8 @@ use Rattle.schedule_replay.specs.declared.fault.ReplayFault.TheVariants as fault
 use Rattle.schedule_replay.specs.declared.tally.Tally.{Tally}
 use Rattle.schedule_replay.specs.Counting.{nothing_counted}
 use Rattle.schedule_replay.specs.Deployments.{Deployment}
-use Rattle.schedule_replay.specs.Hosts.{Host, Rules}
+use Rattle.serve_loop.specs.Worlds.{NodeRules}
+use Rattle.schedule_replay.specs.Hosts.{Host}
 use Rattle.schedule_replay.specs.Lines.{summary}
 use Rattle.schedule_replay.specs.Steps.{Replays}
 
@@ -34,7 +35,7 @@ pub record AreLeft {S P : Type 0} (world : Deployment S P) (sp_now : S) (sp_disk
 abbrev pub shown : Bool → List ℕ → List ℕ
 shown quiet text = if quiet then [] else text
 
-module _ {S P : Type 0} (sp : Rules S) (idp : Rules P) where
+module _ {S P : Type 0} (sp : NodeRules S) (idp : NodeRules P) where
   -- What is known of a run however it ended: so many steps were done to their end, one after the other.
   pub record Ran (steps : List Step) (first : Deployment S P) : Type 0 where
     pub done : ℕ

@@ -14,7 +14,8 @@ use Rattle.schedules.specs.declared.step.Step.TheVariants as steps
 use Rattle.schedule_replay.specs.declared.sending.Sending.{Sending}
 use Rattle.schedule_replay.specs.Counting.{restarted}
 use Rattle.schedule_replay.specs.Deployments.{Deployment, Keeps, Exchanges, Obeys, saying, bytes_of}
-use Rattle.schedule_replay.specs.Hosts.{Rules, Compacts, Restarts}
+use Rattle.serve_loop.specs.Worlds.{NodeRules}
+use Rattle.schedule_replay.specs.Hosts.{Compacts, Restarts}
 
 -- what a stop is to leave, as crash_disk numbers it
 abbrev pub pick_number : Pick → ℕ
@@ -58,7 +59,7 @@ IsRequest step = Unit {0}
 abbrev pub is_starved : {S P : Type 0} → Deployment S P → Bool
 is_starved world = world.sp.disk.starved || world.idp.disk.starved
 
-module _ {S P : Type 0} (sp : Rules S) (idp : Rules P) where
+module _ {S P : Type 0} (sp : NodeRules S) (idp : NodeRules P) where
   -- one request comes whole, where there is one
   abbrev pub Requests : ℕ → Option Sending → Deployment S P → Deployment S P → Type 0
   Requests number request before after =

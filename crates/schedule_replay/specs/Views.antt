@@ -12,7 +12,8 @@ use Rattle.schedule_replay.specs.declared.host.Reply.{Reply}
 use Rattle.schedule_replay.specs.declared.sending.Sending.{Sending}
 use Rattle.schedule_replay.specs.declared.stage.Stage.{Stage}
 use Rattle.schedule_replay.specs.Deployments.{Deployment}
-use Rattle.schedule_replay.specs.Hosts.{Host, Rules, Outcome, Silent, Sent}
+use Rattle.serve_loop.specs.Worlds.{NodeRules}
+use Rattle.schedule_replay.specs.Hosts.{Host, Outcome, Silent, Sent}
 
 -- what the agent of a name keeps: one that is not there has seen nothing
 abbrev pub kept_by : BTreeMap ℕ State → ℕ → State
@@ -46,10 +47,10 @@ outcome_view None = Silent
 outcome_view (Some reply) = Sent reply.path reply.bytes
 
 -- the disk is the node's own
-abbrev pub OwnsHost : {N : Type 0} → Rules N → Host N → Type 0
+abbrev pub OwnsHost : {N : Type 0} → NodeRules N → Host N → Type 0
 OwnsHost rules host = rules.own host.node (Some (state_of host.disk))
 
-pub record OwnsBoth {S P : Type 0} (sp_rules : Rules S) (idp_rules : Rules P) (world : Deployment S P) : Type 0 where
+pub record OwnsBoth {S P : Type 0} (sp_rules : NodeRules S) (idp_rules : NodeRules P) (world : Deployment S P) : Type 0 where
   pub sp : OwnsHost sp_rules world.sp
   pub idp : OwnsHost idp_rules world.idp
 

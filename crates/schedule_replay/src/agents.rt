@@ -1,6 +1,6 @@
 // The user agents of a schedule, by their names.
 
-ghost use Rattle.std.specs.Prelude.{◌≡◌, false, IfOk, OnOk};
+ghost use Rattle.std.specs.Prelude.{◌≡◌, false, IfOk};
 ghost use Rattle.post_agent.specs.Agents as agents;
 ghost use Rattle.schedule_replay.specs.Deployments.{ComesBack, Keeps};
 ghost use Rattle.schedule_replay.specs.Views.{kept_by};

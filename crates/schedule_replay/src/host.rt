@@ -1,20 +1,18 @@
 // A node with its disk, and the connections that it keeps.
 
-ghost use Rattle.std.specs.Prelude.{◌≡◌, ◌≢◌, ◌≤◌, ℕ, Option, Result, Some, None, Err, IfOk, OnOk, IsSomeAnd, IfSome, IsTrue, min, codes};
+ghost use Rattle.std.specs.Prelude.{◌≡◌, Option, Result, Some, None, Err, IfOk, OnOk, IsSomeAnd, IfSome, IsTrue, min, codes};
 ghost use Rattle.std.specs.FinMap as map;
 ghost use Rattle.std.specs.Option.{option_map};
 ghost use Rattle.post_agent.specs.Views.{text_view};
-ghost use Rattle.crash_disk.specs.Disk.{DiskState};
 ghost use Rattle.crash_disk.specs.Memory.{state_of};
 ghost use Rattle.gate_journal.specs.declared.fault.OpenFault.{OpenFault};
 ghost use Rattle.http_wire.specs.Requests.{Whole, Reads};
 ghost use Rattle.http_wire.specs.Answers.{fixed, is_fixed};
 ghost use Rattle.http_wire.specs.Views.{answer_bytes};
 ghost use Rattle.conn_table.specs.Answers.{IsWholeRequest};
-ghost use Rattle.conn_table.specs.Events.{Piece};
-ghost use Rattle.serve_loop.specs.Turns.{Turn, Taken, Asked, Asks, Answers, event_at};
+ghost use Rattle.serve_loop.specs.Turns.{Taken, Asked, Asks, Answers};
 ghost use Rattle.serve_loop.specs.Worlds.{HasBytes, IsAnswered};
-ghost use Rattle.schedule_replay.specs.Hosts.{Serves, Takes, Restarts, Compacts, Recovers, Brings, Known, rules, Sent, Leaving, world_of, without_connections};
+ghost use Rattle.schedule_replay.specs.Hosts.{Serves, Takes, Restarts, Compacts, Recovers, Brings, Known, Sent, Leaving, world_of, without_connections};
 ghost use Rattle.schedule_replay.specs.Lines.{result_words};
 ghost use Rattle.schedule_replay.specs.Views.{host_in, outcome_view, SameHost};
 
@@ -79,7 +77,7 @@ impl<N: Node> HeldHost<'_, '_, N> {
     /// A connection starts. There is room: a step has two at most.
     pub(crate) fn start(&mut self, conn: u32, now: u64) -> Result<(), NoMemory>
         ensures ok { OnOk result
-            (Serves (rules N.own N.step N.leaves N.reopens N.reopening_leaves N.compacts N.compaction_leaves) now
+            (Serves N.rules now
             (Taken conn) (host_in self.old) (host_in self.new)) }
         ensures node { self.new.node.now ≡ self.old.node.now }
         ensures disk { self.new.disk.now ≡ self.old.disk.now }
@@ -95,17 +93,17 @@ impl<N: Node> HeldHost<'_, '_, N> {
     /// Asks the node for the answer to the request that a connection has brought; it comes with the request's path.
     fn ask(&mut self, alloc: Global, conn: u32, now: u64) -> Result<(Text, Answer), NoMemory>
         requires whole { IsSomeAnd (map.get self.old.conns.now conn) IsWholeRequest }
-        requires own { N.own self.old.node.now (Some (state_of self.old.disk.now)) }
+        requires own { N.rules.own self.old.node.now (Some (state_of self.old.disk.now)) }
         ensures asked { IfOk result
             (λ (path, answer). (asked : Asked _) × (asked.conn ≡ conn) × (asked.answer ≡ answer) ×
             (asked.request.path ≡ path)
             × IfSome (map.get self.old.conns.now conn) (λ bytes. Reads bytes (Whole asked.request))
-            × Asks (IsAnswered N.own N.step N.leaves) asked (world_of now (host_in self.old))
+            × Asks (IsAnswered N.rules) asked (world_of now (host_in self.old))
             (world_of now (host_in self.new))
             × Leaving (host_in self.old) (host_in self.new)
-            (N.leaves asked.node asked.disk asked.request asked.now)) }
+            (N.rules.leaves asked.node asked.disk asked.request asked.now)) }
         ensures has_bytes { IfOk result (λ (path, answer). HasBytes answer) }
-        ensures own { N.own self.new.node.now (Some (state_of self.new.disk.now)) }
+        ensures own { N.rules.own self.new.node.now (Some (state_of self.new.disk.now)) }
         ensures conns { self.new.conns.now ≡ self.old.conns.now }
         ensures objects { SameHost self.old self.new }
     {
@@ -118,14 +116,14 @@ impl<N: Node> HeldHost<'_, '_, N> {
     /// Answers the request that a connection has brought, and lets the connection go.
     fn answer(&mut self, alloc: Global, conn: u32, now: u64) -> Result<Reply, NoMemory>
         requires whole { IsSomeAnd (map.get self.old.conns.now conn) IsWholeRequest }
-        requires own { N.own self.old.node.now (Some (state_of self.old.disk.now)) }
+        requires own { N.rules.own self.old.node.now (Some (state_of self.old.disk.now)) }
         ensures answers { IfOk result (λ reply. (asked : Asked _) × (asked.conn ≡ conn)
             × (outcome_view (Some reply) ≡ Sent (Some asked.request.path) (answer_bytes asked.answer))
-            × Answers (IsAnswered N.own N.step N.leaves) self.old.conns.now
+            × Answers (IsAnswered N.rules) self.old.conns.now
             (world_of now (host_in self.old)) asked self.new.conns.now (world_of now (host_in self.new))
             × Leaving (host_in self.old) (host_in self.new)
-            (N.leaves asked.node asked.disk asked.request asked.now)) }
-        ensures own { N.own self.new.node.now (Some (state_of self.new.disk.now)) }
+            (N.rules.leaves asked.node asked.disk asked.request asked.now)) }
+        ensures own { N.rules.own self.new.node.now (Some (state_of self.new.disk.now)) }
         ensures objects { SameHost self.old self.new }
     {
         let (path, answer) = self.ask(alloc, conn, now)?;
@@ -159,11 +157,10 @@ impl<N: Node> HeldHost<'_, '_, N> {
         piece: &[u8],
         now: u64,
     ) -> Result<Option<Reply>, NoMemory>
-        requires { N.own self.old.node.now (Some (state_of self.old.disk.now)) }
+        requires { N.rules.own self.old.node.now (Some (state_of self.old.disk.now)) }
         ensures takes { IfOk result
-            (λ reply. Takes (rules N.own N.step N.leaves N.reopens N.reopening_leaves N.compacts N.compaction_leaves)
-            now conn piece.now (host_in self.old) (outcome_view reply) (host_in self.new)) }
-        ensures own { N.own self.new.node.now (Some (state_of self.new.disk.now)) }
+            (λ reply. Takes N.rules now conn piece.now (host_in self.old) (outcome_view reply) (host_in self.new)) }
+        ensures own { N.rules.own self.new.node.now (Some (state_of self.new.disk.now)) }
         ensures objects { SameHost self.old self.new }
     {
         match self.conns.piece(conn, piece) {
@@ -176,13 +173,12 @@ impl<N: Node> HeldHost<'_, '_, N> {
 
     /// Starts the node from what its disk holds; how that ended, in a word.
     fn restart(&mut self, alloc: Global) -> Result<&'static str, NoMemory>
-        requires own { N.own self.old.node.now (Some (state_of self.old.disk.now)) }
+        requires own { N.rules.own self.old.node.now (Some (state_of self.old.disk.now)) }
         ensures restarts { IfOk result
             (λ shown. (outcome : Result (Unit {0}) OpenFault)
-            × (shown.now ≡ result_words (codes "restart") outcome) × Restarts
-            (rules N.own N.step N.leaves N.reopens N.reopening_leaves N.compacts N.compaction_leaves)
+            × (shown.now ≡ result_words (codes "restart") outcome) × Restarts N.rules
             (host_in self.old) outcome (host_in self.new)) }
-        ensures own { N.own self.new.node.now (Some (state_of self.new.disk.now)) }
+        ensures own { N.rules.own self.new.node.now (Some (state_of self.new.disk.now)) }
         ensures objects { SameHost self.old self.new }
     {
         let shown = match self.node.restart(self.disk) {
@@ -197,11 +193,10 @@ impl<N: Node> HeldHost<'_, '_, N> {
 
     /// Starts a disk again that stopped, and then the node.
     fn recover(&mut self, alloc: Global) -> Result<(), NoMemory>
-        requires own { N.own self.old.node.now (Some (state_of self.old.disk.now)) }
+        requires own { N.rules.own self.old.node.now (Some (state_of self.old.disk.now)) }
         ensures recovers { OnOk result
-            (Recovers (rules N.own N.step N.leaves N.reopens N.reopening_leaves N.compacts N.compaction_leaves)
-            (host_in self.old) (host_in self.new)) }
-        ensures own { N.own self.new.node.now (Some (state_of self.new.disk.now)) }
+            (Recovers N.rules (host_in self.old) (host_in self.new)) }
+        ensures own { N.rules.own self.new.node.now (Some (state_of self.new.disk.now)) }
         ensures objects { SameHost self.old self.new }
     {
         self.disk.restart();
@@ -217,11 +212,11 @@ impl<N: Node> HeldHost<'_, '_, N> {
         piece: &[u8],
         now: u64,
     ) -> Result<Option<Option<Reply>>, NoMemory>
-        requires own { N.own self.old.node.now (Some (state_of self.old.disk.now)) }
+        requires own { N.rules.own self.old.node.now (Some (state_of self.old.disk.now)) }
         ensures brings { IfOk result
-            (λ reply. Brings (rules N.own N.step N.leaves N.reopens N.reopening_leaves N.compacts N.compaction_leaves)
+            (λ reply. Brings N.rules
             now conn piece.now (option_map outcome_view reply) (host_in self.old) (host_in self.new)) }
-        ensures own { N.own self.new.node.now (Some (state_of self.new.disk.now)) }
+        ensures own { N.rules.own self.new.node.now (Some (state_of self.new.disk.now)) }
         ensures objects { SameHost self.old self.new }
     {
         let reply = self.take(alloc, conn, piece, now)?;
@@ -234,13 +229,12 @@ impl<N: Node> HeldHost<'_, '_, N> {
 
     /// Starts the node, as a schedule asks for; how that ended, none where the disk stopped in it.
     pub(crate) fn start_again(&mut self, alloc: Global) -> Result<Option<&'static str>, NoMemory>
-        requires own { N.own self.old.node.now (Some (state_of self.old.disk.now)) }
+        requires own { N.rules.own self.old.node.now (Some (state_of self.old.disk.now)) }
         ensures ends { IfOk result (λ shown. (outcome : Option (Result (Unit {0}) OpenFault))
-            × (text_view shown ≡ option_map (result_words (codes "restart")) outcome) × Known
-            (rules N.own N.step N.leaves N.reopens N.reopening_leaves N.compacts N.compaction_leaves)
-            (Restarts (rules N.own N.step N.leaves N.reopens N.reopening_leaves N.compacts N.compaction_leaves))
+            × (text_view shown ≡ option_map (result_words (codes "restart")) outcome) × Known N.rules
+            (Restarts N.rules)
             outcome (host_in self.old) (host_in self.new)) }
-        ensures own { N.own self.new.node.now (Some (state_of self.new.disk.now)) }
+        ensures own { N.rules.own self.new.node.now (Some (state_of self.new.disk.now)) }
         ensures objects { SameHost self.old self.new }
     {
         let shown = self.restart(alloc)?;
@@ -253,13 +247,12 @@ impl<N: Node> HeldHost<'_, '_, N> {
 
     /// Lets the node compact; how that ended, in a word.
     fn compaction(&mut self, now: u64) -> Result<&'static str, NoMemory>
-        requires { N.own self.old.node.now (Some (state_of self.old.disk.now)) }
+        requires { N.rules.own self.old.node.now (Some (state_of self.old.disk.now)) }
         ensures compacts { IfOk result
             (λ shown. (outcome : Result (Unit {0}) OpenFault)
-            × (shown.now ≡ result_words (codes "compact") outcome) × Compacts
-            (rules N.own N.step N.leaves N.reopens N.reopening_leaves N.compacts N.compaction_leaves)
+            × (shown.now ≡ result_words (codes "compact") outcome) × Compacts N.rules
             (min now LAST) (host_in self.old) outcome (host_in self.new)) }
-        ensures own { N.own self.new.node.now (Some (state_of self.new.disk.now)) }
+        ensures own { N.rules.own self.new.node.now (Some (state_of self.new.disk.now)) }
         ensures objects { SameHost self.old self.new }
     {
         match self.node.compact(self.disk, now.min(LAST)) {
@@ -276,13 +269,11 @@ impl<N: Node> HeldHost<'_, '_, N> {
         alloc: Global,
         now: u64,
     ) -> Result<Option<&'static str>, NoMemory>
-        requires own { N.own self.old.node.now (Some (state_of self.old.disk.now)) }
+        requires own { N.rules.own self.old.node.now (Some (state_of self.old.disk.now)) }
         ensures ends { IfOk result (λ shown. (outcome : Option (Result (Unit {0}) OpenFault))
-            × (text_view shown ≡ option_map (result_words (codes "compact")) outcome) × Known
-            (rules N.own N.step N.leaves N.reopens N.reopening_leaves N.compacts N.compaction_leaves)
-            (Compacts (rules N.own N.step N.leaves N.reopens N.reopening_leaves N.compacts N.compaction_leaves)
-            (min now LAST)) outcome (host_in self.old) (host_in self.new)) }
-        ensures own { N.own self.new.node.now (Some (state_of self.new.disk.now)) }
+            × (text_view shown ≡ option_map (result_words (codes "compact")) outcome) × Known N.rules
+            (Compacts N.rules (min now LAST)) outcome (host_in self.old) (host_in self.new)) }
+        ensures own { N.rules.own self.new.node.now (Some (state_of self.new.disk.now)) }
         ensures objects { SameHost self.old self.new }
     {
         let shown = self.compaction(now)?;

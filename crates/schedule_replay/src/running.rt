@@ -1,12 +1,10 @@
 // A schedule is replayed.
 
-ghost use Rattle.std.specs.Prelude.{◌≡◌, ◌≢◌, ◌≤◌, ◌<◌, ◌+◌, ◌^◌, Option, Some, Err, ℕ, List, length, take, OnOk, OnErr, IfErr, IfOk, false, [], if◌then◌else◌};
+ghost use Rattle.std.specs.Prelude.{◌≡◌, ◌≢◌, ◌≤◌, ◌<◌, ◌+◌, ◌^◌, Some, Err, ℕ, List, length, take, OnOk, OnErr, IfErr, IfOk, false, []};
 ghost use Rattle.std.specs.FinMap as map;
 ghost use Rattle.saml_outside.specs.Sinks.{then_bytes};
-ghost use Rattle.crash_disk.specs.Disk.{DiskState};
 ghost use Rattle.crash_disk.specs.Memory.{state_of};
 ghost use Rattle.saml_outside.specs.Counts.{Rose};
-ghost use Rattle.schedule_replay.specs.Hosts.{rules};
 ghost use Rattle.schedule_replay.specs.Runs.{AreLeft, Ends, Ran, alone, beginning, shown};
 ghost use Rattle.schedule_replay.specs.Steps.{Does, Replays, is_starved};
 ghost use Rattle.schedule_replay.specs.Deployments.{Deployment};
@@ -62,30 +60,20 @@ impl<S: Node, P: Node> Stage<'_, '_, '_, '_, S, P> {
         quiet: bool,
         out: &mut K,
     ) -> Result<(), ReplayFault>
-        requires own { OwnsBoth
-            (rules S.own S.step S.leaves S.reopens S.reopening_leaves S.compacts S.compaction_leaves)
-            (rules P.own P.step P.leaves P.reopens P.reopening_leaves P.compacts P.compaction_leaves)
-            (stage_in self.old) }
+        requires own { OwnsBoth S.rules P.rules (stage_in self.old) }
         ensures ok { OnOk result
-            ((after : Deployment _ _) × Does
-            (rules S.own S.step S.leaves S.reopens S.reopening_leaves S.compacts S.compaction_leaves)
-            (rules P.own P.step P.leaves P.reopens P.reopening_leaves P.compacts P.compaction_leaves) number step.now
+            ((after : Deployment _ _) × Does S.rules P.rules number step.now
             (stage_in self.old) after
             × (is_starved after ≡ false) × (stage_in self.new ≡ record after { lines = [] }) ×
             (K.taken out.new ≡ then_bytes (K.taken out.old) (shown quiet after.lines))) }
-        ensures write_fault { result ≡ Err ReplayFault.WriteFault → (after : Deployment _ _) × (n : ℕ) × Does
-            (rules S.own S.step S.leaves S.reopens S.reopening_leaves S.compacts S.compaction_leaves)
-            (rules P.own P.step P.leaves P.reopens P.reopening_leaves P.compacts P.compaction_leaves) number step.now
+        ensures write_fault { result ≡ Err ReplayFault.WriteFault → (after : Deployment _ _) × (n : ℕ) × Does S.rules P.rules number step.now
             (stage_in self.old) after
             × (is_starved after ≡ false) × (stage_in self.new ≡ after) ×
             (K.taken out.new ≡ then_bytes (K.taken out.old) (take n (shown quiet after.lines))) }
         ensures no_memory { result ≡ Err ReplayFault.NoMemory → K.taken out.new ≡ K.taken out.old }
         ensures rose { result ≡ Err ReplayFault.WriteFault → Rose (K.faults_of out.old) (K.faults_of out.new) }
         ensures never_falls { K.faults_of out.old ≤ K.faults_of out.new }
-        ensures own { OwnsBoth
-            (rules S.own S.step S.leaves S.reopens S.reopening_leaves S.compacts S.compaction_leaves)
-            (rules P.own P.step P.leaves P.reopens P.reopening_leaves P.compacts P.compaction_leaves)
-            (stage_in self.new) }
+        ensures own { OwnsBoth S.rules P.rules (stage_in self.new) }
         ensures objects { SameStage self.old self.new }
     {
         self.step(number, step)?;
@@ -99,34 +87,24 @@ impl<S: Node, P: Node> Stage<'_, '_, '_, '_, S, P> {
 
     /// Does all steps, and prints their lines.
     fn run<K: Sink>(&mut self, steps: &[Step], quiet: bool, out: &mut K) -> Result<(), ReplayFault>
-        requires own { OwnsBoth
-            (rules S.own S.step S.leaves S.reopens S.reopening_leaves S.compacts S.compaction_leaves)
-            (rules P.own P.step P.leaves P.reopens P.reopening_leaves P.compacts P.compaction_leaves)
-            (stage_in self.old) }
+        requires own { OwnsBoth S.rules P.rules (stage_in self.old) }
         requires few { length steps.now < 2 ^ 63 }
         ensures ok { OnOk result
-            ((text : List ℕ) × Replays
-            (rules S.own S.step S.leaves S.reopens S.reopening_leaves S.compacts S.compaction_leaves)
-            (rules P.own P.step P.leaves P.reopens P.reopening_leaves P.compacts P.compaction_leaves)
+            ((text : List ℕ) × Replays S.rules P.rules
             (length steps.now) steps.now (stage_in self.old) text (stage_in self.new)
             × (K.taken out.new ≡ then_bytes (K.taken out.old) (shown quiet text))) }
         ensures write_fault { result ≡ Err ReplayFault.WriteFault → (done : ℕ) × (text : List ℕ) ×
             (last : Deployment _ _) × (n : ℕ)
-            × Replays (rules S.own S.step S.leaves S.reopens S.reopening_leaves S.compacts S.compaction_leaves)
-            (rules P.own P.step P.leaves P.reopens P.reopening_leaves P.compacts P.compaction_leaves) done
+            × Replays S.rules P.rules done
             steps.now (stage_in self.old) text last × HasNodes last (stage_in self.new)
             × (K.taken out.new ≡ then_bytes (K.taken out.old) (take n (shown quiet text))) }
         ensures no_memory { result ≡ Err ReplayFault.NoMemory → (done : ℕ) × (text : List ℕ) × (last : Deployment _ _)
-            × Replays (rules S.own S.step S.leaves S.reopens S.reopening_leaves S.compacts S.compaction_leaves)
-            (rules P.own P.step P.leaves P.reopens P.reopening_leaves P.compacts P.compaction_leaves) done
+            × Replays S.rules P.rules done
             steps.now (stage_in self.old) text last ×
             (K.taken out.new ≡ then_bytes (K.taken out.old) (shown quiet text)) }
         ensures rose { result ≡ Err ReplayFault.WriteFault → Rose (K.faults_of out.old) (K.faults_of out.new) }
         ensures never_falls { K.faults_of out.old ≤ K.faults_of out.new }
-        ensures own { OwnsBoth
-            (rules S.own S.step S.leaves S.reopens S.reopening_leaves S.compacts S.compaction_leaves)
-            (rules P.own P.step P.leaves P.reopens P.reopening_leaves P.compacts P.compaction_leaves)
-            (stage_in self.new) }
+        ensures own { OwnsBoth S.rules P.rules (stage_in self.new) }
         ensures objects { SameStage self.old self.new }
     {
         for (i, step) in steps.iter().enumerate() {
@@ -142,24 +120,16 @@ impl<S: Node, P: Node> Stage<'_, '_, '_, '_, S, P> {
         quiet: bool,
         out: &mut K,
     ) -> Result<Tally, ReplayFault>
-        requires own { OwnsBoth
-            (rules S.own S.step S.leaves S.reopens S.reopening_leaves S.compacts S.compaction_leaves)
-            (rules P.own P.step P.leaves P.reopens P.reopening_leaves P.compacts P.compaction_leaves)
-            (stage_in self.old) }
+        requires own { OwnsBoth S.rules P.rules (stage_in self.old) }
         requires few { length steps.now < 2 ^ 63 }
-        ensures ends { (ran : Ran (rules S.own S.step S.leaves S.reopens S.reopening_leaves S.compacts S.compaction_leaves)
-            (rules P.own P.step P.leaves P.reopens P.reopening_leaves P.compacts P.compaction_leaves) steps.now
+        ensures ends { (ran : Ran S.rules P.rules steps.now
             (stage_in self.old))
-            × Ends (rules S.own S.step S.leaves S.reopens S.reopening_leaves S.compacts S.compaction_leaves)
-            (rules P.own P.step P.leaves P.reopens P.reopening_leaves P.compacts P.compaction_leaves) ran quiet result
+            × Ends S.rules P.rules ran quiet result
             (K.taken out.old) (K.taken out.new)
             × (result ≢ Err ReplayFault.NoMemory → HasNodes ran.last (stage_in self.new)) }
         ensures write_fault { result ≡ Err ReplayFault.WriteFault → Rose (K.faults_of out.old) (K.faults_of out.new) }
         ensures never_falls { K.faults_of out.old ≤ K.faults_of out.new }
-        ensures own { OwnsBoth
-            (rules S.own S.step S.leaves S.reopens S.reopening_leaves S.compacts S.compaction_leaves)
-            (rules P.own P.step P.leaves P.reopens P.reopening_leaves P.compacts P.compaction_leaves)
-            (stage_in self.new) }
+        ensures own { OwnsBoth S.rules P.rules (stage_in self.new) }
         ensures sp_node { self.new.sp.node.ghost_name ≡ self.old.sp.node.ghost_name }
         ensures sp_disk { self.new.sp.disk.ghost_name ≡ self.old.sp.disk.ghost_name }
         ensures idp_node { self.new.idp.node.ghost_name ≡ self.old.idp.node.ghost_name }
@@ -192,13 +162,11 @@ pub fn replay<S: Node, P: Node, K: Sink>(
     quiet: bool,
     out: &mut K,
 ) -> Result<Tally, ReplayFault>
-    requires sp_own { S.own sp.old (Some (state_of sp_disk.old)) }
-    requires idp_own { P.own idp.old (Some (state_of idp_disk.old)) }
-    ensures ends { (ran : Ran (rules S.own S.step S.leaves S.reopens S.reopening_leaves S.compacts S.compaction_leaves)
-        (rules P.own P.step P.leaves P.reopens P.reopening_leaves P.compacts P.compaction_leaves) schedule.now
+    requires sp_own { S.rules.own sp.old (Some (state_of sp_disk.old)) }
+    requires idp_own { P.rules.own idp.old (Some (state_of idp_disk.old)) }
+    ensures ends { (ran : Ran S.rules P.rules schedule.now
         (beginning (alone sp.old sp_disk.old) (alone idp.old idp_disk.old)))
-        × Ends (rules S.own S.step S.leaves S.reopens S.reopening_leaves S.compacts S.compaction_leaves)
-        (rules P.own P.step P.leaves P.reopens P.reopening_leaves P.compacts P.compaction_leaves) ran quiet result
+        × Ends S.rules P.rules ran quiet result
         (K.taken out.old) (K.taken out.new)
         × (result ≢ Err ReplayFault.NoMemory → AreLeft ran.last sp.new sp_disk.new idp.new idp_disk.new) }
     ensures write_fault { result ≡ Err ReplayFault.WriteFault → Rose (K.faults_of out.old) (K.faults_of out.new) }

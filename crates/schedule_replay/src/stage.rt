@@ -1,14 +1,12 @@
 // Two nodes and the user agents that reach them, as the code holds them.
 
-ghost use Rattle.std.specs.Prelude.{◌≡◌, ◌≤◌, ◌*◌, ◌++◌, ℕ, Option, Result, Some, None, IfOk, IfSome, OnOk, max, min, length, IsTrue, ◌↔◌, ◌⊎◌, codes};
+ghost use Rattle.std.specs.Prelude.{◌≡◌, ◌≤◌, ◌*◌, ℕ, Option, Result, Some, None, IfOk, OnOk, max, min, length, codes};
 ghost use Rattle.std.specs.Option.{option_map};
-ghost use Rattle.crash_disk.specs.Disk.{DiskState};
 ghost use Rattle.gate_journal.specs.declared.fault.OpenFault.{OpenFault};
-ghost use Rattle.serve_loop.specs.Turns.{Taken};
 ghost use Rattle.post_agent.specs.Views.{text_view};
 ghost use Rattle.schedule_replay.specs.Counting as counting;
 ghost use Rattle.schedule_replay.specs.Deployments.{OnSite, Arrives, ArrivesIfAny, Rounds, Starts, Exchanges, Hears, Obeys, saying, shows, unconnected, bytes_of, piece_at};
-ghost use Rattle.schedule_replay.specs.Hosts.{Brings, Compacts, Known, Restarts, rules};
+ghost use Rattle.schedule_replay.specs.Hosts.{Brings, Compacts, Known, Restarts};
 ghost use Rattle.schedule_replay.specs.Lines as spec;
 ghost use Rattle.schedule_replay.specs.Lines.{result_words};
 ghost use Rattle.schedule_replay.specs.Steps.{is_starved};
@@ -75,20 +73,12 @@ impl<S: Node, P: Node> Stage<'_, '_, '_, '_, S, P> {
         conn: u32,
         piece: &[u8],
     ) -> Result<Option<Option<Reply>>, NoMemory>
-        requires own { OwnsBoth
-            (rules S.own S.step S.leaves S.reopens S.reopening_leaves S.compacts S.compaction_leaves)
-            (rules P.own P.step P.leaves P.reopens P.reopening_leaves P.compacts P.compaction_leaves)
-            (stage_in self.old) }
+        requires own { OwnsBoth S.rules P.rules (stage_in self.old) }
         ensures brings { IfOk result
-            (λ reply. OnSite
-            (rules S.own S.step S.leaves S.reopens S.reopening_leaves S.compacts S.compaction_leaves)
-            (rules P.own P.step P.leaves P.reopens P.reopening_leaves P.compacts P.compaction_leaves) site
+            (λ reply. OnSite S.rules P.rules site
             (λ _ node. Brings node self.old.clock conn piece.now (option_map outcome_view reply)) (stage_in self.old)
             (stage_in self.new)) }
-        ensures own { OwnsBoth
-            (rules S.own S.step S.leaves S.reopens S.reopening_leaves S.compacts S.compaction_leaves)
-            (rules P.own P.step P.leaves P.reopens P.reopening_leaves P.compacts P.compaction_leaves)
-            (stage_in self.new) }
+        ensures own { OwnsBoth S.rules P.rules (stage_in self.new) }
         ensures objects { SameStage self.old self.new }
     {
         match site {
@@ -136,18 +126,11 @@ impl<S: Node, P: Node> Stage<'_, '_, '_, '_, S, P> {
 
     /// A piece of a request comes to its node.
     fn arrive(&mut self, number: usize, sending: &Sending, piece: &[u8]) -> Result<(), NoMemory>
-        requires own { OwnsBoth
-            (rules S.own S.step S.leaves S.reopens S.reopening_leaves S.compacts S.compaction_leaves)
-            (rules P.own P.step P.leaves P.reopens P.reopening_leaves P.compacts P.compaction_leaves)
-            (stage_in self.old) }
+        requires own { OwnsBoth S.rules P.rules (stage_in self.old) }
         ensures ok { OnOk result
-            (Arrives (rules S.own S.step S.leaves S.reopens S.reopening_leaves S.compacts S.compaction_leaves)
-            (rules P.own P.step P.leaves P.reopens P.reopening_leaves P.compacts P.compaction_leaves) number
+            (Arrives S.rules P.rules number
             sending.now piece.now (stage_in self.old) (stage_in self.new)) }
-        ensures own { OwnsBoth
-            (rules S.own S.step S.leaves S.reopens S.reopening_leaves S.compacts S.compaction_leaves)
-            (rules P.own P.step P.leaves P.reopens P.reopening_leaves P.compacts P.compaction_leaves)
-            (stage_in self.new) }
+        ensures own { OwnsBoth S.rules P.rules (stage_in self.new) }
         ensures objects { SameStage self.old self.new }
     {
         let site = sending.request.site;
@@ -165,19 +148,12 @@ impl<S: Node, P: Node> Stage<'_, '_, '_, '_, S, P> {
         size: usize,
         sending: Option<&Sending>,
     ) -> Result<(), NoMemory>
-        requires own { OwnsBoth
-            (rules S.own S.step S.leaves S.reopens S.reopening_leaves S.compacts S.compaction_leaves)
-            (rules P.own P.step P.leaves P.reopens P.reopening_leaves P.compacts P.compaction_leaves)
-            (stage_in self.old) }
+        requires own { OwnsBoth S.rules P.rules (stage_in self.old) }
         ensures ok { OnOk result
-            (ArrivesIfAny (rules S.own S.step S.leaves S.reopens S.reopening_leaves S.compacts S.compaction_leaves)
-            (rules P.own P.step P.leaves P.reopens P.reopening_leaves P.compacts P.compaction_leaves) number
+            (ArrivesIfAny S.rules P.rules number
             (sending_view sending.entry) (piece_at at size (bytes_of (sending_view sending.entry)))
             (stage_in self.old) (stage_in self.new)) }
-        ensures own { OwnsBoth
-            (rules S.own S.step S.leaves S.reopens S.reopening_leaves S.compacts S.compaction_leaves)
-            (rules P.own P.step P.leaves P.reopens P.reopening_leaves P.compacts P.compaction_leaves)
-            (stage_in self.new) }
+        ensures own { OwnsBoth S.rules P.rules (stage_in self.new) }
         ensures objects { SameStage self.old self.new }
     {
         let Some(sending) = sending else {
@@ -192,18 +168,10 @@ impl<S: Node, P: Node> Stage<'_, '_, '_, '_, S, P> {
 
     /// A connection starts for a request, where there is one.
     fn start(&mut self, sending: Option<&Sending>) -> Result<(), NoMemory>
-        requires own { OwnsBoth
-            (rules S.own S.step S.leaves S.reopens S.reopening_leaves S.compacts S.compaction_leaves)
-            (rules P.own P.step P.leaves P.reopens P.reopening_leaves P.compacts P.compaction_leaves)
-            (stage_in self.old) }
+        requires own { OwnsBoth S.rules P.rules (stage_in self.old) }
         ensures ok { OnOk result
-            (Starts (rules S.own S.step S.leaves S.reopens S.reopening_leaves S.compacts S.compaction_leaves)
-            (rules P.own P.step P.leaves P.reopens P.reopening_leaves P.compacts P.compaction_leaves)
-            (sending_view sending.entry) (stage_in self.old) (stage_in self.new)) }
-        ensures own { OwnsBoth
-            (rules S.own S.step S.leaves S.reopens S.reopening_leaves S.compacts S.compaction_leaves)
-            (rules P.own P.step P.leaves P.reopens P.reopening_leaves P.compacts P.compaction_leaves)
-            (stage_in self.new) }
+            (Starts S.rules P.rules (sending_view sending.entry) (stage_in self.old) (stage_in self.new)) }
+        ensures own { OwnsBoth S.rules P.rules (stage_in self.new) }
         ensures objects { SameStage self.old self.new }
     {
         let Some(sending) = sending else {
@@ -217,15 +185,9 @@ impl<S: Node, P: Node> Stage<'_, '_, '_, '_, S, P> {
 
     /// Lets the connections of an earlier step go.
     fn disconnect(&mut self) -> Result<(), NoMemory>
-        requires own { OwnsBoth
-            (rules S.own S.step S.leaves S.reopens S.reopening_leaves S.compacts S.compaction_leaves)
-            (rules P.own P.step P.leaves P.reopens P.reopening_leaves P.compacts P.compaction_leaves)
-            (stage_in self.old) }
+        requires own { OwnsBoth S.rules P.rules (stage_in self.old) }
         ensures ok { OnOk result (stage_in self.new ≡ unconnected (stage_in self.old)) }
-        ensures own { OwnsBoth
-            (rules S.own S.step S.leaves S.reopens S.reopening_leaves S.compacts S.compaction_leaves)
-            (rules P.own P.step P.leaves P.reopens P.reopening_leaves P.compacts P.compaction_leaves)
-            (stage_in self.new) }
+        ensures own { OwnsBoth S.rules P.rules (stage_in self.new) }
         ensures objects { SameStage self.old self.new }
     {
         self.sp.disconnect(self.alloc)?;
@@ -241,21 +203,14 @@ impl<S: Node, P: Node> Stage<'_, '_, '_, '_, S, P> {
         second: Option<&Sending>,
     ) -> Result<(), NoMemory>
         requires some { 1 ≤ size }
-        requires own { OwnsBoth
-            (rules S.own S.step S.leaves S.reopens S.reopening_leaves S.compacts S.compaction_leaves)
-            (rules P.own P.step P.leaves P.reopens P.reopening_leaves P.compacts P.compaction_leaves)
-            (stage_in self.old) }
+        requires own { OwnsBoth S.rules P.rules (stage_in self.old) }
         ensures ok { OnOk result
             ((rounds : ℕ) × (max (length (bytes_of (sending_view first.entry)))
             (length (bytes_of (sending_view second.entry))) ≤ rounds * size)
-            × Rounds (rules S.own S.step S.leaves S.reopens S.reopening_leaves S.compacts S.compaction_leaves)
-            (rules P.own P.step P.leaves P.reopens P.reopening_leaves P.compacts P.compaction_leaves) number size
+            × Rounds S.rules P.rules number size
             (sending_view first.entry) (sending_view second.entry) rounds (stage_in self.old)
             (stage_in self.new)) }
-        ensures own { OwnsBoth
-            (rules S.own S.step S.leaves S.reopens S.reopening_leaves S.compacts S.compaction_leaves)
-            (rules P.own P.step P.leaves P.reopens P.reopening_leaves P.compacts P.compaction_leaves)
-            (stage_in self.new) }
+        ensures own { OwnsBoth S.rules P.rules (stage_in self.new) }
         ensures objects { SameStage self.old self.new }
     {
         let longest = length_of(first).max(length_of(second));
@@ -276,18 +231,11 @@ impl<S: Node, P: Node> Stage<'_, '_, '_, '_, S, P> {
         second: Option<&Sending>,
     ) -> Result<(), NoMemory>
         requires some { 1 ≤ size }
-        requires own { OwnsBoth
-            (rules S.own S.step S.leaves S.reopens S.reopening_leaves S.compacts S.compaction_leaves)
-            (rules P.own P.step P.leaves P.reopens P.reopening_leaves P.compacts P.compaction_leaves)
-            (stage_in self.old) }
+        requires own { OwnsBoth S.rules P.rules (stage_in self.old) }
         ensures ok { OnOk result
-            (Exchanges (rules S.own S.step S.leaves S.reopens S.reopening_leaves S.compacts S.compaction_leaves)
-            (rules P.own P.step P.leaves P.reopens P.reopening_leaves P.compacts P.compaction_leaves) number size
+            (Exchanges S.rules P.rules number size
             (sending_view first.entry) (sending_view second.entry) (stage_in self.old) (stage_in self.new)) }
-        ensures own { OwnsBoth
-            (rules S.own S.step S.leaves S.reopens S.reopening_leaves S.compacts S.compaction_leaves)
-            (rules P.own P.step P.leaves P.reopens P.reopening_leaves P.compacts P.compaction_leaves)
-            (stage_in self.new) }
+        ensures own { OwnsBoth S.rules P.rules (stage_in self.new) }
         ensures objects { SameStage self.old self.new }
     {
         self.disconnect()?;
@@ -315,19 +263,12 @@ impl<S: Node, P: Node> Stage<'_, '_, '_, '_, S, P> {
 
     /// The node of a site is started again; how that ended, none where the disk stopped in it.
     fn start_again(&mut self, site: Site) -> Result<Option<&'static str>, NoMemory>
-        requires own { OwnsBoth
-            (rules S.own S.step S.leaves S.reopens S.reopening_leaves S.compacts S.compaction_leaves)
-            (rules P.own P.step P.leaves P.reopens P.reopening_leaves P.compacts P.compaction_leaves)
-            (stage_in self.old) }
+        requires own { OwnsBoth S.rules P.rules (stage_in self.old) }
         ensures ends { IfOk result (λ shown. (outcome : Option (Result (Unit {0}) OpenFault))
             × (text_view shown ≡ option_map (result_words (codes "restart")) outcome)
-            × OnSite (rules S.own S.step S.leaves S.reopens S.reopening_leaves S.compacts S.compaction_leaves)
-            (rules P.own P.step P.leaves P.reopens P.reopening_leaves P.compacts P.compaction_leaves) site
+            × OnSite S.rules P.rules site
             (λ _ node. Known node (Restarts node) outcome) (stage_in self.old) (stage_in self.new)) }
-        ensures own { OwnsBoth
-            (rules S.own S.step S.leaves S.reopens S.reopening_leaves S.compacts S.compaction_leaves)
-            (rules P.own P.step P.leaves P.reopens P.reopening_leaves P.compacts P.compaction_leaves)
-            (stage_in self.new) }
+        ensures own { OwnsBoth S.rules P.rules (stage_in self.new) }
         ensures objects { SameStage self.old self.new }
     {
         match site {
@@ -338,19 +279,12 @@ impl<S: Node, P: Node> Stage<'_, '_, '_, '_, S, P> {
 
     /// A node is started again.
     pub(crate) fn restart(&mut self, number: usize, site: Site) -> Result<(), NoMemory>
-        requires own { OwnsBoth
-            (rules S.own S.step S.leaves S.reopens S.reopening_leaves S.compacts S.compaction_leaves)
-            (rules P.own P.step P.leaves P.reopens P.reopening_leaves P.compacts P.compaction_leaves)
-            (stage_in self.old) }
+        requires own { OwnsBoth S.rules P.rules (stage_in self.old) }
         ensures ok { OnOk result
-            (Obeys (rules S.own S.step S.leaves S.reopens S.reopening_leaves S.compacts S.compaction_leaves)
-            (rules P.own P.step P.leaves P.reopens P.reopening_leaves P.compacts P.compaction_leaves) number site
+            (Obeys S.rules P.rules number site
             (codes "restart") (λ _ node. Restarts node)
             (record (stage_in self.old) { tally = counting.restarted self.old.tally }) (stage_in self.new)) }
-        ensures own { OwnsBoth
-            (rules S.own S.step S.leaves S.reopens S.reopening_leaves S.compacts S.compaction_leaves)
-            (rules P.own P.step P.leaves P.reopens P.reopening_leaves P.compacts P.compaction_leaves)
-            (stage_in self.new) }
+        ensures own { OwnsBoth S.rules P.rules (stage_in self.new) }
         ensures objects { SameStage self.old self.new }
     {
         let shown = self.start_again(site)?;
@@ -360,20 +294,13 @@ impl<S: Node, P: Node> Stage<'_, '_, '_, '_, S, P> {
 
     /// The node of a site compacts; how that ended, none where the disk stopped in it.
     fn compaction(&mut self, site: Site) -> Result<Option<&'static str>, NoMemory>
-        requires own { OwnsBoth
-            (rules S.own S.step S.leaves S.reopens S.reopening_leaves S.compacts S.compaction_leaves)
-            (rules P.own P.step P.leaves P.reopens P.reopening_leaves P.compacts P.compaction_leaves)
-            (stage_in self.old) }
+        requires own { OwnsBoth S.rules P.rules (stage_in self.old) }
         ensures ends { IfOk result (λ shown. (outcome : Option (Result (Unit {0}) OpenFault))
             × (text_view shown ≡ option_map (result_words (codes "compact")) outcome)
-            × OnSite (rules S.own S.step S.leaves S.reopens S.reopening_leaves S.compacts S.compaction_leaves)
-            (rules P.own P.step P.leaves P.reopens P.reopening_leaves P.compacts P.compaction_leaves) site
+            × OnSite S.rules P.rules site
             (λ _ node. Known node (Compacts node (min self.old.clock LAST)) outcome) (stage_in self.old)
             (stage_in self.new)) }
-        ensures own { OwnsBoth
-            (rules S.own S.step S.leaves S.reopens S.reopening_leaves S.compacts S.compaction_leaves)
-            (rules P.own P.step P.leaves P.reopens P.reopening_leaves P.compacts P.compaction_leaves)
-            (stage_in self.new) }
+        ensures own { OwnsBoth S.rules P.rules (stage_in self.new) }
         ensures objects { SameStage self.old self.new }
     {
         match site {
@@ -384,19 +311,12 @@ impl<S: Node, P: Node> Stage<'_, '_, '_, '_, S, P> {
 
     /// A node compacts.
     pub(crate) fn compact(&mut self, number: usize, site: Site) -> Result<(), NoMemory>
-        requires own { OwnsBoth
-            (rules S.own S.step S.leaves S.reopens S.reopening_leaves S.compacts S.compaction_leaves)
-            (rules P.own P.step P.leaves P.reopens P.reopening_leaves P.compacts P.compaction_leaves)
-            (stage_in self.old) }
+        requires own { OwnsBoth S.rules P.rules (stage_in self.old) }
         ensures ok { OnOk result
-            (Obeys (rules S.own S.step S.leaves S.reopens S.reopening_leaves S.compacts S.compaction_leaves)
-            (rules P.own P.step P.leaves P.reopens P.reopening_leaves P.compacts P.compaction_leaves) number site
+            (Obeys S.rules P.rules number site
             (codes "compact") (λ _ node. Compacts node (min self.old.clock LAST)) (stage_in self.old)
             (stage_in self.new)) }
-        ensures own { OwnsBoth
-            (rules S.own S.step S.leaves S.reopens S.reopening_leaves S.compacts S.compaction_leaves)
-            (rules P.own P.step P.leaves P.reopens P.reopening_leaves P.compacts P.compaction_leaves)
-            (stage_in self.new) }
+        ensures own { OwnsBoth S.rules P.rules (stage_in self.new) }
         ensures objects { SameStage self.old self.new }
     {
         let shown = self.compaction(site)?;

@@ -1,12 +1,10 @@
 // What a step of a schedule does.
 
-ghost use Rattle.std.specs.Prelude.{◌≡◌, ◌≤◌, Option, Some, None, IfOk, OnOk, codes};
-ghost use Rattle.crash_disk.specs.Disk.{DiskState};
+ghost use Rattle.std.specs.Prelude.{◌≡◌, Some, None, OnOk, codes};
 ghost use Rattle.post_agent.specs.Agents as agents;
 ghost use Rattle.schedule_replay.specs.Deployments.{saying};
-ghost use Rattle.schedule_replay.specs.Hosts.{rules};
 ghost use Rattle.schedule_replay.specs.Steps as spec;
-ghost use Rattle.schedule_replay.specs.Views.{stage_in, sending_view, OwnsBoth, SameStage};
+ghost use Rattle.schedule_replay.specs.Views.{stage_in, OwnsBoth, SameStage};
 
 use crate::sending::Sending;
 use crate::stage::{Stage, length_of};
@@ -62,18 +60,11 @@ impl<S: Node, P: Node> Stage<'_, '_, '_, '_, S, P> {
         agent: char,
         request: Option<Outgoing>,
     ) -> Result<(), NoMemory>
-        requires own { OwnsBoth
-            (rules S.own S.step S.leaves S.reopens S.reopening_leaves S.compacts S.compaction_leaves)
-            (rules P.own P.step P.leaves P.reopens P.reopening_leaves P.compacts P.compaction_leaves)
-            (stage_in self.old) }
+        requires own { OwnsBoth S.rules P.rules (stage_in self.old) }
         ensures ok { OnOk result
-            (spec.Requests (rules S.own S.step S.leaves S.reopens S.reopening_leaves S.compacts S.compaction_leaves)
-            (rules P.own P.step P.leaves P.reopens P.reopening_leaves P.compacts P.compaction_leaves) number
+            (spec.Requests S.rules P.rules number
             (spec.sending_of lost agent 0 request) (stage_in self.old) (stage_in self.new)) }
-        ensures own { OwnsBoth
-            (rules S.own S.step S.leaves S.reopens S.reopening_leaves S.compacts S.compaction_leaves)
-            (rules P.own P.step P.leaves P.reopens P.reopening_leaves P.compacts P.compaction_leaves)
-            (stage_in self.new) }
+        ensures own { OwnsBoth S.rules P.rules (stage_in self.new) }
         ensures objects { SameStage self.old self.new }
     {
         let sending = sending_of(lost, agent, 0, request);
@@ -90,19 +81,11 @@ impl<S: Node, P: Node> Stage<'_, '_, '_, '_, S, P> {
         first: Option<Sending>,
         second: Option<Sending>,
     ) -> Result<(), NoMemory>
-        requires own { OwnsBoth
-            (rules S.own S.step S.leaves S.reopens S.reopening_leaves S.compacts S.compaction_leaves)
-            (rules P.own P.step P.leaves P.reopens P.reopening_leaves P.compacts P.compaction_leaves)
-            (stage_in self.old) }
+        requires own { OwnsBoth S.rules P.rules (stage_in self.old) }
         ensures ok { OnOk result
-            (spec.RequestsTwo
-            (rules S.own S.step S.leaves S.reopens S.reopening_leaves S.compacts S.compaction_leaves)
-            (rules P.own P.step P.leaves P.reopens P.reopening_leaves P.compacts P.compaction_leaves) number size
+            (spec.RequestsTwo S.rules P.rules number size
             first second (stage_in self.old) (stage_in self.new)) }
-        ensures own { OwnsBoth
-            (rules S.own S.step S.leaves S.reopens S.reopening_leaves S.compacts S.compaction_leaves)
-            (rules P.own P.step P.leaves P.reopens P.reopening_leaves P.compacts P.compaction_leaves)
-            (stage_in self.new) }
+        ensures own { OwnsBoth S.rules P.rules (stage_in self.new) }
         ensures objects { SameStage self.old self.new }
     {
         self.say_none(number, &first)?;
@@ -118,18 +101,11 @@ impl<S: Node, P: Node> Stage<'_, '_, '_, '_, S, P> {
         second: char,
         size: usize,
     ) -> Result<(), NoMemory>
-        requires own { OwnsBoth
-            (rules S.own S.step S.leaves S.reopens S.reopening_leaves S.compacts S.compaction_leaves)
-            (rules P.own P.step P.leaves P.reopens P.reopening_leaves P.compacts P.compaction_leaves)
-            (stage_in self.old) }
+        requires own { OwnsBoth S.rules P.rules (stage_in self.old) }
         ensures ok { OnOk result
-            (spec.Does (rules S.own S.step S.leaves S.reopens S.reopening_leaves S.compacts S.compaction_leaves)
-            (rules P.own P.step P.leaves P.reopens P.reopening_leaves P.compacts P.compaction_leaves) number
+            (spec.Does S.rules P.rules number
             (Step.Pair first second size) (stage_in self.old) (stage_in self.new)) }
-        ensures own { OwnsBoth
-            (rules S.own S.step S.leaves S.reopens S.reopening_leaves S.compacts S.compaction_leaves)
-            (rules P.own P.step P.leaves P.reopens P.reopening_leaves P.compacts P.compaction_leaves)
-            (stage_in self.new) }
+        ensures own { OwnsBoth S.rules P.rules (stage_in self.new) }
         ensures objects { SameStage self.old self.new }
     {
         let one = sending_of(false, first, 0, self.agents.submit(first)?);
@@ -139,19 +115,12 @@ impl<S: Node, P: Node> Stage<'_, '_, '_, '_, S, P> {
 
     /// A step in which an agent sends one request, or none.
     fn send(&mut self, number: usize, step: &Step) -> Result<(), NoMemory>
-        requires own { OwnsBoth
-            (rules S.own S.step S.leaves S.reopens S.reopening_leaves S.compacts S.compaction_leaves)
-            (rules P.own P.step P.leaves P.reopens P.reopening_leaves P.compacts P.compaction_leaves)
-            (stage_in self.old) }
+        requires own { OwnsBoth S.rules P.rules (stage_in self.old) }
         requires sends { spec.IsRequest step.now }
         ensures ok { OnOk result
-            (spec.Does (rules S.own S.step S.leaves S.reopens S.reopening_leaves S.compacts S.compaction_leaves)
-            (rules P.own P.step P.leaves P.reopens P.reopening_leaves P.compacts P.compaction_leaves) number step.now
+            (spec.Does S.rules P.rules number step.now
             (stage_in self.old) (stage_in self.new)) }
-        ensures own { OwnsBoth
-            (rules S.own S.step S.leaves S.reopens S.reopening_leaves S.compacts S.compaction_leaves)
-            (rules P.own P.step P.leaves P.reopens P.reopening_leaves P.compacts P.compaction_leaves)
-            (stage_in self.new) }
+        ensures own { OwnsBoth S.rules P.rules (stage_in self.new) }
         ensures objects { SameStage self.old self.new }
     {
         let (lost, agent, request) = match step {
@@ -193,17 +162,11 @@ impl<S: Node, P: Node> Stage<'_, '_, '_, '_, S, P> {
 
     /// A node's disk is to stop.
     fn crash(&mut self, number: usize, site: Site, call: u64, pick: Pick) -> Result<(), NoMemory>
-        requires own { OwnsBoth
-            (rules S.own S.step S.leaves S.reopens S.reopening_leaves S.compacts S.compaction_leaves)
-            (rules P.own P.step P.leaves P.reopens P.reopening_leaves P.compacts P.compaction_leaves)
-            (stage_in self.old) }
+        requires own { OwnsBoth S.rules P.rules (stage_in self.old) }
         ensures ok { OnOk result
             (stage_in self.new ≡ spec.armed number site
             (λ disk. record disk { stopping = call; pick = spec.pick_number pick }) (stage_in self.old)) }
-        ensures own { OwnsBoth
-            (rules S.own S.step S.leaves S.reopens S.reopening_leaves S.compacts S.compaction_leaves)
-            (rules P.own P.step P.leaves P.reopens P.reopening_leaves P.compacts P.compaction_leaves)
-            (stage_in self.new) }
+        ensures own { OwnsBoth S.rules P.rules (stage_in self.new) }
         ensures objects { SameStage self.old self.new }
     {
         match site {
@@ -215,16 +178,10 @@ impl<S: Node, P: Node> Stage<'_, '_, '_, '_, S, P> {
 
     /// A call of a node's disk is to fail.
     fn fail(&mut self, number: usize, site: Site, call: u64) -> Result<(), NoMemory>
-        requires own { OwnsBoth
-            (rules S.own S.step S.leaves S.reopens S.reopening_leaves S.compacts S.compaction_leaves)
-            (rules P.own P.step P.leaves P.reopens P.reopening_leaves P.compacts P.compaction_leaves)
-            (stage_in self.old) }
+        requires own { OwnsBoth S.rules P.rules (stage_in self.old) }
         ensures ok { OnOk result
             (stage_in self.new ≡ spec.armed number site (λ disk. record disk { failing = call }) (stage_in self.old)) }
-        ensures own { OwnsBoth
-            (rules S.own S.step S.leaves S.reopens S.reopening_leaves S.compacts S.compaction_leaves)
-            (rules P.own P.step P.leaves P.reopens P.reopening_leaves P.compacts P.compaction_leaves)
-            (stage_in self.new) }
+        ensures own { OwnsBoth S.rules P.rules (stage_in self.new) }
         ensures objects { SameStage self.old self.new }
     {
         match site {
@@ -236,18 +193,11 @@ impl<S: Node, P: Node> Stage<'_, '_, '_, '_, S, P> {
 
     /// Does a step.
     pub(crate) fn step(&mut self, number: usize, step: &Step) -> Result<(), NoMemory>
-        requires own { OwnsBoth
-            (rules S.own S.step S.leaves S.reopens S.reopening_leaves S.compacts S.compaction_leaves)
-            (rules P.own P.step P.leaves P.reopens P.reopening_leaves P.compacts P.compaction_leaves)
-            (stage_in self.old) }
+        requires own { OwnsBoth S.rules P.rules (stage_in self.old) }
         ensures ok { OnOk result
-            (spec.Does (rules S.own S.step S.leaves S.reopens S.reopening_leaves S.compacts S.compaction_leaves)
-            (rules P.own P.step P.leaves P.reopens P.reopening_leaves P.compacts P.compaction_leaves) number step.now
+            (spec.Does S.rules P.rules number step.now
             (stage_in self.old) (stage_in self.new)) }
-        ensures own { OwnsBoth
-            (rules S.own S.step S.leaves S.reopens S.reopening_leaves S.compacts S.compaction_leaves)
-            (rules P.own P.step P.leaves P.reopens P.reopening_leaves P.compacts P.compaction_leaves)
-            (stage_in self.new) }
+        ensures own { OwnsBoth S.rules P.rules (stage_in self.new) }
         ensures objects { SameStage self.old self.new }
     {
         match step {

@@ -1,7 +1,6 @@
 // What the last line of a schedule counts.
 
 ghost use Rattle.std.specs.Prelude.{◌≡◌};
-ghost use Rattle.std.specs.Option.{option_map};
 ghost use Rattle.schedule_replay.specs.Counting as spec;
 
 use owned_values::Text;

@@ -1,6 +1,6 @@
 // A schedule is read.
 
-ghost use Rattle.std.specs.Prelude.{◌≡◌, ◌<◌, ◌≤◌, ◌^◌, length};
+ghost use Rattle.std.specs.Prelude.{◌<◌, ◌≤◌, ◌^◌, length};
 ghost use Rattle.owned_values.specs.Gives.{Gives};
 ghost use Rattle.text_lines.specs.Views.{said_view};
 ghost use Rattle.text_lines.specs.Lines.{number_said};

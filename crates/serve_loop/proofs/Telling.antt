@@ -6,7 +6,7 @@ use Rattle.crash_disk.specs.Disk.{DiskState, MayLeave, image_of}
 use Rattle.conn_table.specs.Table.{Table}
 use Rattle.serve_loop.specs.Laws.{ADiskThatTellsGoesOnTelling, ADiskGoesOnReadingAnImage}
 use Rattle.serve_loop.specs.Turns.{Asked, Turn, AreTold, Asks, Run, asked_by}
-use Rattle.serve_loop.specs.Worlds.{NodeStep, NodeLeaves, NodeOwns, World, IsAnswered}
+use Rattle.serve_loop.specs.Worlds.{NodeStep, NodeRules, World, IsAnswered}
 use Rattle.serve_loop.proofs.Quiet.{Asking, Goes, Quiet, goes}
 
 -- what stays true of the disk when a request is answered stays true from turn to turn
@@ -29,9 +29,9 @@ module _ {N : Type 0} (step : NodeStep N) (P : Option DiskState → Type 0) (sta
       turn_keeps turn given kept last (goes step given kept last turn old does)
       (same_disk before given (ap (λ (w : World N). w.disk) next.same) (run_keeps first past old before did holds))
 
-module _ {N : Type 0} (own : NodeOwns N) (step : NodeStep N) (leaves : NodeLeaves N) where
+module _ {N : Type 0} (rules : NodeRules N) where
   abbrev Answering : NodeStep N
-  Answering = IsAnswered own step leaves
+  Answering = IsAnswered rules
 
   -- the disk tells when this turn's request comes
   told_in : (turn : Turn N) (before : World N) (new : Table) (after : World N) → Goes Answering before new after turn
@@ -53,10 +53,10 @@ module _ {N : Type 0} (own : NodeOwns N) (step : NodeStep N) (leaves : NodeLeave
     are_told first past old before did tells,
   )
 
-  pub goes_on_telling : ADiskThatTellsGoesOnTelling own step leaves
+  pub goes_on_telling : ADiskThatTellsGoesOnTelling rules
   goes_on_telling first turns kept last run tells =
       (are_told first turns kept last run tells, last_tells first turns kept last run tells)
 
-  pub goes_on_reading : ADiskGoesOnReadingAnImage own step leaves
+  pub goes_on_reading : ADiskGoesOnReadingAnImage rules
   goes_on_reading = run_keeps Answering
       (λ disk. IfSome disk (λ d. MayLeave d (image_of d))) (λ asked before after asks reads. asks.answers.reads_later)

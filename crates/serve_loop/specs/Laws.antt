@@ -6,7 +6,7 @@ use Rattle.event_link.specs.Clocks.{moment_at}
 use Rattle.http_wire.specs.Requests.{Request, Reading, Whole, More, Refused}
 use Rattle.conn_table.specs.Events.{Completion, AreCompletions}
 use Rattle.conn_table.specs.Table.{Table}
-use Rattle.serve_loop.specs.Worlds.{NodeStep, NodeLeaves, NodeOwns, World, IsAnswered}
+use Rattle.serve_loop.specs.Worlds.{NodeStep, NodeRules, World, IsAnswered}
 use Rattle.serve_loop.specs.Turns.{Turn, history_of, asked_in, AreTold, Run}
 
 -- the request of a connection that was completed by a whole one
@@ -32,14 +32,14 @@ module _ {N : Type 0} (step : NodeStep N) where
       → Run step first turns kept now → first.clock ≡ Some moments → (k : ℕ) → k < length (asked_in turns)
       → slice_index (map (λ asked. asked.now) (asked_in turns)) k ≡ min (moment_at moments k) LAST
 
-module _ {N : Type 0} (own : NodeOwns N) (step : NodeStep N) (leaves : NodeLeaves N) where
+module _ {N : Type 0} (rules : NodeRules N) where
   -- A disk that tells at first tells whenever a request comes, and at the end.
   abbrev pub ADiskThatTellsGoesOnTelling : Type 0
   ADiskThatTellsGoesOnTelling = (first : World N) (turns : List (Turn N)) (kept : Table) (last : World N)
-      → Run (IsAnswered own step leaves) first turns kept last → IsSome first.disk → AreTold turns × IsSome last.disk
+      → Run (IsAnswered rules) first turns kept last → IsSome first.disk → AreTold turns × IsSome last.disk
 
   -- Where a disk reads at first as an image that it may leave, as far as it tells, it does so at the end.
   abbrev pub ADiskGoesOnReadingAnImage : Type 0
   ADiskGoesOnReadingAnImage = (first : World N) (turns : List (Turn N)) (kept : Table) (last : World N)
-      → Run (IsAnswered own step leaves) first turns kept last
+      → Run (IsAnswered rules) first turns kept last
       → IfSome first.disk (λ d. MayLeave d (image_of d)) → IfSome last.disk (λ d. MayLeave d (image_of d))

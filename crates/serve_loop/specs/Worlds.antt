@@ -1,10 +1,11 @@
 -- What serving works on, and what its calls do to it.
-use Rattle.std.specs.Prelude.{◌≡◌, ℕ, ◌≤◌, min, List, take, Option, None, Some, is_some, IfSome, IsTrue, Ok}
+use Rattle.std.specs.Prelude.{◌≡◌, ℕ, ◌≤◌, min, List, take, Option, None, Some, is_some, IfSome, IsTrue, Result, Ok}
 use Rattle.std.specs.Option.{option_map}
 use Rattle.saml_time.specs.declared.TheConstants.{LAST}
 use Rattle.crash_disk.specs.Counts.{Rose}
 use Rattle.crash_disk.specs.Disk.{Image, DiskState, MayLeave, image_of}
 use Rattle.crash_disk.specs.Moments.{DiskShown, Leaves}
+use Rattle.gate_journal.specs.declared.fault.OpenFault.{OpenFault}
 use Rattle.event_link.specs.declared.link.LinkEvent.{LinkEvent}
 use Rattle.event_link.specs.declared.link.LinkEvent.TheVariants as events
 use Rattle.event_link.specs.Clocks.{now_of, later_of}
@@ -30,18 +31,34 @@ NodeLeaves N = N → Option DiskState → Request → ℕ → Image → Type 0
 abbrev pub NodeOwns : Type 0 → Type 1
 NodeOwns N = N → Option DiskState → Type 0
 
-module _ {N : Type 0} (own : NodeOwns N) (step : NodeStep N) (leaves : NodeLeaves N) (old : N) (disk : Option DiskState)
+-- What is said of the calls of a node.
+pub record NodeRules (N : Type 0) : Type 1 where
+  -- the disk is its own
+  pub own : NodeOwns N
+  -- what an answer does, and what a crash inside it may leave
+  pub step : NodeStep N
+  pub leaves : NodeLeaves N
+  -- What a restart does: node and disk before it, the disk's count of faults before and after, the result, node and disk
+  -- after it.
+  pub reopens : N → Option DiskState → ℕ → ℕ → Result (Unit {0}) OpenFault → N → Option DiskState → Type 0
+  -- what a crash inside it may leave: node and disk before it, the image
+  pub reopening_leaves : N → Option DiskState → Image → Type 0
+  -- the same of a compaction, with its moment behind the disk before it
+  pub compacts : N → Option DiskState → ℕ → ℕ → ℕ → Result (Unit {0}) OpenFault → N → Option DiskState → Type 0
+  pub compaction_leaves : N → Option DiskState → ℕ → Image → Type 0
+
+module _ {N : Type 0} (rules : NodeRules N) (old : N) (disk : Option DiskState)
     (request : Request) (now before after : ℕ) (answer : Answer) (new : N) (later : Option DiskState) where
   -- What an answer does, with what a crash may leave: a disk reads as one of the images that a crash might leave, when
   -- the request came and once it is answered; then the disk is the node's own, it tells where it told, and a crash
   -- leaves only what one inside the answer might leave.
   pub record IsAnswered : Type 0 where
-    pub does : step old disk request now before after answer new later
+    pub does : rules.step old disk request now before after answer new later
     pub reads : IfSome disk (λ d. MayLeave d (image_of d))
     pub reads_later : IfSome later (λ d. MayLeave d (image_of d))
-    pub owns : own new later
+    pub owns : rules.own new later
     pub tells : is_some later ≡ is_some disk
-    pub left : (image : Image) → Leaves later image → leaves old disk request now image
+    pub left : (image : Image) → Leaves later image → rules.leaves old disk request now image
 
 -- The node, and what the disk, the link and the clock tell.
 pub record World (N : Type 0) : Type 0 where

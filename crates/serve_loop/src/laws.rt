@@ -8,24 +8,24 @@ use crate::Node;
 /// The requests that a node was asked are, in order, the whole ones that the events complete, as `conn_table` says of a
 /// list of events.
 pub fn requests_are_completions<N: Node>()
-    ensures { RequestsAreCompletions (IsAnswered N.own N.step N.leaves) }
+    ensures { RequestsAreCompletions (IsAnswered N.rules) }
 {
     conn_table::laws::calls_give_completions();
 }
 
 /// A node is asked each request at the next moment of the clock, or at [`LAST`](saml_time::LAST) where that is less.
 pub fn moments_come_in_order<N: Node>()
-    ensures { MomentsComeInOrder (IsAnswered N.own N.step N.leaves) }
+    ensures { MomentsComeInOrder (IsAnswered N.rules) }
 {
     event_link::laws::moments_come_in_order();
 }
 
 /// A disk that tells goes on telling: whenever a request comes, and at the end.
 pub fn a_disk_that_tells_goes_on_telling<N: Node>()
-    ensures { ADiskThatTellsGoesOnTelling N.own N.step N.leaves }
+    ensures { ADiskThatTellsGoesOnTelling N.rules }
 {}
 
 /// A disk that reads as one of its images goes on doing so.
 pub fn a_disk_goes_on_reading_an_image<N: Node>()
-    ensures { ADiskGoesOnReadingAnImage N.own N.step N.leaves }
+    ensures { ADiskGoesOnReadingAnImage N.rules }
 {}

@@ -23,15 +23,15 @@ pub fn serve<N: Node, L: Link, D: Disk, C: Clock>(
     clock: &mut C,
     budget: u64,
 ) -> Result<Served, ServeFault>
-    requires { N.own node.old (D.shows disk.old).told }
+    requires { N.rules.own node.old (D.shows disk.old).told }
     // These turns were done; since each point between them a crash leaves what it may leave of the disk there or inside
     // the answer to a later request, and so at any moment of the call what it may leave at the start or inside an
     // answer.
-    ensures serves { (turns : List (Turn _)) × Serves (IsAnswered N.own N.step N.leaves) N.leaves
+    ensures serves { (turns : List (Turn _)) × Serves (IsAnswered N.rules) N.rules.leaves
         (D.shows disk.new).left_since budget turns (world_at node.old (D.shows disk.old) (L.shows link.old)
         (C.to_come clock.old)) result (world_at node.new (D.shows disk.new) (L.shows link.new) (C.to_come clock.new))
-        × LeavesOnly D.shows disk.old disk.new (MightLeave N.leaves (D.shows disk.old).told turns) }
-    ensures own { N.own node.new (D.shows disk.new).told }
+        × LeavesOnly D.shows disk.old disk.new (MightLeave N.rules.leaves (D.shows disk.old).told turns) }
+    ensures own { N.rules.own node.new (D.shows disk.new).told }
     ensures faults { (D.shows disk.old).faults ≤ (D.shows disk.new).faults }
     ensures link_faults { CountsLinkFaults result (L.shows link.old).faults (L.shows link.new).faults }
     ensures unchanged { result ≡ Err ServeFault.NoMemory

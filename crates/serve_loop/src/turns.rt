@@ -77,7 +77,7 @@ impl<N: Node, L: Link, D: Disk, C: Clock> Serving<'_, '_, '_, '_, '_, N, L, D, C
     /// A connection started: where it was kept it had ended.
     fn start(&mut self, conn: u32)
         ensures does { (turn : Turn _) × (event_at turn ≡ Started conn)
-            × Does (IsAnswered N.own N.step N.leaves) self.old.conns.now (world_in D.shows L.shows C.to_come self.old)
+            × Does (IsAnswered N.rules) self.old.conns.now (world_in D.shows L.shows C.to_come self.old)
             turn self.new.conns.now (world_in D.shows L.shows C.to_come self.new) }
         ensures faults { (L.shows self.new.link.now).faults ≡ (L.shows self.old.link.now).faults }
         ensures others { OthersStay self.old self.new }
@@ -105,14 +105,14 @@ impl<N: Node, L: Link, D: Disk, C: Clock> Serving<'_, '_, '_, '_, '_, N, L, D, C
     /// Lets the node answer the request that a connection has brought, at one moment.
     fn ask(&mut self, conn: u32) -> Answer
         requires whole { IsSomeAnd (map.get self.old.conns.now conn) IsWholeRequest }
-        requires own { N.own self.old.node.now (D.shows self.old.disk.now).told }
+        requires own { N.rules.own self.old.node.now (D.shows self.old.disk.now).told }
         ensures asked { (asked : Asked _) × (asked.conn ≡ conn) × (asked.answer ≡ result)
             × IfSome (map.get self.old.conns.now conn) (λ bytes. Reads bytes (Whole asked.request))
-            × Asks (IsAnswered N.own N.step N.leaves) asked (world_in D.shows L.shows C.to_come self.old)
+            × Asks (IsAnswered N.rules) asked (world_in D.shows L.shows C.to_come self.old)
             (world_in D.shows L.shows C.to_come self.new) × LeavesOnly D.shows self.old.disk.now self.new.disk.now
-            (N.leaves asked.node asked.disk asked.request asked.now) }
+            (N.rules.leaves asked.node asked.disk asked.request asked.now) }
         ensures has_bytes { HasBytes result }
-        ensures own { N.own self.new.node.now (D.shows self.new.disk.now).told }
+        ensures own { N.rules.own self.new.node.now (D.shows self.new.disk.now).told }
         ensures disk_faults { (D.shows self.old.disk.now).faults ≤ (D.shows self.new.disk.now).faults }
         ensures link { self.new.link.now ≡ self.old.link.now }
         ensures conns { self.new.conns.now ≡ self.old.conns.now }
@@ -125,12 +125,12 @@ impl<N: Node, L: Link, D: Disk, C: Clock> Serving<'_, '_, '_, '_, '_, N, L, D, C
     /// Answers the request that a connection has brought, and lets it go.
     fn answer(&mut self, conn: u32)
         requires whole { IsSomeAnd (map.get self.old.conns.now conn) IsWholeRequest }
-        requires own { N.own self.old.node.now (D.shows self.old.disk.now).told }
-        ensures answers { (asked : Asked _) × (asked.conn ≡ conn) × Answers (IsAnswered N.own N.step N.leaves)
+        requires own { N.rules.own self.old.node.now (D.shows self.old.disk.now).told }
+        ensures answers { (asked : Asked _) × (asked.conn ≡ conn) × Answers (IsAnswered N.rules)
             self.old.conns.now (world_in D.shows L.shows C.to_come self.old) asked self.new.conns.now
             (world_in D.shows L.shows C.to_come self.new) × LeavesOnly D.shows self.old.disk.now self.new.disk.now
-            (N.leaves asked.node asked.disk asked.request asked.now) }
-        ensures own { N.own self.new.node.now (D.shows self.new.disk.now).told }
+            (N.rules.leaves asked.node asked.disk asked.request asked.now) }
+        ensures own { N.rules.own self.new.node.now (D.shows self.new.disk.now).told }
         ensures disk_faults { (D.shows self.old.disk.now).faults ≤ (D.shows self.new.disk.now).faults }
         ensures faults { (L.shows self.new.link.now).faults ≡ (L.shows self.old.link.now).faults }
         ensures objects { SameObjects self.old self.new }
@@ -142,12 +142,12 @@ impl<N: Node, L: Link, D: Disk, C: Clock> Serving<'_, '_, '_, '_, '_, N, L, D, C
 
     /// A connection has brought a piece.
     fn piece(&mut self, conn: u32, bytes: &[u8])
-        requires { N.own self.old.node.now (D.shows self.old.disk.now).told }
+        requires { N.rules.own self.old.node.now (D.shows self.old.disk.now).told }
         ensures does { (turn : Turn _) × (event_at turn ≡ Piece conn bytes.now)
-            × Does (IsAnswered N.own N.step N.leaves) self.old.conns.now (world_in D.shows L.shows C.to_come self.old)
+            × Does (IsAnswered N.rules) self.old.conns.now (world_in D.shows L.shows C.to_come self.old)
             turn self.new.conns.now (world_in D.shows L.shows C.to_come self.new) × LeavesOnly D.shows
-            self.old.disk.now self.new.disk.now (MightLeave N.leaves (D.shows self.old.disk.now).told (turn ∷ [])) }
-        ensures own { N.own self.new.node.now (D.shows self.new.disk.now).told }
+            self.old.disk.now self.new.disk.now (MightLeave N.rules.leaves (D.shows self.old.disk.now).told (turn ∷ [])) }
+        ensures own { N.rules.own self.new.node.now (D.shows self.new.disk.now).told }
         ensures disk_faults { (D.shows self.old.disk.now).faults ≤ (D.shows self.new.disk.now).faults }
         ensures faults { (L.shows self.new.link.now).faults ≡ (L.shows self.old.link.now).faults }
         ensures objects { SameObjects self.old self.new }
@@ -163,16 +163,16 @@ impl<N: Node, L: Link, D: Disk, C: Clock> Serving<'_, '_, '_, '_, '_, N, L, D, C
     /// Takes the next event, and does what is to be done at it. It answers whether there was one: false at Stop.
     pub(crate) fn turn(&mut self, into: &mut [u8]) -> Result<bool, Failed>
         requires room { length into.old ≡ PIECE_ROOM }
-        requires own { N.own self.old.node.now (D.shows self.old.disk.now).told }
+        requires own { N.rules.own self.old.node.now (D.shows self.old.disk.now).told }
         ensures ok { IfOk result (λ more. MatchBool more ((turn : Turn _)
             × (given : World _) × IsNext (Some (event_at turn)) (world_in D.shows L.shows C.to_come self.old) given
-            × Does (IsAnswered N.own N.step N.leaves) self.old.conns.now given turn self.new.conns.now (world_in D.shows
-            L.shows C.to_come self.new) × LeavesOnly D.shows self.old.disk.now self.new.disk.now (MightLeave N.leaves
+            × Does (IsAnswered N.rules) self.old.conns.now given turn self.new.conns.now (world_in D.shows
+            L.shows C.to_come self.new) × LeavesOnly D.shows self.old.disk.now self.new.disk.now (MightLeave N.rules.leaves
             (D.shows self.old.disk.now).told (turn ∷ []))) (IsNext None (world_in D.shows L.shows C.to_come self.old)
             (world_in D.shows L.shows C.to_come self.new) × (self.new.disk.now ≡ self.old.disk.now))) }
         ensures err { OnErr result ((world_in D.shows L.shows C.to_come
             self.new ≡ world_in D.shows L.shows C.to_come self.old) × (self.new.disk.now ≡ self.old.disk.now)) }
-        ensures own { N.own self.new.node.now (D.shows self.new.disk.now).told }
+        ensures own { N.rules.own self.new.node.now (D.shows self.new.disk.now).told }
         ensures disk_faults { (D.shows self.old.disk.now).faults ≤ (D.shows self.new.disk.now).faults }
         ensures faults { CountsFaults result (L.shows self.old.link.now).faults (L.shows self.new.link.now).faults }
         ensures objects { SameObjects self.old self.new }
@@ -199,12 +199,12 @@ impl<N: Node, L: Link, D: Disk, C: Clock> Serving<'_, '_, '_, '_, '_, N, L, D, C
     pub(crate) fn run(&mut self, into: &mut [u8], budget: u64) -> Result<Served, ServeFault>
         requires room { length into.old ≡ PIECE_ROOM }
         requires none_kept { self.old.conns.now ≡ map.empty }
-        requires own { N.own self.old.node.now (D.shows self.old.disk.now).told }
-        ensures serves { (turns : List (Turn _)) × Serves (IsAnswered N.own N.step N.leaves) N.leaves
+        requires own { N.rules.own self.old.node.now (D.shows self.old.disk.now).told }
+        ensures serves { (turns : List (Turn _)) × Serves (IsAnswered N.rules) N.rules.leaves
             (D.shows self.new.disk.now).left_since budget turns (world_in D.shows L.shows C.to_come self.old) result
             (world_in D.shows L.shows C.to_come self.new) × LeavesOnly D.shows self.old.disk.now self.new.disk.now
-            (MightLeave N.leaves (D.shows self.old.disk.now).told turns) }
-        ensures own { N.own self.new.node.now (D.shows self.new.disk.now).told }
+            (MightLeave N.rules.leaves (D.shows self.old.disk.now).told turns) }
+        ensures own { N.rules.own self.new.node.now (D.shows self.new.disk.now).told }
         ensures disk_faults { (D.shows self.old.disk.now).faults ≤ (D.shows self.new.disk.now).faults }
         ensures link_faults { CountsLinkFaults result
             (L.shows self.old.link.now).faults (L.shows self.new.link.now).faults }

@@ -19,21 +19,17 @@ struct Echo {
 }
 
 impl Node for Echo {
-    ghost own = { λ _ _. Unit {0} };
-
-    ghost step = { λ _ _ _ _ _ _ _ _ _. Unit {0} };
-
-    ghost leaves = { λ _ disk _ _. Leaves disk };
+    ghost rules = { record {
+      own = λ _ _. Unit {0};
+      step = λ _ _ _ _ _ _ _ _ _. Unit {0};
+      leaves = λ _ disk _ _. Leaves disk;
+      reopens = λ _ _ _ _ _ _ _. Unit {0};
+      reopening_leaves = λ _. Leaves;
+      compacts = λ _ _ _ _ _ _ _ _. Unit {0};
+      compaction_leaves = λ _ disk _. Leaves disk;
+    } };
 
     ghost may_open = { λ _. Unit {0} };
-
-    ghost reopens = { λ _ _ _ _ _ _ _. Unit {0} };
-
-    ghost reopening_leaves = { λ _. Leaves };
-
-    ghost compacts = { λ _ _ _ _ _ _ _ _. Unit {0} };
-
-    ghost compaction_leaves = { λ _ disk _. Leaves disk };
 
     ghost own_may_open = { λ _ _ _. tt };
 

@@ -1,6 +1,6 @@
 // Base64 of 32 bytes in the text of an element (RFC 4648, 4; XML Signature, 4.2 and 4.3.3.6).
 
-ghost use Rattle.std.specs.Prelude.{◌≡◌, ℕ, List, [], ◌∷◌, ◌++◌, not, filter, length, IfOk, IfErr};
+ghost use Rattle.std.specs.Prelude.{◌≡◌, ℕ, List, not, filter, length, IfOk, IfErr};
 ghost use Rattle.xml_spec.specs.Syntax.{is_white};
 ghost use Rattle.tree_read.specs.Faults.{IsShapeFault};
 ghost use Rattle.tree_read.specs.Texts.{text_of};

@@ -1,6 +1,6 @@
 // Methods of a signature: an algorithm, and what parameters it may have (XML Signature, 4.3 and 6).
 
-ghost use Rattle.std.specs.Prelude.{◌≡◌, ℕ, ◌↔◌, List, IfOk, IfErr, IsTrue, OnOk, OnErr};
+ghost use Rattle.std.specs.Prelude.{ℕ, ◌↔◌, List, IfOk, IfErr, IsTrue, OnOk, OnErr};
 ghost use Rattle.tree_read.specs.Faults.{IsShapeFault};
 ghost use Rattle.tree_read.specs.Views.{tree_of};
 ghost use Rattle.sig_reference.specs.Form.{HasAlgorithm, IsMethod, IsPrefixList, IsCanonicalization};

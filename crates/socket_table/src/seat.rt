@@ -1,6 +1,5 @@
 //! A connection with its stream.
 ghost use Rattle.std.specs.Prelude.{◌≡◌, ◌≢◌, ◌<◌, ◌⊎◌, [], length, false, Err, OnOk};
-ghost use Rattle.std.specs.Io.KnownBytes.{Appends, Keeps};
 
 use crate::streams::{hear, put};
 use crate::{Connection, Next, SendFault, Stage};

@@ -1,5 +1,5 @@
 //! How a login is asked for.
-ghost use Rattle.std.specs.Prelude.{◌≡◌, ◌≢◌, ◌≤◌, ◌++◌, [], IfOk};
+ghost use Rattle.std.specs.Prelude.{◌≡◌, ◌≢◌, ◌≤◌, [], IfOk};
 ghost use Rattle.xml_spec.specs.Characters.{IsText};
 ghost use Rattle.element_make.specs.Made.{written};
 ghost use Rattle.sp_answers.specs.Answers.{HoldsTexts, IsAskAnswer};

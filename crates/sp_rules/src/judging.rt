@@ -1,12 +1,10 @@
 // The verdict on a posted form (SAML Profiles, 4.1.4; SAML Bindings, 3.5).
 
-ghost use Rattle.std.specs.Prelude.{◌≡◌, ◌≤◌, ℕ, List, [], ◌∷◌, codes, length, None, Some, true, false, IfOk, IfErr, IfSome, OnOk, OnErr};
+ghost use Rattle.std.specs.Prelude.{◌≡◌, ◌≤◌, ℕ, List, length, None, Some, true, false, IfOk, IfErr, IfSome, OnOk};
 ghost use Rattle.std.specs.List.{AllByRecursion};
-ghost use Rattle.saml_names.specs.Names.{saml};
 ghost use Rattle.saml_tree.specs.Documents.{IsSpelled};
 ghost use Rattle.saml_tree.specs.Elements.{IsElement};
 ghost use Rattle.post_binding.specs.Form.{form};
-ghost use Rattle.tree_read.specs.Children.{children};
 ghost use Rattle.tree_read.specs.Views.{tree_of};
 ghost use Rattle.fault_verdicts.specs.Judging.{IsJudged};
 ghost use Rattle.sp_rules.specs.Opening.{Posts, Asserts};

@@ -1,5 +1,5 @@
 //! Laws of the definitions. Each function does nothing: what it ensures is the law.
-ghost use Rattle.std.specs.Prelude.{◌≡◌, ◌≢◌, ℕ, ◌↔◌, List};
+ghost use Rattle.std.specs.Prelude.{◌≡◌, ℕ, List};
 ghost use Rattle.request_rows.specs.Rows.{RowsView};
 ghost use Rattle.request_rows.specs.declared.row.AskedRow.{AskedRow};
 ghost use Rattle.verdict_codes.specs.declared.codes.Verdict.{Verdict};
@@ -8,7 +8,7 @@ ghost use Rattle.sp_rules.specs.declared.accepted.Accepted.{Accepted};
 ghost use Rattle.sp_rules.specs.Laws.{WhatOpensIsAccepted, EachFormIsJudged};
 ghost use Rattle.sp_rules.specs.Opening.{Brought, Opens};
 ghost use Rattle.sp_rules.specs.Shown.{IsOpening};
-ghost use Rattle.sp_rules.specs.Verdict.{IsRefused, IsVerdict};
+ghost use Rattle.sp_rules.specs.Verdict.{IsRefused};
 
 /// A form that opens a session is refused for nothing, and opens one session alone: it brings one login, for one outstanding
 /// request, and one thing is accepted of it. A form that is refused is refused with one verdict.

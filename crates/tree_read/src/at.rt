@@ -1,6 +1,5 @@
 // A place in a document.
 
-ghost use Rattle.std.specs.Prelude.{◌≡◌};
 ghost use Rattle.std.proofs.Props.{props};
 ghost use Rattle.saml_tree.specs.Elements.{IsElement};
 

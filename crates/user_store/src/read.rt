@@ -1,6 +1,6 @@
 // Users are read.
 
-ghost use Rattle.std.specs.Prelude.{◌≡◌, ◌<◌, ◌≤◌, ◌^◌, [], ◌∷◌, length};
+ghost use Rattle.std.specs.Prelude.{◌<◌, ◌≤◌, ◌^◌, [], ◌∷◌, length};
 ghost use Rattle.owned_values.specs.Gives.{Gives};
 ghost use Rattle.text_lines.specs.Lines.{with_lines, number_said};
 ghost use Rattle.text_lines.specs.Views.{said_view};

@@ -10,10 +10,10 @@ invariant-loop-low l = record {
   between : l.low ≤ l.high;
   within : l.high ≤ length l.names;
   above :
-      (k : ℕ) → (d : Expanded) → k < l.low → is_le (expanded_order (expanded_of l.name) (expanded_of (slice_index_or l.names k d))) ≡ false;
+      (k : ℕ) → (d : Expanded) → k < l.low → is_le (expanded_order (expanded_of l.doc.tree l.name) (expanded_of l.doc.tree (slice_index_or l.names k d))) ≡ false;
   place :
       (d : Expanded) → l.high < length l.names →
-      is_le (expanded_order (expanded_of l.name) (expanded_of (slice_index_or l.names l.high d))) ≡ true;
+      is_le (expanded_order (expanded_of l.doc.tree l.name) (expanded_of l.doc.tree (slice_index_or l.names l.high d))) ≡ true;
 }
 
 abbrev pub decreases-loop-low : goal.decreases-loop-low

@@ -1,7 +1,7 @@
 use Rattle.std.proofs.Common.{◌-◌, ◌≤◌, length, sym, ap, ◌∙◌, subst, arith}
 use Rattle.excl_c14n.specs.NodeByNode.{scope_inside}
 use Rattle.excl_c14n.proofs.Ordered.{IsOrder, attribute_there, none_ordered, one_more_ordered, one_passed, all_ordered}
-use Rattle.excl_c14n.proofs.Placing.{no_names, one_namespace, names_in_order, put_where_named, one_more_named}
+use Rattle.excl_c14n.proofs.Placing.{no_names, all_there, names_in_order, put_where_named, one_more_named}
 use Rattle.excl_c14n.proofs.order.put_in_order.Goals as goal
 
 pub loop-i-init : goal.loop-i-init
@@ -30,10 +30,10 @@ loop-i-preserved-then-is_some c =
       named = c.loop-i.invariant.named;
     }
 
-pub place_of-place-requires-clause-prefixes : goal.place_of-place-requires-clause-prefixes
-place_of-place-requires-clause-prefixes c =
-    one_namespace (scope_inside c.args.doc.now.tree c.args.n.0) c.args.doc.now.tree c.args.n.0 c.name_of_attribute-name.result c.loop-i.order.numbers.items
-    c.loop-i.order.names.items c.as_slice.result.now c.loop-i.invariant.named c.as_slice.ensures.value c.name_of_attribute-name.ensures.prefix
+pub place_of-place-requires-clause-places : goal.place_of-place-requires-clause-places
+place_of-place-requires-clause-places c =
+    all_there (scope_inside c.args.doc.now.tree c.args.n.0) c.args.doc.now.tree c.args.n.0 c.loop-i.order.numbers.items c.loop-i.order.names.items
+    c.as_slice.result.now c.loop-i.invariant.named c.as_slice.ensures.value
 
 pub place_of-place-requires-clause-order : goal.place_of-place-requires-clause-order
 place_of-place-requires-clause-order c =
@@ -64,7 +64,7 @@ loop-i-preserved c =
       named =
           one_more_named scope tree c.args.n.0 i c.place_of-place.result c.name_of_attribute-name.result c.loop-i.order.numbers.items
           c.insert-in-loop-i.new.self.items c.loop-i.order.names.items c.insert.new.self.items c.as_slice.result.now c.loop-i.invariant.named
-          c.as_slice.ensures.value c.place_of-place.ensures.within c.name_of_attribute-name.ensures.name c.name_of_attribute-name.ensures.prefix
+          c.as_slice.ensures.value c.place_of-place.ensures.within c.name_of_attribute-name.ensures.name c.name_of_attribute-name.ensures.place
           c.in_ok-insert-2.ensures.items c.in_ok-insert.ensures.items;
     }
 

@@ -2,7 +2,8 @@ use Rattle.std.specs.Prelude.{IfSome, Option, None, Some, Ok, Err}
 use Rattle.std.specs.Option.{option_map}
 use Rattle.std.proofs.Common.{◌≡◌, sym, ◌∙◌, ap, subst, rules, List, ◌++◌, Result}
 use Rattle.crash_disk.specs.declared.file_no.FileNo.TheVariants.{Zero, One}
-use Rattle.crash_disk.specs.Disk.{DiskState, image_of, reads_of, settled_image}
+use Rattle.crash_disk.specs.Disk.{DiskState, image_of, reads_of}
+use Rattle.crash_disk.specs.Plans.{after_all}
 use Rattle.crash_disk.specs.Moments.{Leaves, LeavesOnly}
 use Rattle.crash_disk.specs.Steps.{then, weaker}
 use Rattle.crash_disk.proofs.Following as calls
@@ -25,8 +26,8 @@ module _ (g : Over) (c : After-load-2 g) where
   same = c.load-2.ensures.same ∙ c.load.ensures.same
 
   module _ (d : DiskState) (is : (g.D.Disk.shows c.args.disk.now).told ≡ Some d) where
-    synced : (g.D.Disk.shows c.sync_both.new.disk).told ≡ Some (settled_image (image_of d))
-    synced = c.in_ok-sync_both.ensures.ok ∙ ap (option_map (λ d. settled_image (image_of d))) is
+    synced : (g.D.Disk.shows c.sync_both.new.disk).told ≡ Some (after_all syncing_both d)
+    synced = c.in_ok-sync_both.ensures.ok ∙ ap (option_map (after_all syncing_both)) is
 
     both_read : LeavesOnly g.D.Disk.shows c.args.disk.now c.load-2.new.disk (Opens d)
     both_read =
@@ -67,7 +68,7 @@ make_first-requires-clause-none g c =
 
 -- while the first journal is made
 making : (g : Over) (c : After-make_first g) → ((d : DiskState) → (g.D.Disk.shows c.args.disk.now).told ≡ Some d → LeavesOnly g.D.Disk.shows c.args.disk.now c.load-2.new.disk (Opens d))
-    → ((d : DiskState) → (g.D.Disk.shows c.args.disk.now).told ≡ Some d → (g.D.Disk.shows c.load-2.new.disk).told ≡ Some (settled_image (image_of d))) → IfSome (g.D.Disk.shows c.load-2.new.disk).told (λ d. file_of (reads_of d Zero) ≡ Ok c.in_ok-zero.zero)
+    → ((d : DiskState) → (g.D.Disk.shows c.args.disk.now).told ≡ Some d → (g.D.Disk.shows c.load-2.new.disk).told ≡ Some (after_all syncing_both d)) → IfSome (g.D.Disk.shows c.load-2.new.disk).told (λ d. file_of (reads_of d Zero) ≡ Ok c.in_ok-zero.zero)
     → IfSome (g.D.Disk.shows c.load-2.new.disk).told (λ d. file_of (reads_of d One) ≡ Ok c.in_ok-one.one) → IfSome (g.D.Disk.shows c.args.disk.now).told (λ d. LeavesOnly g.D.Disk.shows c.args.disk.now c.make_first.new.disk (Opens d))
 making g c read settled zero one =
     let shows = g.D.Disk.shows in
@@ -95,8 +96,8 @@ pub returns-in-Some-clause-own : goal.returns-in-Some-clause-own
 returns-in-Some-clause-own g c =
     let at = goal.at.returns-in-Some-clause-own g c in
     let now = (g.D.Disk.shows c.load-2.new.disk).told in
-    let settled : IfSome now (λ d. (d' : DiskState) × (d ≡ settled_image (image_of d'))) =
-    subst (λ (o : Option DiskState). IfSome o (λ d. (d' : DiskState) × (d ≡ settled_image (image_of d')))) (sym (same g at.After-load-2)) (synced_told (g.D.Disk.shows c.args.disk.now).told (g.D.Disk.shows c.sync_both.new.disk).told c.in_ok-sync_both.ensures.ok) in
+    let settled : IfSome now (λ d. (d' : DiskState) × (d ≡ after_all syncing_both d')) =
+    subst (λ (o : Option DiskState). IfSome o (λ d. (d' : DiskState) × (d ≡ after_all syncing_both d'))) (sym (same g at.After-load-2)) (synced_told (g.D.Disk.shows c.args.disk.now).told (g.D.Disk.shows c.sync_both.new.disk).told c.in_ok-sync_both.ensures.ok) in
     own_found now c.of.result c.in_ok-zero.zero c.in_ok-one.one (search rules) settled (zero_is g at.In_ok-one) (one_is g at.In_ok-one) (search rules)
 
 -- where the disk does not tell
@@ -110,7 +111,7 @@ untold_load g c is =
     let shows = g.D.Disk.shows in
     let d0 = c.args.disk.now in
     let d1 = c.sync_both.new.disk in
-    let now : (g.D.Disk.shows d1).told ≡ None = c.in_ok-sync_both.ensures.ok ∙ ap (option_map (λ d. settled_image (image_of d))) is in
+    let now : (g.D.Disk.shows d1).told ≡ None = c.in_ok-sync_both.ensures.ok ∙ ap (option_map (after_all syncing_both)) is in
     let m1 = weaker shows d0 d1 (Leaves (g.D.Disk.shows d0).told) IsEmptyOrNone c.sync_both.ensures.moments (leaves_nothing (g.D.Disk.shows d0).told is IsEmptyOrNone) in
     (now, then shows d0 d1 c.load.new.disk IsEmptyOrNone (Leaves (g.D.Disk.shows d1).told) IsEmptyOrNone m1 c.load.ensures.moments (λ i p. p) (leaves_nothing (g.D.Disk.shows d1).told now IsEmptyOrNone))
 
@@ -254,6 +255,6 @@ returns-in_err-zero-clause-moments g c =
     let d1 = c.sync_both.new.disk in
     let reads = g.met.D.Disk.reads_an_image d0 in
     if_some (shows d0).told (λ d. _) (λ d is.
-    let synced : (shows d1).told ≡ Some (settled_image (image_of d)) = c.in_ok-sync_both.ensures.ok ∙ ap (option_map (λ d. settled_image (image_of d))) is in
+    let synced : (shows d1).told ≡ Some (after_all syncing_both d) = c.in_ok-sync_both.ensures.ok ∙ ap (option_map (after_all syncing_both)) is in
     let m1 = weaker shows d0 d1 (Leaves (shows d0).told) (Opens d) c.sync_both.ensures.moments (opens_now (shows d0).told d is reads) in
     then shows d0 d1 c.load.new.disk (Opens d) (Leaves (shows d1).told) (Opens d) m1 c.load.ensures.moments (λ i p. p) (opens_synced (shows d0).told d is reads (shows d1).told synced))

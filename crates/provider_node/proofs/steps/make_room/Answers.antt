@@ -50,4 +50,4 @@ returns-clause-moments g c = let old = seen c.args.ledger.now in
     (CompactingLeaves g.R.Rows.Standing.rules c.args.now old.held told) _ (compacting_leaves g.D.Disk.shows
     g.R.Rows.Standing.rules c.args.disk.now c.compact.new.disk c.args.now old.held c.compact.result
     c.compact.ensures.moments c.compact.ensures.calls) (room_leaves g.R.Rows.Standing.rules g.R.Role.answers
-    c.args.role.now old.held request c.args.now told full.r other.0 other.1 full.none)
+    c.args.role.now old.held request c.args.now told full.r other.0 other.1 full.none c.holds_records.ensures)

@@ -77,5 +77,5 @@ pub returns-clause-resolved : goal.returns-clause-resolved
 returns-clause-resolved c =
     let rows = c.args.rows.now.rows in
     let count : c.loop-k.k ≡ length rows = omega (arith, c.len-k-end.ensures.rows) in
-    walked rows c.loop-k.spaces (record { table = c.loop-k.spaces.table; attributes = c.loop-k.numbers; rows = c.loop-k.named }) c.requires
-    (subst (λ n. Walk rows n c.loop-k.spaces c.loop-k.numbers.items c.loop-k.named.items) count c.loop-k.invariant) refl
+    walked rows c.loop-k.spaces (record { table = c.in_ok-table.table; attributes = c.loop-k.numbers; rows = c.loop-k.named }) c.requires
+    (subst (λ n. Walk rows n c.loop-k.spaces c.loop-k.numbers.items c.loop-k.named.items) count c.loop-k.invariant) c.in_ok-table.ensures

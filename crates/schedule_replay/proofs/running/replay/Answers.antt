@@ -5,7 +5,7 @@ use Rattle.schedule_replay.specs.declared.fault.ReplayFault.{ReplayFault}
 use Rattle.schedule_replay.specs.declared.fault.ReplayFault.TheVariants.{NoMemory}
 use Rattle.schedule_replay.specs.declared.tally.Tally.{Tally}
 use Rattle.schedule_replay.specs.Deployments.{Deployment}
-use Rattle.schedule_replay.specs.Hosts.{Host, rules as node_rules}
+use Rattle.schedule_replay.specs.Hosts.{Host}
 use Rattle.schedule_replay.specs.Runs.{AreLeft, alone, beginning}
 use Rattle.schedule_replay.specs.Views.{HasNodes, stage_in}
 use Rattle.schedule_replay.proofs.Replaying.{Ended, ends_so, is_beginning, printed_none}
@@ -13,8 +13,8 @@ use Rattle.schedule_replay.proofs.running.replay.Goals as goal
 
 pub returns-in_err-sp_conns-clause-ends : goal.returns-in_err-sp_conns-clause-ends
 returns-in_err-sp_conns-clause-ends g c =
-    let sp = node_rules g.S.Node.own g.S.Node.step g.S.Node.leaves g.S.Node.reopens g.S.Node.reopening_leaves g.S.Node.compacts g.S.Node.compaction_leaves in
-    let idp = node_rules g.P.Node.own g.P.Node.step g.P.Node.leaves g.P.Node.reopens g.P.Node.reopening_leaves g.P.Node.compacts g.P.Node.compaction_leaves in
+    let sp = g.S.Node.rules in
+    let idp = g.P.Node.rules in
     let same : c.from_residual.result ≡ Err NoMemory = search rules in
     let first = beginning (alone c.args.sp.now c.args.sp_disk.now) (alone c.args.idp.now c.args.idp_disk.now) in
     let taken = g.K.Sink.taken c.args.out.now in
@@ -26,8 +26,8 @@ returns-in_err-sp_conns-clause-ends g c =
 
 pub returns-clause-ends : goal.returns-clause-ends
 returns-clause-ends g c =
-    let sp = node_rules g.S.Node.own g.S.Node.step g.S.Node.leaves g.S.Node.reopens g.S.Node.reopening_leaves g.S.Node.compacts g.S.Node.compaction_leaves in
-    let idp = node_rules g.P.Node.own g.P.Node.step g.P.Node.leaves g.P.Node.reopens g.P.Node.reopening_leaves g.P.Node.compacts g.P.Node.compaction_leaves in
+    let sp = g.S.Node.rules in
+    let idp = g.P.Node.rules in
     let first = beginning (alone c.args.sp.now c.args.sp_disk.now) (alone c.args.idp.now c.args.idp_disk.now) in
     let now = stage_in c.perform.new.self in
     let before = g.K.Sink.taken c.args.out.now in

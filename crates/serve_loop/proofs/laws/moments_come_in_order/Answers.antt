@@ -4,4 +4,4 @@ use Rattle.serve_loop.proofs.laws.moments_come_in_order.Goals as goal
 
 pub returns : goal.returns
 returns g c = moments_come_in_order c.moments_come_in_order.ensures.first c.moments_come_in_order.ensures.later
-    (IsAnswered g.N.Node.own g.N.Node.step g.N.Node.leaves)
+    (IsAnswered g.N.Node.rules)

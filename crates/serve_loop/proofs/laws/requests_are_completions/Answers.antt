@@ -4,4 +4,4 @@ use Rattle.serve_loop.proofs.laws.requests_are_completions.Goals as goal
 
 pub returns : goal.returns
 returns g c =
-    requests_are_completions (IsAnswered g.N.Node.own g.N.Node.step g.N.Node.leaves) c.calls_give_completions.ensures
+    requests_are_completions (IsAnswered g.N.Node.rules) c.calls_give_completions.ensures

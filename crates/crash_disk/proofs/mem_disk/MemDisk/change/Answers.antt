@@ -1,21 +1,25 @@
-use Rattle.std.proofs.Common.{◌≡◌, ◌++◌, [], ◌∷◌, rules, ◌∙◌, sym, ap}
-use Rattle.crash_disk.specs.Disk.{DiskState, settled_image}
+use Rattle.std.proofs.Common.{◌≡◌, ◌++◌, [], ◌∷◌, List, rules, sym, subst}
+use Rattle.std.specs.Prelude.{map}
+use Rattle.crash_disk.specs.declared.change.Taken.{Taken}
+use Rattle.crash_disk.specs.Disk.{DiskState, files, settled_image}
 use Rattle.crash_disk.specs.Memory.{replay, after_taken}
-use Rattle.crash_disk.specs.Soundness.{replay-push}
+use Rattle.crash_disk.proofs.Calls.{one_more_taken}
 use Rattle.crash_disk.proofs.mem_disk.MemDisk.change.Goals as goal
 
 pub invariant_of-self-then-stops-2 : goal.invariant_of-self-then-stops-2
 invariant_of-self-then-stops-2 c =
     let first : DiskState = settled_image (record { zero = c.self.inside.start_zero; one = c.self.inside.start_one }) in
-    let longer : c.push.new.self.items ≡ c.self.inside.log.items ++ record { change = c.args.change; stop = c.if-stops.stop } ∷ [] = search rules in
-    let was : record { zero = c.self.inside.zero; one = c.self.inside.one } ≡ replay first c.self.inside.log.items = c.self.invariant in
-    let now : record { zero = c.take.new.zero; one = c.take.new.one } ≡ after_taken c.if-stops.stop c.args.change (record { zero = c.self.inside.zero; one = c.self.inside.one }) = search rules in
-    now ∙ ap (after_taken c.if-stops.stop c.args.change) was ∙ sym (replay-push first c.self.inside.log.items (record { change = c.args.change; stop = c.if-stops.stop })) ∙ ap (replay first) (sym longer)
+    let taken : Taken = record { change = c.args.change; stop = c.if-stops.stop } in
+    let longer : c.push.new.self.items ≡ c.self.inside.log.items ++ taken ∷ [] = search rules in
+    let now : record { zero = c.take.new.zero; one = c.take.new.one; calls = c.args.change ∷ [] } ≡ after_taken c.if-stops.stop c.args.change (files c.self.inside.zero c.self.inside.one) = search rules in
+    subst (λ (log : List Taken). record { zero = c.take.new.zero; one = c.take.new.one; calls = map (λ t. t.change) log } ≡ replay first log) (sym longer)
+    (one_more_taken first c.self.inside.log.items taken c.self.inside.zero c.self.inside.one c.take.new.zero c.take.new.one c.self.invariant now)
 
 pub invariant_of-self-else-stops-2 : goal.invariant_of-self-else-stops-2
 invariant_of-self-else-stops-2 c =
     let first : DiskState = settled_image (record { zero = c.self.inside.start_zero; one = c.self.inside.start_one }) in
-    let longer : c.push.new.self.items ≡ c.self.inside.log.items ++ record { change = c.args.change; stop = c.if-stops.stop } ∷ [] = search rules in
-    let was : record { zero = c.self.inside.zero; one = c.self.inside.one } ≡ replay first c.self.inside.log.items = c.self.invariant in
-    let now : record { zero = c.take.new.zero; one = c.take.new.one } ≡ after_taken c.if-stops.stop c.args.change (record { zero = c.self.inside.zero; one = c.self.inside.one }) = search rules in
-    now ∙ ap (after_taken c.if-stops.stop c.args.change) was ∙ sym (replay-push first c.self.inside.log.items (record { change = c.args.change; stop = c.if-stops.stop })) ∙ ap (replay first) (sym longer)
+    let taken : Taken = record { change = c.args.change; stop = c.if-stops.stop } in
+    let longer : c.push.new.self.items ≡ c.self.inside.log.items ++ taken ∷ [] = search rules in
+    let now : record { zero = c.take.new.zero; one = c.take.new.one; calls = c.args.change ∷ [] } ≡ after_taken c.if-stops.stop c.args.change (files c.self.inside.zero c.self.inside.one) = search rules in
+    subst (λ (log : List Taken). record { zero = c.take.new.zero; one = c.take.new.one; calls = map (λ t. t.change) log } ≡ replay first log) (sym longer)
+    (one_more_taken first c.self.inside.log.items taken c.self.inside.zero c.self.inside.one c.take.new.zero c.take.new.one c.self.invariant now)

@@ -27,14 +27,14 @@ returns-in-Waiting-clause-takes g c =
           record {
             turn = Waiting conn bytes;
             event = refl;
-            serves = record { does = (subst takes is c.piece.ensures, refl); leaves = leaves_same g.N.Node.leaves host host (Waiting conn bytes ∷ []) refl };
+            serves = record { does = (subst takes is c.piece.ensures, refl); leaves = leaves_same g.N.Node.rules.leaves host host (Waiting conn bytes ∷ []) refl };
             comes = refl;
           }
       | inr is ↦
           record {
             turn = Unknown conn bytes;
             event = refl;
-            serves = record { does = (subst takes is c.piece.ensures, refl); leaves = leaves_same g.N.Node.leaves host host (Unknown conn bytes ∷ []) refl };
+            serves = record { does = (subst takes is c.piece.ensures, refl); leaves = leaves_same g.N.Node.rules.leaves host host (Unknown conn bytes ∷ []) refl };
             comes = refl;
           }
     ]
@@ -50,7 +50,7 @@ returns-in_ok-answer-in-Ready-clause-takes g c =
       serves = record {
         does = (c.piece.new.self, subst (λ (n : ℕ). TakesPiece host.kept n bytes progress.Ready c.piece.new.self) (sym a.1) c.in-Ready.ensures, a.3);
         leaves =
-            asked_once g.N.Node.leaves shown_in_memory (told host) host.disk
+            asked_once g.N.Node.rules.leaves shown_in_memory (told host) host.disk
             (host_in c.answer.new.self).disk bytes a.0 a.4;
       };
       comes = a.2;
@@ -73,7 +73,7 @@ returns-in_ok-refuse-in-Refused-clause-takes g c =
           c.in-Refused.ensures,
           record { sends = sends_page conn status c.args.now old new is.node is.disk; gone = is.gone },
         );
-        leaves = leaves_same g.N.Node.leaves old new (Refused conn bytes status ∷ []) is.disk;
+        leaves = leaves_same g.N.Node.rules.leaves old new (Refused conn bytes status ∷ []) is.disk;
       };
       comes = is.page;
     }

@@ -1,14 +1,13 @@
 use Rattle.std.proofs.Common.{subst}
 use Rattle.schedule_replay.specs.Deployments.{Deployment, Starts}
-use Rattle.schedule_replay.specs.Hosts.{rules}
 use Rattle.schedule_replay.specs.Views.{sending_view, stage_in}
 use Rattle.schedule_replay.proofs.Arriving.{where_ok}
 use Rattle.schedule_replay.proofs.stage.Stage.exchange.Goals as goal
 
 pub returns-clause-ok : goal.returns-clause-ok
 returns-clause-ok g c =
-    let sp = rules g.S.Node.own g.S.Node.step g.S.Node.leaves g.S.Node.reopens g.S.Node.reopening_leaves g.S.Node.compacts g.S.Node.compaction_leaves in
-    let idp = rules g.P.Node.own g.P.Node.step g.P.Node.leaves g.P.Node.reopens g.P.Node.reopening_leaves g.P.Node.compacts g.P.Node.compaction_leaves in
+    let sp = g.S.Node.rules in
+    let idp = g.P.Node.rules in
     let one = stage_in c.start.new.self in
     where_ok c.rounds.result c.rounds.ensures.ok
     (λ came. record {

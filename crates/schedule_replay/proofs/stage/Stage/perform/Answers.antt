@@ -3,7 +3,6 @@ use Rattle.std.specs.Prelude.{take}
 use Rattle.schedule_replay.specs.declared.fault.ReplayFault.{ReplayFault}
 use Rattle.schedule_replay.specs.declared.fault.ReplayFault.TheVariants.{NoMemory}
 use Rattle.schedule_replay.specs.declared.tally.Tally.{Tally}
-use Rattle.schedule_replay.specs.Hosts.{rules as node_rules}
 use Rattle.schedule_replay.specs.Lines.{summary}
 use Rattle.schedule_replay.specs.Runs.{shown}
 use Rattle.schedule_replay.specs.Views.{HasNodes, stage_in}
@@ -12,8 +11,8 @@ use Rattle.schedule_replay.proofs.stage.Stage.perform.Goals as goal
 
 pub returns-in_err-run-clause-ends : goal.returns-in_err-run-clause-ends
 returns-in_err-run-clause-ends g c =
-    let sp = node_rules g.S.Node.own g.S.Node.step g.S.Node.leaves g.S.Node.reopens g.S.Node.reopening_leaves g.S.Node.compacts g.S.Node.compaction_leaves in
-    let idp = node_rules g.P.Node.own g.P.Node.step g.P.Node.leaves g.P.Node.reopens g.P.Node.reopening_leaves g.P.Node.compacts g.P.Node.compaction_leaves in
+    let sp = g.S.Node.rules in
+    let idp = g.P.Node.rules in
     let fault = c.in_err-run.field-0.0 in
     let same : c.from_residual.result ≡ Err fault = search rules in
     let first = stage_in c.args.self.now in
@@ -27,8 +26,8 @@ returns-in_err-run-clause-ends g c =
 
 pub returns-in_err-line-clause-ends : goal.returns-in_err-line-clause-ends
 returns-in_err-line-clause-ends g c =
-    let sp = node_rules g.S.Node.own g.S.Node.step g.S.Node.leaves g.S.Node.reopens g.S.Node.reopening_leaves g.S.Node.compacts g.S.Node.compaction_leaves in
-    let idp = node_rules g.P.Node.own g.P.Node.step g.P.Node.leaves g.P.Node.reopens g.P.Node.reopening_leaves g.P.Node.compacts g.P.Node.compaction_leaves in
+    let sp = g.S.Node.rules in
+    let idp = g.P.Node.rules in
     let same : c.from_residual-in_err-line.result ≡ Err NoMemory = search rules in
     let now = stage_in c.run.new.self in
     let did = c.in_ok-run.ensures.ok in

@@ -2,7 +2,7 @@ use Rattle.std.proofs.Common.{ap, ◌∙◌, ℕ, List, Option}
 use Rattle.schedule_replay.specs.declared.tally.Tally.{Tally}
 use Rattle.schedule_replay.specs.Counting.{restarted}
 use Rattle.schedule_replay.specs.Deployments.{shows}
-use Rattle.schedule_replay.specs.Hosts.{Known, Restarts, rules}
+use Rattle.schedule_replay.specs.Hosts.{Known, Restarts}
 use Rattle.post_agent.specs.Views.{text_view}
 use Rattle.schedule_replay.specs.Views.{stage_in}
 use Rattle.schedule_replay.proofs.Arriving.{counted_on, where_ok}
@@ -10,8 +10,8 @@ use Rattle.schedule_replay.proofs.stage.Stage.restart.Goals as goal
 
 pub returns-clause-ok : goal.returns-clause-ok
 returns-clause-ok g c =
-    let sp = rules g.S.Node.own g.S.Node.step g.S.Node.leaves g.S.Node.reopens g.S.Node.reopening_leaves g.S.Node.compacts g.S.Node.compaction_leaves in
-    let idp = rules g.P.Node.own g.P.Node.step g.P.Node.leaves g.P.Node.reopens g.P.Node.reopening_leaves g.P.Node.compacts g.P.Node.compaction_leaves in
+    let sp = g.S.Node.rules in
+    let idp = g.P.Node.rules in
     let ended = c.in_ok-shown.ensures.ends in
     let behind = stage_in c.start_again.new.self in
     let number = c.args.number in

@@ -1,14 +1,13 @@
 use Rattle.std.proofs.Common.{◌≡◌, ◌+◌, suc, subst, arith, ℕ}
 use Rattle.schedule_replay.specs.Deployments.{Rounds}
-use Rattle.schedule_replay.specs.Hosts.{rules}
 use Rattle.schedule_replay.specs.Views.{sending_view, stage_in}
 use Rattle.schedule_replay.proofs.Arriving.{same_stage}
 use Rattle.schedule_replay.proofs.stage.Stage.rounds.Goals as goal
 
 pub loop-round-preserved : goal.loop-round-preserved
 loop-round-preserved g c =
-    let sp = rules g.S.Node.own g.S.Node.step g.S.Node.leaves g.S.Node.reopens g.S.Node.reopening_leaves g.S.Node.compacts g.S.Node.compaction_leaves in
-    let idp = rules g.P.Node.own g.P.Node.step g.P.Node.leaves g.P.Node.reopens g.P.Node.reopening_leaves g.P.Node.compacts g.P.Node.compaction_leaves in
+    let sp = g.S.Node.rules in
+    let idp = g.P.Node.rules in
     let first = c.args.self.now in
     let round = c.loop-round.round in
     let new = c.arrive_at-in-loop-round.new.self in

@@ -1,7 +1,6 @@
 use Rattle.std.proofs.Common.{◌≡◌, ◌+◌, ◌++◌, [], ap, refl, sym, ◌∙◌, subst, arith, rules, length, Err}
 use Rattle.std.proofs.lemmas.Option.{slice_get_read}
 use Rattle.schedule_replay.specs.Deployments.{Deployment}
-use Rattle.schedule_replay.specs.Hosts.{rules as node_rules}
 use Rattle.schedule_replay.specs.Runs.{shown}
 use Rattle.schedule_replay.specs.Steps.{Replays}
 use Rattle.schedule_replay.specs.Views.{stage_in}
@@ -11,8 +10,8 @@ use Rattle.schedule_replay.proofs.stage.Stage.run.Goals as goal
 
 pub loop-i-preserved : goal.loop-i-preserved
 loop-i-preserved g c =
-    let sp = node_rules g.S.Node.own g.S.Node.step g.S.Node.leaves g.S.Node.reopens g.S.Node.reopening_leaves g.S.Node.compacts g.S.Node.compaction_leaves in
-    let idp = node_rules g.P.Node.own g.P.Node.step g.P.Node.leaves g.P.Node.reopens g.P.Node.reopening_leaves g.P.Node.compacts g.P.Node.compaction_leaves in
+    let sp = g.S.Node.rules in
+    let idp = g.P.Node.rules in
     let first = c.args.self.now in
     let taken = g.K.Sink.taken in
     let i = c.loop-i.i in
@@ -34,8 +33,8 @@ loop-i-preserved g c =
 
 pub returns-in_err-play-clause-write_fault : goal.returns-in_err-play-clause-write_fault
 returns-in_err-play-clause-write_fault g c =
-    let sp = node_rules g.S.Node.own g.S.Node.step g.S.Node.leaves g.S.Node.reopens g.S.Node.reopening_leaves g.S.Node.compacts g.S.Node.compaction_leaves in
-    let idp = node_rules g.P.Node.own g.P.Node.step g.P.Node.leaves g.P.Node.reopens g.P.Node.reopening_leaves g.P.Node.compacts g.P.Node.compaction_leaves in
+    let sp = g.S.Node.rules in
+    let idp = g.P.Node.rules in
     let same : c.from_residual.result ≡ Err c.in_err-play.field-0.0 = search rules in
     let first = c.args.self.now in
     let taken = g.K.Sink.taken in

@@ -1,6 +1,5 @@
 use Rattle.std.proofs.Common.{◌≡◌, ◌≤◌, ℕ, List}
 use Rattle.saml_outside.specs.Sinks.{then_bytes}
-use Rattle.schedule_replay.specs.Hosts.{rules}
 use Rattle.schedule_replay.specs.Runs.{shown}
 use Rattle.schedule_replay.specs.Steps.{Replays}
 use Rattle.schedule_replay.specs.Views.{OwnsBoth, SameStage, stage_in}
@@ -8,8 +7,8 @@ use Rattle.schedule_replay.proofs.stage.Stage.run.Given as goal
 
 abbrev pub invariant-loop-i : goal.invariant-loop-i
 invariant-loop-i g l =
-    let sp = rules g.S.Node.own g.S.Node.step g.S.Node.leaves g.S.Node.reopens g.S.Node.reopening_leaves g.S.Node.compacts g.S.Node.compaction_leaves in
-    let idp = rules g.P.Node.own g.P.Node.step g.P.Node.leaves g.P.Node.reopens g.P.Node.reopening_leaves g.P.Node.compacts g.P.Node.compaction_leaves in
+    let sp = g.S.Node.rules in
+    let idp = g.P.Node.rules in
     record {
       done :
           (text : List ℕ) × Replays sp idp l.i l.steps (stage_in l.initial.self) text (stage_in l.self)

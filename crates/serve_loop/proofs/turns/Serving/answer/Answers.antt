@@ -33,5 +33,5 @@ returns-clause-answers g c =
             ∙ c.ask-answer.ensures.conns) ∙ ap (λ (n : ℕ). map.remove c.args.self.now.conns.now n) (sym a.1);
       },
       subst (λ disk. LeavesOnly g.D.Disk.shows
-          c.args.self.now.disk.now disk (g.N.Node.leaves a.0.node a.0.disk a.0.request a.0.now)) (sym others.disk) a.5,
+          c.args.self.now.disk.now disk (g.N.Node.rules.leaves a.0.node a.0.disk a.0.request a.0.now)) (sym others.disk) a.5,
     )

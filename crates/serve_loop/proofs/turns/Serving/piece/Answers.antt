@@ -22,13 +22,13 @@ returns-in-Waiting-clause-does g c = let conn = c.args.conn in
         Waiting conn bytes,
         refl,
         (subst takes is c.piece.ensures, refl),
-        untouched g.N.Node.leaves g.D.Disk.shows g.met.D.Disk.only_now disk disk (Waiting conn bytes ∷ []) refl,
+        untouched g.N.Node.rules.leaves g.D.Disk.shows g.met.D.Disk.only_now disk disk (Waiting conn bytes ∷ []) refl,
       )
       | inr is ↦ (
         Unknown conn bytes,
         refl,
         (subst takes is c.piece.ensures, refl),
-        untouched g.N.Node.leaves g.D.Disk.shows g.met.D.Disk.only_now disk disk (Unknown conn bytes ∷ []) refl,
+        untouched g.N.Node.rules.leaves g.D.Disk.shows g.met.D.Disk.only_now disk disk (Unknown conn bytes ∷ []) refl,
       )
     ]
 
@@ -43,7 +43,7 @@ returns-in-Ready-clause-does g c = let bytes = c.args.bytes.now in
             (sym a.1) c.in-Ready.ensures,
         a.2,
       ),
-      asked_once g.N.Node.leaves g.D.Disk.shows (g.D.Disk.shows c.args.self.now.disk.now).told
+      asked_once g.N.Node.rules.leaves g.D.Disk.shows (g.D.Disk.shows c.args.self.now.disk.now).told
           c.args.self.now.disk.now c.answer.new.self.disk.now bytes a.0 a.3,
     )
 
@@ -53,7 +53,7 @@ returns-in-Refused-clause-does g c =
       turn,
       refl,
       (c.piece.new.self, c.in-Refused.ensures, c.refuse.ensures.lets_go),
-      untouched g.N.Node.leaves g.D.Disk.shows g.met.D.Disk.only_now
+      untouched g.N.Node.rules.leaves g.D.Disk.shows g.met.D.Disk.only_now
           c.args.self.now.disk.now c.refuse.new.self.disk.now (turn ∷ []) c.refuse.ensures.others.disk,
     )
 
@@ -63,6 +63,6 @@ returns-in-NoMemory-clause-does g c = let turn = StarvedPiece c.args.conn c.args
       turn,
       refl,
       (c.piece.new.self, c.in-NoMemory.ensures, refuse.ensures.lets_go),
-      untouched g.N.Node.leaves g.D.Disk.shows g.met.D.Disk.only_now c.args.self.now.disk.now refuse.new.self.disk.now
+      untouched g.N.Node.rules.leaves g.D.Disk.shows g.met.D.Disk.only_now c.args.self.now.disk.now refuse.new.self.disk.now
           (turn ∷ []) refuse.ensures.others.disk,
     )

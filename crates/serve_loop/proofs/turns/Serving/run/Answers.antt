@@ -12,7 +12,7 @@ use Rattle.serve_loop.proofs.turns.Serving.run.Goals as goal
 pub loop-events-init : goal.loop-events-init
 loop-events-init g c = record {
   since =
-      none_done (IsAnswered g.N.Node.own g.N.Node.step g.N.Node.leaves) g.N.Node.leaves g.D.Disk.shows g.L.Link.shows
+      none_done (IsAnswered g.N.Node.rules) g.N.Node.rules.leaves g.D.Disk.shows g.L.Link.shows
       g.C.Clock.to_come g.met.D.Disk.counts_now g.met.D.Disk.only_now c.args.self.now c.requires.none_kept;
   own = c.requires.own;
   faults = omega arith;
@@ -28,7 +28,7 @@ loop-events-preserved g c = let first = c.args.self.now in
     let held = c.loop-events.invariant in
     let turn = rw c.if-not-branch.false at c.in_ok-turn.ensures.ok in
     record {
-      since = one_more_done (IsAnswered g.N.Node.own g.N.Node.step g.N.Node.leaves) g.N.Node.leaves
+      since = one_more_done (IsAnswered g.N.Node.rules) g.N.Node.rules.leaves
           g.D.Disk.shows g.L.Link.shows g.C.Clock.to_come g.met.D.Disk.counts_now
           g.met.D.Disk.only_now first c.loop-events.events old new turn.1 turn.0 held.since turn.2 turn.3 turn.4;
       own = c.turn.ensures.own;
@@ -50,7 +50,7 @@ returns-in_err-turn g c = let first = c.args.self.now in
     let more : length held.since.turns < c.args.budget = omega (arith, held.since.counted, c.loop-events-test.true) in
     let at = world_in g.D.Disk.shows g.L.Link.shows g.C.Clock.to_come in
     record {
-      serves = ended (IsAnswered g.N.Node.own g.N.Node.step g.N.Node.leaves) g.N.Node.leaves g.D.Disk.shows
+      serves = ended (IsAnswered g.N.Node.rules) g.N.Node.rules.leaves g.D.Disk.shows
           g.L.Link.shows g.C.Clock.to_come first old new c.loop-events.events c.args.budget result held.since same.1
           (subst (λ (r : Result Served ServeFault). Ends c.args.budget held.since.turns (at old) r (at new))
           (sym fault) (more, same.0));
@@ -73,7 +73,7 @@ returns-then-not-branch g c = let first = c.args.self.now in
     let stop = rw c.if-not-branch.true at c.in_ok-turn.ensures.ok in
     let more : length held.since.turns < c.args.budget = omega (arith, held.since.counted, c.loop-events-test.true) in
     record {
-      serves = ended (IsAnswered g.N.Node.own g.N.Node.step g.N.Node.leaves) g.N.Node.leaves
+      serves = ended (IsAnswered g.N.Node.rules) g.N.Node.rules.leaves
           g.D.Disk.shows g.L.Link.shows g.C.Clock.to_come first old new c.loop-events.events c.args.budget
           (Ok (record { events = c.loop-events.events; stopped = true })) held.since stop.1
           (sym held.since.counted, (more, stop.0));
@@ -93,7 +93,7 @@ returns g c = let last = c.loop-events.self in
     let all : length held.since.turns ≡ c.args.budget = omega
     (arith, held.since.counted, c.loop-events-test.false, c.loop-events.auto.events-end) in
     record {
-      serves = ended (IsAnswered g.N.Node.own g.N.Node.step g.N.Node.leaves) g.N.Node.leaves
+      serves = ended (IsAnswered g.N.Node.rules) g.N.Node.rules.leaves
           g.D.Disk.shows g.L.Link.shows g.C.Clock.to_come c.args.self.now last last c.loop-events.events c.args.budget
           (Ok (record { events = c.args.budget; stopped = false })) held.since refl (sym all, (all, refl));
       own = held.own;

@@ -23,7 +23,7 @@ returns-in-Started-clause-ok g c = let old = world_in g.D.Disk.shows g.L.Link.sh
       record old { link = link.told; send_faults = link.send_faults },
       next_is old link.told link.send_faults _ (Started c.in-Started.conn) comes does.1 c.next.ensures.send_faults,
       does.2,
-      untouched g.N.Node.leaves g.D.Disk.shows g.met.D.Disk.only_now c.args.self.now.disk.now c.start.new.self.disk.now
+      untouched g.N.Node.rules.leaves g.D.Disk.shows g.met.D.Disk.only_now c.args.self.now.disk.now c.start.new.self.disk.now
           (does.0 ∷ []) c.start.ensures.others.disk,
     )
 
@@ -60,5 +60,5 @@ returns-in-Ended-clause-ok g c = let old = world_in g.D.Disk.shows g.L.Link.show
       record old { link = link.told; send_faults = link.send_faults },
       next_is old link.told link.send_faults (Ended conn) (Ended conn) comes refl c.next.ensures.send_faults,
       (c.gone.ensures, refl),
-      untouched g.N.Node.leaves g.D.Disk.shows g.met.D.Disk.only_now disk disk (Over conn ∷ []) refl,
+      untouched g.N.Node.rules.leaves g.D.Disk.shows g.met.D.Disk.only_now disk disk (Over conn ∷ []) refl,
     )
