@@ -1,5 +1,5 @@
 //! Characters that are written as references: Canonical XML 1.0, 2.3.
-ghost use Rattle.std.specs.Prelude.{◌≡◌, ℕ, ◌≤◌, [], ◌∷◌, length, take, drop, MatchOption, OnOk, OnErr, IsTrue, IsFalse};
+ghost use Rattle.std.specs.Prelude.{◌≡◌, ◌≤◌, [], ◌∷◌, length, take, drop, MatchOption, OnOk, OnErr, IsTrue, IsFalse};
 ghost use Rattle.std.specs.List.{flat_map};
 ghost use Rattle.xml_spec.specs.Bytes.{AllPass, begins_with};
 ghost use Rattle.xml_spec.specs.Canonical.{escape_text, escape_value};

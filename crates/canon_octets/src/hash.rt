@@ -1,5 +1,5 @@
 //! Places that keep a hash of what they take, up to a limit.
-ghost use Rattle.std.specs.Prelude.{◌≡◌, ℕ, ◌≤◌, ◌↔◌, ◌++◌, List, [], length, true, IsOk};
+ghost use Rattle.std.specs.Prelude.{ℕ, ◌≤◌, ◌↔◌, ◌++◌, List, [], length, true, IsOk};
 ghost use Rattle.std.specs.Option.{SomeIff};
 ghost use Rattle.sha2.specs.Sha256.{sha256};
 ghost use Rattle.hmac_sha256.specs.Hmac.{hmac};

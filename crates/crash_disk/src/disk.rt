@@ -1,5 +1,5 @@
 //! A disk of two files, and the rule that it keeps.
-ghost use Rattle.std.specs.Prelude.{◌≡◌, ◌<◌, ◌≤◌, ◌^◌, ◌++◌, ℕ, Bool, is_some, length, drop, min, IfSome, IfOk};
+ghost use Rattle.std.specs.Prelude.{◌≡◌, ◌<◌, ◌≤◌, ◌++◌, ℕ, Bool, is_some, length, drop, IfSome, IfOk};
 ghost use Rattle.crash_disk.specs.Counts.{CountsFaults};
 ghost use Rattle.crash_disk.specs.Disk.{Image, Changes, MayLeave, image_of, read_from, reads_of};
 ghost use Rattle.crash_disk.specs.Moments.{DiskShown, Elapses, Leaves};

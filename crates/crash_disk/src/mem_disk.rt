@@ -1,7 +1,7 @@
 //! A disk in memory.
-ghost use Rattle.std.specs.Prelude.{◌≡◌, ◌<◌, ◌≤◌, ◌^◌, ◌++◌, ◌∷◌, [], ℕ, Some, length, drop, true, false, IsTrue, IfSome, IfOk, OnOk, OnErr, IsErr};
+ghost use Rattle.std.specs.Prelude.{◌≡◌, ◌<◌, ◌≤◌, ◌^◌, ◌++◌, ◌∷◌, [], Some, length, drop, true, false, IsTrue, IfSome, IfOk, OnOk, OnErr};
 ghost use Rattle.crash_disk.specs.Counts.{CountsFaults, one_more};
-ghost use Rattle.crash_disk.specs.Disk.{Changes, changed, begun, files, empty_image, reads_of, read_from, settled};
+ghost use Rattle.crash_disk.specs.Disk.{Changes, changed, begun, files, empty_image, reads_of, read_from};
 ghost use Rattle.crash_disk.specs.InMemory.{shown_in_memory};
 ghost use Rattle.crash_disk.specs.Moments.{Elapses};
 ghost use Rattle.crash_disk.specs.Memory.{after_taken, holding, state_of, IsAllowed, Calls, faulted, starved_by_call};
@@ -114,7 +114,7 @@ pub struct MemDisk {
 
 impl Model for MemDisk {
     ghost use Rattle.std.specs.Prelude.{◌≡◌, map};
-    ghost use Rattle.crash_disk.specs.Disk.{DiskState, settled_image};
+    ghost use Rattle.crash_disk.specs.Disk.{settled_image};
     ghost use Rattle.crash_disk.specs.Memory.{DiskInMemory, replay};
 
     ghost Value = { DiskInMemory };

@@ -1,6 +1,6 @@
 // The namespaces in force at a place of a document.
 
-ghost use Rattle.std.specs.Prelude.{◌≡◌, suc, ◌-◌, ◌<◌, ◌^◌, ◌++◌, [], ◌∷◌, drop, length, map, string_bytes, IfOk, IfErr, OnOk};
+ghost use Rattle.std.specs.Prelude.{◌≡◌, suc, ◌-◌, ◌<◌, ◌^◌, [], ◌∷◌, drop, length, map, IfOk, IfErr, OnOk};
 
 use crate::fault::NameFault;
 use crate::qualified::declared_prefix;
@@ -28,7 +28,7 @@ pub struct Spaces<'a> {
 }
 
 impl<'a> Spaces<'a> {
-    ghost use Rattle.std.specs.Prelude.{None, IsSome, MatchOption, slice_get, slice_index_or};
+    ghost use Rattle.std.specs.Prelude.{None, IsSome, MatchOption, slice_get};
     ghost use Rattle.xml_spec.specs.Names.{bound, outermost, declarations};
     ghost use Rattle.xml_tokens.specs.Views.{attribute_view};
     ghost use Rattle.element_names.specs.Spaces.{scope_of, IsReady, Binds, Enters};

@@ -19,7 +19,7 @@ abbrev pub room_of : Kept → ℕ
 room_of kept = LONGEST_FILE - end_of kept.holds.payloads
 
 -- The disk is the journal's own. While it is not broken, a crash leaves what a read gives, which stands for the journal.
--- While it is broken, each image that a crash may leave stands for some list of records.
+-- While it is broken, each image that a crash may leave stands for some list of records, or for no journal yet.
 abbrev pub IsOwn : Option DiskState → OpenedJournal → Type 0
 IsOwn told j =
     IfSome told (λ disk. MatchBool j.broken

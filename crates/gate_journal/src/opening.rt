@@ -1,5 +1,5 @@
 //! How a journal is opened.
-ghost use Rattle.std.specs.Prelude.{◌≡◌, ◌<◌, ◌≤◌, ◌^◌, None, Some, Ok, Err, true, false, length, take, IfOk, IfErr, IfSome, IfNone, IsSomeAnd, OnOk, OnErr, MatchResult, MatchOption};
+ghost use Rattle.std.specs.Prelude.{◌≡◌, ◌<◌, None, Some, Ok, Err, true, false, length, take, IfOk, IfErr, IfSome, IfNone, OnOk, OnErr, MatchResult};
 ghost use Rattle.std.specs.Option.{option_map};
 ghost use Rattle.owned_values.specs.Gives.{Gives};
 ghost use Rattle.crash_disk.specs.Counts.{CountsFaults};

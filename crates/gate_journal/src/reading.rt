@@ -1,7 +1,7 @@
 //! How one file is read.
 ghost use Rattle.std.specs.Prelude.{◌≡◌, ◌+◌, ◌<◌, ◌≤◌, Some, true, false, All, length, IfOk, MatchOption};
 ghost use Rattle.owned_values.specs.Gives.{Gives};
-ghost use Rattle.gate_journal.specs.Format.{number_at, size_of, is_whole, payloads_of, end_of, header_of, committed_of, file_of, LONGEST_FILE, LONGEST_PAYLOAD};
+ghost use Rattle.gate_journal.specs.Format.{number_at, size_of, is_whole, payloads_of, end_of, committed_of, file_of, LONGEST_FILE, LONGEST_PAYLOAD};
 ghost use Rattle.gate_journal.specs.Reading.{fault_of};
 
 use crate::fault::FileFault;

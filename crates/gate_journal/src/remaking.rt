@@ -1,5 +1,5 @@
 //! How a journal is made anew in one file, while the other file keeps the one from before.
-ghost use Rattle.std.specs.Prelude.{◌≡◌, ◌+◌, ◌<◌, ◌≤◌, ℕ, List, [], All, Option, length, vec_capacity, IfOk, OnOk, IfSome};
+ghost use Rattle.std.specs.Prelude.{◌≡◌, ◌+◌, ◌<◌, ◌≤◌, ℕ, List, All, Option, length, vec_capacity, IfOk, OnOk, IfSome};
 ghost use Rattle.crash_disk.specs.Counts.{CountsFaults};
 ghost use Rattle.crash_disk.specs.Disk.{reads_of};
 ghost use Rattle.crash_disk.specs.Moments.{LeavesOnly};

@@ -1,6 +1,6 @@
 // The head of a request (RFC 9112, 2 to 5).
 
-ghost use Rattle.std.specs.Prelude.{◌≡◌, ℕ, ◌≤◌, take, map, length, false, true, All, MatchOption, IfSome, None, IsTrue};
+ghost use Rattle.std.specs.Prelude.{◌≡◌, take, map, length, false, true, All, MatchOption, IfSome, None};
 ghost use Rattle.std.specs.List.{list_all};
 ghost use Rattle.std.specs.Char.{is_ascii_graphic};
 ghost use Rattle.httparse.specs.Grammar.{RequestHead};

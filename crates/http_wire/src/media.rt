@@ -1,6 +1,6 @@
 //! Media types.
 ghost use Rattle.std.specs.Prelude.{◌≡◌, reverse};
-ghost use Rattle.httparse.specs.Grammar.{is_ows, skip_ows, trim_ows};
+ghost use Rattle.httparse.specs.Grammar.{is_ows, skip_ows};
 ghost use Rattle.http_wire.specs.Cookies.{is_form_type};
 
 use crate::cut::before_first;

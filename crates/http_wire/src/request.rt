@@ -1,6 +1,5 @@
 //! Requests in the bytes that a connection brings.
 ghost use Rattle.std.specs.Prelude.{◌≡◌, ℕ, ◌+◌, ◌<◌, ◌≤◌, ◌↔◌, List, ◌++◌, length, take, drop, None, Some, IsSome};
-ghost use Rattle.httparse.specs.Grammar.{RequestHead};
 ghost use Rattle.http_wire.specs.Awaiting.{IsAwaited, KeepsHead};
 ghost use Rattle.http_wire.specs.Heads.{head_end};
 ghost use Rattle.http_wire.specs.Places.{parts_at, IsReadFrom};

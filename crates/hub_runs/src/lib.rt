@@ -36,7 +36,7 @@
 //! what is kept, once, and of the sessions below (`laws::the_headline_holds_over_starts`): a run that served is a start
 //! (`laws::a_run_is_a_start`), and from each image that a crash may leave a later start goes on
 //! (`laws::each_image_of_a_run_goes_on`). Each fault comes only where its count rose; where a hub can be run and
-//! nothing failed it served, or memory ran out (`complete`). That `listen` is called with the config's address no
+//! nothing failed it served, or memory ran out (`complete`). That `listen` is called, with the config's address, no
 //! clause says.
 #![tactic(auto)]
 

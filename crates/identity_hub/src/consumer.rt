@@ -15,7 +15,7 @@ use crate::reply::Reply;
 use crate::role::HubRole;
 use http_wire::HttpRequest;
 use hub_ledger::laws::the_texts_of_a_routed_request_may_stand;
-use hub_ledger::{BelowRow, HubLedger, routed, rows};
+use hub_ledger::{HubLedger, routed, rows};
 use idp_answers::laws::{each_moment_is_told, what_is_recorded_may_stand};
 use provider_node::Replied;
 use saml_time::LAST;

@@ -222,7 +222,7 @@ fn is_ending(
         (rows_in ledger.now).issues row }
 {
     let sessions = rows(ledger).sessions();
-    is_listed(indexes, set, &sessions[place].index) && is_open_to(ledger, place, now, peer, name)
+    is_open_to(ledger, place, now, peer, name) && is_listed(indexes, set, &sessions[place].index)
 }
 
 /// These sessions, by one search.

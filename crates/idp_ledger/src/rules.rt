@@ -8,7 +8,7 @@ use crate::naming::{has_visible, named, row_number, within};
 use crate::standing::IdpStanding;
 use idp_rows::{KeptRows, Noted};
 use ledger_records::laws::a_record_is_found_in_its_payload;
-use ledger_records::{IdpRecord, read_idp_record};
+use ledger_records::read_idp_record;
 use owned_values::{Blob, NoMemory, Text};
 use std::alloc::Global;
 

@@ -5,7 +5,6 @@ ghost use Rattle.idp_rows.specs.Kept.{session_begun};
 use crate::row::SessionRow;
 use ledger_records::IdpRecord;
 use owned_values::NoMemory;
-use std::alloc::Global;
 use std::marker::Model;
 
 /// A record, and the row of the session that it begins. Contracts see it as the record.

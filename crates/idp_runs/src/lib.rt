@@ -27,7 +27,8 @@
 //! its history the records for which the answers up to that point stand (`AreKeptSince`). A run that served is a start,
 //! over which the laws of starts go (`laws::a_run_is_a_start`), and from each image that a crash may leave a later
 //! start goes on (`laws::each_image_of_a_run_goes_on`). Each fault comes only where its count rose; where a provider
-//! can be run and nothing failed it served, or memory ran out (`complete`).
+//! can be run and nothing failed it served, or memory ran out (`complete`). That `listen` is called, with the config's
+//! address, no clause says.
 #![tactic(auto)]
 
 pub mod laws;

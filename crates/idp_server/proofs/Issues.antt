@@ -11,7 +11,11 @@ use Rattle.http_wire.specs.Requests.{Request}
 use Rattle.ledger_records.specs.declared.idp_record.Issued.{Issued}
 use Rattle.ledger_records.specs.declared.idp_record.IdpRecord.{IdpRecord}
 use Rattle.ledger_records.specs.declared.idp_record.IdpRecord.TheVariants as kinds
-use Rattle.idp_ledger.specs.declared.ask.Ask.{Ask}
+use Rattle.std.specs.Prelude.{slice_get}
+use Rattle.peer_keys.specs.declared.peers.LogoutPeer.{LogoutPeer}
+use Rattle.idp_rules.specs.declared.asked.Asked.{Asked}
+use Rattle.idp_rules.specs.Asking.{IsAsked}
+use Rattle.idp_rules.specs.Config.{sign_on}
 use Rattle.idp_rows.specs.declared.row.PendingRow.{PendingRow}
 use Rattle.idp_rows.specs.declared.row.SessionRow.{SessionRow}
 use Rattle.idp_rows.specs.RowsOf.{rows_of}
@@ -28,7 +32,7 @@ use Rattle.service_routes.specs.declared.route.Route.TheVariants.{To}
 use Rattle.idp_server.specs.declared.route.Service.TheVariants.{Metadata, SignOn}
 use Rattle.idp_server.specs.Routes.{route}
 use Rattle.idp_server.specs.Step as steps
-use Rattle.idp_server.specs.Step.{Answers, ask_of, session_for}
+use Rattle.idp_server.specs.Step.{Answers, ask_of, session_for, session_used}
 use Rattle.idp_server.specs.Issues.{AnswersHaveUsers, IsOfSession, IsOfUserIfIssued, ServicesHaveUsers, IsPosted}
 use Rattle.idp_server.proofs.StayingEnded.{begun_sessions}
 use Rattle.idp_server.proofs.Told.{said}
@@ -52,6 +56,11 @@ pub used_is : (force : Bool) (o : Option SessionRow) (row : SessionRow) → cond
 used_is true o row is = absurd (cc)
 used_is false o row is = is
 
+-- and none is used where the user has to be authenticated anew
+unforced : (force : Bool) (o : Option SessionRow) (row : SessionRow) → cond force None o ≡ Some row → force ≡ false
+unforced true o row is = absurd (cc)
+unforced false o row is = refl
+
 -- the session of a request is found by its own cookie
 pub found_itself : (held : Held) (request : Request) (now : ℕ) (row : SessionRow)
     → session_for held now request ≡ Some row
@@ -65,16 +74,27 @@ found_itself held request now row live =
 pub the_issued : (r : Issued) (x : IdpRecord) (made : Issued) → x ≡ kinds.Issued r → issued_in x ≡ Some made → made ≡ r
 the_issued r x made is has = let both : Some made ≡ Some r = sym has ∙ ap issued_in is in cc
 
-of_session : (setup : IdpConfig) (held : Held) (request : Request) (now : ℕ) (key : List ℕ) (row : SessionRow)
-    (ask : Ask) (r : Issued) → route request ≡ To SignOn
-    → session_for held now request ≡ Some row → issue key (next_number held) now row ask ≡ kinds.Issued r
-    → IsOfSession held request now r
-of_session setup held request now key row ask r to live is =
-    let same = the_issued r (issue key (next_number held) now row ask) _ is refl in
+of_session : (setup : IdpConfig) (held : Held) (request : Request) (now : ℕ) (asked : Asked) (peer : LogoutPeer)
+    (row : SessionRow) (r : Issued) → route request ≡ To SignOn
+    → IsAsked setup.peers (sign_on setup) request.body asked → slice_get setup.peers asked.peer ≡ Some peer
+    → session_used asked (session_for held now request) ≡ Some row
+    → issue setup.id_key (next_number held) now row (ask_of asked peer) ≡ kinds.Issued r
+    → IsOfSession setup held request now r
+of_session setup held request now asked peer row r to asks known used is =
+    let live = used_is asked.force (session_for held now request) row used in
+    let same = the_issued r (issue setup.id_key (next_number held) now row (ask_of asked peer)) _ is refl in
     let found = any.found_itself begun_sessions (rows_of held.records).sessions now held.header.horizon _ row live in
     let drawn : row.cookie ≡ r.cookie = ap (λ (i : Issued). i.cookie) same in
     record {
       to = to;
+      asked = asked;
+      asks = asks;
+      unforced = unforced asked.force (session_for held now request) row used;
+      peer = peer;
+      known = known;
+      peer_is = sym (ap (λ (i : Issued). i.peer) same);
+      request_is = sym (ap (λ (i : Issued). i.request) same);
+      consumer_is = sym (ap (λ (i : Issued). i.consumer) same);
       cookie = found.named ∙ ap Some drawn;
       place = found.place;
       row = row;
@@ -93,8 +113,7 @@ pub answers_have_users : AnswersHaveUsers
 answers_have_users setup held request now answer r (steps.ByIssuing asked peer row other bytes to is known used drafted
     adding answers full) =
     let same : kinds.Issued other ≡ kinds.Issued r = cc in
-    inr (of_session setup held request now setup.id_key row (ask_of asked peer) r to
-    (used_is asked.force (session_for held now request) row used) (drafted ∙ same))
+    inr (of_session setup held request now asked peer row r to is known used (drafted ∙ same))
 answers_have_users setup held request now answer r (steps.ByLogin t row peer user other bytes to posted pending accepted
     drafted adding answers full) =
     let added : kinds.Issued other ≡ kinds.Issued r = cc in

@@ -10,7 +10,7 @@ use Rattle.ledger_records.specs.declared.idp_round.Told.{Told}
 use Rattle.ledger_records.specs.declared.idp_record.IdpRecord.{IdpRecord}
 use Rattle.ledger_records.specs.declared.idp_record.IdpRecord.TheVariants as kinds
 use Rattle.idp_rows.specs.declared.row.SessionRow.{SessionRow}
-use Rattle.idp_rows.specs.Finding.{is_empty}
+use Rattle.idp_rows.specs.Finding.{is_empty, last_peer}
 use Rattle.idp_rows.specs.RowsOf.{rows_of}
 use Rattle.idp_ledger.specs.Record.{idp_rules}
 use Rattle.idp_ledger.specs.Drafts.{confirmed, pending, spoke, told}
@@ -24,7 +24,7 @@ use Rattle.idp_server.specs.Routes.{route}
 use Rattle.idp_server.specs.Step as steps
 use Rattle.idp_server.specs.Step.{Answers, ask_of, asker_of, ended_by, ending_by, left_by, session_for}
 use Rattle.round_rows.specs.Rounds.{is_turn_left}
-use Rattle.idp_server.specs.Rounds.{round_by}
+use Rattle.idp_server.specs.Rounds.{asks_others, round_by}
 use Rattle.idp_server.specs.Logouts.{AnswersEndExactly, AsksAllOthers, IsOfLogoutIfEnding, IsOfPeerThatAsks, IsOfProviderInTurn, IsOfPeerThatReplies, IsOfUserWhoLeaves, ServicesEndExactly}
 use Rattle.idp_server.proofs.StayingEnded.{begun_sessions}
 use Rattle.idp_server.proofs.Told.{said}
@@ -87,8 +87,9 @@ the_ended r x made is has = let both : Some made ≡ Some r = sym has ∙ ap end
 
 of_user : (setup : IdpConfig) (held : Held) (request : Request) (now : ℕ) (row : SessionRow) (r : Left)
     → route request ≡ To Logout → session_for held now request ≡ Some row
-    → left_by setup.id_key held now row.cookie ≡ kinds.Left r → IsOfUserWhoLeaves held request now r
-of_user setup held request now row r to live drafted =
+    → asks_others setup held None (row.cookie ∷ []) ≡ false
+    → left_by setup.id_key held now row.cookie ≡ kinds.Left r → IsOfUserWhoLeaves setup held request now r
+of_user setup held request now row r to live alone drafted =
     let same = the_left r (left_by setup.id_key held now row.cookie) _ drafted refl in
     let found = found_itself begun_sessions (rows_of held.records).sessions now held.header.horizon _ row live in
     let left : row.cookie ≡ r.cookie = ap (λ (l : Left). l.cookie) same in
@@ -101,6 +102,8 @@ of_user setup held request now row r to live drafted =
       named = left;
       unended = found.unshut;
       seen = found.seen;
+      alone = subst (λ (c : List ℕ). asks_others setup held None (c ∷ []) ≡ false) left alone;
+      peer_is = sym (ap (λ (l : Left). l.peer) same) ∙ ap (last_peer (rows_of held.records).issues) left;
     }
 
 ends_so : (setup : IdpConfig) (held : Held) (request : Request) (now : ℕ) (answer : Answer) (adds : Option IdpRecord)
@@ -126,7 +129,7 @@ ends_so setup held request now answer adds r some (steps.ByLogin t row peer user
 ends_so setup held request now answer adds r some (steps.ByLeaving row left bytes to live alone drafted adding answers
     full) =
     let same : kinds.Left left ≡ r = (let e = sym adding ∙ some in cc) in
-    subst (IsOfLogoutIfEnding setup held request now) same (of_user setup held request now row left to live drafted)
+    subst (IsOfLogoutIfEnding setup held request now) same (of_user setup held request now row left to live alone drafted)
 ends_so setup held request now answer adds r some (steps.ByLeavingAll row begun bytes to live asks drafted adding first
     full) =
     let same : kinds.Round begun ≡ r = (let e = sym adding ∙ some in cc) in
@@ -152,6 +155,9 @@ ends_so setup held request now answer adds r some (steps.ByEnding asked peer rel
       some = subst (λ (l : Ended). is_empty l.cookies ≡ false) made some_end;
       request_is = sym (ap (λ (l : Ended). l.request) made);
       peer_is = sym (ap (λ (l : Ended). l.peer) made);
+      alone = subst (λ (l : Ended). asks_others setup held (Some (asker_of peer asked relay)) l.cookies ≡ false) made
+          alone;
+      partial_is = sym (ap (λ (l : Ended). l.partial) made);
     } in
     subst (IsOfLogoutIfEnding setup held request now) same of
 ends_so setup held request now answer adds r some (steps.ByEndingAll asked peer relay begun bytes to asks some_end

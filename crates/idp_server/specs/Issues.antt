@@ -16,7 +16,11 @@ use Rattle.idp_rows.specs.Finding.{visible}
 use Rattle.idp_rows.specs.RowsOf.{rows_of}
 use Rattle.idp_ledger.specs.Ledger.{Held}
 use Rattle.idp_ledger.specs.Record.{idp_rules}
+use Rattle.peer_keys.specs.declared.peers.LogoutPeer.{LogoutPeer}
+use Rattle.idp_rules.specs.declared.asked.Asked.{Asked}
 use Rattle.idp_rules.specs.declared.config.IdpConfig.{IdpConfig}
+use Rattle.idp_rules.specs.Asking.{IsAsked}
+use Rattle.idp_rules.specs.Config.{sign_on}
 use Rattle.provider_node.specs.Changes as any
 use Rattle.service_routes.specs.declared.route.Route.TheVariants.{To}
 use Rattle.idp_server.specs.declared.route.Service.TheVariants.{Login, SignOn}
@@ -47,10 +51,19 @@ pub record IsOfPassword (setup : IdpConfig) (held : Held) (request : Request) (n
   pub user_is : r.user ≡ user.name
   pub attributes_are : r.attributes ≡ user.attributes
 
--- The request has the cookie of a session that is in the ledger, was not ended and is visible; the record has the
--- session's user, attributes, index and end.
-pub record IsOfSession (held : Held) (request : Request) (now : ℕ) (r : Issued) : Type 0 where
+-- A peer asked by a form for a login, and not that the user is authenticated anew (SAML Core, 3.4.1, ForceAuthn); the
+-- request has the cookie of a session that is in the ledger, was not ended and is visible; the record answers that peer
+-- at its address, and has the session's user, attributes, index and end.
+pub record IsOfSession (setup : IdpConfig) (held : Held) (request : Request) (now : ℕ) (r : Issued) : Type 0 where
   pub to : route request ≡ To SignOn
+  pub asked : Asked
+  pub asks : IsAsked setup.peers (sign_on setup) request.body asked
+  pub unforced : asked.force ≡ false
+  pub peer : LogoutPeer
+  pub known : slice_get setup.peers asked.peer ≡ Some peer
+  pub peer_is : r.peer ≡ peer.peer.entity
+  pub request_is : r.request ≡ asked.request
+  pub consumer_is : r.consumer ≡ asked.consumer
   pub cookie : option_and_then (λ header. cookie_value header (codes "idp_sid")) request.cookie ≡ Some r.cookie
   pub place : ℕ
   pub row : SessionRow
@@ -66,7 +79,7 @@ pub record IsOfSession (held : Held) (request : Request) (now : ℕ) (r : Issued
 
 -- one of them
 abbrev pub IsOfUser : IdpConfig → Held → Request → ℕ → Issued → Type 0
-IsOfUser setup held request now r = IsOfPassword setup held request now r ⊎ IsOfSession held request now r
+IsOfUser setup held request now r = IsOfPassword setup held request now r ⊎ IsOfSession setup held request now r
 
 abbrev pub IsOfUserIfIssued : IdpConfig → Held → Request → ℕ → IdpRecord → Type 0
 IsOfUserIfIssued setup held request now (kinds.Pending r) = Unit {0}

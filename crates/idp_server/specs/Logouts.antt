@@ -19,7 +19,7 @@ use Rattle.protocol_messages.specs.declared.logout.LogoutResponse.{LogoutRespons
 use Rattle.ledger_records.specs.declared.idp_record.Confirmed.{Confirmed}
 use Rattle.round_rows.specs.declared.row.RoundRow.{RoundRow}
 use Rattle.idp_rows.specs.declared.row.SessionRow.{SessionRow}
-use Rattle.idp_rows.specs.Finding.{is_empty, visible}
+use Rattle.idp_rows.specs.Finding.{is_empty, is_partial, last_peer, visible}
 use Rattle.idp_rows.specs.RowsOf.{ends, is_among, rows_of}
 use Rattle.idp_ledger.specs.Record.{idp_rules}
 use Rattle.idp_ledger.specs.Ledger.{Held}
@@ -42,8 +42,8 @@ use Rattle.provider_node.specs.Recorded.{IsRecorded}
 -- ONLY
 
 -- The user leaves by a POST, whose cookie is that of a session that is in the ledger, was not ended and is visible:
--- that session ends.
-pub record IsOfUserWhoLeaves (held : Held) (request : Request) (now : ℕ) (r : Left) : Type 0 where
+-- that session ends. Each other provider is not to be asked; the record names the one that its last Assertion went to.
+pub record IsOfUserWhoLeaves (setup : IdpConfig) (held : Held) (request : Request) (now : ℕ) (r : Left) : Type 0 where
   pub to : route request ≡ To Logout
   pub cookie : option_and_then (λ header. cookie_value header (codes "idp_sid")) request.cookie ≡ Some r.cookie
   pub place : ℕ
@@ -52,9 +52,11 @@ pub record IsOfUserWhoLeaves (held : Held) (request : Request) (now : ℕ) (r : 
   pub named : row.cookie ≡ r.cookie
   pub unended : row.ended ≡ false
   pub seen : visible row.until now held.header.horizon ≡ true
+  pub alone : asks_others setup held None (r.cookie ∷ []) ≡ false
+  pub peer_is : r.peer ≡ last_peer (rows_of held.records).issues r.cookie
 
 -- A LogoutRequest of a peer was posted and accepted, and the sessions that end are those that it asks to end, of which
--- there are some.
+-- there are some. Each other provider is not to be asked; the record says whether one of them got an Assertion.
 pub record IsOfPeerThatAsks (setup : IdpConfig) (held : Held) (request : Request) (now : ℕ) (r : Ended) : Type 0 where
   pub to : route request ≡ To SingleLogout
   pub asked : LogoutRequest
@@ -65,6 +67,9 @@ pub record IsOfPeerThatAsks (setup : IdpConfig) (held : Held) (request : Request
   pub some : is_empty r.cookies ≡ false
   pub request_is : r.request ≡ asked.id
   pub peer_is : r.peer ≡ peer.peer.entity
+  pub alone : asks_others setup held (Some (asker_of peer asked relay)) r.cookies ≡ false
+  pub partial_is : r.partial
+      ≡ is_partial now held.header.horizon peer.peer.entity asked.name asked.indexes (rows_of held.records)
 
 -- Either, and each other provider that the sessions were used for is asked by the plan of the record.
 pub record AsksAllOthers (setup : IdpConfig) (held : Held) (request : Request) (now : ℕ) (r : Round) : Type 0 where
@@ -99,7 +104,7 @@ abbrev pub IsOfLogoutIfEnding : IdpConfig → Held → Request → ℕ → IdpRe
 IsOfLogoutIfEnding setup held request now (kinds.Pending r) = Unit {0}
 IsOfLogoutIfEnding setup held request now (kinds.Issued r) = Unit {0}
 IsOfLogoutIfEnding setup held request now (kinds.Ended r) = IsOfPeerThatAsks setup held request now r
-IsOfLogoutIfEnding setup held request now (kinds.Left r) = IsOfUserWhoLeaves held request now r
+IsOfLogoutIfEnding setup held request now (kinds.Left r) = IsOfUserWhoLeaves setup held request now r
 IsOfLogoutIfEnding setup held request now (kinds.Confirmed r) = IsOfPeerThatReplies setup held request now r
 IsOfLogoutIfEnding setup held request now (kinds.Spoke r) = Unit {0}
 IsOfLogoutIfEnding setup held request now (kinds.Round r) = AsksAllOthers setup held request now r

@@ -16,13 +16,11 @@ use fault_verdicts::Judged;
 use http_wire::HttpRequest;
 use idp_answers::laws::each_moment_is_told;
 use idp_ledger::IdpLedger;
-use idp_rules::IdpConfig;
 use logout_answers::{is_in_part, logout_address};
 use logout_profile::laws::what_an_obeyed_form_says;
 use logout_profile::{Logout, judge_logout};
 use owned_values::{NoMemory, Text};
 use protocol_messages::{LogoutRequest, LogoutResponse};
-use std::alloc::Global;
 
 impl IdpRole {
     /// What a posted form asks or replies of a logout.

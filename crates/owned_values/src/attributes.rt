@@ -1,5 +1,5 @@
 //! Attributes of a user, as an identity provider states them (SAML Core, 2.7.3).
-ghost use Rattle.std.specs.Prelude.{◌≡◌, ◌<◌, [], ◌∷◌, ◌++◌, length, slice_get, take, IfOk, OnOk, OnErr, IsTrue, ◌↔◌, Some};
+ghost use Rattle.std.specs.Prelude.{◌≡◌, ◌<◌, [], ◌∷◌, ◌++◌, length, slice_get, IfOk, OnOk, OnErr, IsTrue, ◌↔◌, Some};
 
 use crate::{NoMemory, Text, Texts};
 use std::alloc::Global;

@@ -89,31 +89,31 @@ module _ {D : Type 0} (shows : D → DiskShown) where
     pub compacting_leaves : {T E : Type 0} (old new : D) (now : ℕ) (held : Held R) (result : Result T E)
         → LeavesOnly shows old new (IsOldOrCompacted rules now held) → FollowsCompaction rules
         shows now held old new result → LeavesOnly shows old new (CompactingLeaves rules now held (shows old).told)
-    compacting_leaves old new now held result stands (inl follows) =
+    compacting_leaves old new now held result stands (inl (last, follows)) =
         weaker shows old new (λ i. IsOldOrCompacted rules now held i × IsAmid (λ _. []) (shows old).told i)
         (CompactingLeaves rules now held (shows old).told) (amid old new (IsOldOrCompacted rules now held)
         (λ _. []) result stands follows) (λ image is. record { stands = is.0; amid = inl is.1 })
-    compacting_leaves old new now held result stands (inr (made, is_made, follows)) = weaker shows old new
+    compacting_leaves old new now held result stands (inr (less, made, is_made, follows)) = weaker shows old new
         (λ i. IsOldOrCompacted rules now held i × IsAmid (compacting rules made) (shows old).told i) (CompactingLeaves
         rules now held (shows old).told) (amid old new (IsOldOrCompacted rules now held) (compacting rules made)
-        result stands follows) (λ image is. record { stands = is.0; amid = inr (made, is_made, is.1) })
+        result stands follows) (λ image is. record { stands = is.0; amid = inr (less, made, is_made, is.1) })
 
     -- ---- which calls a compaction made
 
     pub compaction_ended : (T E : Type 0) (old new : D) (now : ℕ) (held : Held R) (x : T) → FollowsCompaction rules
         {T = T} {E = E} shows now held old new (Ok x) → MakesCompaction rules now held (shows old).told (shows new).told
-    compaction_ended T E old new now held x (inl follows) =
-        inl (carried_ok T E (λ _. []) (shows old).told (shows new).told x follows.ends)
-    compaction_ended T E old new now held x (inr (made, is, follows)) =
-        inr (made, is, carried_ok T E (compacting rules made) (shows old).told (shows new).told x follows.ends)
+    compaction_ended T E old new now held x (inl (last, follows)) =
+        inl (last, carried_ok T E (λ _. []) (shows old).told (shows new).told x follows.ends)
+    compaction_ended T E old new now held x (inr (less, made, is, follows)) =
+        inr (less, made, is, carried_ok T E (compacting rules made) (shows old).told (shows new).told x follows.ends)
 
     pub compaction_begun : (T E : Type 0) (old new : D) (now : ℕ) (held : Held R) (e : E)
         → FollowsCompaction rules {T = T} {E = E} shows now held old new (Err e)
         → BeginsCompaction rules now held (shows old).told (shows new).told
-    compaction_begun T E old new now held e (inl follows) =
+    compaction_begun T E old new now held e (inl (last, follows)) =
         inl (carried_err T E (λ _. []) (shows old).told (shows new).told e follows.ends)
-    compaction_begun T E old new now held e (inr (made, is, follows)) =
-        inr (made, is, carried_err T E (compacting rules made) (shows old).told (shows new).told e follows.ends)
+    compaction_begun T E old new now held e (inr (less, made, is, follows)) =
+        inr (less, made, is, carried_err T E (compacting rules made) (shows old).told (shows new).told e follows.ends)
 
     pub compaction_calls : (old new : D) (now : ℕ) (held : Held R) (result : Result (Unit {0}) OpenFault)
         → (IsErrOf result NoMemory → new ≡ old) → FollowsCompaction rules shows now held old new result

@@ -1,6 +1,6 @@
 -- Which changing calls a step makes on its disk: those of an opening, of one compaction and of one commit, all of them
 -- or a beginning.
-use Rattle.std.specs.Prelude.{◌≡◌, ◌⊎◌, ℕ, List, [], Option, IfSome, IsSomeAnd, Result, Ok, Err}
+use Rattle.std.specs.Prelude.{◌≡◌, ◌<◌, ◌⊎◌, ℕ, List, [], Option, IfSome, IsSomeAnd, Result, Ok, Err}
 use Rattle.crash_disk.specs.declared.change.Change.{Change}
 use Rattle.crash_disk.specs.Disk.{Image, DiskState}
 use Rattle.crash_disk.specs.Plans.{IsBegun, LeftAmid, after_all}
@@ -9,7 +9,7 @@ use Rattle.gate_journal.specs.declared.fault.OpenFault.TheVariants.{NoMemory}
 use Rattle.record_ledger.specs.Rules.{RecordRules}
 use Rattle.record_ledger.specs.Ledger.{Held, IsWithOrWithout, LeftByOpening}
 use Rattle.record_ledger.specs.Calls.{opening, compacting, committing}
-use Rattle.record_ledger.specs.Compacting.{IsCompacted, IsOldOrCompacted}
+use Rattle.record_ledger.specs.Compacting.{LAST_GENERATION, IsCompacted, IsOldOrCompacted}
 
 -- All calls of a plan were made, each of which succeeded, from what the disk told to what it tells, as far as it tells.
 abbrev pub Makes : (plan : DiskState → List Change) → (told later : Option DiskState) → Type 0
@@ -24,20 +24,23 @@ abbrev pub IsAmid : (plan : DiskState → List Change) → (told : Option DiskSt
 IsAmid plan told image = IfSome told (λ disk. LeftAmid (plan disk) disk image)
 
 module _ {R : Type 0} (rules : RecordRules R) (now : ℕ) (found : Held R) where
-  -- So it is of the calls of one compaction of a ledger at a moment, which makes none at the last generation.
-  abbrev pub OfCompaction : ((plan : DiskState → List Change) → Type 0) → Type 0
-  OfCompaction Goes =
-      Goes (λ disk. []) ⊎ ((made : Held R) × IsCompacted rules now found made × Goes (compacting rules made))
+  -- So it is of the calls that make a ledger anew at a moment. At the last generation there are none.
+  abbrev pub OfRemaking : ((plan : DiskState → List Change) → Type 0) → Type 0
+  OfRemaking Goes = (found.header.generation < LAST_GENERATION)
+      × (made : Held R) × IsCompacted rules now found made × Goes (compacting rules made)
 
-  -- It ended; it was begun; a crash amid it.
+  -- One compaction ended: at the last generation without a call.
   abbrev pub MakesCompaction : (told later : Option DiskState) → Type 0
-  MakesCompaction told later = OfCompaction (λ plan. Makes plan told later)
+  MakesCompaction told later = ((found.header.generation ≡ LAST_GENERATION) × Makes (λ disk. []) told later)
+      ⊎ OfRemaking (λ plan. Makes plan told later)
 
+  -- It was begun, or was not.
   abbrev pub BeginsCompaction : (told later : Option DiskState) → Type 0
-  BeginsCompaction told later = OfCompaction (λ plan. Begins plan told later)
+  BeginsCompaction told later = Begins (λ disk. []) told later ⊎ OfRemaking (λ plan. Begins plan told later)
 
+  -- A crash amid it, or before its first call.
   abbrev pub IsAmidCompaction : (told : Option DiskState) → Image → Type 0
-  IsAmidCompaction told image = OfCompaction (λ plan. IsAmid plan told image)
+  IsAmidCompaction told image = IsAmid (λ disk. []) told image ⊎ OfRemaking (λ plan. IsAmid plan told image)
 
   -- as far as its answer says
   abbrev pub CompactionCalls : (told later : Option DiskState) → Result (Unit {0}) OpenFault → Type 0

@@ -47,13 +47,14 @@
 //! leave, and stood nowhere before, is one that this request adds, whatever was answered
 //! (`laws::what_is_new_is_of_the_request`); where there was no memory and the ledger was not broken what was visible
 //! stays visible (`laws::what_is_visible_stays`); and each row of an acknowledged record is as it was left, while it is
-//! visible at each moment of the runs (`laws::each_row_stays`). Over them: what was acknowledged in a service and how its ledger came
-//! from the one at the start (`specs/Histories.antt`), the worlds between requests (`specs/Points.antt`), lists of
-//! starts with crashes between, each of which opens what one may have left (`specs/Starts.antt`), and that runs which a
-//! crash cut join into one service, with the moments of their requests (`specs/Joining.antt`). A compaction in a history is bound to a moment of the run. A
-//! page is made before its record is written, and a second try comes only behind a compaction that ended; `start`,
-//! `restart` and `compact` give what the disk stands for, or a fault by its cause. The laws of each provider say these
-//! of its own answers; `code_of` gives the code of a fault.
+//! visible at each moment of the runs (`laws::each_row_stays`). Over them: what was acknowledged in a service and how
+//! its ledger came from the one at the start (`specs/Histories.antt`), the worlds between requests
+//! (`specs/Points.antt`), lists of starts with crashes between, each of which opens what one may have left
+//! (`specs/Starts.antt`), and that runs which a crash cut join into one service, with the moments of their requests
+//! (`specs/Joining.antt`). A compaction in a history is bound to a moment of the run. A page is made before its record
+//! is written, and a second try comes only behind a compaction that ended; `start`, `restart` and `compact` give what
+//! the disk stands for, or a fault by its cause. The laws of each provider say these of its own answers; `code_of`
+//! gives the code of a fault.
 #![tactic(auto)]
 
 mod answering;

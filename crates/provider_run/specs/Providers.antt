@@ -1,5 +1,5 @@
 -- What a run of a provider does, of whatever role: it is set up by its config, opens its ledger, listens, and serves.
-use Rattle.std.specs.Prelude.{◌≡◌, ℕ, false, List, Option, Some, is_some, IfSome, IsSomeAnd, IsOk, Result, Ok, Err}
+use Rattle.std.specs.Prelude.{◌≡◌, ◌≤◌, ℕ, false, List, Option, Some, is_some, IfSome, IsSomeAnd, IsOk, Result, Ok, Err}
 use Rattle.saml_outside.specs.Files.{File}
 use Rattle.crash_disk.specs.Counts.{Rose}
 use Rattle.crash_disk.specs.Disk.{Image, DiskState, MayLeave, image_of}
@@ -37,8 +37,8 @@ module _ {Setup R : Type 0} (SetsUp : SetUpBy Setup) (key : Setup → List ℕ) 
     (told : Option (List File)) (file : List ℕ) (before : Outside) (provider : Provider Setup R)
     (opened : Outside) where
   -- The config in this file sets such a provider up, its ledger was opened, by all calls of an opening on the disk and
-  -- no other, and else all is as it was. From then on the disk is the provider's own; it tells as it did, and reads as
-  -- an image that it may leave.
+  -- no other, and else all is as it was. From then on the disk is the provider's own; it tells as it did, reads as an
+  -- image that it may leave, and its count of faults has not fallen.
   pub record Begins : Type 0 where
     pub set_up : SetsUp told file provider.setup
     pub started : IsStarted key rules before.disk provider
@@ -46,6 +46,7 @@ module _ {Setup R : Type 0} (SetsUp : SetUpBy Setup) (key : Setup → List ℕ) 
     pub own : OwnsDisk rules provider opened.disk
     pub tells : is_some opened.disk ≡ is_some before.disk
     pub reads : IfSome opened.disk (λ d. MayLeave d (image_of d))
+    pub disk_faults : before.disk_faults ≤ opened.disk_faults
     pub same : IsButTheDisk before opened
 
 -- Why no ledger was opened: what the disk holds is none, and this is the fault that it has, as far as the disk tells;

@@ -8,7 +8,7 @@
 //! apart (`ranges_nest`, `other_ranges_are_apart`).
 #![tactic(auto)]
 
-ghost use Rattle.std.specs.Prelude.{◌≡◌, ℕ, List};
+ghost use Rattle.std.specs.Prelude.{ℕ, List};
 ghost use Rattle.xml_spec.specs.Tree.{Nodes};
 ghost use Rattle.xml_spec.specs.Document.{Spells, Span};
 ghost use Rattle.range_laws.specs.Ranges.{StandsAt, LiesIn, IsWithin, AreApart};

@@ -90,7 +90,8 @@ module _ {R : Type 0} (rules : RecordRules R) where
   kept_of held = record { file = held.file; holds = record { version = held.version; header = held.header; payloads = map (rules.bytes 2) held.records } }
 
   -- The disk is the ledger's own. While it is not broken, a crash leaves what a read gives, which stands for the ledger and is
-  -- the journal that the code writes for it. While it is broken, each image that a crash may leave stands for some ledger.
+  -- the journal that the code writes for it. While it is broken, each image that a crash may leave stands for some ledger,
+  -- or for no journal yet.
   abbrev pub IsOwn : {S : Type 0} → Option DiskState → OpenedLedger R S → Type 0
   IsOwn told ledger =
       IfSome told (λ disk. MatchBool ledger.broken

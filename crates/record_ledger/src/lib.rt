@@ -32,9 +32,9 @@
 //! a crash may leave stands for the records before or after it; where a call failed each image still holds a ledger
 //! (`own`). A record that was added is in each history from there on (`specs/Runs.antt`). The ledgers of all roles are
 //! this one, each with its own records and rows. Which changing calls of the disk `start`, `reopen`, `commit` and
-//! `compact` make is said as at the journal (`calls`; a compaction makes those of one ledger made anew, or none). A
-//! record that is visible at each moment at which a run compacts the ledger stays in it to the end of the run, with the
-//! records that name it (`laws::visible_records_stay`).
+//! `compact` make is said as at the journal (`calls`; a compaction makes those of one ledger made anew, and at the last
+//! generation none). A record that is visible at each moment at which a run compacts the ledger stays in it to the end
+//! of the run, with the records that name it (`laws::visible_records_stay`).
 #![tactic(auto)]
 
 mod compacting;

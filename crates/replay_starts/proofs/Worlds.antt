@@ -33,6 +33,7 @@ module _ {N : Type 0} where
       disk = asks.disk;
       moment = record { moment = tt; limit = asks.moment.limit; later = refl };
       time = asks.time;
+      disk_faults = asks.disk_faults;
       answers = asks.answers;
       link = asks.link;
       send_faults = asks.send_faults;

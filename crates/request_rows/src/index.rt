@@ -1,5 +1,5 @@
 //! The lists that have indexes, and an index: the places of a list's rows, sorted by a key of theirs.
-ghost use Rattle.std.specs.Prelude.{◌≡◌, ℕ, ◌+◌, ◌<◌, ◌≤◌, ◌^◌, [], length, insert, IfOk, OnOk, OnErr};
+ghost use Rattle.std.specs.Prelude.{◌≡◌, ◌+◌, ◌<◌, ◌≤◌, ◌^◌, [], length, insert, IfOk, OnOk, OnErr};
 ghost use Rattle.std.specs.List.{range_with_len};
 ghost use Rattle.request_rows.specs.Order.{keys_of, key_at, place_order, IsOrder};
 ghost use Rattle.request_rows.specs.Indexed.{key_texts, IsRank, ArePlacesOf, room};

@@ -1,5 +1,5 @@
 //! Rows that are gathered before they are indexed.
-ghost use Rattle.std.specs.Prelude.{◌≡◌, ◌<◌, ◌≤◌, ◌+◌, [], ◌∷◌, ◌++◌, true, false, length, IfOk, OnOk, OnErr};
+ghost use Rattle.std.specs.Prelude.{◌≡◌, ◌<◌, ◌≤◌, ◌+◌, [], ◌∷◌, ◌++◌, true, length, IfOk, OnOk, OnErr};
 ghost use Rattle.request_rows.specs.Rows.{closed_at, confirmed_at};
 ghost use Rattle.request_rows.specs.Indexed.{room};
 

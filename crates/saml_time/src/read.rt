@@ -1,7 +1,7 @@
 //! Reading an instant, piece by piece. The reader of a piece in front of a text gives what the piece
 //! means and the text behind it.
 ghost use Rattle.std.specs.Prelude.{◌≡◌, ℕ, ◌<◌, ◌≤◌, ◌++◌, ◌∷◌, List, codes, Option, Some, IfSome, IsTrue, SomeIff, ◌↔◌, option_copied, ◌-◌, slice_index};
-ghost use Rattle.saml_time.specs.Instant.{Clock, Day, Instant, IsClock, IsDay, IsFraction, Spells, Tells, days_of, four_digits, milliseconds_of, moment, print_clock, print_day, print_digits, print_fraction, seconds_of, two_digits};
+ghost use Rattle.saml_time.specs.Instant.{Instant, IsClock, IsDay, IsFraction, Spells, Tells, days_of, four_digits, milliseconds_of, moment, print_clock, print_day, print_digits, print_fraction, seconds_of, two_digits};
 ghost use Rattle.saml_time.specs.Pieces.{AllDigits, FindsEach, Found, ShowsDigits, clock_of, day_of, read_of};
 
 use crate::LAST;

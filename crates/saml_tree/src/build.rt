@@ -1,11 +1,11 @@
 // What is made of a document's tokens: rows, one token after the other.
 
-ghost use Rattle.std.specs.Prelude.{◌≡◌, ◌<◌, ◌≤◌, ◌+◌, ◌-◌, ◌^◌, ◌++◌, [], ◌∷◌, length, slice_index, vec_len, IfErr, OnOk, IsTrue};
+ghost use Rattle.std.specs.Prelude.{◌≡◌, ◌<◌, ◌+◌, ◌-◌, ◌^◌, ◌++◌, [], ◌∷◌, length, slice_index, vec_len, IfErr, OnOk, IsTrue};
 ghost use Rattle.xml_spec.specs.Syntax.{Item, Token, Alone};
 ghost use Rattle.xml_spec.specs.Laws.{BeginsWith};
 ghost use Rattle.xml_tokens.specs.Views.{Shows};
 ghost use Rattle.xml_tokens.specs.Texts.{is_text, item_text};
-ghost use Rattle.tree_rows.specs.Rows.{Shape, ElementShape, end_at};
+ghost use Rattle.tree_rows.specs.Rows.{ElementShape, end_at};
 ghost use Rattle.tree_rows.specs.Views.{leaf_shape};
 ghost use Rattle.saml_tree.specs.Run.{first_state, all_rows, TextPart, NodePart, with_part, with_part_inside, opened, closed, step};
 ghost use Rattle.saml_tree.specs.Links.{depths_of, AreLinkedSoFar};

@@ -1,13 +1,13 @@
 // A document that was read.
 
-ghost use Rattle.std.specs.Prelude.{◌≡◌, ℕ, ◌<◌, ◌++◌, ◌↔◌, List, [], length, map, take, string_bytes, unwrap_or, Some, IsTrue, OnOk, OnErr, IfOk, IfErr, IfSome, IsSome, ◌^◌};
+ghost use Rattle.std.specs.Prelude.{◌≡◌, ℕ, ◌<◌, ◌++◌, ◌↔◌, [], length, map, take, string_bytes, unwrap_or, Some, IsTrue, OnOk, OnErr, IfSome, IsSome, ◌^◌};
 ghost use Rattle.std.specs.Option.{option_map};
 ghost use Rattle.xml_spec.specs.Numbering.{size, from_node, kids_of, rest_of, first_kid_of, next_of, parent_of, elements_before};
 ghost use Rattle.xml_spec.specs.Identifiers.{identifiers, node_with};
 ghost use Rattle.xml_spec.specs.Document.{IsRange};
 ghost use Rattle.xml_spec.specs.Canonical.{byte_order};
 ghost use Rattle.saml_tree.specs.Documents.{IsSpelled, IsWritten, kind_of, name_of, attributes_of, text_of};
-ghost use Rattle.saml_tree.specs.NodeNames.{ShownName, name_at, attribute_at, attribute_name_at, IsNameAt, namespace_at};
+ghost use Rattle.saml_tree.specs.NodeNames.{name_at, attribute_at, attribute_name_at, IsNameAt, namespace_at};
 ghost use Rattle.tree_rows.specs.Rows.{node, nodes_at};
 ghost use Rattle.tree_rows.specs.Shaped.{IsShaped};
 ghost use Rattle.tree_rows.specs.Views.{shown_shape};

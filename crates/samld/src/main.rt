@@ -24,7 +24,7 @@ use std::io::ErrorKind;
 use std::net::Net;
 use std::process::ExitCode;
 use std::rt::{Clock, Env, Files};
-use std::{env, io};
+use std::{env, fs, io};
 use system_objects::{FsDisk, FsFiles, StdoutSink, SystemClock, TcpLink};
 
 // The words behind the first, which is the program's name.
@@ -46,6 +46,11 @@ fn words<R: Env + AllocGlobal>(rt: &R) -> Result<Vec<Text>, NoMemory> {
         Err(e) if e.kind() == ErrorKind::OutOfMemory => Err(NoMemory),
         Err(_) => Ok(Vec::new(rt.alloc())),
     }
+}
+
+// A file that leads nowhere: it can be read, and writing to it fails.
+fn open_nowhere<R: Files<File = File>>(rt: &R) -> Option<File> {
+    fs::open(rt, "/dev/null").ok()
 }
 
 // Makes the real objects and runs the program over them. What was sent and did not yet go out goes out before it ends.
@@ -78,6 +83,11 @@ fn exit_code(status: Status) -> ExitCode
     ExitCode::from(status as u8)
 }
 
+// Where the program is started with its standard input, output or error closed, the files that it opens first have the
+// numbers of these, and what it prints would go into a journal. So three that lead nowhere are opened before, and stay open.
 fn main(rt: HostRuntime) -> ExitCode {
+    let _first = open_nowhere(&rt);
+    let _second = open_nowhere(&rt);
+    let _third = open_nowhere(&rt);
     exit_code(run_over(&rt))
 }

@@ -17,7 +17,7 @@ use crate::host::{HeldHost, Reply};
 use crate::sending::Sending;
 use crate::tally::Tally;
 use crate::words::{answer_words, line, stopped_words};
-use owned_values::{NoMemory, Text};
+use owned_values::NoMemory;
 use post_agent::Site;
 use saml_time::LAST;
 use serve_loop::Node;

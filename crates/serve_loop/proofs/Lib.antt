@@ -1,4 +1,5 @@
 pub mod Completing
+pub mod Faults
 pub mod InOrder
 pub mod Leaving
 pub mod Moments

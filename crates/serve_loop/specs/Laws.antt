@@ -1,5 +1,5 @@
 -- The laws of serving.
-use Rattle.std.specs.Prelude.{◌≡◌, ℕ, ◌<◌, min, List, [], ◌∷◌, length, map, flat_map, slice_index, Some, IsSome, IfSome}
+use Rattle.std.specs.Prelude.{◌≡◌, ℕ, ◌<◌, ◌≤◌, min, List, [], ◌∷◌, length, map, flat_map, slice_index, Some, IsSome, IfSome}
 use Rattle.saml_time.specs.declared.TheConstants.{LAST}
 use Rattle.crash_disk.specs.Disk.{MayLeave, image_of}
 use Rattle.event_link.specs.Clocks.{moment_at}
@@ -31,6 +31,11 @@ module _ {N : Type 0} (step : NodeStep N) where
   MomentsComeInOrder = (first : World N) (turns : List (Turn N)) (kept : Table) (now : World N) (moments : List ℕ)
       → Run step first turns kept now → first.clock ≡ Some moments → (k : ℕ) → k < length (asked_in turns)
       → slice_index (map (λ asked. asked.now) (asked_in turns)) k ≡ min (moment_at moments k) LAST
+
+  -- The disk's count of faults never falls in a run: one that did not rise in all rose at no request.
+  abbrev pub FaultsNeverFall : Type 0
+  FaultsNeverFall = (first : World N) (turns : List (Turn N)) (kept : Table) (last : World N)
+      → Run step first turns kept last → first.disk_faults ≤ last.disk_faults
 
 module _ {N : Type 0} (rules : NodeRules N) where
   -- A disk that tells at first tells whenever a request comes, and at the end.

@@ -91,12 +91,13 @@ module _ {N : Type 0} (conn code : ℕ) (old : Table) (before : World N) (new : 
 
 -- `step` says what an answer of the node does.
 module _ {N : Type 0} (step : NodeStep N) where
-  -- The node is asked, at one moment of the clock, while the disk's moment goes on.
+  -- The node is asked, at one moment of the clock, while the disk's moment goes on and its count of faults never falls.
   pub record Asks (a : Asked N) (old new : World N) : Type 0 where
     pub node : a.node ≡ old.node
     pub disk : a.disk ≡ old.disk
     pub moment : TakesMoment old.clock a.now new.clock
     pub time : old.moment ≤ new.moment
+    pub disk_faults : old.disk_faults ≤ new.disk_faults
     pub answers : step old.node old.disk a.request a.now old.disk_faults new.disk_faults a.answer new.node new.disk
     pub link : new.link ≡ old.link
     pub send_faults : new.send_faults ≡ old.send_faults

@@ -1,6 +1,6 @@
 //! Laws of serving, each the contract of a function that does nothing.
-ghost use Rattle.serve_loop.specs.Laws.{RequestsAreCompletions, MomentsComeInOrder, ADiskThatTellsGoesOnTelling};
-ghost use Rattle.serve_loop.specs.Laws.{ADiskGoesOnReadingAnImage};
+ghost use Rattle.serve_loop.specs.Laws.{RequestsAreCompletions, MomentsComeInOrder, FaultsNeverFall};
+ghost use Rattle.serve_loop.specs.Laws.{ADiskThatTellsGoesOnTelling, ADiskGoesOnReadingAnImage};
 ghost use Rattle.serve_loop.specs.Worlds.{IsAnswered};
 
 use crate::Node;
@@ -19,6 +19,12 @@ pub fn moments_come_in_order<N: Node>()
 {
     event_link::laws::moments_come_in_order();
 }
+
+/// The disk's count of faults never falls in a run. So where it did not rise in all, it rose at no request: then what a step
+/// says of a fault is said of none.
+pub fn faults_never_fall<N: Node>()
+    ensures { FaultsNeverFall (IsAnswered N.rules) }
+{}
 
 /// A disk that tells goes on telling: whenever a request comes, and at the end.
 pub fn a_disk_that_tells_goes_on_telling<N: Node>()

@@ -42,10 +42,12 @@
 //! every moment a crash leaves what it may leave at the start, or inside one of the answers; there are moments of the
 //! disk, one for each point between two turns and in their order, since which a crash might have left all that it may
 //! leave of the disk at that point, and nothing else but what it may leave inside the answer to a later request
-//! (`LeavesInOrder`); and once a request is answered only what one inside that answer might leave (`IsAnswered`). Laws:
-//! the requests that the node was asked are the whole ones that the events complete (`requests_are_completions`), each
-//! at the next moment of the clock (`moments_come_in_order`); a disk that tells goes on telling, and reads as one of
-//! its images (`a_disk_that_tells_goes_on_telling`, `a_disk_goes_on_reading_an_image`).
+//! (`LeavesInOrder`); and once a request is answered only what one inside that answer might leave (`IsAnswered`). That
+//! a connection is closed behind its answer no clause says. Laws: the requests that the node was asked are the whole
+//! ones that the events complete (`requests_are_completions`), each at the next moment of the clock
+//! (`moments_come_in_order`); the disk's count of faults never falls from one to the next, so where it did not rise in
+//! all it rose at no request (`faults_never_fall`); a disk that tells goes on telling, and reads as one of its images
+//! (`a_disk_that_tells_goes_on_telling`, `a_disk_goes_on_reading_an_image`).
 #![tactic(auto)]
 
 mod codes;

@@ -3,29 +3,19 @@ ghost use Rattle.std.specs.Prelude.{◌≡◌, ◌≢◌, ◌≤◌, [], IfOk};
 ghost use Rattle.xml_spec.specs.Characters.{IsText};
 ghost use Rattle.element_make.specs.Made.{written};
 ghost use Rattle.sp_answers.specs.Answers.{HoldsTexts, IsAskAnswer};
-ghost use Rattle.sp_rules.specs.Meant.{consumer};
 
 use element_make::Made;
 use http_wire::full_answer;
-use owned_values::{Blob, NoMemory, Text};
+use owned_values::{Blob, NoMemory};
 use post_binding::{Field, auto_form};
 use protocol_messages::make_authn;
 use saml_time::LAST;
 use sig_reference::sign;
-use sp_rules::SpConfig;
+use sp_rules::{SpConfig, consumer_address};
 use std::alloc::Global;
 
 /// The status of a page.
 pub(crate) const OK: u16 = 200;
-
-/// The address to which responses go.
-fn consumer_of(alloc: Global, config: &SpConfig) -> Result<Text, NoMemory>
-    ensures { IfOk result (λ address. address ≡ consumer config.now) }
-{
-    let mut address = Text::of(alloc, config.base.as_str())?;
-    address.push("/acs")?;
-    Ok(address)
-}
 
 /// What is written of a made element.
 pub(crate) fn written(alloc: Global, made: Made) -> Result<Blob, NoMemory>
@@ -52,7 +42,7 @@ pub fn ask_answer(
     ensures { IfOk result (λ bytes. IsAskAnswer config.now id.now relay.now now bytes) }
 {
     let service = config.idp.service.as_str();
-    let consumer = consumer_of(alloc, config)?;
+    let consumer = consumer_address(alloc, config)?;
     let made = make_authn(
         alloc,
         id,

@@ -11,7 +11,7 @@ ghost use Rattle.sp_rules.specs.Views.{first_of, second_of, keys_of, IsVerifiedW
 use crate::config::{FIRST, SECOND, SpConfig};
 use crate::keys::UsableKeys;
 use saml_names::ds;
-use saml_tree::{Doc, NodeNo};
+use saml_tree::NodeNo;
 use sig_reference::{SigFault, Vouched, verify, within};
 use std::alloc::Global;
 use tree_read::{At, ElementChildren};

@@ -44,3 +44,4 @@ pub use config::{FIRST, GREATEST_SKEW, NextKey, SECOND, SESSION_LENGTH, SpConfig
 pub use fault_verdicts::Judged;
 pub use judging::judge;
 pub use keys::UsableKeys;
+pub use login::consumer_address;

@@ -5,7 +5,7 @@ ghost use Rattle.sp_rules.specs.Meant.{consumer, is_if_any, is_from, names_provi
 ghost use Rattle.sp_rules.specs.Outstanding.{is_outstanding, is_unspent, is_unseen, is_relayed};
 
 use crate::config::{GREATEST_SKEW, SpConfig};
-use assertion_model::{Audiences, Login};
+use assertion_model::Login;
 use owned_values::{NoMemory, Text, Texts};
 use protocol_messages::ResponseHead;
 use request_rows::{AskedRow, Rows};
@@ -15,8 +15,12 @@ use std::alloc::Global;
 /// The path below a provider's base to which responses go.
 const CONSUMER_PATH: &str = "/acs";
 
-/// The address to which responses go.
-pub(crate) fn consumer_address(alloc: Global, config: &SpConfig) -> Result<Text, NoMemory>
+/// The address to which Responses to a service provider go: its base with `/acs` behind it (SAML Metadata, 2.4.4).
+///
+/// # Errors
+///
+/// Want of memory alone.
+pub fn consumer_address(alloc: Global, config: &SpConfig) -> Result<Text, NoMemory>
     ensures { IfOk result (λ address. address ≡ consumer config.now) }
 {
     let mut address = Text::of(alloc, config.base.as_str())?;

@@ -42,8 +42,8 @@ are_plain [] = true
 are_plain (segment ∷ []) = not (is_dot_segment segment)
 are_plain (segment ∷ next ∷ others) = not (is_empty segment || is_dot_segment segment) && are_plain (next ∷ others)
 
--- A path that no proxy and no application reads as another one: of the form that a GET of /app and below asks for,
--- without escapes, with plain segments.
+-- A path that a proxy passes on as it stands: of the form that a GET of /app and below asks for, without escapes, with
+-- plain segments. An application may still pass over a slash at its end, or take letters of either case for one.
 abbrev pub is_plain : List ℕ → Bool
 is_plain path = is_app path && is_target path && are_plain (segments path)
 

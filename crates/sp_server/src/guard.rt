@@ -62,7 +62,7 @@ fn has_plain_segments(path: &str) -> bool
     }
 }
 
-/// Whether no proxy and no application reads a path as another one.
+/// Whether a proxy passes a path on as it stands.
 fn is_plain(path: &str) -> bool
     ensures { result ≡ spec.is_plain path.now }
 {

@@ -10,7 +10,7 @@ use owned_values::{Blob, NoMemory};
 use provider_node::{DraftOutcome, Replied, Role};
 use request_ledger::laws::compactions_change_no_answer;
 use request_ledger::{Draft, Ledger, Marked};
-use saml_time::{LAST, each_moment_is_told};
+use saml_time::each_moment_is_told;
 use service_routes::Route;
 use sp_answers::metadata_answer;
 use verdict_codes::Verdict;

@@ -18,6 +18,11 @@ const LISTENER: Token = Token(1 << 32);
 // in the system, no room for buffers, no memory.
 const NO_ROOM: [i32; 4] = [24, 23, 105, 12];
 
+// Numbers of the system's errors that are of the connection which waits, and not of the listener (accept(2)): a firewall
+// forbids it, its machine is not on the network, of its protocol three, its network is down or is not reached, it took
+// too long, its host is down or is not reached.
+const OF_THE_CONNECTION: [i32; 10] = [1, 64, 71, 92, 95, 100, 101, 110, 112, 113];
+
 /// What an `accept` gave.
 #[derive(Drop)]
 pub(crate) enum Accepted {
@@ -25,7 +30,7 @@ pub(crate) enum Accepted {
     Stream(TcpStream),
     /// None waits.
     Nothing,
-    /// A connection that was aborted, or the call was interrupted.
+    /// A connection that was aborted or that its network gave up, or the call was interrupted.
     Aborted,
     /// The system has no room for one now.
     NoRoom,
@@ -63,6 +68,7 @@ fn accept_error(error: io::Error) -> io::Result<Accepted> {
         }
         _ => match error.raw_os_error() {
             Some(code) if NO_ROOM.contains(&code) => Ok(Accepted::NoRoom),
+            Some(code) if OF_THE_CONNECTION.contains(&code) => Ok(Accepted::Aborted),
             _ => Err(error),
         },
     }

@@ -1,6 +1,6 @@
 // Lines one after the other.
 
-ghost use Rattle.std.specs.Prelude.{◌≡◌, ◌<◌, ◌^◌, [], ◌∷◌, length, MatchOption, IsTrue};
+ghost use Rattle.std.specs.Prelude.{◌≡◌, ◌<◌, ◌^◌, [], ◌∷◌, length, MatchOption};
 ghost use Rattle.text_lines.specs.Lines.{lines, said, is_passed_over};
 ghost use Rattle.text_lines.specs.Views.{said_view};
 

@@ -1,6 +1,6 @@
 // Rows, and their attributes in one list.
 
-ghost use Rattle.std.specs.Prelude.{◌≡◌, ◌<◌, ◌+◌, ◌^◌, ◌++◌, [], ◌∷◌, length, slice_index_or, slice_set, OnOk, IfOk, IfErr, ◌⊎◌};
+ghost use Rattle.std.specs.Prelude.{◌≡◌, ◌<◌, ◌+◌, ◌^◌, [], length, slice_index_or, slice_set, OnOk, IfOk, IfErr, ◌⊎◌};
 ghost use Rattle.xml_spec.specs.Syntax.{Token};
 ghost use Rattle.xml_spec.specs.Laws.{BeginsWith};
 ghost use Rattle.xml_tokens.specs.Markup.{NoTokens};

@@ -7,7 +7,7 @@ ghost use Rattle.user_store.specs.Store as spec;
 
 use crate::line::UserLine;
 use crate::user::User;
-use owned_values::{Attribute, NoMemory, Text, Texts};
+use owned_values::{Attribute, NoMemory, Texts};
 use std::alloc::Global;
 use std::collections::BTreeMap;
 use std::marker::Model;

@@ -21,7 +21,7 @@ pub const MAX_ATTRIBUTES: usize = 128;
 /// The greatest length of a document, in bytes (profile).
 pub const MAX_DOCUMENT_LENGTH: usize = 262_144;
 
-ghost use Rattle.std.specs.Prelude.{◌≡◌, ℕ, ◌<◌, ◌↔◌, List, ◌∷◌, map, IsTrue, Option, IsSomeAnd, Some};
+ghost use Rattle.std.specs.Prelude.{◌≡◌, ℕ, ◌<◌, ◌↔◌, List, ◌∷◌, map, IsTrue, IsSomeAnd, Some};
 ghost use Rattle.std.specs.List.Sorted.{IsPermutation};
 ghost use Rattle.xml_spec.specs.Characters.{Ranges, InRanges, in_ranges};
 ghost use Rattle.xml_spec.specs.Tree.{Attribute, Nodes, IsJoined};

@@ -1,11 +1,10 @@
 // The parts of an XML declaration.
 
-ghost use Rattle.std.specs.Prelude.{◌≡◌, ℕ, ◌++◌, List, IsTrue, codes};
+ghost use Rattle.std.specs.Prelude.{IsTrue, codes};
 ghost use Rattle.std.specs.Option.{MatchOption};
 ghost use Rattle.xml_spec.specs.Bytes.{begins_with};
-ghost use Rattle.xml_spec.specs.Document.{Declaration, print_declaration, IsDeclaration};
 ghost use Rattle.xml_tokens.specs.Lexing.{QuotedAt, NoQuoted};
-ghost use Rattle.xml_tokens.specs.Heads.{is_no_white, IsVersion, IsEncoding, IsStandalone, SettingAt, NoSetting, OptionalAt, NoOptional, VersionAt, NoVersion, DeclaredAt, NoDeclared};
+ghost use Rattle.xml_tokens.specs.Heads.{is_no_white, IsEncoding, IsStandalone, SettingAt, NoSetting, OptionalAt, NoOptional, VersionAt, NoVersion, DeclaredAt, NoDeclared};
 
 use crate::class::{Class, split_run};
 use crate::marks::{strip_byte, strip_word};

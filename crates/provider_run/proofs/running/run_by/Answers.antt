@@ -25,6 +25,7 @@ returns-in-Ok-clause-runs g c = let link = c.args.link.now in
         own = starts.own;
         tells = g.met.D.Disk.tells_always c.start.new.disk ∙ sym (g.met.D.Disk.tells_always disk);
         reads = g.met.D.Disk.reads_an_image c.start.new.disk;
+        disk_faults = starts.faults.never_falls;
         same = refl;
       }),
       served g.D.Disk.shows (OpeningLeaves g.R.Role.Rows.Standing.rules)

@@ -1,4 +1,4 @@
-use Rattle.std.proofs.Common.{◌≡◌, ◌∙◌, ℕ, List, None, false, true, max, inr, refl, sym, ap, subst, arith}
+use Rattle.std.proofs.Common.{◌≡◌, ◌<◌, ◌∙◌, ℕ, List, None, false, true, max, inr, refl, sym, ap, subst, arith}
 use Rattle.crash_disk.specs.Disk.{Image, DiskState}
 use Rattle.crash_disk.specs.Steps.{weaker}
 use Rattle.crash_disk.proofs.Following as calls
@@ -7,7 +7,7 @@ use Rattle.gate_journal.specs.Journal.{OpenedJournal, Fits, IsOldOrNew, made_ane
 use Rattle.gate_journal.proofs.Owning.{left_now_stands}
 use Rattle.record_ledger.specs.Ledger.{Held, OpenedLedger, next_number}
 use Rattle.record_ledger.specs.Keeping.{held_in, opened_of, StandsFor}
-use Rattle.record_ledger.specs.Compacting.{IsCompacted, IsOldOrCompacted}
+use Rattle.record_ledger.specs.Compacting.{LAST_GENERATION, IsCompacted, IsOldOrCompacted}
 use Rattle.record_ledger.proofs.Committing.{ledgers_own, journals_own, own_broken, its_kept}
 use Rattle.record_ledger.proofs.KeptRecords.{kept_are_records}
 use Rattle.record_ledger.proofs.CompactSteps.{its_read, stands_anew, compacted, leads, old_or_compacted_ok}
@@ -151,6 +151,14 @@ module _ (g : Over) (c : After-compact g) where
       c.next_number-next.result (c.max-horizon.ensures ∙ ap (λ (h : Header). max h.horizon c.args.now) c.header-header.ensures)
       (c.next_number-next.ensures ∙ sym (ap (next_number rules) held)))
 
+  less : c.args.self.now.held.header.generation < LAST_GENERATION
+  less = omega (
+    arith,
+    c.if-header.false,
+    ap (λ (l : OpenedLedger g.row.S-Record.Denot g.row.S.Denot). l.held.header.generation) c.self.view_is,
+    ap (λ (h : Header). h.generation) c.header-header.ensures,
+  )
+
   -- the plan of the journal is that of the ledger
   planned : (d : DiskState) → remaking (made_anew c.deref.result.now c.max-horizon.result c.next_number-next.result kept) d ≡ compacting rules (held_in rules anew) d
   planned d =
@@ -168,6 +176,7 @@ returns-in-Ok-clause-calls g c =
     let new = c.compact.new.disk in
     let plan = remaking (made_anew c.deref.result.now c.max-horizon.result c.next_number-next.result (kept g a)) in
     inr (
+      less g a,
       held_in g.S.Standing.rules (anew g a),
       is_compacted g a,
       calls.answers tt (compacting g.S.Standing.rules (held_in g.S.Standing.rules (anew g a))) d0 new
@@ -183,6 +192,7 @@ returns-in-Err-DiskFault-clause-calls g c =
     let plan = remaking (made_anew c.deref.result.now c.max-horizon.result c.next_number-next.result (kept g a)) in
     let failed : Result (Unit {0}) OpenFault = Err DiskFault in
     inr (
+      less g a,
       held_in g.S.Standing.rules (anew g a),
       is_compacted g a,
       calls.follows_same failed plan (compacting g.S.Standing.rules (held_in g.S.Standing.rules (anew g a))) d0 new (always (g.D.Disk.shows d0).told _ (planned g a))

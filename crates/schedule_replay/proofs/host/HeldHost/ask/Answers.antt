@@ -23,6 +23,7 @@ returns-clause-asked g c =
           later = refl;
         };
         time = c.answer-answer.ensures.moments.later;
+        disk_faults = c.answer-answer.ensures.faults;
         answers = record {
           does = c.answer-answer.ensures.step;
           reads = reads_an_image before.disk.now;

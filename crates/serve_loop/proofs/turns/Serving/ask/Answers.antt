@@ -27,6 +27,7 @@ returns-clause-asked g c =
           later = c.now.ensures.later;
         };
         time = c.answer.ensures.moments.later;
+        disk_faults = c.answer.ensures.faults;
         answers = record {
           does = c.answer.ensures.step;
           reads = g.met.D.Disk.reads_an_image before.disk.now;
