@@ -172,8 +172,8 @@ fault_counts change old new ok (inl is) = fault_cases change old new ok old.stop
 fault_counts change old new ok (inr is) = ap (λ p. p.1.faults) is ∙ sym (ap (λ p. if p.0 then old.faults else one_more old.faults) is)
 
 counts_by : {T E : Type 0} (old new : DiskInMemory) (result : Result T E) → old.faults ≤ new.faults → new.faults < 2 ^ 64 → new.faults ≡ (if is_ok result then old.faults else one_more old.faults) → CountsFaults result old.faults new.faults
-counts_by old new (Ok x) le fits is = record { never_falls = le; in_range = fits; failed = tt }
-counts_by old new (Err e) le fits is = record { never_falls = le; in_range = fits; failed = omega arith }
+counts_by old new (Ok x) le fits is = record { never_falls = le; in_range = fits; failed = tt; kept = is }
+counts_by old new (Err e) le fits is = record { never_falls = le; in_range = fits; failed = omega arith; kept = tt }
 
 pub counts_in_memory : {T E : Type 0} (change : Change) (old new : DiskInMemory) (result : Result T E) → old.faults ≤ new.faults → new.faults < 2 ^ 64 → Calls change old result new → CountsFaults result old.faults new.faults
 counts_in_memory change old new result le fits calls = counts_by old new result le fits (fault_counts change old new (is_ok result) calls)

@@ -18,15 +18,17 @@
 //! A plan is a list of changing calls in an order. That a run of calls follows a plan says that the disk took these, all of
 //! them or a beginning, and no other (`specs/Plans.antt`).
 //!
-//! A call answers [`Failed`] only where the count of faults rose in it. What it then did is no more than begun.
+//! A call answers [`Failed`] only where the count of faults rose in it, and the count rises in no other. What a call that
+//! failed did is no more than begun.
 //!
 //! # What is proved
 //!
-//! The disk rule as definitions (`specs/Disk.antt`): what a read gives, which changing calls were taken, and which images
-//! a crash may leave now, and at some moment since a call began. The trait `Disk` says it of every disk that tells, and a disk tells at each moment
-//! or at none (`tells_always`); a call fails only where the count of faults rose. `MemDisk` keeps the rule with an
-//! exact outcome for each call (`calls`), also where it is told to fail or to stop; a stop leaves one of the images
-//! that a crash may leave (`laws::a_stop_leaves_what_a_crash_may_leave`).
+//! The disk rule as definitions (`specs/Disk.antt`): what a read gives, which changing calls were taken, and which
+//! images a crash may leave now, and at some moment since a call began. The trait `Disk` says it of every disk that
+//! tells, and a disk tells at each moment or at none (`tells_always`); the count of faults rises where a call failed,
+//! and in no other (`CountsFaults`). `MemDisk` keeps the rule with an exact outcome for each call (`calls`), also where
+//! it is told to fail or to stop; a stop leaves one of the images that a crash may leave
+//! (`laws::a_stop_leaves_what_a_crash_may_leave`).
 #![tactic(auto)]
 
 mod change;

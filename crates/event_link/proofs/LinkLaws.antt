@@ -74,11 +74,11 @@ two_sendings conn a b first middle last one two = record {
     on_it = two.put.on_it ∙ ap (λ sent. sent ++ b) one.put.on_it ∙ append_assoc (first.sent conn) a b;
     on_others = λ other apart. two.put.on_others other apart ∙ one.put.on_others other apart;
   };
-  coming = two.coming ∙ one.coming;
+  same = two.same ∙ ap (λ (link : LinkState). record link { sent = last.sent }) one.same;
 }
 
 pub no_sending : (conn : ℕ) (link : LinkState) → IsSent conn [] link link
 no_sending conn link = record {
   put = record { on_it = sym (append-nil (link.sent conn)); on_others = λ other apart. refl };
-  coming = refl;
+  same = refl;
 }

@@ -1,10 +1,10 @@
 -- The definitions at worked examples.
-use Rattle.std.specs.Prelude.{◌≡◌, List, [], ◌∷◌, codes, refl}
+use Rattle.std.specs.Prelude.{◌≡◌, List, [], ◌∷◌, codes, None, Some, Result, Ok, Err, refl}
 use Rattle.event_link.specs.declared.arrival.Arrival.{Arrival}
 use Rattle.event_link.specs.declared.arrival.Arrival.TheVariants.{Start, Bytes, End, Halt}
 use Rattle.event_link.specs.declared.link.LinkEvent.TheVariants.{Started, Piece, Ended, Stop}
 use Rattle.event_link.specs.Clocks.{now_of, later_of, moment_at}
-use Rattle.event_link.specs.Links.{in_front, next_of}
+use Rattle.event_link.specs.Links.{LinkState, closed_on, in_front, listened, next_of}
 use Rattle.event_link.specs.InMemory.{ClockInMemory, after_now, moments_of, sent_on}
 
 -- a clock with the moments 5 and 3 to come gives 5, 3, 3, 3; one with none gives 0
@@ -49,3 +49,28 @@ places = (refl, refl)
 -- hi was sent on connection 1, oh on 4, nothing on 2
 sent : (sent_on ((1, codes "hi") ∷ (4, codes "oh") ∷ []) 4 ≡ codes "oh") × (sent_on ((1, codes "hi") ∷ (4, codes "oh") ∷ []) 2 ≡ [])
 sent = (refl, refl)
+
+-- a link that listens nowhere, on which hi was sent on connection 1
+abbrev quiet : LinkState
+quiet = record {
+  coming = [];
+  sent = sent_on ((1, codes "hi") ∷ []);
+  address = None;
+  closings = record { count = 0; last = 0; behind = 0 };
+}
+
+-- it listens where it was told to last, and a `listen` that fails changes nothing
+abbrev went_well : Result (Unit {0}) (Unit {0})
+went_well = Ok tt
+
+abbrev failed : Result (Unit {0}) (Unit {0})
+failed = Err tt
+
+listens : (listened (codes "b") went_well (listened (codes "a") went_well (Some quiet)) ≡ Some (record quiet { address = Some (codes "b") }))
+    × (listened (codes "a") failed (Some quiet) ≡ Some quiet)
+listens = (refl, refl)
+
+-- connection 1 is closed behind two bytes, and then connection 4 behind none
+closes : ((closed_on 1 quiet).closings ≡ record { count = 1; last = 1; behind = 2 })
+    × ((closed_on 4 (closed_on 1 quiet)).closings ≡ record { count = 2; last = 4; behind = 0 })
+closes = (refl, refl)

@@ -1,5 +1,5 @@
 -- Clocks and links in memory.
-use Rattle.std.specs.Prelude.{◌≡◌, ℕ, ◌-◌, ◌≤◌, List, [], ◌∷◌, length, Some}
+use Rattle.std.specs.Prelude.{◌≡◌, ℕ, ◌-◌, ◌≤◌, List, [], ◌∷◌, length, Option, Some}
 use Rattle.std.specs.Option.{unwrap_or}
 use Rattle.std.specs.Map.{lookup}
 use Rattle.std.specs.BTreeMap.{is_at}
@@ -7,6 +7,7 @@ use Rattle.std.specs.Ordering.{nat_cmp}
 use Rattle.crash_disk.specs.Counts.{one_more}
 use Rattle.event_link.specs.declared.arrival.Arrival.{Arrival}
 use Rattle.event_link.specs.declared.arrival.Arrival.TheVariants.{Start, Bytes, End, Halt}
+use Rattle.event_link.specs.declared.closings.Closings.{Closings}
 use Rattle.event_link.specs.declared.faults.Faults.{Faults}
 use Rattle.event_link.specs.declared.link.LinkEvent.{LinkEvent}
 use Rattle.event_link.specs.declared.link.LinkEvent.TheVariants.{Started, Piece, Ended, Stop}
@@ -63,6 +64,9 @@ pub record LinkInMemory : Type 0 where
   pub coming : List Arrival
   -- each connection on which a `send` went well, with all that was sent on it, in the order of their numbers
   pub sent : List (ℕ × List ℕ)
+  -- where it listens
+  pub address : Option (List ℕ)
+  pub closings : Closings
   -- the calls of `next`, and those of `send`
   pub nexts : Faults
   pub sends : Faults
@@ -73,7 +77,12 @@ sent_on sent conn = unwrap_or (lookup (is_at (nat_cmp conn)) sent) []
 
 -- what a link in memory tells
 abbrev pub state_of : LinkInMemory → LinkState
-state_of link = record { coming = link.coming; sent = sent_on link.sent }
+state_of link = record {
+  coming = link.coming;
+  sent = sent_on link.sent;
+  address = link.address;
+  closings = link.closings;
+}
 
 -- what a link in memory shows
 abbrev pub shown_by_list : LinkInMemory → LinkShown

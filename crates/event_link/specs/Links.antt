@@ -1,7 +1,10 @@
--- What a link gives and what it sends.
+-- Where a link listens, what it gives, what it sends and what it closes.
 use Rattle.std.specs.Prelude.{◌≡◌, ◌≢◌, ℕ, ◌≤◌, nat_le, if◌then◌else◌, List, [], ◌∷◌, ◌++◌, length, take, drop, Option, None, Some, IsSomeAnd, Result, Ok, Err}
+use Rattle.std.specs.Option.{option_map}
+use Rattle.crash_disk.specs.Counts.{one_more}
 use Rattle.event_link.specs.declared.arrival.Arrival.{Arrival}
 use Rattle.event_link.specs.declared.arrival.Arrival.TheVariants.{Start, Bytes, End, Halt}
+use Rattle.event_link.specs.declared.closings.Closings.{Closings}
 use Rattle.event_link.specs.declared.link.LinkEvent.{LinkEvent}
 use Rattle.event_link.specs.declared.link.LinkEvent.TheVariants.{Started, Piece, Ended, Stop}
 
@@ -11,10 +14,14 @@ pub record LinkState : Type 0 where
   pub coming : List Arrival
   -- all bytes that went out on each connection
   pub sent : ℕ → List ℕ
+  -- where it listens, if it does
+  pub address : Option (List ℕ)
+  -- how connections were closed
+  pub closings : Closings
 
 -- What a link shows at a moment.
 pub record LinkShown : Type 0 where
-  -- what is to come and what was sent, where the link tells it
+  -- what is to come, what was sent, where it listens and what was closed, where the link tells it
   pub told : Option LinkState
   -- how many faults of `listen` and `next` there were, and how many of `send`
   pub faults : ℕ
@@ -69,10 +76,25 @@ pub record IsPut (conn : ℕ) (bytes : List ℕ) (before after : ℕ → List �
 -- These bytes were sent on that connection, and else all is as it was.
 pub record IsSent (conn : ℕ) (bytes : List ℕ) (before after : LinkState) : Type 0 where
   pub put : IsPut conn bytes before.sent after.sent
-  pub coming : after.coming ≡ before.coming
+  pub same : after ≡ record before { sent = after.sent }
 
 -- What a `send` did: after Ok all bytes were sent, after Failed a prefix of them.
 abbrev pub Sends : {T E : Type 0} → ℕ → List ℕ → Option LinkState → Result T E → Option LinkState → Type 0
 Sends conn bytes None result now = now ≡ None
 Sends conn bytes (Some link) (Ok _) now = IsSomeAnd now (IsSent conn bytes link)
 Sends conn bytes (Some link) (Err _) now = IsSomeAnd now (λ after. (n : ℕ) × IsSent conn (take n bytes) link after)
+
+-- A link that listens at this address, and at no other.
+abbrev pub listening : List ℕ → LinkState → LinkState
+listening address link = record link { address = Some address }
+
+-- What a link tells after a `listen`: after Ok it listens at that address, after Failed all is as it was.
+abbrev pub listened : {T E : Type 0} → List ℕ → Result T E → Option LinkState → Option LinkState
+listened address (Ok _) told = option_map (listening address) told
+listened address (Err _) told = told
+
+-- What a link tells once a connection was closed, behind all bytes that had gone out on it.
+abbrev pub closed_on : ℕ → LinkState → LinkState
+closed_on conn link = record link {
+  closings = record { count = one_more link.closings.count; last = conn; behind = length (link.sent conn) };
+}

@@ -13,25 +13,27 @@
 //! link.sent(1);                               // hello
 //! ```
 //!
-//! A [`Clock`] and a [`Link`] are traits. Their ghost members say what is to come and what was sent, where the object
-//! tells it: [`ListClock`] and [`ListLink`] do, those over a real clock or real sockets do not. No call changes whether
-//! an object tells.
+//! A [`Clock`] and a [`Link`] are traits. Their ghost members say what is to come, what was sent, where a link listens
+//! and how connections were closed, where the object tells it: [`ListClock`] and [`ListLink`] do, those over a real
+//! clock or real sockets do not. No call changes whether an object tells.
 //!
-//! A call of a link answers [`Failed`] only where the count of faults of its kind rose in it: one counts `listen` and
-//! `next`, the other `send`. After a `next` that failed what is to come is as before, and of a `send` that failed a
-//! prefix of the bytes went out. A clock can't fail.
+//! A call of a link answers [`Failed`] only where the count of faults of its kind rose in it, and this rises in no
+//! other: one counts `listen` and `next`, the other `send`. After a `next` that failed what is to come is as before,
+//! and of a `send` that failed a prefix of the bytes went out. A clock can't fail.
 //!
 //! # What is proved
 //!
 //! The traits `Clock` and `Link` say which moments a clock gives, which event a link gives next with the bytes of a
 //! piece (`next`: a piece that is longer than the place for it comes in several, and loses nothing,
-//! `laws::a_cut_piece_loses_nothing`), and which bytes went out on which connection (`send`); a call fails only where
-//! its count of faults rose. `ListClock` and `ListLink` keep this with an exact outcome for each call, also where one
-//! is told to fail.
+//! `laws::a_cut_piece_loses_nothing`), which bytes went out on which connection (`send`), where it listens (`listen`),
+//! and which connection was closed, behind how many bytes, by how many closings (`close`); a count of faults rises where
+//! a call of its kind failed, and in no other. `ListClock` and `ListLink` keep this with an exact outcome for each call,
+//! also where one is told to fail.
 #![tactic(auto)]
 
 mod arrival;
 mod clock;
+mod closings;
 mod faults;
 pub mod laws;
 mod link;
@@ -42,6 +44,7 @@ mod queue;
 
 pub use arrival::Arrival;
 pub use clock::Clock;
+pub use closings::Closings;
 pub use crash_disk::Failed;
 pub use link::{Link, LinkEvent};
 pub use list_clock::ListClock;

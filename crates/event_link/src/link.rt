@@ -1,7 +1,8 @@
 //! Connections: what comes from them and what goes out on them.
 ghost use Rattle.std.specs.Prelude.{◌≡◌, ◌<◌, length, IfOk};
+ghost use Rattle.std.specs.Option.{option_map};
 ghost use Rattle.crash_disk.specs.Counts.{CountsFaults};
-ghost use Rattle.event_link.specs.Links.{LinkShown, Fits, Gives, Sends};
+ghost use Rattle.event_link.specs.Links.{LinkShown, Fits, Gives, Sends, closed_on, listened};
 
 use crash_disk::Failed;
 
@@ -23,9 +24,9 @@ pub trait Link {
     /// What the link shows: what it tells, and its counts of faults.
     ghost shows: { Self → LinkShown };
 
-    /// Begins to take connections at an address.
+    /// Begins to take connections at an address, and at no other. After Failed all is as it was.
     fn listen(&mut self, address: &str) -> Result<(), Failed>
-        ensures same { (shows self.new).told ≡ (shows self.old).told }
+        ensures listens { (shows self.new).told ≡ listened address.now result (shows self.old).told }
         ensures faults { CountsFaults result (shows self.old).faults (shows self.new).faults }
         ensures send_faults { (shows self.new).send_faults ≡ (shows self.old).send_faults };
 
@@ -45,9 +46,9 @@ pub trait Link {
         ensures faults { (shows self.new).faults ≡ (shows self.old).faults }
         ensures send_faults { CountsFaults result (shows self.old).send_faults (shows self.new).send_faults };
 
-    /// Closes a connection. It can't fail, and changes nothing that a link tells.
+    /// Closes a connection, behind all bytes that went out on it. It can't fail.
     fn close(&mut self, conn: u32)
-        ensures same { (shows self.new).told ≡ (shows self.old).told }
+        ensures closes { (shows self.new).told ≡ option_map (closed_on conn) (shows self.old).told }
         ensures faults { (shows self.new).faults ≡ (shows self.old).faults }
         ensures send_faults { (shows self.new).send_faults ≡ (shows self.old).send_faults };
 

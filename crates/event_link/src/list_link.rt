@@ -1,24 +1,29 @@
 //! A link in memory.
-ghost use Rattle.std.specs.Prelude.{◌≡◌, ◌↔◌, ◌<◌, [], ◌∷◌, ◌++◌, Some, length, IfOk, IsErr, IsOk, OnErr, OnOk};
+ghost use Rattle.std.specs.Prelude.{◌≡◌, ◌↔◌, ◌<◌, [], ◌∷◌, ◌++◌, None, Some, length, IfOk, IsErr, IsOk, OnErr, OnOk};
+ghost use Rattle.std.specs.Option.{option_map};
 ghost use Rattle.crash_disk.specs.Counts.{CountsFaults};
-ghost use Rattle.event_link.specs.Links.{Fits, Gives, Sends, next_of};
+ghost use Rattle.event_link.specs.Links.{Fits, Gives, Sends, closed_on, listened, next_of};
 ghost use Rattle.event_link.specs.InMemory.{shown_by_list, GoesWith, arrival_of, sent_on, state_of, nearer, failed};
 
+use crate::closings::Closings;
 use crate::faults::Faults;
 use crate::outbox::Outbox;
 use crate::queue::Queue;
 use crate::{Link, LinkEvent};
 use crash_disk::Failed;
-use owned_values::NoMemory;
+use owned_values::{NoMemory, Text};
 use std::alloc::Global;
 use std::marker::Model;
 
-/// A link that gives the events of a list and then Stop, and keeps what is sent. One call of `next` and one of `send`
-/// may be chosen to fail.
+/// A link that gives the events of a list and then Stop, and keeps what is sent, where it listens and what was closed
+/// last. One call of `next` and one of `send` may be chosen to fail.
 #[derive(Debug, Drop)]
 pub struct ListLink {
+    alloc: Global,
     queue: Queue,
     outbox: Outbox,
+    address: Option<Text>,
+    closings: Closings,
     nexts: Faults,
     sends: Faults,
 }
@@ -28,17 +33,21 @@ impl Model for ListLink {
 
     ghost Value = { LinkInMemory };
 
-    ghost view = { λ l. record { coming = l.queue; sent = l.outbox; nexts = l.nexts; sends = l.sends } };
+    ghost view = { λ l. record { coming = l.queue; sent = l.outbox; address = l.address; closings = l.closings; nexts = l.nexts; sends = l.sends } };
 }
 
 impl ListLink {
-    /// Nothing is to come, nothing was sent, no call is to fail, and none did. It takes no memory.
+    /// Nothing is to come, nothing was sent or closed, it listens nowhere, no call is to fail, and none did. It takes no
+    /// memory.
     pub fn new(alloc: Global) -> ListLink
-        ensures { result ≡ record { coming = []; sent = []; nexts = record { chosen = 0; count = 0 }; sends = record { chosen = 0; count = 0 } } }
+        ensures { result ≡ record { coming = []; sent = []; address = None; closings = record { count = 0; last = 0; behind = 0 }; nexts = record { chosen = 0; count = 0 }; sends = record { chosen = 0; count = 0 } } }
     {
         ListLink {
+            alloc,
             queue: Queue::new(alloc),
             outbox: Outbox::new(alloc),
+            address: None,
+            closings: Closings::new(),
             nexts: Faults::new(),
             sends: Faults::new(),
         }
@@ -85,19 +94,24 @@ impl ListLink {
 impl Link for ListLink {
     ghost shows = { shown_by_list };
 
-    /// It does nothing, and never fails.
+    /// It fails only where there is no memory for the address.
     fn listen(&mut self, address: &str) -> Result<(), Failed>
-        ensures same { Some (state_of self.new) ≡ Some (state_of self.old) }
+        ensures listens { Some (state_of self.new) ≡ listened address.now result (Some (state_of self.old)) }
         ensures faults { CountsFaults result self.old.nexts.count self.new.nexts.count }
         ensures send_faults { self.new.sends.count ≡ self.old.sends.count }
 
-        // Nothing changes.
-        ensures ok { IsOk result }
-        ensures nothing { self.new ≡ self.old }
+        // Only the address changes, and after Failed the faults alone.
+        ensures ok { OnOk result (self.new ≡ record self.old { address = Some address.now }) }
+        ensures err { OnErr result (self.new ≡ record self.old { nexts = self.new.nexts }) }
     {
-        let _ = address;
         let _count = self.nexts.count;
-        Ok(())
+        match Text::of(self.alloc, address) {
+            Ok(address) => {
+                self.address = Some(address);
+                Ok(())
+            }
+            Err(_) => Err(self.nexts.fail()),
+        }
     }
 
     /// It takes no memory, and fails at the chosen call alone. It costs the bytes that it gives.
@@ -138,16 +152,17 @@ impl Link for ListLink {
         Ok(())
     }
 
-    /// It does nothing.
+    /// It takes no memory. It costs a look-up of the connection.
     fn close(&mut self, conn: u32)
-        ensures same { Some (state_of self.new) ≡ Some (state_of self.old) }
+        ensures closes { Some (state_of self.new) ≡ option_map (closed_on conn) (Some (state_of self.old)) }
         ensures faults { self.new.nexts.count ≡ self.old.nexts.count }
         ensures send_faults { self.new.sends.count ≡ self.old.sends.count }
 
-        // Nothing changes.
-        ensures nothing { self.new ≡ self.old }
+        // Nothing changes but what was closed last.
+        ensures only { self.new ≡ record self.old { closings = self.new.closings } }
     {
-        let _ = conn;
+        let behind = self.outbox.bytes(conn).len();
+        self.closings.note(conn, behind);
     }
 
     fn faults(&self) -> u64 {

@@ -32,10 +32,12 @@ Opens disk image =
 abbrev pub IsEmptyOrNone : Image → Type 0
 IsEmptyOrNone image = (journal image ≡ Ok None) ⊎ (journal image ≡ Ok (Some (record { file = Zero; holds = first_journal })))
 
--- What a call that opens does to the count of faults: it never falls, and rises where the answer is DiskFault.
+-- What a call that opens does to the count of faults: it never falls, rises where the answer is DiskFault, and else is as
+-- it was.
 pub record CausesFaults {T : Type 0} (result : Result T OpenFault) (before now : ℕ) : Type 0 where
   pub never_falls : before ≤ now
   pub failed : IsErrOf result DiskFault → Rose before now
+  pub kept : ¬ (IsErrOf result DiskFault) → now ≡ before
 
 -- what a read file's error says of it
 abbrev pub FaultIs : Result (Option Committed) ℕ → FileNo → OpenFault → Type 0

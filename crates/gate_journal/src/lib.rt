@@ -34,8 +34,9 @@
 //! the start stood for (`open_journal`, `reopen`). Each of these calls makes the changing calls of the disk that its
 //! plan names, in their order and no other: all of them where it answers Ok, and else a beginning; an opening writes
 //! nothing but the first journal where there is none (`calls`: `Follows` of crash_disk, over the plans of
-//! `specs/Calls.antt`). DiskFault comes only where the disk's count rose, and breaks the journal; want of memory leaves
-//! journal and disk as they were in `compact`, `migrate` and `reserve`, the calls with a journal that take memory.
+//! `specs/Calls.antt`). The disk's count of faults rises where a call answers DiskFault, which breaks the journal, and
+//! in no other; want of memory leaves journal and disk as they were in `compact`, `migrate` and `reserve`, the calls
+//! with a journal that take memory.
 #![tactic(auto)]
 
 mod compacting;

@@ -13,12 +13,12 @@ use Rattle.hub_ledger.specs.Laws.{AnswerAlike, ImagesHoldRecords}
 use Rattle.hub_ledger.specs.Record.{hub_rules}
 use Rattle.identity_hub.specs.Histories.{WhatIsAcknowledgedIsKeptOnce, WhatIsAcknowledgedIsKeptOnceOverStarts}
 use Rattle.provider_node.specs.Histories.{IsProviders}
-use Rattle.identity_hub.specs.Passing.{NothingIsAskedOfAUserWhoMayNotBeAsked, OnlyWhereALoginIsBrought, WhereverALoginIsBrought}
+use Rattle.identity_hub.specs.Passing.{EachRefusalIsOfOneBelow, EachRequestUpwardsIsOfOneBelow, NothingIsAskedOfAUserWhoMayNotBeAsked, OnlyWhereALoginIsBrought, WhereverALoginIsBrought}
 use Rattle.identity_hub.specs.Recorded.{IsPosted}
 use Rattle.provider_node.specs.Recorded.{WhatIsAnsweredIsRecorded}
-use Rattle.identity_hub.specs.Signed.{EachSignedElementIsOfARecord}
+use Rattle.identity_hub.specs.Signed.{EachSignedElementIsOfARecord, NoOtherPageIsUnrecorded}
 use Rattle.identity_hub.specs.Step.{Answers, Provider}
-use Rattle.hub_runs.specs.Headline.{Headline, GoesExactly, PassesOnExactly, Says, SignsOnlyItsRecords, TheHeadlineHoldsOverStarts, key}
+use Rattle.hub_runs.specs.Headline.{Headline, GoesExactly, PassesOnExactly, Says, SignsOnlyItsRecords, TheHeadlineHoldsOverStarts, address, key}
 use Rattle.hub_runs.specs.Laws.{EachLoginGoesBack, EachLoginInAnImageHasItsRequest, EachLoginWasRecorded, EachLoginWasSigned, EachSessionBelowIsOfALoginAbove, WhatIsVisibleStays}
 use Rattle.identity_hub.proofs.Histories.{draws_above}
 use Rattle.hub_setup.specs.Setup.{IsBadSetUp, IsSetUp}
@@ -29,7 +29,10 @@ pub record Laws : Type 0 where
   pub only : OnlyWhereALoginIsBrought
   pub wherever : WhereverALoginIsBrought
   pub back : EachLoginGoesBack
+  pub askers : EachRequestUpwardsIsOfOneBelow
+  pub refusals : EachRefusalIsOfOneBelow
   pub signed : EachSignedElementIsOfARecord
+  pub unrecorded : NoOtherPageIsUnrecorded
   pub recorded : WhatIsAnsweredIsRecorded hub_rules Answers IsPosted
   pub passive : NothingIsAskedOfAUserWhoMayNotBeAsked
   pub above_signed : EachLoginWasSigned
@@ -49,6 +52,8 @@ module _ (laws : Laws) (asked : Asked Provider) where
   passes_exactly before after = record {
     only = λ held answer r answers. laws.only asked.node.setup held asked.request asked.now answer r answers;
     back = λ held answer r answers. laws.back asked.node.setup held asked.request asked.now answer r answers;
+    askers = λ held answer r answers. laws.askers asked.node.setup held asked.request asked.now answer r answers;
+    refusals = λ held answer r answers. laws.refusals asked.node.setup held asked.request asked.now answer r answers;
     wherever = of_asked asked before after laws.wherever;
   }
 
@@ -56,6 +61,7 @@ module _ (laws : Laws) (asked : Asked Provider) where
       → SignsOnlyItsRecords asked after
   signs_only before after asks = record {
     signed = λ held bytes r answers. laws.signed asked.node.setup held asked.request asked.now bytes r answers;
+    unrecorded = λ held bytes answers. laws.unrecorded asked.node.setup held asked.request asked.now bytes answers;
     recorded = once_recorded hub_rules Answers asked IsPosted laws.recorded before after asks;
   }
 
@@ -76,17 +82,17 @@ module _ (laws : Laws) (asked : Asked Provider) where
     starved = keeps_visible hub_rules Answers asked AnswerAlike laws.starved;
   }
 
-pub headline : RunLaws → (left : ℕ → Image → Type 0) → EachRunCarries IsSetUp IsBadSetUp key hub_rules Answers Headline
+pub headline : RunLaws → (left : ℕ → Image → Type 0) → EachRunCarries IsSetUp IsBadSetUp address key hub_rules Answers Headline
     left
 headline laws left =
-    carries IsSetUp key hub_rules Answers IsBadSetUp Says left (λ told file before turns after run. record {
+    carries IsSetUp address key hub_rules Answers IsBadSetUp Says left (λ told file before turns after run. record {
       same = λ asked there.
           asked_same hub_rules Answers (world_of run.provider run.opened) run.serves.last turns run.serves.kept asked
           run.serves.run there;
       each = each_goes GoesExactly (goes_exactly laws.each) turns;
       once = λ tells. kept_once laws.hold left told file before turns after run tells laws.once;
       since = λ tells.
-          kept_since IsSetUp key hub_rules Answers laws.hold left told file before turns after run tells draws_above;
+          kept_since IsSetUp address key hub_rules Answers laws.hold left told file before turns after run tells draws_above;
       in_images = laws.in_images;
       below = laws.below run.provider.ledger.held.records (asked_in turns);
     })

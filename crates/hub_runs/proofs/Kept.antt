@@ -13,15 +13,15 @@ use Rattle.provider_run.proofs.Headlines.{left_then, of_service}
 use Rattle.identity_hub.specs.Histories.{AreKeptOnce, WhatIsAcknowledgedIsKeptOnce}
 use Rattle.identity_hub.specs.Step.{Answers, Provider}
 use Rattle.hub_setup.specs.Setup.{IsSetUp}
-use Rattle.hub_runs.specs.Headline.{key}
+use Rattle.hub_runs.specs.Headline.{address, key}
 
 module _ (hold : ImagesHoldRecords) (left : ℕ → Image → Type 0) (told : Option (List File)) (file : List ℕ)
     (before : Outside) (turns : List (Turn Provider)) (after : Outside)
-    (run : ServedRun IsSetUp key hub_rules Answers left told file before turns after) (tells : IsSome before.disk) where
+    (run : ServedRun IsSetUp address key hub_rules Answers left told file before turns after) (tells : IsSome before.disk) where
   pub kept_once : WhatIsAcknowledgedIsKeptOnce → AreKeptOnce (world_of run.provider run.opened)
       (world_of run.last after) turns
   kept_once law =
       let is =
-      of_service IsSetUp key hub_rules Answers hold left told file before turns after run tells AreKeptOnce law in
+      of_service IsSetUp address key hub_rules Answers hold left told file before turns after run tells AreKeptOnce law in
       kept_then Answers _ run.serves.last turns is (world_of run.last after)
-      (left_then IsSetUp key hub_rules Answers hold left told file before turns after run tells)
+      (left_then IsSetUp address key hub_rules Answers hold left told file before turns after run tells)

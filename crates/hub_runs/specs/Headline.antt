@@ -3,7 +3,7 @@
 -- one of a record that is durable before it is sent; no request upwards backs two logins, and no request below gets a
 -- login but by the record of the one that was sent upwards for it; and where only the provider above makes HMACs that
 -- match, each login is one that it recorded, and so is each session below.
-use Rattle.std.specs.Prelude.{◌≡◌, ◌⊎◌, ℕ, true, List, Contains, Option, IsSome, Some}
+use Rattle.std.specs.Prelude.{◌≡◌, ◌⊎◌, ℕ, true, List, Contains, Option, IsSome, None, Some}
 use Rattle.std.specs.List.{AllByRecursion}
 use Rattle.saml_outside.specs.Files.{File}
 use Rattle.crash_disk.specs.Counts.{Rose}
@@ -11,6 +11,8 @@ use Rattle.crash_disk.specs.Disk.{Image}
 use Rattle.http_wire.specs.declared.answer.Answer.{Answer}
 use Rattle.http_wire.specs.declared.answer.Answer.TheVariants.{Fixed, Full}
 use Rattle.ledger_records.specs.declared.hub_record.Backed.{Backed}
+use Rattle.ledger_records.specs.declared.hub_record.Routed.{Routed}
+use Rattle.ledger_records.specs.declared.hub_record.Spoke.{Spoke}
 use Rattle.ledger_records.specs.declared.hub_record.HubRecord.{HubRecord}
 use Rattle.ledger_records.specs.declared.hub_record.HubRecord.TheVariants as kinds
 use Rattle.login_origin.specs.Signed.{Signed, IsSigned}
@@ -35,9 +37,9 @@ use Rattle.provider_node.specs.Starts.{AreStarts, Start, asked_over}
 use Rattle.provider_run.specs.Headlines.{AddsOnlyItsOwn, AnswersOnceRecorded, EachGoes, GoesOnDisk, HeadlineBy, HeadlineOf, KeepsWhatIsVisible, ServedOver, ServedRun, WhereAsked}
 use Rattle.provider_run.specs.Runs.{Outside, world_of}
 use Rattle.identity_hub.specs.Histories.{AreKeptOnce, AreKeptOnceOver}
-use Rattle.identity_hub.specs.Passing.{CanPassOn, HasRoom, IsPassedOn, IsSpoken, PassesLogin}
+use Rattle.identity_hub.specs.Passing.{CanPassOn, HasRoom, IsOfBelow, IsOfPassive, IsPassedOn, IsSpoken, PassesLogin}
 use Rattle.identity_hub.specs.Recorded.{IsPosted}
-use Rattle.identity_hub.specs.Signed.{Carries}
+use Rattle.identity_hub.specs.Signed.{Carries, IsMetadata}
 use Rattle.identity_hub.specs.Step.{Answers, AsksFor, Provider}
 use Rattle.hub_runs.specs.Laws.{EachLoginInAnImageHasItsRequest, GoesBackFrom, SessionsBelowAreOfLoginsAbove}
 use Rattle.identity_hub.specs.declared.config.HubConfig.{HubConfig}
@@ -47,15 +49,24 @@ use Rattle.hub_setup.specs.Setup.{IsSetUp}
 
 -- A login is recorded as passed on, with whatever answer, only where the posted form brings it, for the request of a
 -- provider below that is known: with the name and the attributes of the login from above, in an Assertion for that
--- provider alone. It goes back to the request below for which one was sent upwards. And wherever a form brings one,
--- over the ledger that the step found, where there is room, at once or behind one compaction, and the disk does not
--- fail, it is recorded and passed on; or there was no memory.
+-- provider alone. It goes back to the request below for which one was sent upwards; and this was recorded only where a
+-- form of a provider below that is known asked for a login of a user who may be asked, with that provider, its address,
+-- and the ID and the relay state of its request. A Response without an Assertion is recorded only where such a form
+-- says that the user may not be asked. And wherever a form brings a login, over the ledger that the step found, where
+-- there is room, at once or behind one compaction, and the disk does not fail, it is recorded and passed on; or there
+-- was no memory.
 pub record PassesOnExactly (asked : Asked Provider) (before after : World Provider) : Type 0 where
   pub only : (held : Held) (answer : Answer) (r : Backed)
       → Answers asked.node.setup held asked.request asked.now answer (Some (kinds.Backed r))
       → PassesLogin asked.node.setup held asked.request asked.now (kinds.Backed r) answer
   pub back : (held : Held) (answer : Answer) (r : Backed)
       → Answers asked.node.setup held asked.request asked.now answer (Some (kinds.Backed r)) → GoesBackFrom held r
+  pub askers : (held : Held) (answer : Answer) (r : Routed)
+      → Answers asked.node.setup held asked.request asked.now answer (Some (kinds.Routed r))
+      → IsOfBelow asked.node.setup asked.request r
+  pub refusals : (held : Held) (answer : Answer) (r : Spoke)
+      → Answers asked.node.setup held asked.request asked.now answer (Some (kinds.Spoke r))
+      → IsOfPassive asked.node.setup asked.request r
   pub wherever : (found : Held) (b : Brought) (row : Route) (peer : LogoutPeer)
       → ServedOver hub_rules Answers found asked before after
       → CanPassOn asked.node.setup found asked.request asked.now b row peer
@@ -65,12 +76,16 @@ pub record PassesOnExactly (asked : Asked Provider) (before after : World Provid
       after.node.ledger.held
 
 -- Each signed element in an answer is one that its record stands for: the Assertion of a login that was passed on, or
--- the request that was sent upwards. And the record of each form that is answered to what is posted is in every image
--- that a crash may leave once the hub has answered, before a byte is sent.
+-- the request that was sent upwards; what is sent for a record goes to its address with its relay state, and a page
+-- that stands for no record is the metadata. And the record of each form that is answered to what is posted is in every
+-- image that a crash may leave once the hub has answered, before a byte is sent.
 pub record SignsOnlyItsRecords (asked : Asked Provider) (after : World Provider) : Type 0 where
   pub signed : (held : Held) (bytes : List ℕ) (r : HubRecord)
       → Answers asked.node.setup held asked.request asked.now (Full bytes) (Some r)
-      → Carries asked.node.setup asked.now bytes r
+      → Carries asked.node.setup asked.request asked.now bytes r
+  pub unrecorded : (held : Held) (bytes : List ℕ)
+      → Answers asked.node.setup held asked.request asked.now (Full bytes) None
+      → IsMetadata asked.node.setup asked.request bytes
   pub recorded : AnswersOnceRecorded hub_rules Answers IsPosted asked after
 
 -- Nobody above is asked where the user of a request below may not be asked: what is recorded with the answer is a
@@ -99,6 +114,10 @@ pub record IsOfALoginFromAbove (asked : Asked Provider) : Type 0 where
 
 -- ---- the run
 
+-- where a hub listens
+abbrev pub address : HubConfig → List ℕ
+address config = config.upstream.listen
+
 -- the key of the IDs that a hub draws
 abbrev pub key : HubConfig → List ℕ
 key config = config.upstream.id_key
@@ -124,7 +143,7 @@ pub record GoesExactly (asked : Asked Provider) : Type 0 where
 -- at the start, where nobody else makes HMACs that match and no hash collides.
 pub record Says (left : ℕ → Image → Type 0) (told : Option (List File)) (file : List ℕ) (before : Outside)
     (turns : List (Turn Provider)) (after : Outside)
-    (run : ServedRun IsSetUp key hub_rules Answers left told file before turns after) : Type 0 where
+    (run : ServedRun IsSetUp address key hub_rules Answers left told file before turns after) : Type 0 where
   pub same : (asked : Asked Provider) → Contains (asked_in turns) asked → asked.node.setup ≡ run.provider.setup
   pub each : EachGoes GoesExactly turns
   pub once : IsSome before.disk → AreKeptOnce (world_of run.provider run.opened) (world_of run.last after) turns
@@ -135,7 +154,7 @@ pub record Says (left : ℕ → Image → Type 0) (told : Option (List File)) (f
 
 -- A run served nothing, or it served so.
 abbrev pub Headline : HeadlineOf HubConfig HubRecord
-Headline = HeadlineBy IsSetUp key hub_rules Answers Says
+Headline = HeadlineBy IsSetUp address key hub_rules Answers Says
 
 -- ---- over runs
 

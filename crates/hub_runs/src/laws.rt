@@ -1,5 +1,5 @@
 //! The laws of whole runs, each the contract of a function that does nothing.
-ghost use Rattle.hub_runs.specs.Headline.{Headline, TheHeadlineHoldsOverStarts, key};
+ghost use Rattle.hub_runs.specs.Headline.{Headline, TheHeadlineHoldsOverStarts, address, key};
 ghost use Rattle.provider_run.specs.Headlines.{EachRunCarries, EachRunIsAStart};
 ghost use Rattle.std.specs.Prelude.{ℕ, List, Contains};
 ghost use Rattle.provider_node.specs.Histories.{AnyMoment};
@@ -61,17 +61,20 @@ pub fn what_is_visible_stays()
 
 /// A run passes a login from above on exactly where a posted form brings it for a request of a provider below that is
 /// known, with its name and its attributes and to that provider alone; each element that it signs is one of a record,
-/// and no form is sent before its record is in every image that a crash may leave. Nobody above is asked where the user
-/// may not be. No request upwards backs two logins, and each login goes back to the request below for which that was
-/// sent. From each point of the run on, also inside later requests, what was acknowledged by then is in the history of
-/// each ledger that a crash might leave. And where only the provider above makes HMACs that match, each login is one
-/// that it signed, and each session below of one that it recorded.
+/// and no form is sent before its record is in every image that a crash may leave. The provider above is asked only
+/// where a provider below that is known asked by a form, and nobody above where the user may not be. No request upwards
+/// backs two logins, and each login goes back to the request below for which that was sent. From each point of the run
+/// on, also inside later requests, what was acknowledged by then is in the history of each ledger that a crash might
+/// leave. And where only the provider above makes HMACs that match, each login is one that it signed, and each session
+/// below of one that it recorded.
 pub fn a_run_carries_the_headline<D: Disk>()
-    ensures { (disk : D) → EachRunCarries IsSetUp IsBadSetUp key hub_rules Answers Headline (D.shows disk).left_since }
+    ensures { (disk : D) → EachRunCarries IsSetUp IsBadSetUp address key hub_rules Answers Headline (D.shows disk).left_since }
 {
     hub_ledger::laws::images_hold_records();
     identity_hub::laws::a_login_is_passed_on_exactly();
+    identity_hub::laws::each_request_upwards_is_of_one_below();
     identity_hub::laws::each_signed_element_is_of_a_record();
+    identity_hub::laws::no_other_page_is_unrecorded();
     identity_hub::laws::what_is_answered_is_recorded();
     identity_hub::laws::nothing_is_asked_of_a_user_who_may_not_be_asked();
     identity_hub::laws::what_is_acknowledged_is_kept_once();
@@ -86,7 +89,9 @@ pub fn the_headline_holds_over_starts()
     ensures { TheHeadlineHoldsOverStarts }
 {
     identity_hub::laws::a_login_is_passed_on_exactly();
+    identity_hub::laws::each_request_upwards_is_of_one_below();
     identity_hub::laws::each_signed_element_is_of_a_record();
+    identity_hub::laws::no_other_page_is_unrecorded();
     identity_hub::laws::what_is_answered_is_recorded();
     identity_hub::laws::nothing_is_asked_of_a_user_who_may_not_be_asked();
     identity_hub::laws::what_is_acknowledged_is_kept_once_over_starts();
@@ -99,7 +104,7 @@ pub fn the_headline_holds_over_starts()
 /// A run that served is a start of its hub. So by the laws of starts what several runs acknowledged is kept, once, over
 /// restarts with crashes between them.
 pub fn a_run_is_a_start()
-    ensures { EachRunIsAStart IsSetUp key hub_rules Answers }
+    ensures { EachRunIsAStart IsSetUp address key hub_rules Answers }
 {
     hub_ledger::laws::images_hold_records();
 }
@@ -109,9 +114,9 @@ pub fn a_run_is_a_start()
 /// inside the answer to the request that was asked then: so runs that a crash cut join into one service, of which the
 /// laws of starts speak, with the moments of all its requests, those that a crash cut too.
 pub fn each_image_of_a_run_goes_on<D: Disk>()
-    ensures any { (disk : D) → EachImageOfARunGoesOn IsSetUp IsBadSetUp key hub_rules Answers
+    ensures any { (disk : D) → EachImageOfARunGoesOn IsSetUp IsBadSetUp address key hub_rules Answers
         (D.shows disk).left_since AnyMoment }
-    ensures at { (disk : D) (moments : List ℕ) → EachImageOfARunGoesOn IsSetUp IsBadSetUp key hub_rules Answers
+    ensures at { (disk : D) (moments : List ℕ) → EachImageOfARunGoesOn IsSetUp IsBadSetUp address key hub_rules Answers
         (D.shows disk).left_since (Contains moments) }
 {
     hub_ledger::laws::images_hold_records();

@@ -21,10 +21,11 @@
 //! headline (`runs`, by `Runs` and `Headline`): at each request, all of them served by what the hub was set up with, a
 //! login is passed on only where the posted form brings it over the hub's rows, for the request of a provider below
 //! that is known, with the name and the attributes of the login from above and to that provider alone, and wherever a
-//! form brings one, where there is room, at once or behind one compaction, the disk does not fail and memory is found
-//! (`PassesOnExactly`); each signed element is one that its record stands for, and the record is durable before the
-//! answer is sent (`SignsOnlyItsRecords`); nobody above is asked where the user may not be asked (`AsksNobodyAbove`),
-//! and of what is asked IsPassive and ForceAuthn are read as false (a law,
+//! form brings one, where there is room, at once or behind one compaction, the disk does not fail and memory is found,
+//! and a request is sent upwards only where such a provider asked by a form, with its address, ID and relay state
+//! (`PassesOnExactly`); each signed element is one that its record stands for, a page without a record is the metadata,
+//! and the record is durable before the answer is sent (`SignsOnlyItsRecords`); nobody above is asked where the user
+//! may not be asked (`AsksNobodyAbove`), and of what is asked IsPassive and ForceAuthn are read as false (a law,
 //! `laws::each_request_leaves_it_to_the_one_above`); where the disk tells, what was acknowledged is kept, no request
 //! upwards backs two logins (`AreKeptOnce`), and each image that a crash might leave since a point of the run, also
 //! inside later requests, has in its history the records for which the answers up to that point stand (`AreKeptSince`);
@@ -36,8 +37,7 @@
 //! what is kept, once, and of the sessions below (`laws::the_headline_holds_over_starts`): a run that served is a start
 //! (`laws::a_run_is_a_start`), and from each image that a crash may leave a later start goes on
 //! (`laws::each_image_of_a_run_goes_on`). Each fault comes only where its count rose; where a hub can be run and
-//! nothing failed it served, or memory ran out (`complete`). That `listen` is called, with the config's address, no
-//! clause says.
+//! nothing failed it served, or memory ran out (`complete`).
 #![tactic(auto)]
 
 pub mod laws;

@@ -28,6 +28,8 @@ impl RunsProvider for Hub {
 
     ghost is_bad = { IsBadSetUp };
 
+    ghost listens_at = { λ r. r.upstream.listen };
+
     ghost headline = { Headline };
 
     fn set_up<F: Files>(alloc: Global, files: &mut F, config: &str) -> Result<HubRole, SetupFault> {

@@ -1,4 +1,5 @@
 pub mod Alike
+mod Below
 pub mod Forms
 pub mod Histories
 mod Passing

@@ -1,11 +1,13 @@
 -- When a login from above is passed on: exactly where a posted form brings one for a request of a provider below that
--- is known.
-use Rattle.std.specs.Prelude.{◌≡◌, ◌⊎◌, ℕ, true, min, List, Some}
+-- is known. And when one is asked for above: only where a posted form of a provider below asks for it.
+use Rattle.std.specs.Prelude.{◌≡◌, ◌⊎◌, ℕ, true, false, min, List, Some}
 use Rattle.crash_disk.specs.Counts.{Rose}
 use Rattle.http_wire.specs.declared.answer.Answer.{Answer}
 use Rattle.http_wire.specs.declared.answer.Answer.TheVariants.{Fixed, Full}
 use Rattle.http_wire.specs.Requests.{Request}
 use Rattle.ledger_records.specs.declared.hub_record.Backed.{Backed}
+use Rattle.ledger_records.specs.declared.hub_record.Routed.{Routed}
+use Rattle.ledger_records.specs.declared.hub_record.Spoke.{Spoke}
 use Rattle.ledger_records.specs.declared.hub_record.HubRecord.{HubRecord}
 use Rattle.ledger_records.specs.declared.hub_record.HubRecord.TheVariants as kinds
 use Rattle.peer_keys.specs.declared.peers.LogoutPeer.{LogoutPeer}
@@ -14,7 +16,7 @@ use Rattle.hub_ledger.specs.Ledger.{Held}
 use Rattle.record_ledger.specs.Ledger.{held_with}
 use Rattle.hub_ledger.specs.Draft.{first_id}
 use Rattle.hub_ledger.specs.Record.{LAST, hub_rules}
-use Rattle.hub_ledger.specs.RowsOf.{Route}
+use Rattle.hub_ledger.specs.RowsOf.{Route, below_row}
 use Rattle.idp_rules.specs.declared.asked.Asked.{Asked}
 use Rattle.sp_rules.specs.Opening.{Brought}
 use Rattle.sp_rules.specs.Shown.{session_end}
@@ -96,6 +98,39 @@ WhereverALoginIsBrought =
     → CanPassOn old.setup found request now b row peer
     → HasRoom old.setup found now b row → ¬ (Rose faults later)
     → (answer ≡ Fixed NO_MEMORY) ⊎ IsPassedOn old.setup found request now b row answer new.ledger.held
+
+-- ---- for which request below one is sent upwards
+
+-- A provider below that is known asked by a form for a login, and its user may be asked (SAML Core, 3.4.1 and 3.4.1.5):
+-- the record of the request upwards has that provider, the address to which the answer to it goes, the ID of its
+-- request, and the relay state of its form (SAML Bindings, 3.5.3).
+pub record IsOfBelow (setup : HubConfig) (request : Request) (r : Routed) : Type 0 where
+  pub asked : Asked
+  pub peer : LogoutPeer
+  pub asks : AsksFor setup request asked peer
+  pub askable : asked.passive ≡ false
+  pub below_is : below_row r ≡ below_of asked peer
+
+-- A provider below that is known asked by a form for a login, and its user may not be asked (SAML Core, 3.4.1,
+-- IsPassive): the record of the Response without an Assertion has that provider and the ID of its request.
+pub record IsOfPassive (setup : HubConfig) (request : Request) (r : Spoke) : Type 0 where
+  pub asked : Asked
+  pub peer : LogoutPeer
+  pub asks : AsksFor setup request asked peer
+  pub passive : asked.passive ≡ true
+  pub peer_is : r.peer ≡ peer.peer.entity
+  pub request_is : r.request ≡ asked.request
+
+-- So it is of each request that is sent upwards, and of each Response without an Assertion.
+abbrev pub EachRequestUpwardsIsOfOneBelow : Type 0
+EachRequestUpwardsIsOfOneBelow =
+    (setup : HubConfig) (held : Held) (request : Request) (now : ℕ) (answer : Answer) (r : Routed)
+    → Answers setup held request now answer (Some (kinds.Routed r)) → IsOfBelow setup request r
+
+abbrev pub EachRefusalIsOfOneBelow : Type 0
+EachRefusalIsOfOneBelow =
+    (setup : HubConfig) (held : Held) (request : Request) (now : ℕ) (answer : Answer) (r : Spoke)
+    → Answers setup held request now answer (Some (kinds.Spoke r)) → IsOfPassive setup request r
 
 -- ---- where the user may not be asked
 

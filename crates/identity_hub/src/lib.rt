@@ -30,13 +30,16 @@
 //! crashes, `start`, `restart` and `compact` as at the service provider. Laws: a login is passed on only where a posted
 //! form brings it, over the hub's rows, for the request of a provider below that is known, with the name and the
 //! attributes of the login from above and to that provider alone, and wherever a form brings one, where there is room,
-//! at once or behind one compaction, the disk does not fail and memory is found (`a_login_is_passed_on_exactly`); no
-//! login is asked for above of a user who may not be asked (`nothing_is_asked_of_a_user_who_may_not_be_asked`);
+//! at once or behind one compaction, the disk does not fail and memory is found (`a_login_is_passed_on_exactly`); a
+//! request is sent upwards only where a form of such a provider asks for a login of a user who may be asked, and has
+//! that provider, its address, and the ID and the relay state of its request (`each_request_upwards_is_of_one_below`);
+//! no login is asked for above of a user who may not be asked (`nothing_is_asked_of_a_user_who_may_not_be_asked`);
 //! whatever form is answered to what is posted stands for a record that is in every image that a crash may leave behind
-//! the step (`what_is_answered_is_recorded`); for those below it signs nothing but the Assertions of its records
-//! (`each_signed_element_is_of_a_record`); what an answer acknowledged is in the history of every ledger that a crash
-//! may leave, and no request upwards backs two logins, over each list of events and of starts
-//! (`what_is_acknowledged_is_kept_once`, `what_is_acknowledged_is_kept_once_over_starts`).
+//! the step (`what_is_answered_is_recorded`); for those below it signs nothing but the Assertions of its records, and
+//! what it sends goes to the record's address with its relay state (`each_signed_element_is_of_a_record`); a page that
+//! stands for no record is the metadata (`no_other_page_is_unrecorded`); what an answer acknowledged is in the history
+//! of every ledger that a crash may leave, and no request upwards backs two logins, over each list of events and of
+//! starts (`what_is_acknowledged_is_kept_once`, `what_is_acknowledged_is_kept_once_over_starts`).
 #![tactic(auto)]
 
 mod config;

@@ -2,7 +2,7 @@
 -- signed element is one of a record that is durable before it is sent; sessions are ended exactly where their users
 -- leave them or a peer ends them, and one that is ended never lives again; a logout that asks all others asks each in
 -- its turn, and says Success exactly where each confirmed.
-use Rattle.std.specs.Prelude.{◌≡◌, ◌⊎◌, ℕ, true, false, List, Option, IsSome, Some}
+use Rattle.std.specs.Prelude.{◌≡◌, ◌⊎◌, ℕ, true, false, List, Option, IsSome, None, Some}
 use Rattle.saml_outside.specs.Files.{File}
 use Rattle.crash_disk.specs.Counts.{Rose}
 use Rattle.crash_disk.specs.Disk.{Image}
@@ -11,6 +11,8 @@ use Rattle.http_wire.specs.declared.answer.Answer.TheVariants.{Fixed, Full}
 use Rattle.ledger_records.specs.declared.idp_record.IdpRecord.{IdpRecord}
 use Rattle.ledger_records.specs.declared.idp_record.IdpRecord.TheVariants as kinds
 use Rattle.ledger_records.specs.declared.idp_record.Issued.{Issued}
+use Rattle.ledger_records.specs.declared.idp_record.Pending.{Pending}
+use Rattle.ledger_records.specs.declared.idp_record.Spoke.{Spoke}
 use Rattle.ledger_records.specs.declared.idp_round.Round.{Round}
 use Rattle.ledger_records.specs.declared.idp_round.Told.{Told}
 use Rattle.serve_loop.specs.Turns.{Asked, Turn}
@@ -30,11 +32,13 @@ use Rattle.idp_ledger.specs.Laws.{AnswerAlike}
 use Rattle.idp_ledger.specs.Record.{AreRecords, idp_rules}
 use Rattle.idp_ledger.specs.Turns.{RoundsAskInTurn}
 use Rattle.idp_server.specs.Histories.{AreKept, IsEnded, StayEnded}
-use Rattle.idp_server.specs.Issues.{IsOfUser, IsPosted}
-use Rattle.idp_server.specs.Logouts.{Ends, EndsOver, IsOfLogoutIfEnding, LeavesOver, ending_record, leaving_record}
+use Rattle.idp_server.specs.Issues.{IsOfAsker, IsOfPassive, IsOfUser, IsPosted}
+use Rattle.idp_server.specs.Logouts.{Ends, EndsBeforeItAnswers, EndsOver, IsOfLogoutIfEnding, LeavesOver}
+use Rattle.idp_server.specs.Logouts.{ending_record, leaving_record}
 use Rattle.idp_server.specs.Messages.{AsksFirst}
 use Rattle.idp_server.specs.Outcomes.{IsOutcome}
-use Rattle.idp_server.specs.Signed.{Carries}
+use Rattle.idp_server.specs.Routes.{IsOfALogout}
+use Rattle.idp_server.specs.Signed.{Carries, IsMetadata}
 use Rattle.idp_server.specs.Staying.{Began, IsAsLeft}
 use Rattle.provider_node.specs.Staying.{SessionsStay, WhatWasOpenedIsAsLeft}
 use Rattle.idp_server.specs.Step.{Provider, Answers, ending_by}
@@ -44,22 +48,35 @@ use Rattle.idp_setup.specs.Setup.{IsSetUp}
 -- ---- one request, which the provider was asked in one world, and which left another behind
 
 -- An Assertion is issued, with whatever answer, only for a user whose password was posted for a login that was pending,
--- or in the user's live session; each signed element in the answer, a message of a logout too, is one that its record
--- stands for; and the answer's record is in every image that a crash may leave once the provider has answered, before a
--- byte is sent.
+-- or in the user's live session. A user is asked for a password only where a peer asked for a login by a form, and a
+-- Response without an Assertion is recorded only where this said that the user may not be asked. Each signed element in
+-- the answer, a message of a logout too, is one that its record stands for, and the answer is of the record's kind; a
+-- page that stands for no record is the metadata. And the answer's record is in every image that a crash may leave once
+-- the provider has answered, before a byte is sent.
 pub record IssuesOnlyToUsers (asked : Asked Provider) (before after : World Provider) : Type 0 where
   pub users : (held : Held) (answer : Answer) (r : Issued)
       → Answers asked.node.setup held asked.request asked.now answer (Some (kinds.Issued r))
       → IsOfUser asked.node.setup held asked.request asked.now r
+  pub askers : (held : Held) (answer : Answer) (r : Pending)
+      → Answers asked.node.setup held asked.request asked.now answer (Some (kinds.Pending r))
+      → IsOfAsker asked.node.setup asked.request r
+  pub refusals : (held : Held) (answer : Answer) (r : Spoke)
+      → Answers asked.node.setup held asked.request asked.now answer (Some (kinds.Spoke r))
+      → IsOfPassive asked.node.setup asked.request r
   pub signed : (held : Held) (bytes : List ℕ) (r : IdpRecord)
       → Answers asked.node.setup held asked.request asked.now (Full bytes) (Some r)
-      → Carries asked.node.setup held r bytes
+      → Carries asked.node.setup held asked.request bytes r
+  pub unrecorded : (held : Held) (bytes : List ℕ)
+      → Answers asked.node.setup held asked.request asked.now (Full bytes) None
+      → IsMetadata asked.node.setup asked.request bytes
   pub recorded : AnswersOnceRecorded idp_rules Answers IsPosted asked after
 
 -- A record that ends a session is added, with whatever answer, only where the user of that live session leaves it, or a
 -- peer asks for it by a LogoutRequest that is accepted; and nothing but a record and a compaction changes the ledger.
 -- And wherever one of them does, over the ledger that the step found, where there is room, at once or behind one
--- compaction, and the disk does not fail, the session is ended behind the step; or there was no memory.
+-- compaction, and the disk does not fail, the session is ended behind the step; or there was no memory. Each session
+-- that the record of an answer ends is ended in every image that a crash may leave once the provider has answered,
+-- before a byte is sent: so those of a logout that asks all others are ended before the first of these is asked.
 pub record EndsExactly (asked : Asked Provider) (before after : World Provider) : Type 0 where
   pub only : (held : Held) (answer : Answer) (r : IdpRecord)
       → Answers asked.node.setup held asked.request asked.now answer (Some r)
@@ -79,6 +96,8 @@ pub record EndsExactly (asked : Asked Provider) (before after : World Provider) 
       over.relay)
       → ¬ (Rose before.disk_faults after.disk_faults)
       → (asked.answer ≡ Fixed NO_MEMORY) ⊎ IsEnded after.node.ledger.held cookie
+  pub before_it_answers : (bytes : List ℕ) → asked.answer ≡ Full bytes → IsOfALogout asked.request
+      → EndsBeforeItAnswers asked.node.setup asked.request asked.now (Full bytes) after.disk
 
 -- A logout that asks all others: the answer that begins a round asks the provider of the first turn, and each that
 -- stands for the answer of a provider the one of the next turn; where no turn is left it ends the round, with Success
@@ -95,6 +114,10 @@ pub record AsksInTurn (asked : Asked Provider) : Type 0 where
   pub once : RoundsAskInTurn
 
 -- ---- the run
+
+-- where a provider listens
+abbrev pub address : IdpConfig → List ℕ
+address config = config.listen
 
 -- the key of the IDs that a provider draws
 abbrev pub key : IdpConfig → List ℕ
@@ -120,7 +143,7 @@ pub record GoesExactly (asked : Asked Provider) : Type 0 where
 -- run it lives there, ended only where a record that was added since ends it.
 pub record Says (left : ℕ → Image → Type 0) (told : Option (List File)) (file : List ℕ) (before : Outside)
     (turns : List (Turn Provider)) (after : Outside)
-    (run : ServedRun IsSetUp key idp_rules Answers left told file before turns after) : Type 0 where
+    (run : ServedRun IsSetUp address key idp_rules Answers left told file before turns after) : Type 0 where
   pub each : EachGoes GoesExactly turns
   pub kept : IsSome before.disk → AreKept (world_of run.provider run.opened) (world_of run.last after) turns
   pub since : IsSome before.disk → AreKeptSince idp_rules Answers left (world_of run.provider run.opened) turns
@@ -132,4 +155,4 @@ pub record Says (left : ℕ → Image → Type 0) (told : Option (List File)) (f
 
 -- A run served nothing, or it served so.
 abbrev pub Headline : HeadlineOf IdpConfig IdpRecord
-Headline = HeadlineBy IsSetUp key idp_rules Answers Says
+Headline = HeadlineBy IsSetUp address key idp_rules Answers Says

@@ -26,6 +26,8 @@ impl RunsProvider for IdentityProvider {
 
     ghost is_bad = { IsBadSetUp };
 
+    ghost listens_at = { λ r. r.listen };
+
     ghost headline = { Headline };
 
     fn set_up<F: Files>(alloc: Global, files: &mut F, config: &str) -> Result<IdpRole, SetupFault> {

@@ -1,4 +1,4 @@
--- For what an Assertion is issued, and what stands behind an answer.
+-- For what an Assertion is issued, for what a user is asked, and what stands behind an answer.
 use Rattle.std.proofs.Common.{◌≡◌, inl, inr, ℕ, Bool, true, false, cond, not, ◌&&◌, List, Option, None, Some, refl, sym, ap, ◌∙◌}
 use Rattle.std.specs.Option.{option_and_then}
 use Rattle.std.specs.Str.{bytes_eq}
@@ -9,6 +9,8 @@ use Rattle.http_wire.specs.declared.answer.Answer.{Answer}
 use Rattle.http_wire.specs.declared.answer.Answer.TheVariants.{Full}
 use Rattle.http_wire.specs.Requests.{Request}
 use Rattle.ledger_records.specs.declared.idp_record.Issued.{Issued}
+use Rattle.ledger_records.specs.declared.idp_record.Pending.{Pending}
+use Rattle.ledger_records.specs.declared.idp_record.Spoke.{Spoke}
 use Rattle.ledger_records.specs.declared.idp_record.IdpRecord.{IdpRecord}
 use Rattle.ledger_records.specs.declared.idp_record.IdpRecord.TheVariants as kinds
 use Rattle.std.specs.Prelude.{slice_get}
@@ -23,7 +25,7 @@ use Rattle.idp_rows.specs.Finding.{session_found, visible}
 use Rattle.idp_ledger.specs.Ledger.{Held, next_number}
 use Rattle.idp_ledger.specs.Record.{idp_rules}
 use Rattle.idp_ledger.specs.Draft.{issued_in}
-use Rattle.idp_ledger.specs.Drafts.{issue, login}
+use Rattle.idp_ledger.specs.Drafts.{issue, login, pending, spoke}
 use Rattle.idp_rules.specs.declared.config.IdpConfig.{IdpConfig}
 use Rattle.provider_node.proofs.Changes.{changes}
 use Rattle.provider_node.proofs.Sessions as any
@@ -33,7 +35,9 @@ use Rattle.idp_server.specs.declared.route.Service.TheVariants.{Metadata, SignOn
 use Rattle.idp_server.specs.Routes.{route}
 use Rattle.idp_server.specs.Step as steps
 use Rattle.idp_server.specs.Step.{Answers, ask_of, session_for, session_used}
-use Rattle.idp_server.specs.Issues.{AnswersHaveUsers, IsOfSession, IsOfUserIfIssued, ServicesHaveUsers, IsPosted}
+use Rattle.idp_server.specs.Issues.{AnswersHaveAskers, AnswersHaveUsers, IsOfItsCause, IsOfSession, IsPosted}
+use Rattle.idp_server.specs.Issues.{RefusalsHaveAskers, ServicesHaveUsers}
+use Rattle.idp_server.specs.Signed.{NoOtherPageIsUnrecorded}
 use Rattle.idp_server.proofs.StayingEnded.{begun_sessions}
 use Rattle.idp_server.proofs.Told.{said}
 use Rattle.provider_node.specs.Recorded.{WhatIsAnsweredIsRecorded}
@@ -95,6 +99,7 @@ of_session setup held request now asked peer row r to asks known used is =
       peer_is = sym (ap (λ (i : Issued). i.peer) same);
       request_is = sym (ap (λ (i : Issued). i.request) same);
       consumer_is = sym (ap (λ (i : Issued). i.consumer) same);
+      relay_is = sym (ap (λ (i : Issued). i.relay) same);
       cookie = found.named ∙ ap Some drawn;
       place = found.place;
       row = row;
@@ -141,24 +146,86 @@ answers_have_users setup held request now answer r (steps.ByLogin t row peer use
       peer_is = sym (ap (λ (i : Issued). i.peer) same);
       request_is = sym (ap (λ (i : Issued). i.request) same);
       consumer_is = sym (ap (λ (i : Issued). i.consumer) same);
+      relay_is = sym (ap (λ (i : Issued). i.relay) same);
       user_is = sym (ap (λ (i : Issued). i.user) same);
       attributes_are = sym (ap (λ (i : Issued). i.attributes) same);
     })
 answers_have_users setup held request now answer r other =
     absurd (let says = (said setup held request now answer (Some (kinds.Issued r)) other).is in cc)
 
-if_issued : (setup : IdpConfig) (held : Held) (request : Request) (now : ℕ) (answer : Answer) (r : IdpRecord)
+-- ---- who asked for it
+
+-- the Pending or the Spoke that a record is
+abbrev pending_in : IdpRecord → Option Pending
+pending_in (kinds.Pending r) = Some r
+pending_in other = None
+
+abbrev spoke_in : IdpRecord → Option Spoke
+spoke_in (kinds.Spoke r) = Some r
+spoke_in other = None
+
+the_pending : (r : Pending) (x : IdpRecord) (made : Pending) → x ≡ kinds.Pending r → pending_in x ≡ Some made → made ≡ r
+the_pending r x made is has = let both : Some made ≡ Some r = sym has ∙ ap pending_in is in cc
+
+the_spoke : (r : Spoke) (x : IdpRecord) (made : Spoke) → x ≡ kinds.Spoke r → spoke_in x ≡ Some made → made ≡ r
+the_spoke r x made is has = let both : Some made ≡ Some r = sym has ∙ ap spoke_in is in cc
+
+pub answers_have_askers : AnswersHaveAskers
+answers_have_askers setup held request now answer r
+    (steps.ByAsking asked peer id to is known none askable adding named full) =
+    let added : pending setup.id_key (next_number held) now (ask_of asked peer) ≡ kinds.Pending r = cc in
+    let same = the_pending r (pending setup.id_key (next_number held) now (ask_of asked peer)) _ added refl in
+    record {
+      to = to;
+      asked = asked;
+      asks = is;
+      askable = askable;
+      peer = peer;
+      known = known;
+      peer_is = sym (ap (λ (p : Pending). p.peer) same);
+      request_is = sym (ap (λ (p : Pending). p.request) same);
+      consumer_is = sym (ap (λ (p : Pending). p.consumer) same);
+      relay_is = sym (ap (λ (p : Pending). p.relay) same);
+    }
+answers_have_askers setup held request now answer r other =
+    absurd (let says = (said setup held request now answer (Some (kinds.Pending r)) other).is in cc)
+
+pub refusals_have_askers : RefusalsHaveAskers
+refusals_have_askers setup held request now answer r
+    (steps.ByPassive asked peer message bytes to is known none passive adding named answers full) =
+    let added : spoke setup.id_key (next_number held) now (ask_of asked peer) ≡ kinds.Spoke r = cc in
+    let same = the_spoke r (spoke setup.id_key (next_number held) now (ask_of asked peer)) _ added refl in
+    record {
+      to = to;
+      asked = asked;
+      asks = is;
+      passive = passive;
+      peer = peer;
+      known = known;
+      peer_is = sym (ap (λ (s : Spoke). s.peer) same);
+      request_is = sym (ap (λ (s : Spoke). s.request) same);
+    }
+refusals_have_askers setup held request now answer r other =
+    absurd (let says = (said setup held request now answer (Some (kinds.Spoke r)) other).is in cc)
+
+-- ---- what is behind each record
+
+of_its_cause : (setup : IdpConfig) (held : Held) (request : Request) (now : ℕ) (answer : Answer) (r : IdpRecord)
     → Answers setup held request now answer (Some r)
-    → IsOfUserIfIssued setup held request now r
-if_issued setup held request now answer (kinds.Issued r) answers =
+    → IsOfItsCause setup held request now r
+of_its_cause setup held request now answer (kinds.Pending r) answers =
+    answers_have_askers setup held request now answer r answers
+of_its_cause setup held request now answer (kinds.Issued r) answers =
     answers_have_users setup held request now answer r answers
-if_issued setup held request now answer other answers = tt
+of_its_cause setup held request now answer (kinds.Spoke r) answers =
+    refusals_have_askers setup held request now answer r answers
+of_its_cause setup held request now answer other answers = tt
 
 pub services_have_users : ServicesHaveUsers
 services_have_users found request now before after answer old new serves unbroken =
     changes idp_rules Answers found request now (Rose before after) answer old new
-    (λ held r. IsOfUserIfIssued old.setup held request now r)
-    (λ held r answers. if_issued old.setup held request now answer r answers) unbroken serves
+    (λ held r. IsOfItsCause old.setup held request now r)
+    (λ held r answers. of_its_cause old.setup held request now answer r answers) unbroken serves
 
 -- ---- what stands behind an answer
 
@@ -169,6 +236,12 @@ none_plain : (setup : IdpConfig) (held : Held) (request : Request) (now : ℕ) (
 none_plain setup held request now bytes adds empty routed (steps.ByMetadata to is none) = routed to
 none_plain setup held request now bytes adds empty routed other =
     let says = (said setup held request now (Full bytes) adds other).is in cc
+
+-- and that it is
+pub unrecorded : NoOtherPageIsUnrecorded
+unrecorded setup held request now bytes (steps.ByMetadata to is none) = record { to = to; is = cc }
+unrecorded setup held request now bytes other =
+    absurd (let says = (said setup held request now (Full bytes) None other).is in cc)
 
 not_metadata : (request : Request) → IsPosted request → route request ≡ To Metadata → ⊥
 not_metadata request (inl at) to = let clash = sym at ∙ to in cc

@@ -1,6 +1,7 @@
 pub mod Alike
 pub mod Asking
 pub mod Closing
+mod Cookies
 pub mod Ending
 pub mod Histories
 pub mod Ids

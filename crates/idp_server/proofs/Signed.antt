@@ -1,11 +1,13 @@
 -- Each signed element of an answer is of its record.
 use Rattle.std.specs.Prelude.{not, slice_get, if◌then◌else◌}
-use Rattle.std.proofs.Common.{◌≡◌, ℕ, Bool, true, false, List, [], ◌∷◌, ◌++◌, Option, None, Some, refl, sym, subst, ap, ◌∙◌}
+use Rattle.std.proofs.Common.{◌≡◌, ℕ, Bool, true, false, List, [], ◌∷◌, ◌++◌, Option, None, Some, inl, inr, refl, sym, subst, ap, ◌∙◌}
 use Rattle.std.specs.List.{AllByRecursion}
 use Rattle.std.specs.Option.{option_map}
 use Rattle.saml_time.specs.Instant.{TellsInFull}
 use Rattle.element_make.specs.Made.{Made, alone, written}
 use Rattle.sig_reference.specs.Signing.{signed}
+use Rattle.saml_ids.specs.IdText.{id_text}
+use Rattle.saml_ids.specs.declared.Kind.TheVariants.{Message, Pending as PendingId}
 use Rattle.saml_names.specs.Uris.{partial_logout}
 use Rattle.protocol_messages.specs.Making.{IsMadeAt, IsMadeFrom, failed, logged_out, logout_request, request_end, response, session_indexes, succeeded}
 use Rattle.post_binding.specs.Pages.{auto_form}
@@ -29,12 +31,13 @@ use Rattle.idp_rows.specs.declared.row.SessionRow.{SessionRow}
 use Rattle.idp_rows.specs.Finding.{session_found, turn_found}
 use Rattle.idp_rows.specs.RowsOf.{rows_of}
 use Rattle.idp_ledger.specs.Ledger.{Held, next_number}
-use Rattle.idp_ledger.specs.Drafts.{issue, login}
+use Rattle.idp_ledger.specs.Drafts.{confirmed, issue, login, pending, spoke}
 use Rattle.idp_rules.specs.Asking.{IsAsked}
 use Rattle.idp_rules.specs.declared.asked.Asked.{Asked}
 use Rattle.idp_rules.specs.declared.config.IdpConfig.{IdpConfig}
-use Rattle.idp_answers.specs.Answers.{IsNoPassiveAnswer, session_cookie, signed_assertion, signed_response, signs_assertion, signs_response}
-use Rattle.logout_answers.specs.Answers.{ByEnding, BySending, Ending, Leaving, is_in_part}
+use Rattle.idp_answers.specs.Answers.{IsNoPassiveAnswer, login_answer, response_form, session_cookie, signed_assertion}
+use Rattle.idp_answers.specs.Answers.{signed_response, signs_assertion, signs_response}
+use Rattle.logout_answers.specs.Answers.{ByEnding, BySending, Ending, Leaving, end_answer, is_in_part}
 use Rattle.logout_turns.specs.declared.part.Asker.{Asker}
 use Rattle.round_rows.specs.declared.row.RoundRow.{RoundRow}
 use Rattle.round_rows.specs.Rounds.{is_turn_left}
@@ -43,7 +46,10 @@ use Rattle.idp_answers.proofs.SignedElements.{elements_are}
 use Rattle.idp_server.specs.Logins.{stated_by}
 use Rattle.idp_server.specs.Messages.{AsksFirst, AsksNext, EndsRound, IsRequestTo, IsRoundEnd, IsToldAnswer, ToAsker, ToNone, ToPeer, ToUser}
 use Rattle.idp_server.specs.Rounds.{next_in, round_by, round_waiting}
-use Rattle.idp_server.specs.Signed.{Carries, AFirstRequest, ALastReply, ALogout, ANextRequest, AnEnd, AQuestion, AForm, AReply, ARequest, EachSignedElementIsOfARecord, AnAssertion, AResponse, IsSignedFor, IsSignedOf, Waits, signed_elements}
+use Rattle.idp_server.specs.Signed.{AFirstRequest, ALastReply, ALogin, ALogout, ANextRequest, AQuestion, ARefusal}
+use Rattle.idp_server.specs.Signed.{AReply, ARequest, AResponse, AnAssertion, AnEnd, Carries, cookie_set}
+use Rattle.idp_server.specs.Signed.{EachSignedElementIsOfARecord, IsOfAMessage, IsOfAnEnd, IsSignedFor, IsSignedOf}
+use Rattle.idp_server.specs.Signed.{Waits, signed_elements}
 use Rattle.idp_server.specs.Step as steps
 use Rattle.idp_server.specs.Step.{Answers, IsAnswerFor, IsEndingAnswer, IsLeavingAnswer, IsPeer, ask_of, asker_of, ended_by, ending_by, left_by, session_for}
 use Rattle.idp_server.proofs.Ending.{IsAtItsPlace, asking_peer}
@@ -63,10 +69,11 @@ each_expected P modes.Both one other first second = (second refl, (first refl, t
 
 -- ---- of an answer
 
-carries_issued : (setup : IdpConfig) (held : Held) (peer : LogoutPeer) (r : Issued) (cookie : Option (List ℕ)) (now : ℕ)
-    (bytes : List ℕ) → IsPeer setup r.peer peer → r.moment ≡ now
-    → IsAnswerFor setup peer r cookie now bytes → Carries setup held (kinds.Issued r) bytes
-carries_issued setup held peer r cookie now bytes known at a =
+carries_issued : (setup : IdpConfig) (held : Held) (request : Request) (peer : LogoutPeer) (r : Issued)
+    (cookie : Option (List ℕ)) (now : ℕ) (bytes : List ℕ) → IsPeer setup r.peer peer → r.moment ≡ now
+    → option_map session_cookie cookie ≡ cookie_set r → IsAnswerFor setup peer r cookie now bytes
+    → Carries setup held request bytes (kinds.Issued r)
+carries_issued setup held request peer r cookie now bytes known at sets a =
     let key = peer.key_out in
     let i = a.issued in
     let P : Made → Type 0 = IsSignedOf setup held (kinds.Issued r) in
@@ -97,22 +104,17 @@ carries_issued setup held peer r cookie now bytes known at a =
     (each_expected P setup.mode (signed key i.assertion) (signed key built) assertion_is response_is) in
     let sent : a.sent ≡ signed_response setup.mode key built =
     i.is ∙ ap (signed_response setup.mode key) i.answers.is in
-    AForm a.sent (record {
-      consumer = r.consumer;
-      relay = r.relay;
-      cookie = option_map session_cookie cookie;
-      is =
-          a.is;
+    ALogin r a.sent (record {
+      is = a.is ∙ ap (λ (c : Option (List ℕ)). answer 200 None c (response_form a.sent r.consumer r.relay)) sets;
     })
     (subst (λ (m : Made). AllByRecursion P (signed_elements (alone m))) (sym sent) all)
 
 -- in a Response without an Assertion nothing is signed
-carries_refusal : (setup : IdpConfig) (held : Held) (r : IdpRecord) (message request consumer : List ℕ)
-    (relay : Option (List ℕ)) (now : ℕ) (bytes : List ℕ)
-    → IsNoPassiveAnswer setup.entity message request consumer relay now bytes → Carries setup held r bytes
-carries_refusal setup held r message request consumer relay now bytes a =
-    AForm a.sent (record { consumer = consumer; relay = relay; cookie = None; is = a.is })
-    (subst (λ (m : Made). AllByRecursion (IsSignedOf setup held r) (signed_elements (alone m))) (sym a.answers.is) tt)
+refusal_unsigned : (issuer message request consumer : List ℕ) (relay : Option (List ℕ)) (now : ℕ) (bytes : List ℕ)
+    (page : IsNoPassiveAnswer issuer message request consumer relay now bytes)
+    → signed_elements (alone page.sent) ≡ []
+refusal_unsigned issuer message request consumer relay now bytes page =
+    ap (λ (m : Made). signed_elements (alone m)) page.answers.is
 
 -- ---- of an answer in a logout
 
@@ -148,14 +150,16 @@ is_left held r row request now at cookie live =
     (found_itself held request now row live))
 
 -- a request that a record stands for, where it goes to a peer with an address
-module _ (setup : IdpConfig) (held : Held) (r : IdpRecord) (moment now : ℕ) (at : moment ≡ now) where
+module _ (setup : IdpConfig) (held : Held) (request : Request) (r : IdpRecord) (sends : IsOfAMessage r) (moment now : ℕ)
+    (at : moment ≡ now) where
   request_sent : (id name : List ℕ) (indexes : List (List ℕ)) (bytes : List ℕ) (peer : LogoutPeer)
+      → IsOfAnEnd held r true
       → ((address : List ℕ) (made : Made) → peer.peer.logout ≡ Some address
       → IsMadeFrom moment (request_end moment) (logout_request id setup.entity address name indexes) made
       → IsSignedFor setup held r peer.key_out made)
-      → Leaving peer id setup.entity now name indexes bytes → Carries setup held r bytes
-  request_sent id name indexes bytes peer stands (ByEnding none is) = AnEnd true is
-  request_sent id name indexes bytes peer stands (BySending a) =
+      → Leaving peer id setup.entity now name indexes bytes → Carries setup held request bytes r
+  request_sent id name indexes bytes peer ends stands (ByEnding none is) = AnEnd r true ends is
+  request_sent id name indexes bytes peer ends stands (BySending a) =
       let q = a.request in
       let key = peer.key_out in
       let built = logout_request id setup.entity q.address name indexes q.made.instant q.made.until in
@@ -172,7 +176,7 @@ module _ (setup : IdpConfig) (held : Held) (r : IdpRecord) (moment now : ℕ) (a
         });
         is = refl;
       } in
-      ALogout (signed key built)
+      ALogout r (signed key built) sends
       (record {
         address = q.address;
         field = fields.Request;
@@ -184,29 +188,30 @@ module _ (setup : IdpConfig) (held : Held) (r : IdpRecord) (moment now : ℕ) (a
       (subst (AllByRecursion P) (sym (request_signed key id setup.entity q.address name indexes q.made.instant
       q.made.until)) (one, tt))
 
-  carries_request : (entity id name : List ℕ) (indexes : List (List ℕ)) (bytes : List ℕ)
+  carries_request : (entity id name : List ℕ) (indexes : List (List ℕ)) (bytes : List ℕ) → IsOfAnEnd held r true
       → ((peer : LogoutPeer) (address : List ℕ) (made : Made) → IsPeer setup entity peer
       → peer.peer.logout ≡ Some address
       → IsMadeFrom moment (request_end moment) (logout_request id setup.entity address name indexes) made
       → IsSignedFor setup held r peer.key_out made)
-      → IsRequestTo setup entity id name indexes now bytes → Carries setup held r bytes
-  carries_request entity id name indexes bytes stands (ToPeer peer known answers) =
-      request_sent id name indexes bytes peer (λ address made given is. stands peer address made known given is) answers
-  carries_request entity id name indexes bytes stands (ToNone none is) = AnEnd true is
+      → IsRequestTo setup entity id name indexes now bytes → Carries setup held request bytes r
+  carries_request entity id name indexes bytes ends stands (ToPeer peer known answers) =
+      request_sent id name indexes bytes peer ends
+      (λ address made given is. stands peer address made known given is) answers
+  carries_request entity id name indexes bytes ends stands (ToNone none is) = AnEnd r true ends is
 
   -- and a response
-  carries_response : (message request : List ℕ) (partial : Bool) (relay : Option (List ℕ)) (bytes : List ℕ)
-      (peer : LogoutPeer)
+  carries_response : (message of : List ℕ) (partial : Bool) (relay : Option (List ℕ)) (bytes : List ℕ)
+      (peer : LogoutPeer) → IsOfAnEnd held r partial
       → ((address : List ℕ) (made : Made) → peer.peer.logout ≡ Some address
-      → IsMadeAt moment (logged_out message setup.entity address request
+      → IsMadeAt moment (logged_out message setup.entity address of
       (if partial then failed partial_logout else succeeded)) made → IsSignedFor setup held r peer.key_out made)
-      → Ending peer message setup.entity now request partial relay bytes → Carries setup held r bytes
-  carries_response message request partial relay bytes peer stands (ByEnding none is) = AnEnd partial is
-  carries_response message request partial relay bytes peer stands (BySending a) =
+      → Ending peer message setup.entity now of partial relay bytes → Carries setup held request bytes r
+  carries_response message of partial relay bytes peer ends stands (ByEnding none is) = AnEnd r partial ends is
+  carries_response message of partial relay bytes peer ends stands (BySending a) =
       let q = a.response in
       let key = peer.key_out in
       let built =
-      logged_out message setup.entity q.address request (if partial then failed partial_logout else succeeded)
+      logged_out message setup.entity q.address of (if partial then failed partial_logout else succeeded)
       q.made.instant in
       let P : Made → Type 0 = IsSignedOf setup held r in
       let one : P (signed key built) = record {
@@ -221,7 +226,7 @@ module _ (setup : IdpConfig) (held : Held) (r : IdpRecord) (moment now : ℕ) (a
             });
         is = refl;
       } in
-      ALogout (signed key built)
+      ALogout r (signed key built) sends
       (record {
         address = q.address;
         field = fields.Response;
@@ -230,54 +235,55 @@ module _ (setup : IdpConfig) (held : Held) (r : IdpRecord) (moment now : ℕ) (a
             ∙ ap (λ (m : List ℕ). answer 200 None None (auto_form q.address fields.Response m relay))
             (q.signed.is ∙ ap (λ (m : Made). written (signed key m)) q.made.is);
       })
-      (subst (AllByRecursion P) (sym (response_signed key message setup.entity q.address request partial
-      q.made.instant)) (one, tt))
+      (subst (AllByRecursion P) (sym (response_signed key message setup.entity q.address of partial q.made.instant))
+      (one, tt))
 
   -- the end of a round
-  carries_end : (message : List ℕ) (asked : Option Asker) (partial : Bool) (bytes : List ℕ)
+  carries_end : (message : List ℕ) (asked : Option Asker) (partial : Bool) (bytes : List ℕ) → IsOfAnEnd held r partial
       → ((asker : Asker) (peer : LogoutPeer) (address : List ℕ) (made : Made) → asked ≡ Some asker
       → IsPeer setup asker.peer peer → peer.peer.logout ≡ Some address
       → IsMadeAt moment (logged_out message setup.entity address asker.request
       (if partial then failed partial_logout else succeeded)) made → IsSignedFor setup held r peer.key_out made)
-      → IsRoundEnd setup message asked partial now bytes → Carries setup held r bytes
-  carries_end message asked partial bytes stands (ToAsker asker peer is known answers) =
-      carries_response message asker.request partial asker.relay bytes peer
+      → IsRoundEnd setup message asked partial now bytes → Carries setup held request bytes r
+  carries_end message asked partial bytes ends stands (ToAsker asker peer is known answers) =
+      carries_response message asker.request partial asker.relay bytes peer ends
       (λ address made given made_is. stands asker peer address made is known given made_is) answers
-  carries_end message asked partial bytes stands (ToUser none is) = AnEnd partial is
+  carries_end message asked partial bytes ends stands (ToUser none is) = AnEnd r partial ends is
 
-carries_leaving : (setup : IdpConfig) (held : Held) (r : Left) (row : SessionRow) (now : ℕ) (bytes : List ℕ)
-    → r.moment ≡ now → IsLeft held r row → IsLeavingAnswer setup r row.user row.index now bytes
-    → Carries setup held (kinds.Left r) bytes
-carries_leaving setup held r row now bytes at live answers =
-    carries_request setup held (kinds.Left r) r.moment now at r.peer r.request row.user (row.index ∷ []) bytes
-    (λ peer address made known given is. ARequest r peer row address made known given live is) answers
+module _ (setup : IdpConfig) (held : Held) (request : Request) where
+  carries_leaving : (r : Left) (row : SessionRow) (now : ℕ) (bytes : List ℕ) → r.moment ≡ now → IsLeft held r row
+      → IsLeavingAnswer setup r row.user row.index now bytes → Carries setup held request bytes (kinds.Left r)
+  carries_leaving r row now bytes at live answers =
+      carries_request setup held request (kinds.Left r) tt r.moment now at r.peer r.request row.user (row.index ∷ [])
+      bytes refl (λ peer address made known given is. ARequest r peer row address made known given live is) answers
 
-carries_ending : (setup : IdpConfig) (held : Held) (r : Ended) (relay : Option (List ℕ)) (now : ℕ) (bytes : List ℕ)
-    (peer : LogoutPeer) → IsPeer setup r.peer peer → r.moment ≡ now
-    → IsEndingAnswer setup peer r relay now bytes → Carries setup held (kinds.Ended r) bytes
-carries_ending setup held r relay now bytes peer known at answers =
-    carries_response setup held (kinds.Ended r) r.moment now at r.message r.request r.partial relay bytes peer
-    (λ address made given is. AReply r peer address made known given is) answers
+  carries_ending : (r : Ended) (relay : Option (List ℕ)) (now : ℕ) (bytes : List ℕ) (peer : LogoutPeer)
+      → IsPeer setup r.peer peer → r.moment ≡ now → IsEndingAnswer setup peer r relay now bytes
+      → Carries setup held request bytes (kinds.Ended r)
+  carries_ending r relay now bytes peer known at answers =
+      carries_response setup held request (kinds.Ended r) tt r.moment now at r.message r.request r.partial relay bytes
+      peer refl (λ address made given is. AReply r peer address made known given is) answers
 
-carries_first : (setup : IdpConfig) (held : Held) (r : Round) (now : ℕ) (bytes : List ℕ) → r.moment ≡ now
-    → AsksFirst setup r now bytes → Carries setup held (kinds.Round r) bytes
-carries_first setup held r now bytes at asks =
-    carries_request setup held (kinds.Round r) r.moment now at asks.turn.peer r.request asks.turn.name asks.turn.indexes
-    bytes
-    (λ peer address made known given is. AFirstRequest r asks.turn peer address made asks.first known given is)
-    asks.asks
+  carries_first : (r : Round) (now : ℕ) (bytes : List ℕ) → r.moment ≡ now → AsksFirst setup r now bytes
+      → Carries setup held request bytes (kinds.Round r)
+  carries_first r now bytes at asks =
+      carries_request setup held request (kinds.Round r) tt r.moment now at asks.turn.peer r.request asks.turn.name
+      asks.turn.indexes bytes refl
+      (λ peer address made known given is. AFirstRequest r asks.turn peer address made asks.first known given is)
+      asks.asks
 
-carries_told : (setup : IdpConfig) (held : Held) (r : Told) (row : RoundRow) (confirms : Bool) (now : ℕ)
-    (bytes : List ℕ) → r.moment ≡ now → confirms ≡ r.confirmed → Waits held r row
-    → IsToldAnswer setup row confirms r now bytes → Carries setup held (kinds.Told r) bytes
-carries_told setup held r row confirms now bytes at same waits (AsksNext place turn id next there named asks) =
-    carries_request setup held (kinds.Told r) r.moment now at turn.peer id turn.name turn.indexes bytes
-    (λ peer address made known given is. ANextRequest r row place turn id peer address made waits
-    (sym (ap (next_in row) same) ∙ next) there named known given is) asks
-carries_told setup held r row confirms now bytes at same waits (EndsRound partial next ends) =
-    carries_end setup held (kinds.Told r) r.moment now at row.message row.asker partial bytes
-    (λ asker peer address made asked known given is. ALastReply r row partial asker peer address made waits
-    (sym (ap (next_in row) same) ∙ next) asked known given is) ends
+  carries_told : (r : Told) (row : RoundRow) (confirms : Bool) (now : ℕ) (bytes : List ℕ) → r.moment ≡ now
+      → confirms ≡ r.confirmed → Waits held r row → IsToldAnswer setup row confirms r now bytes
+      → Carries setup held request bytes (kinds.Told r)
+  carries_told r row confirms now bytes at same waits (AsksNext place turn id next there named asks) =
+      carries_request setup held request (kinds.Told r) tt r.moment now at turn.peer id turn.name turn.indexes bytes
+      (inl refl) (λ peer address made known given is. ANextRequest r row place turn id peer address made waits
+      (sym (ap (next_in row) same) ∙ next) there named known given is) asks
+  carries_told r row confirms now bytes at same waits (EndsRound partial next ends) =
+      carries_end setup held request (kinds.Told r) tt r.moment now at row.message row.asker partial bytes
+      (inr (row, waits, sym (ap (next_in row) same) ∙ next))
+      (λ asker peer address made asked known given is. ALastReply r row partial asker peer address made waits
+      (sym (ap (next_in row) same) ∙ next) asked known given is) ends
 
 -- ---- the peer of a record
 
@@ -303,9 +309,16 @@ waiting_turn setup held now of peer row waits = by_line setup.fanout waits
     by_line true is = is
     by_line false is = absurd (cc)
 
+-- what is carried for a record that is this one, by a page that is this one
+carried_to : (setup : IdpConfig) (held : Held) (request : Request) (other r : IdpRecord) (sent bytes : List ℕ)
+    → other ≡ r → sent ≡ bytes → Carries setup held request sent other → Carries setup held request bytes r
+carried_to setup held request other r sent bytes same spelled carries =
+    subst (Carries setup held request bytes) same
+    (subst (λ (page : List ℕ). Carries setup held request page other) spelled carries)
+
 carried : IsAtItsPlace → (setup : IdpConfig) (held : Held) (request : Request) (now : ℕ) (answer : Answer)
     (bytes : List ℕ) (adds : Option IdpRecord) (r : IdpRecord) → answer ≡ Full bytes → adds ≡ Some r
-    → Answers setup held request now answer adds → Carries setup held r bytes
+    → Answers setup held request now answer adds → Carries setup held request bytes r
 carried law setup held request now answer bytes adds r shown some
     (steps.ByIssuing asked peer row other sent to is known used drafted adding answers full) =
     let same : kinds.Issued other ≡ r = (let e = sym adding ∙ some in cc) in
@@ -314,42 +327,63 @@ carried law setup held request now answer bytes adds r shown some
     let known_as =
     subst (λ (e : List ℕ). IsPeer setup e peer) (ap (λ (i : Issued). i.peer) made)
     (known_peer setup _ request.body asked peer is known) in
-    subst (λ (x : IdpRecord). Carries setup held x bytes) same (subst (Carries setup held (kinds.Issued other)) spelled
-    (carries_issued setup held peer other None now sent known_as (sym (ap (λ (i : Issued). i.moment) made)) answers))
+    carried_to setup held request (kinds.Issued other) r sent bytes same spelled
+    (carries_issued setup held request peer other None now sent known_as (sym (ap (λ (i : Issued). i.moment) made))
+    (ap (option_map (λ (p : List ℕ). session_cookie other.cookie)) (ap (λ (i : Issued). i.pending) made)) answers)
 carried law setup held request now answer bytes adds r shown some
     (steps.ByPassive asked peer message sent to is known none passive adding named answers full) =
+    let ask = ask_of asked peer in
+    let same : spoke setup.id_key (next_number held) now ask ≡ r = (let e = sym adding ∙ some in cc) in
     let spelled : sent ≡ bytes = (let e = sym full ∙ shown in cc) in
-    subst (Carries setup held r) spelled (carries_refusal setup held r message asked.request asked.consumer asked.relay
-    now sent answers)
+    let first : id_text setup.id_key Message (next_number held) ≡ message = (let e = named in cc) in
+    let page = subst (λ (m : List ℕ). IsNoPassiveAnswer setup.entity m asked.request asked.consumer asked.relay now sent)
+    (sym first) answers in
+    carried_to setup held request (spoke setup.id_key (next_number held) now ask) r sent bytes same spelled
+    (ARefusal _ (record {
+      to = to;
+      asked = asked;
+      asks = is;
+      passive = passive;
+      peer = peer;
+      known = known;
+      peer_is = refl;
+      request_is = refl;
+    }) page (refusal_unsigned _ _ _ _ _ now sent page))
 carried law setup held request now answer bytes adds r shown some
     (steps.ByAsking asked peer id to is known none passive adding named full) =
-    AQuestion id (let e = sym shown ∙ full in cc)
+    let ask = ask_of asked peer in
+    let same : pending setup.id_key (next_number held) now ask ≡ r = (let e = sym adding ∙ some in cc) in
+    let spelled : login_answer id ≡ bytes = (let e = sym full ∙ shown in cc) in
+    let first : id ≡ id_text setup.id_key PendingId (next_number held) = (let e = named in cc) in
+    carried_to setup held request (pending setup.id_key (next_number held) now ask) r (login_answer id) bytes same
+    spelled (AQuestion _ (ap login_answer first))
 carried law setup held request now answer bytes adds r shown some
-    (steps.ByLogin t row peer user other sent to posted pending accepted drafted adding answers full) =
+    (steps.ByLogin t row peer user other sent to posted pends accepted drafted adding answers full) =
     let same : kinds.Issued other ≡ r = (let e = sym adding ∙ some in cc) in
     let spelled : sent ≡ bytes = (let e = sym full ∙ shown in cc) in
     let made =
     the_issued other (login setup.id_key (next_number held) now row user.name user.attributes) _ drafted refl in
-    let known_as = subst (λ (e : List ℕ). IsPeer setup e peer) (ap (λ (i : Issued). i.peer) made) pending.1 in
-    subst (λ (x : IdpRecord). Carries setup held x bytes) same (subst (Carries setup held (kinds.Issued other)) spelled
-    (carries_issued setup held peer other (Some other.cookie) now sent known_as
-    (sym (ap (λ (i : Issued). i.moment) made)) answers))
+    let known_as = subst (λ (e : List ℕ). IsPeer setup e peer) (ap (λ (i : Issued). i.peer) made) pends.1 in
+    carried_to setup held request (kinds.Issued other) r sent bytes same spelled
+    (carries_issued setup held request peer other (Some other.cookie) now sent known_as
+    (sym (ap (λ (i : Issued). i.moment) made))
+    (ap (option_map (λ (p : List ℕ). session_cookie other.cookie)) (ap (λ (i : Issued). i.pending) made)) answers)
 carried law setup held request now answer bytes adds r shown some
     (steps.ByLeaving row left sent to live alone drafted adding answers full) =
     let same : kinds.Left left ≡ r = (let e = sym adding ∙ some in cc) in
     let spelled : sent ≡ bytes = (let e = sym full ∙ shown in cc) in
     let made = the_left left (left_by setup.id_key held now row.cookie) _ drafted refl in
-    subst (λ (x : IdpRecord). Carries setup held x bytes) same (subst (Carries setup held (kinds.Left left)) spelled
-    (carries_leaving setup held left row now sent (sym (ap (λ (l : Left). l.moment) made))
+    carried_to setup held request (kinds.Left left) r sent bytes same spelled
+    (carries_leaving setup held request left row now sent (sym (ap (λ (l : Left). l.moment) made))
     (is_left held left row request now (ap (λ (l : Left). l.moment) made) (ap (λ (l : Left). l.cookie) made) live)
-    answers))
+    answers)
 carried law setup held request now answer bytes adds r shown some
     (steps.ByLeavingAll row begun sent to live others drafted adding first full) =
     let same : kinds.Round begun ≡ r = (let e = sym adding ∙ some in cc) in
     let spelled : sent ≡ bytes = (let e = sym full ∙ shown in cc) in
     let made = the_round begun (round_by setup held now None (row.cookie ∷ [])) _ drafted refl in
-    subst (λ (x : IdpRecord). Carries setup held x bytes) same (subst (Carries setup held (kinds.Round begun)) spelled
-    (carries_first setup held begun now sent (sym (ap (λ (b : Round). b.moment) made)) first))
+    carried_to setup held request (kinds.Round begun) r sent bytes same spelled
+    (carries_first setup held request begun now sent (sym (ap (λ (b : Round). b.moment) made)) first)
 carried law setup held request now answer bytes adds r shown some
     (steps.ByEnding asked peer relay ended sent to asks some_end alone drafted adding answers full) =
     let same : kinds.Ended ended ≡ r = (let e = sym adding ∙ some in cc) in
@@ -358,8 +392,9 @@ carried law setup held request now answer bytes adds r shown some
     let known_as =
     subst (λ (e : List ℕ). IsPeer setup e peer) (ap (λ (l : Ended). l.peer) made)
     (asking_peer law setup request now asked peer relay asks) in
-    subst (λ (x : IdpRecord). Carries setup held x bytes) same (subst (Carries setup held (kinds.Ended ended)) spelled
-    (carries_ending setup held ended relay now sent peer known_as (sym (ap (λ (l : Ended). l.moment) made)) answers))
+    carried_to setup held request (kinds.Ended ended) r sent bytes same spelled
+    (carries_ending setup held request ended relay now sent peer known_as (sym (ap (λ (l : Ended). l.moment) made))
+    answers)
 carried law setup held request now answer bytes adds r shown some
     (steps.ByEndingAll asked peer relay begun sent to asks some_end others drafted adding first full) =
     let same : kinds.Round begun ≡ r = (let e = sym adding ∙ some in cc) in
@@ -367,8 +402,8 @@ carried law setup held request now answer bytes adds r shown some
     let made =
     the_round begun (round_by setup held now (Some (asker_of peer asked relay))
     (ending_by held now peer.peer.entity asked)) _ drafted refl in
-    subst (λ (x : IdpRecord). Carries setup held x bytes) same (subst (Carries setup held (kinds.Round begun)) spelled
-    (carries_first setup held begun now sent (sym (ap (λ (b : Round). b.moment) made)) first))
+    carried_to setup held request (kinds.Round begun) r sent bytes same spelled
+    (carries_first setup held request begun now sent (sym (ap (λ (b : Round). b.moment) made)) first)
 carried law setup held request now answer bytes adds r shown some
     (steps.ByTold response peer row told sent to replies waits drafted adding answers full) =
     let same : kinds.Told told ≡ r = (let e = sym adding ∙ some in cc) in
@@ -377,17 +412,21 @@ carried law setup held request now answer bytes adds r shown some
     let has =
     has_answer setup.id_key (next_number held) now response.request confirms (is_turn_left row) told drafted in
     let found = waiting_turn setup held now response.request peer.peer.entity row waits in
-    subst (λ (x : IdpRecord). Carries setup held x bytes) same (subst (Carries setup held (kinds.Told told)) spelled
-    (carries_told setup held told row confirms now sent has.moment_is (sym has.confirms_is) (
+    carried_to setup held request (kinds.Told told) r sent bytes same spelled
+    (carries_told setup held request told row confirms now sent has.moment_is (sym has.confirms_is) (
       peer.peer.entity,
       subst (λ (q : List ℕ). turn_found (rows_of held.records).rounds q peer.peer.entity told.moment
           held.header.horizon ≡ Some row) (sym has.request_is)
           (subst (λ (m : ℕ). turn_found (rows_of held.records).rounds response.request peer.peer.entity m
           held.header.horizon ≡ Some row) (sym has.moment_is) found),
-    ) answers))
+    ) answers)
 carried law setup held request now answer bytes adds r shown some
     (steps.ByConfirming response peer to replies no_round waits adding full) =
-    AnEnd (is_in_part response.outcome) (let e = sym shown ∙ full in cc)
+    let same : confirmed now response.request ≡ r = (let e = sym adding ∙ some in cc) in
+    let partial = is_in_part response.outcome in
+    let spelled : end_answer partial ≡ bytes = (let e = sym full ∙ shown in cc) in
+    carried_to setup held request (confirmed now response.request) r (end_answer partial) bytes same spelled
+    (AnEnd (confirmed now response.request) partial tt refl)
 carried law setup held request now answer bytes adds r shown some other =
     absurd (let says = (said setup held request now answer adds other).is in cc)
 

@@ -1,5 +1,5 @@
 -- That a session which was begun is found as it was left.
-use Rattle.std.specs.Prelude.{Contains, IsSome}
+use Rattle.std.specs.Prelude.{Contains}
 use Rattle.std.specs.List.{list_any}
 use Rattle.std.proofs.Common.{◌≡◌, ℕ, ◌<◌, Bool, false, List, [], ◌∷◌, ◌++◌, Option, Some, refl, sym, subst, arith}
 use Rattle.std.proofs.lemmas.List.Elements.{Contains-append_right}
@@ -11,17 +11,18 @@ use Rattle.idp_rows.specs.Finding.{session_found}
 use Rattle.idp_ledger.specs.Laws.{ImagesHoldRecords, SessionsStay as RowsStay}
 use Rattle.idp_ledger.specs.Ledger.{Held}
 use Rattle.record_ledger.specs.Ledger.{held_with}
-use Rattle.idp_ledger.specs.Record.{idp_rules}
+use Rattle.idp_ledger.specs.Record.{AreRecords, idp_rules}
 use Rattle.idp_rows.specs.RowsOf.{IdpRows, begun, ended_if, ends, if_pending, session_row, session_rows}
 use Rattle.idp_ledger.proofs.RowLaws.{rows_of-push}
 use Rattle.provider_node.specs.Histories.{CameFrom}
-use Rattle.provider_node.proofs.Sessions.{live_found}
-use Rattle.provider_node.proofs.Staying.{Stood, found_as_left, stay_in_a_service, stay_over_starts, stood}
+use Rattle.provider_node.proofs.Histories.{what_is_kept}
+use Rattle.provider_node.proofs.Starts.{kept_over_at}
+use Rattle.provider_node.proofs.Staying.{Stood, stood}
 use Rattle.idp_server.specs.Staying.{Began, IsAsLeft}
 use Rattle.provider_node.specs.Staying.{SessionsStayInAService, SessionsStayOverStarts, WhatWasOpenedIsAsLeft}
 use Rattle.idp_server.specs.Step.{Answers}
+use Rattle.idp_server.proofs.Cookies.{live_row, opened_records}
 use Rattle.idp_server.proofs.Histories.{draws_above}
-use Rattle.idp_server.proofs.StayingEnded.{begun_sessions}
 
 -- ---- rows
 
@@ -39,7 +40,7 @@ last_row before r pending has =
 
 module _ (rows_stay : RowsStay) (moments : List ℕ) (start held : Held) (records : List IdpRecord) (r : Issued)
     (came : CameFrom idp_rules (Contains moments) start records held)
-    (began : Began records r) where
+    (began : Began records r) (are : AreRecords held.records) where
   since : Stood idp_rules moments start held came.events (kinds.Issued r)
   since = stood idp_rules moments start held records (kinds.Issued r) came began.there
 
@@ -56,10 +57,11 @@ module _ (rows_stay : RowsStay) (moments : List ℕ) (start held : Held) (record
 
     its_life : EndsBehind start.header.horizon moments r.session_end → ended ≡ false → (now : ℕ) → now < r.session_end
         → held.header.horizon < r.session_end
-        → IsSome (session_found (session_rows held.records) r.cookie now held.header.horizon)
+        → session_found (session_rows held.records) r.cookie now held.header.horizon ≡ Some (session_row false r)
     its_life behind none now less also =
-        live_found begun_sessions (session_rows held.records) now held.header.horizon
-        (ended_if ended (session_row false r)) (its_row behind) none less also
+        live_row held.records (session_row false r) now held.header.horizon are
+        (subst (λ (b : Bool). Contains (session_rows held.records) (ended_if b (session_row false r))) none
+        (its_row behind)) refl less also
 
   pub as_left : IsAsLeft moments start r held
   as_left =
@@ -67,13 +69,30 @@ module _ (rows_stay : RowsStay) (moments : List ℕ) (start held : Held) (record
 
 -- ---- the laws
 
-module _ (rows_stay : RowsStay) where
+module _ (rows_stay : RowsStay) (law : ImagesHoldRecords) where
   pub was_left : WhatWasOpenedIsAsLeft idp_rules Began IsAsLeft
-  was_left = found_as_left idp_rules Began IsAsLeft Answers (as_left rows_stay)
+  was_left moments start records r image (held, is, came) began =
+      (held, is, as_left rows_stay moments start held records r came began (law image held is))
 
-  module _ (law : ImagesHoldRecords) where
-    pub sessions_stay_in_a_service : SessionsStayInAService idp_rules Began IsAsLeft Answers
-    sessions_stay_in_a_service = stay_in_a_service idp_rules Began IsAsLeft Answers (as_left rows_stay) law draws_above
+  pub sessions_stay_in_a_service : SessionsStayInAService idp_rules Began IsAsLeft Answers
+  sessions_stay_in_a_service first last turns kept at tells run =
+      let is = what_is_kept idp_rules Answers law draws_above first last turns kept at tells run in
+      record {
+        records = is.records;
+        are = is.are;
+        stay = λ r image began left. was_left _ first.node.ledger.held is.records r image (is.kept image left) began;
+      }
 
-    pub sessions_stay_over_starts : SessionsStayOverStarts idp_rules Began IsAsLeft Answers
-    sessions_stay_over_starts = stay_over_starts idp_rules Began IsAsLeft Answers (as_left rows_stay) law draws_above
+  pub sessions_stay_over_starts : SessionsStayOverStarts idp_rules Began IsAsLeft Answers
+  sessions_stay_over_starts moments start starts begun =
+      let is = kept_over_at idp_rules Answers law draws_above (Contains moments) start starts begun in
+      record {
+        records = is.records;
+        are = is.are;
+        stay = λ r image began left. let opens = is.kept image left in (
+          opens.held,
+          opens.opens,
+          as_left rows_stay moments start opens.held is.records r opens.came began
+              (opened_records law image opens.held opens.opens),
+        );
+      }

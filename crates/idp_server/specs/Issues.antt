@@ -1,4 +1,4 @@
--- For what an Assertion is issued, and what stands behind an answer.
+-- For what an Assertion is issued, for what a user is asked, and what stands behind an answer.
 use Rattle.std.specs.Prelude.{◌≡◌, ◌⊎◌, ℕ, true, false, codes, None, Some, slice_get}
 use Rattle.std.specs.Option.{option_and_then}
 use Rattle.crash_disk.specs.Counts.{Rose}
@@ -6,6 +6,8 @@ use Rattle.http_wire.specs.declared.answer.Answer.{Answer}
 use Rattle.http_wire.specs.Requests.{Request}
 use Rattle.http_wire.specs.Cookies.{cookie_value}
 use Rattle.ledger_records.specs.declared.idp_record.Issued.{Issued}
+use Rattle.ledger_records.specs.declared.idp_record.Pending.{Pending}
+use Rattle.ledger_records.specs.declared.idp_record.Spoke.{Spoke}
 use Rattle.ledger_records.specs.declared.idp_record.IdpRecord.{IdpRecord}
 use Rattle.ledger_records.specs.declared.idp_record.IdpRecord.TheVariants as kinds
 use Rattle.user_store.specs.Store.{checked}
@@ -31,7 +33,8 @@ use Rattle.provider_node.specs.Step.{Serves}
 -- WHY
 
 -- The login page was posted, with the ID of a login that is pending in the ledger, was not used and is visible, and
--- with the name and the password of a user; the record answers that login for that user.
+-- with the name and the password of a user; the record answers that login for that user, with the relay state of the
+-- request for it.
 pub record IsOfPassword (setup : IdpConfig) (held : Held) (request : Request) (now : ℕ) (r : Issued) : Type 0 where
   pub to : route request ≡ To Login
   pub fields : Typed
@@ -48,12 +51,13 @@ pub record IsOfPassword (setup : IdpConfig) (held : Held) (request : Request) (n
   pub peer_is : r.peer ≡ row.peer
   pub request_is : r.request ≡ row.request
   pub consumer_is : r.consumer ≡ row.consumer
+  pub relay_is : r.relay ≡ row.relay
   pub user_is : r.user ≡ user.name
   pub attributes_are : r.attributes ≡ user.attributes
 
 -- A peer asked by a form for a login, and not that the user is authenticated anew (SAML Core, 3.4.1, ForceAuthn); the
 -- request has the cookie of a session that is in the ledger, was not ended and is visible; the record answers that peer
--- at its address, and has the session's user, attributes, index and end.
+-- at its address, with the relay state of its form, and has the session's user, attributes, index and end.
 pub record IsOfSession (setup : IdpConfig) (held : Held) (request : Request) (now : ℕ) (r : Issued) : Type 0 where
   pub to : route request ≡ To SignOn
   pub asked : Asked
@@ -64,6 +68,7 @@ pub record IsOfSession (setup : IdpConfig) (held : Held) (request : Request) (no
   pub peer_is : r.peer ≡ peer.peer.entity
   pub request_is : r.request ≡ asked.request
   pub consumer_is : r.consumer ≡ asked.consumer
+  pub relay_is : r.relay ≡ asked.relay
   pub cookie : option_and_then (λ header. cookie_value header (codes "idp_sid")) request.cookie ≡ Some r.cookie
   pub place : ℕ
   pub row : SessionRow
@@ -81,27 +86,66 @@ pub record IsOfSession (setup : IdpConfig) (held : Held) (request : Request) (no
 abbrev pub IsOfUser : IdpConfig → Held → Request → ℕ → Issued → Type 0
 IsOfUser setup held request now r = IsOfPassword setup held request now r ⊎ IsOfSession setup held request now r
 
-abbrev pub IsOfUserIfIssued : IdpConfig → Held → Request → ℕ → IdpRecord → Type 0
-IsOfUserIfIssued setup held request now (kinds.Pending r) = Unit {0}
-IsOfUserIfIssued setup held request now (kinds.Issued r) = IsOfUser setup held request now r
-IsOfUserIfIssued setup held request now (kinds.Ended r) = Unit {0}
-IsOfUserIfIssued setup held request now (kinds.Left r) = Unit {0}
-IsOfUserIfIssued setup held request now (kinds.Confirmed r) = Unit {0}
-IsOfUserIfIssued setup held request now (kinds.Spoke r) = Unit {0}
-IsOfUserIfIssued setup held request now (kinds.Round r) = Unit {0}
-IsOfUserIfIssued setup held request now (kinds.Told r) = Unit {0}
+-- A peer asked by a form for a login, and its user may be asked for a password (SAML Core, 3.4.1): the record of the
+-- login that is pending has the peer, the ID of its request, the address to which the Response goes, and the relay
+-- state of the form (SAML Bindings, 3.5.3).
+pub record IsOfAsker (setup : IdpConfig) (request : Request) (r : Pending) : Type 0 where
+  pub to : route request ≡ To SignOn
+  pub asked : Asked
+  pub asks : IsAsked setup.peers (sign_on setup) request.body asked
+  pub askable : asked.passive ≡ false
+  pub peer : LogoutPeer
+  pub known : slice_get setup.peers asked.peer ≡ Some peer
+  pub peer_is : r.peer ≡ peer.peer.entity
+  pub request_is : r.request ≡ asked.request
+  pub consumer_is : r.consumer ≡ asked.consumer
+  pub relay_is : r.relay ≡ asked.relay
+
+-- A peer asked by a form for a login, and its user may not be asked (SAML Core, 3.4.1, IsPassive): the record of the
+-- Response without an Assertion has the peer and the ID of its request.
+pub record IsOfPassive (setup : IdpConfig) (request : Request) (r : Spoke) : Type 0 where
+  pub to : route request ≡ To SignOn
+  pub asked : Asked
+  pub asks : IsAsked setup.peers (sign_on setup) request.body asked
+  pub passive : asked.passive ≡ true
+  pub peer : LogoutPeer
+  pub known : slice_get setup.peers asked.peer ≡ Some peer
+  pub peer_is : r.peer ≡ peer.peer.entity
+  pub request_is : r.request ≡ asked.request
+
+-- what is behind a record of a login
+abbrev pub IsOfItsCause : IdpConfig → Held → Request → ℕ → IdpRecord → Type 0
+IsOfItsCause setup held request now (kinds.Pending r) = IsOfAsker setup request r
+IsOfItsCause setup held request now (kinds.Issued r) = IsOfUser setup held request now r
+IsOfItsCause setup held request now (kinds.Ended r) = Unit {0}
+IsOfItsCause setup held request now (kinds.Left r) = Unit {0}
+IsOfItsCause setup held request now (kinds.Confirmed r) = Unit {0}
+IsOfItsCause setup held request now (kinds.Spoke r) = IsOfPassive setup request r
+IsOfItsCause setup held request now (kinds.Round r) = Unit {0}
+IsOfItsCause setup held request now (kinds.Told r) = Unit {0}
 
 -- what a request may do to a ledger that stays whole: nothing, a compaction, or a record behind either, and an Issued
--- only for a user
+-- only for a user, a Pending and a Spoke only for a peer that asks
 abbrev pub Changes : IdpConfig → (found : Held) → Request → ℕ → (new : Provider) → Type 0
 Changes setup found request now new =
-    any.Changes idp_rules (λ held r. IsOfUserIfIssued setup held request now r) now found new.ledger.held
+    any.Changes idp_rules (λ held r. IsOfItsCause setup held request now r) now found new.ledger.held
 
 -- Each Assertion that is issued has a password or a session: an answer's record, and what a request does to the ledger.
+-- Each login that is pending, and each Response without an Assertion, has a peer that asked for it.
 abbrev pub AnswersHaveUsers : Type 0
 AnswersHaveUsers =
     (setup : IdpConfig) (held : Held) (request : Request) (now : ℕ) (answer : Answer) (r : Issued)
     → Answers setup held request now answer (Some (kinds.Issued r)) → IsOfUser setup held request now r
+
+abbrev pub AnswersHaveAskers : Type 0
+AnswersHaveAskers =
+    (setup : IdpConfig) (held : Held) (request : Request) (now : ℕ) (answer : Answer) (r : Pending)
+    → Answers setup held request now answer (Some (kinds.Pending r)) → IsOfAsker setup request r
+
+abbrev pub RefusalsHaveAskers : Type 0
+RefusalsHaveAskers =
+    (setup : IdpConfig) (held : Held) (request : Request) (now : ℕ) (answer : Answer) (r : Spoke)
+    → Answers setup held request now answer (Some (kinds.Spoke r)) → IsOfPassive setup request r
 
 abbrev pub ServicesHaveUsers : Type 0
 ServicesHaveUsers =

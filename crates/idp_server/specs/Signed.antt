@@ -1,6 +1,7 @@
--- Which elements an identity provider's records stand for as signed ones.
-use Rattle.std.specs.Prelude.{◌≡◌, ℕ, Bool, true, List, [], ◌∷◌, None, Option, Some, if◌then◌else◌, slice_get}
+-- Which elements an identity provider's records stand for as signed ones, and which answers its records stand for.
+use Rattle.std.specs.Prelude.{◌≡◌, ◌⊎◌, ℕ, Bool, true, List, [], ◌∷◌, None, Option, Some, if◌then◌else◌, slice_get}
 use Rattle.std.specs.List.{AllByRecursion}
+use Rattle.std.specs.Option.{option_map}
 use Rattle.element_make.specs.Made.{Made, alone, written}
 use Rattle.saml_names.specs.Uris.{partial_logout}
 use Rattle.sig_reference.specs.Signing.{signed}
@@ -16,6 +17,8 @@ use Rattle.ledger_records.specs.declared.idp_record.IdpRecord.TheVariants as kin
 use Rattle.ledger_records.specs.declared.idp_record.Ended.{Ended}
 use Rattle.ledger_records.specs.declared.idp_record.Issued.{Issued}
 use Rattle.ledger_records.specs.declared.idp_record.Left.{Left}
+use Rattle.ledger_records.specs.declared.idp_record.Pending.{Pending}
+use Rattle.ledger_records.specs.declared.idp_record.Spoke.{Spoke}
 use Rattle.ledger_records.specs.declared.idp_round.Round.{Round}
 use Rattle.ledger_records.specs.declared.idp_round.Told.{Told}
 use Rattle.logout_fanout.specs.declared.round.Next.TheVariants.{Ask, Done}
@@ -28,12 +31,17 @@ use Rattle.idp_rows.specs.Finding.{session_found, turn_found}
 use Rattle.idp_rows.specs.RowsOf.{rows_of}
 use Rattle.idp_ledger.specs.Ledger.{Held}
 use Rattle.idp_rules.specs.declared.config.IdpConfig.{IdpConfig}
-use Rattle.idp_answers.specs.Answers.{login_answer, response_form, signed_assertion, signs_assertion, signs_response}
+use Rattle.idp_answers.specs.Answers.{IsNoPassiveAnswer, login_answer, metadata_answer, response_form, session_cookie}
+use Rattle.idp_answers.specs.Answers.{signed_assertion, signs_assertion, signs_response}
 pub use Rattle.idp_answers.specs.SignedElements.{signed_elements}
 use Rattle.logout_answers.specs.Answers.{end_answer}
+use Rattle.idp_server.specs.Issues.{IsOfPassive}
 use Rattle.idp_server.specs.Logins.{login_of}
 use Rattle.idp_server.specs.Rounds.{next_in}
+use Rattle.idp_server.specs.Routes.{route}
 use Rattle.idp_server.specs.Step.{Answers, IsPeer}
+use Rattle.idp_server.specs.declared.route.Service.TheVariants.{Metadata}
+use Rattle.service_routes.specs.declared.route.Route.TheVariants.{To}
 
 -- in the ledger this round waits for the answer that a Told is, of the provider whose turn it is
 abbrev pub Waits : Held → Told → RoundRow → Type 0
@@ -91,12 +99,13 @@ pub record IsSignedOf (setup : IdpConfig) (held : Held) (r : IdpRecord) (element
   pub stands : IsSignedFor setup held r key made
   pub is : element ≡ signed key made
 
--- the answer is a form that sends this Response on
-pub record Sends (bytes : List ℕ) (sent : Made) : Type 0 where
-  pub consumer : List ℕ
-  pub relay : Option (List ℕ)
-  pub cookie : Option (List ℕ)
+-- the answer is a form that sends this Response on to this address with this relay state, and sets this cookie
+pub record Sends (bytes : List ℕ) (sent : Made) (consumer : List ℕ) (relay cookie : Option (List ℕ)) : Type 0 where
   pub is : bytes ≡ answer 200 None cookie (response_form sent consumer relay)
+
+-- the cookie that is set for an Issued: that of the session which it begins, where a login was pending, and else none
+abbrev pub cookie_set : Issued → Option (List ℕ)
+cookie_set r = option_map (λ (pending : List ℕ). session_cookie r.cookie) r.pending
 
 -- the answer is a form that sends this message of a logout on
 pub record SendsOn (bytes : List ℕ) (sent : Made) : Type 0 where
@@ -105,18 +114,61 @@ pub record SendsOn (bytes : List ℕ) (sent : Made) : Type 0 where
   pub relay : Option (List ℕ)
   pub is : bytes ≡ answer 200 None None (auto_form address field (written sent) relay)
 
-module _ (setup : IdpConfig) (held : Held) (r : IdpRecord) (bytes : List ℕ) where
-  -- what an answer that stands for a record over a ledger carries: the page where the user logs in, a Response or a
-  -- message of a logout whose signed elements are all of the record, or the page at the end of a logout
-  pub data Carries : Type 0 where
-    AQuestion : (id : List ℕ) → bytes ≡ login_answer id → Carries
-    AForm : (sent : Made) → Sends bytes sent → AllByRecursion (IsSignedOf setup held r) (signed_elements (alone sent))
-        → Carries
-    ALogout : (sent : Made) → SendsOn bytes sent
-        → AllByRecursion (IsSignedOf setup held r) (signed_elements (alone sent)) → Carries
-    AnEnd : (partial : Bool) → bytes ≡ end_answer partial → Carries
+-- the records that stand for a message of a logout: one for which a peer asked, or which the user began; that of a
+-- logout that asks all others, and that of an answer in its turn
+abbrev pub IsOfAMessage : IdpRecord → Type 0
+IsOfAMessage (kinds.Ended r) = Unit {0}
+IsOfAMessage (kinds.Left r) = Unit {0}
+IsOfAMessage (kinds.Round r) = Unit {0}
+IsOfAMessage (kinds.Told r) = Unit {0}
+IsOfAMessage other = ⊥
+
+-- With this answer no turn is left in the round that waits for it, and the logout ended in part, or not.
+abbrev pub EndsItsRound : Held → Told → (partial : Bool) → Type 0
+EndsItsRound held r partial = (row : RoundRow) × Waits held r row × (next_in row r.confirmed ≡ Done partial)
+
+-- The records that stand for the page at the end of a logout, which says that it ended in part or not (SAML Core,
+-- 3.2.2.2): for an Ended as the record says. A provider that should be asked and can't be, as it is no peer any more or
+-- has no address for logout, makes it partial; else a Told is of the last answer of its round. Of a Confirmed it is
+-- told by the message that the peer sent.
+abbrev pub IsOfAnEnd : Held → IdpRecord → (partial : Bool) → Type 0
+IsOfAnEnd held (kinds.Ended r) partial = partial ≡ r.partial
+IsOfAnEnd held (kinds.Left r) partial = partial ≡ true
+IsOfAnEnd held (kinds.Confirmed r) partial = Unit {0}
+IsOfAnEnd held (kinds.Round r) partial = partial ≡ true
+IsOfAnEnd held (kinds.Told r) partial = (partial ≡ true) ⊎ EndsItsRound held r partial
+IsOfAnEnd held other partial = ⊥
+
+module _ (setup : IdpConfig) (held : Held) (request : Request) (bytes : List ℕ) where
+  -- What an answer that stands for a record over a ledger carries. For a Pending it is the page where the user logs in,
+  -- with the ID of the record's login; for an Issued a Response that goes to the record's address with its relay state,
+  -- with the cookie of the session that it begins, and whose signed elements are all of the record; for a Spoke the
+  -- Response without an Assertion to the request that the record answers, at the address and with the relay state of
+  -- the form that asked, in which nothing is signed; for a record of a logout a message whose signed elements are all of
+  -- the record, or the page at the end.
+  pub data Carries : IdpRecord → Type 0 where
+    AQuestion : (r : Pending) → bytes ≡ login_answer r.pending → Carries (kinds.Pending r)
+    ALogin : (r : Issued) (sent : Made) → Sends bytes sent r.consumer r.relay (cookie_set r)
+        → AllByRecursion (IsSignedOf setup held (kinds.Issued r)) (signed_elements (alone sent))
+        → Carries (kinds.Issued r)
+    ARefusal : (r : Spoke) (of : IsOfPassive setup request r)
+        (page : IsNoPassiveAnswer setup.entity r.message r.request of.asked.consumer of.asked.relay r.moment bytes)
+        → signed_elements (alone page.sent) ≡ [] → Carries (kinds.Spoke r)
+    ALogout : (r : IdpRecord) (sent : Made) → IsOfAMessage r → SendsOn bytes sent
+        → AllByRecursion (IsSignedOf setup held r) (signed_elements (alone sent)) → Carries r
+    AnEnd : (r : IdpRecord) (partial : Bool) → IsOfAnEnd held r partial → bytes ≡ end_answer partial → Carries r
 
 abbrev pub EachSignedElementIsOfARecord : Type 0
 EachSignedElementIsOfARecord =
     (setup : IdpConfig) (held : Held) (request : Request) (now : ℕ) (bytes : List ℕ) (r : IdpRecord)
-    → Answers setup held request now (Full bytes) (Some r) → Carries setup held r bytes
+    → Answers setup held request now (Full bytes) (Some r) → Carries setup held request bytes r
+
+-- A page that stands for no record is the metadata.
+pub record IsMetadata (setup : IdpConfig) (request : Request) (bytes : List ℕ) : Type 0 where
+  pub to : route request ≡ To Metadata
+  pub is : bytes ≡ metadata_answer setup.entity setup.base
+
+abbrev pub NoOtherPageIsUnrecorded : Type 0
+NoOtherPageIsUnrecorded =
+    (setup : IdpConfig) (held : Held) (request : Request) (now : ℕ) (bytes : List ℕ)
+    → Answers setup held request now (Full bytes) None → IsMetadata setup request bytes

@@ -1,10 +1,10 @@
 //! Laws of an identity provider, each the contract of a function that does nothing.
-ghost use Rattle.idp_server.specs.Issues.{AnswersHaveUsers, IsPosted, ServicesHaveUsers};
+ghost use Rattle.idp_server.specs.Issues.{AnswersHaveAskers, AnswersHaveUsers, IsPosted, RefusalsHaveAskers, ServicesHaveUsers};
 ghost use Rattle.provider_node.specs.Recorded.{WhatIsAnsweredIsRecorded};
 ghost use Rattle.idp_server.specs.Histories.{AnEndedSessionStaysEnded, SessionsStayEndedInAService, SessionsStayEndedOverStarts, WhatIsAcknowledgedIsKept, WhatIsAcknowledgedIsKeptOverStarts};
 ghost use Rattle.idp_server.specs.Logouts.{AnswersEndExactly, ServicesEndExactly, SessionsEndBeforeTheAnswer, WhereverAPeerEnds, WhereverAUserLeaves};
 ghost use Rattle.idp_server.specs.Outcomes.{RoundsBeginWithTheFirst, RoundsEndAsConfirmed};
-ghost use Rattle.idp_server.specs.Signed.{EachSignedElementIsOfARecord};
+ghost use Rattle.idp_server.specs.Signed.{EachSignedElementIsOfARecord, NoOtherPageIsUnrecorded};
 ghost use Rattle.idp_server.specs.Staying.{Began, IsAsLeft};
 ghost use Rattle.provider_node.specs.Staying.{SessionsStayInAService, SessionsStayOverStarts, WhatWasOpenedIsAsLeft};
 ghost use Rattle.idp_server.specs.Step.{Answers};
@@ -18,6 +18,14 @@ ghost use Rattle.provider_node.specs.Starving.{RowsAnswerAsBefore};
 pub fn each_issue_has_a_password_or_a_session()
     ensures answers { AnswersHaveUsers }
     ensures services { ServicesHaveUsers }
+{}
+
+/// Each login that is pending, for which a user is asked for a password, was asked for by a form of a peer, and has the
+/// peer's name, the ID of its request, its address and its relay state; and so was each Response without an Assertion,
+/// where the user may not be asked.
+pub fn each_question_has_an_asker()
+    ensures questions { AnswersHaveAskers }
+    ensures refusals { RefusalsHaveAskers }
 {}
 
 /// Each form and each page that is answered to what is posted stands for one record, and behind the step this is in
@@ -95,12 +103,20 @@ pub fn sessions_end_before_the_answer()
 }
 
 /// The elements that are signed in an answer are those that its record stands for: its Assertion, the Response with
-/// this, or both; its LogoutRequest or LogoutResponse; with the key of what is sent to the record's peer.
+/// this, or both; its LogoutRequest or LogoutResponse; with the key of what is sent to the record's peer. And the answer
+/// is of the record's kind: the page where the user logs in for a login that is pending, a Response at its address with
+/// its relay state and its cookie for one that was issued, one without an Assertion where the user may not be asked, a
+/// message or the page at the end for a record of a logout.
 pub fn each_signed_element_is_of_a_record()
     ensures { EachSignedElementIsOfARecord }
 {
     logout_profile::laws::what_an_obeyed_form_says();
 }
+
+/// A page that stands for no record is the metadata.
+pub fn no_other_page_is_unrecorded()
+    ensures { NoOtherPageIsUnrecorded }
+{}
 
 /// A logout that asks all others asks the provider of the first turn first, and behind each answer the one of the next
 /// turn. It ends with Success exactly where none was skipped, as many providers answered as there are turns, and each
@@ -122,10 +138,11 @@ pub fn what_is_visible_stays()
 
 /// A session whose answer went out is as it was left in each ledger that came from the one at the start by events,
 /// among them its record's: where it ends behind each moment at which the ledger was compacted it has its row, ended
-/// only where a record that was added since ends it, and it is found live until then and until its end.
+/// only where a record that was added since ends it, and its cookie finds that row until then and until its end.
 pub fn what_was_begun_is_as_left()
     ensures { WhatWasOpenedIsAsLeft idp_rules Began IsAsLeft }
 {
+    idp_ledger::laws::images_hold_records();
     idp_ledger::laws::sessions_stay();
 }
 

@@ -41,24 +41,27 @@
 //! had issued to another peer, or, where the config has `fanout`, with each other provider asked in its turn and
 //! Success exactly where each confirmed. Records, codes 50 to 53, crashes, `start`, `restart` and `compact` as at the
 //! service provider. Laws: each Assertion is issued to a user whose password was posted for a login that was pending
-//! and unused, or in the user's live session, to the peer that asked by a form, at its address, and not where the user
-//! is to be authenticated anew (`each_issue_has_a_password_or_a_session`); whatever is answered to a request for a
-//! login or a message of a logout stands for a record that is in every image that a crash may leave behind the step
-//! (`what_is_answered_is_recorded`); each signed element in an answer, those of a logout too, is one that its record
-//! stands for (`each_signed_element_is_of_a_record`); a session is ended only where its user leaves it or a peer asks
-//! to end it that it issued to, alone where no other provider is to be asked and else with all of them, and wherever
-//! one does, where there is room, at once or behind one compaction, the disk does not fail and memory is found
+//! and unused, or in the user's live session, to the peer that asked by a form, at its address and with its relay
+//! state, and not where the user is to be authenticated anew (`each_issue_has_a_password_or_a_session`); a login is
+//! pending, and a Response without an Assertion is recorded, only where a peer asked for it by a form
+//! (`each_question_has_an_asker`); whatever is answered to a request for a login or a message of a logout stands for a
+//! record that is in every image that a crash may leave behind the step (`what_is_answered_is_recorded`); each signed
+//! element in an answer, those of a logout too, is one that its record stands for, and the answer is of the record's
+//! kind, at its address and with its relay state (`each_signed_element_is_of_a_record`); a page that stands for no
+//! record is the metadata (`no_other_page_is_unrecorded`); a session is ended only where its user leaves it or a peer
+//! asks to end it that it issued to, alone where no other provider is to be asked and else with all of them, and
+//! wherever one does, where there is room, at once or behind one compaction, the disk does not fail and memory is found
 //! (`a_session_is_ended_exactly`); where the disk tells, what an answer acknowledged is in the history of every ledger
 //! that a crash may leave, and in none of these a session lives that was ended (`what_is_acknowledged_is_kept`); over
 //! each list of starts the first half holds (`what_is_acknowledged_is_kept_over_starts`), and a session that was ended
 //! at their start, or by what was acknowledged, is live in no ledger that may be opened behind them
 //! (`sessions_stay_ended_over_starts`); a session that is ended is live at no later request
 //! (`sessions_stay_ended_in_a_service`), and each that a record ends is ended before the answer is sent
-//! (`sessions_end_before_the_answer`); a session whose answer went out is found as it was left
-//! (`what_was_begun_is_as_left`, `sessions_stay_in_a_service`, `sessions_stay_over_starts`), and at 52 what was visible
-//! is, where the ledger was not broken (`what_is_visible_stays`). Of a logout that asks all others: the answer that
-//! begins it asks the provider of the first turn, each later one that of the next turn or, where that is no peer any
-//! more or has no address for logout, shows that the logout ended in part, and the one behind the last answer says
+//! (`sessions_end_before_the_answer`); a session whose answer went out is found as it was left, by its cookie its own
+//! row (`what_was_begun_is_as_left`, `sessions_stay_in_a_service`, `sessions_stay_over_starts`), and at 52 what was
+//! visible is, where the ledger was not broken (`what_is_visible_stays`). Of a logout that asks all others: the answer
+//! that begins it asks the provider of the first turn, each later one that of the next turn or, where that is no peer
+//! any more or has no address for logout, shows that the logout ended in part, and the one behind the last answer says
 //! Success exactly where none was skipped, as many providers answered as there are turns, and each confirmed
 //! (`a_round_ends_as_confirmed`); all its sessions are ended in every image that a crash may leave before the first
 //! provider is asked (`sessions_end_before_the_answer`). That a provider answers is not claimed: a round whose provider

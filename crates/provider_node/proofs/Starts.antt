@@ -10,7 +10,7 @@ use Rattle.record_ledger.specs.Laws.{ImagesHoldRecords}
 use Rattle.record_ledger.specs.Runs as events
 use Rattle.record_ledger.specs.Runs.{Event, Adds, Opens, Leads}
 use Rattle.serve_loop.proofs.Telling.{goes_on_reading}
-use Rattle.provider_node.specs.Step.{AnswersBy, Provider, OwnsDisk, StepLeaves}
+use Rattle.provider_node.specs.Step.{AnswersBy, Provider, OwnsDisk}
 use Rattle.provider_node.specs.Node.{provider_rules}
 use Rattle.provider_node.specs.Histories.{AnyMoment, Another, CameFrom, CompactsWhere, HoldsWhatCame, Includes, Nothing}
 use Rattle.provider_node.specs.Histories.{This}

@@ -1,7 +1,6 @@
 -- What became of a ledger over a service: the histories of what its disk may hold, and what was acknowledged on the
 -- way.
 use Rattle.std.specs.Prelude.{◌≡◌, ℕ, false, List, [], ◌∷◌, ◌++◌, map, Contains, Option, None, Some, IfSome, Ok}
-use Rattle.crash_disk.specs.Counts.{Rose}
 use Rattle.crash_disk.specs.Disk.{Image, MayLeave, image_of}
 use Rattle.crash_disk.specs.Moments.{Leaves}
 use Rattle.http_wire.specs.declared.answer.Answer.TheVariants.{Fixed}
@@ -11,7 +10,7 @@ use Rattle.record_ledger.specs.Rules.{RecordRules, AreRecords}
 use Rattle.record_ledger.specs.Ledger.{Held, ledger_in}
 use Rattle.record_ledger.specs.Runs.{Event, Adds, Compacts, Leads}
 use Rattle.provider_node.specs.Node.{provider_rules}
-use Rattle.provider_node.specs.Step.{AnswersBy, Provider, OwnsDisk, StepLeaves}
+use Rattle.provider_node.specs.Step.{AnswersBy, Provider, OwnsDisk}
 use Rattle.std.specs.Option.{option_to_list}
 
 module _ {Setup R : Type 0} (rules : RecordRules R) (Answers : AnswersBy Setup R) where

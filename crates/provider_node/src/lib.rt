@@ -53,7 +53,8 @@
 //! (`specs/Starts.antt`), and that runs which a crash cut join into one service, with the moments of their requests
 //! (`specs/Joining.antt`). A compaction in a history is bound to a moment of the run. A page is made before its record
 //! is written, and a second try comes only behind a compaction that ended; `start`, `restart` and `compact` give what
-//! the disk stands for, or a fault by its cause. The laws of each provider say these of its own answers; `code_of`
+//! the disk stands for, or a fault by its cause. The disk's count of faults rises in a request that is answered by 50,
+//! and in no other (`CountsAnswer`). The laws of each provider say these of its own answers; `code_of`
 //! gives the code of a fault.
 #![tactic(auto)]
 

@@ -1,10 +1,11 @@
 //! One step over a ledger that is whole: a reply, its record, and the answer.
-ghost use Rattle.std.specs.Prelude.{◌≤◌, IfErr, OnOk};
+ghost use Rattle.std.specs.Prelude.{IfErr, OnOk};
 ghost use Rattle.crash_disk.specs.Counts.{Rose};
 ghost use Rattle.crash_disk.specs.Moments.{LeavesOnly};
 ghost use Rattle.http_wire.specs.Views.{request_view};
 ghost use Rattle.http_wire.specs.declared.answer.Answer.TheVariants.{Fixed};
-ghost use Rattle.serve_loop.specs.Worlds.{HasBytes};
+ghost use Rattle.gate_journal.specs.Opening.{CausesFaults};
+ghost use Rattle.serve_loop.specs.Worlds.{CountsAnswer, HasBytes};
 ghost use Rattle.record_ledger.specs.Ledger.{CanCommit};
 ghost use Rattle.provider_node.specs.Calls.{CommittingLeaves, MakesCompaction};
 ghost use Rattle.provider_node.specs.Replies.{HasNoPlace, IsAgain, IsPage, IsWanted};
@@ -41,7 +42,7 @@ fn added<R: Role, D: Disk>(
     ensures own { Owns R.Rows.rules (D.shows disk.new).told (seen ledger.new) }
     ensures moments { LeavesOnly D.shows disk.old disk.new
         (CommittingLeaves R.Rows.rules draft (seen ledger.old).held (D.shows disk.old).told) }
-    ensures faults { (D.shows disk.old).faults ≤ (D.shows disk.new).faults }
+    ensures faults { CountsAnswer result (D.shows disk.old).faults (D.shows disk.new).faults }
 {
     let Ok(bytes) = role.page(reply, &draft, now) else {
         return Answer::Fixed(NO_MEMORY);
@@ -78,7 +79,7 @@ fn make_room<R: Role, D: Disk>(
     ensures moments { LeavesOnly D.shows disk.old disk.new
         (ServingLeaves R.Rows.rules R.answers role.now (seen ledger.old).held (request_view request.now) now
         (D.shows disk.old).told) }
-    ensures faults { (D.shows disk.old).faults ≤ (D.shows disk.new).faults }
+    ensures faults { CausesFaults result (D.shows disk.old).faults (D.shows disk.new).faults }
 {
     role.laws_hold(now);
     ledger.holds_records();
@@ -107,7 +108,7 @@ fn serve_again<R: Role, D: Disk>(
     ensures moments { LeavesOnly D.shows disk.old disk.new
         (ServingLeaves R.Rows.rules R.answers role.now (seen ledger.old).held (request_view request.now) now
         (D.shows disk.old).told) }
-    ensures faults { (D.shows disk.old).faults ≤ (D.shows disk.new).faults }
+    ensures faults { CountsAnswer result (D.shows disk.old).faults (D.shows disk.new).faults }
 {
     role.laws_hold(now);
     if let Err(fault) = make_room(role, ledger, request, reply, now, disk) {
@@ -141,7 +142,7 @@ fn serve<R: Role, D: Disk>(
     ensures moments { LeavesOnly D.shows disk.old disk.new
         (ServingLeaves R.Rows.rules R.answers role.now (seen ledger.old).held (request_view request.now) now
         (D.shows disk.old).told) }
-    ensures faults { (D.shows disk.old).faults ≤ (D.shows disk.new).faults }
+    ensures faults { CountsAnswer result (D.shows disk.old).faults (D.shows disk.new).faults }
 {
     role.laws_hold(now);
     match role.draft(reply, ledger, now) {
@@ -170,7 +171,7 @@ pub(crate) fn answer_whole<R: Role, D: Disk>(
     ensures moments { LeavesOnly D.shows disk.old disk.new
         (ServingLeaves R.Rows.rules R.answers role.now (seen ledger.old).held (request_view request.now) now
         (D.shows disk.old).told) }
-    ensures faults { (D.shows disk.old).faults ≤ (D.shows disk.new).faults }
+    ensures faults { CountsAnswer result (D.shows disk.old).faults (D.shows disk.new).faults }
 {
     match role.reply(ledger, request, now) {
         Ok(Replied::Plain(answer)) => answer,

@@ -91,16 +91,16 @@ each_goes Goes goes (turn ∷ past) = (of_turn Goes goes turn, each_goes Goes go
 -- ---- a run
 
 module _ {Setup R : Type 0}
-    (SetsUp : SetUpBy Setup) (key : Setup → List ℕ) (rules : RecordRules R) (Answers : AnswersBy Setup R) where
+    (SetsUp : SetUpBy Setup) (address key : Setup → List ℕ) (rules : RecordRules R) (Answers : AnswersBy Setup R) where
   pub carries : (IsBad : BadSetUpBy) (Says : (left : ℕ → Image → Type 0) (told : Option (List File)) (file : List ℕ)
-      (before : Outside) (turns : List (Turn (Provider Setup R))) (after : Outside) → ServedRun SetsUp key rules
+      (before : Outside) (turns : List (Turn (Provider Setup R))) (after : Outside) → ServedRun SetsUp address key rules
       Answers left told file before turns after → Type 0) (left : ℕ → Image → Type 0) → ((told : Option (List File))
       (file : List ℕ) (before : Outside) (turns : List (Turn (Provider Setup R))) (after : Outside) (run : ServedRun
-      SetsUp key rules Answers left told file before turns after) → Says left told file before turns after run)
-      → EachRunCarries SetsUp IsBad key rules Answers (HeadlineBy SetsUp key rules Answers Says) left
+      SetsUp address key rules Answers left told file before turns after) → Says left told file before turns after run)
+      → EachRunCarries SetsUp IsBad address key rules Answers (HeadlineBy SetsUp address key rules Answers Says) left
   carries IsBad Says left say told file budget before turns result after runs =
       ⊎_elim inl (λ (node, last, opened, served, begins, serves).
-      let run : ServedRun SetsUp key rules Answers left told file before turns after = record {
+      let run : ServedRun SetsUp address key rules Answers left told file before turns after = record {
         provider = node;
         last = last;
         opened = opened;
@@ -110,19 +110,19 @@ module _ {Setup R : Type 0}
         serves = serves;
       } in inr (run, say told file before turns after run)) (did runs)
 
-  pub is_a_start : ImagesHoldRecords rules → EachRunIsAStart SetsUp key rules Answers
+  pub is_a_start : ImagesHoldRecords rules → EachRunIsAStart SetsUp address key rules Answers
   is_a_start hold told file before opened provider turns kept behind tells begins run =
-      any.is_a_start SetsUp key rules Answers hold told file before opened provider tells begins turns kept behind run
+      any.is_a_start SetsUp address key rules Answers hold told file before opened provider tells begins turns kept behind run
 
   -- where the disk tells
   module _ (hold : ImagesHoldRecords rules) (left : ℕ → Image → Type 0) (told : Option (List File))
       (file : List ℕ) (before : Outside) (turns : List (Turn (Provider Setup R))) (after : Outside)
-      (run : ServedRun SetsUp key rules Answers left told file before turns after) (tells : IsSome before.disk) where
+      (run : ServedRun SetsUp address key rules Answers left told file before turns after) (tells : IsSome before.disk) where
     at_start : IsAtStart rules (world_of run.provider run.opened)
-    at_start = any.started SetsUp key rules Answers hold told file before run.opened run.provider tells run.begins
+    at_start = any.started SetsUp address key rules Answers hold told file before run.opened run.provider tells run.begins
 
     tells_then : IsSome run.opened.disk
-    tells_then = any.still_tells SetsUp key rules Answers hold told file before run.opened run.provider tells run.begins
+    tells_then = any.still_tells SetsUp address key rules Answers hold told file before run.opened run.provider tells run.begins
 
     -- what the laws say of services, up to the last turn
     pub of_service : (P : (first last : World (Provider Setup R)) → List (Turn (Provider Setup R)) → Type 0)
@@ -134,7 +134,7 @@ module _ {Setup R : Type 0}
 
     pub kept_since : DrawsAbove rules Answers → AreKeptSince rules Answers left
         (world_of run.provider run.opened) turns run.serves.kept run.serves.last run.serves.run
-    kept_since draws = any.kept_ever_since SetsUp key rules Answers hold told file
+    kept_since draws = any.kept_ever_since SetsUp address key rules Answers hold told file
         before run.opened run.provider tells run.begins draws left run.budget after run.last turns run.served run.serves
 
     -- the disk behind the run is that behind its last turn, and so are its points

@@ -19,16 +19,16 @@ use Rattle.record_ledger.specs.Laws.{ImagesHoldRecords}
 use Rattle.record_ledger.specs.Rules.{RecordRules}
 use Rattle.provider_run.proofs.Kept.{is_a_start}
 
-module _ {Setup R : Type 0} (SetsUp : SetUpBy Setup) (IsBad : BadSetUpBy) (key : Setup → List ℕ) (rules : RecordRules R)
+module _ {Setup R : Type 0} (SetsUp : SetUpBy Setup) (IsBad : BadSetUpBy) (address key : Setup → List ℕ) (rules : RecordRules R)
     (Answers : AnswersBy Setup R) (hold : ImagesHoldRecords rules) (left : ℕ → Image → Type 0) where
   -- a run did nothing, or it served
   abbrev Ran : Option (List File) → List ℕ → Outside → List (Turn (Provider Setup R)) → Type 0
   Ran told file before turns = (turns ≡ []) ⊎ ((first last : World (Provider Setup R)) × (kept : Table)
-      × IsBegun SetsUp key rules told file before first × IsServed rules Answers before.disk first turns kept last)
+      × IsBegun SetsUp address key rules told file before first × IsServed rules Answers before.disk first turns kept last)
 
   ran : (told : Option (List File)) (file : List ℕ) (budget : ℕ) (before : Outside)
       (turns : List (Turn (Provider Setup R))) (result : Result Ended RunFault) (after : Outside) → IsSome before.disk
-      → Runs SetsUp IsBad key rules Answers left told file budget before turns result after → Ran told file before turns
+      → Runs SetsUp IsBad address key rules Answers left told file budget before turns result after → Ran told file before turns
   ran told file budget before turns result after tells runs =
       ⊎_elim inl (λ (node, last, opened, served, begins, serves). inr (
         world_of node opened,
@@ -36,12 +36,12 @@ module _ {Setup R : Type 0} (SetsUp : SetUpBy Setup) (IsBad : BadSetUpBy) (key :
         serves.kept,
         record { provider = node; opened = opened; begins = begins; is = refl },
         is_a_start SetsUp
-            key rules Answers hold told file before opened node tells begins turns serves.kept serves.last serves.run,
+            address key rules Answers hold told file before opened node tells begins turns serves.kept serves.last serves.run,
       )) (did runs)
 
   pub each_image_of_a_run_goes_on : (IsMoment : ℕ → Type 0)
-      → EachImageOfARunGoesOn SetsUp IsBad key rules Answers left IsMoment
+      → EachImageOfARunGoesOn SetsUp IsBad address key rules Answers left IsMoment
   each_image_of_a_run_goes_on IsMoment told file budget before turns result after start earlier image runs were next at
       might = each_image_goes_on rules Answers IsMoment
-      (IsBegun SetsUp key rules told file before) start earlier before.disk turns image were next at
+      (IsBegun SetsUp address key rules told file before) start earlier before.disk turns image were next at
       (ran told file budget before turns result after next.tells runs) (⊎_elim (λ left. inl left.stands) inr might)

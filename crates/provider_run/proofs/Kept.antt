@@ -46,9 +46,9 @@ module _ {R : Type 0} (rules : RecordRules R) (hold : ImagesHoldRecords rules) w
 -- ---- a provider that was started on a disk that tells
 
 module _ {Setup R : Type 0} (SetsUp : SetUpBy Setup)
-    (key : Setup → List ℕ) (rules : RecordRules R) (Answers : AnswersBy Setup R) (hold : ImagesHoldRecords rules)
+    (address key : Setup → List ℕ) (rules : RecordRules R) (Answers : AnswersBy Setup R) (hold : ImagesHoldRecords rules)
     (told : Option (List File)) (file : List ℕ) (before opened : Outside) (provider : Provider Setup R)
-    (tells : IsSome before.disk) (begins : Begins SetsUp key rules told file before provider opened) where
+    (tells : IsSome before.disk) (begins : Begins SetsUp address key rules told file before provider opened) where
   pub started : IsAtStart rules (world_of provider opened)
   started = record {
     whole = begins.started.whole;

@@ -80,7 +80,7 @@ HeadlineOf Setup R = (left : ℕ → Image → Type 0) → Option (List File)
     → (file : List ℕ) → (before : Outside) → List (Turn (Provider Setup R)) → (after : Outside) → Type 0
 
 module _ {Setup R : Type 0}
-    (SetsUp : SetUpBy Setup) (key : Setup → List ℕ) (rules : RecordRules R) (Answers : AnswersBy Setup R) where
+    (SetsUp : SetUpBy Setup) (address key : Setup → List ℕ) (rules : RecordRules R) (Answers : AnswersBy Setup R) where
   module _ (left : ℕ → Image → Type 0) (told : Option (List File))
       (file : List ℕ) (before : Outside) (turns : List (Turn (Provider Setup R))) (after : Outside) where
     -- A run that served: the provider that it began with, how it served, and what came behind it. `left` says of each
@@ -91,7 +91,7 @@ module _ {Setup R : Type 0}
       pub opened : Outside
       pub budget : ℕ
       pub served : Result Served ServeFault
-      pub begins : Begins SetsUp key rules told file before provider opened
+      pub begins : Begins SetsUp address key rules told file before provider opened
       pub serves : serving.Serves (IsProviders rules Answers) (StepLeaves rules Answers) left budget turns
           (world_of provider opened) served (world_of last after)
 
@@ -103,22 +103,22 @@ module _ {Setup R : Type 0}
       (turns ≡ []) ⊎ ((run : ServedRun left told file before turns after) × Says left told file before turns after run)
 
 -- The headline holds of each run.
-abbrev pub EachRunCarries : {Setup R : Type 0} → SetUpBy Setup → BadSetUpBy → (Setup → List ℕ) → RecordRules R
-    → AnswersBy Setup R → (Headline : HeadlineOf Setup R) → (left : ℕ → Image → Type 0) → Type 0
-EachRunCarries {Setup} {R} SetsUp IsBad key rules Answers Headline left =
+abbrev pub EachRunCarries : {Setup R : Type 0} → SetUpBy Setup → BadSetUpBy → (address key : Setup → List ℕ)
+    → RecordRules R → AnswersBy Setup R → (Headline : HeadlineOf Setup R) → (left : ℕ → Image → Type 0) → Type 0
+EachRunCarries {Setup} {R} SetsUp IsBad address key rules Answers Headline left =
     (told : Option (List File)) (file : List ℕ) (budget : ℕ) (before : Outside)
     (turns : List (Turn (Provider Setup R))) (result : Result Ended RunFault) (after : Outside)
-    → Runs SetsUp IsBad key rules Answers left told file budget before turns result after
+    → Runs SetsUp IsBad address key rules Answers left told file budget before turns result after
     → Headline left told file before turns after
 
 -- A run that served, on a disk that tells, is a start of its provider: its ledger was opened from what the disk held,
 -- and then its turns were done. So what the laws of starts say holds of several runs, each on what a crash of the one
 -- before it may have left: what they acknowledged is kept.
 abbrev pub EachRunIsAStart : {Setup R : Type 0}
-    → SetUpBy Setup → (Setup → List ℕ) → RecordRules R → AnswersBy Setup R → Type 0
-EachRunIsAStart {Setup} {R} SetsUp key rules Answers =
+    → SetUpBy Setup → (address key : Setup → List ℕ) → RecordRules R → AnswersBy Setup R → Type 0
+EachRunIsAStart {Setup} {R} SetsUp address key rules Answers =
     (told : Option (List File)) (file : List ℕ) (before opened : Outside) (provider : Provider Setup R)
     (turns : List (Turn (Provider Setup R))) (kept : Table) (behind : World (Provider Setup R))
-    → IsSome before.disk → Begins SetsUp key rules told file before provider opened
+    → IsSome before.disk → Begins SetsUp address key rules told file before provider opened
     → Run (IsProviders rules Answers) (world_of provider opened) turns kept behind
     → IsServed rules Answers before.disk (world_of provider opened) turns kept behind

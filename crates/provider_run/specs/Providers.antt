@@ -1,8 +1,10 @@
 -- What a run of a provider does, of whatever role: it is set up by its config, opens its ledger, listens, and serves.
 use Rattle.std.specs.Prelude.{◌≡◌, ◌≤◌, ℕ, false, List, Option, Some, is_some, IfSome, IsSomeAnd, IsOk, Result, Ok, Err}
+use Rattle.std.specs.Option.{option_map}
 use Rattle.saml_outside.specs.Files.{File}
 use Rattle.crash_disk.specs.Counts.{Rose}
 use Rattle.crash_disk.specs.Disk.{Image, DiskState, MayLeave, image_of}
+use Rattle.event_link.specs.Links.{listening}
 use Rattle.serve_loop.specs.Turns.{Turn}
 use Rattle.provider_run.specs.declared.ended.Ended.{Ended}
 use Rattle.provider_run.specs.declared.ended.Ended.TheVariants as ends
@@ -34,12 +36,12 @@ module _ {Setup R : Type 0}
     pub holds : IsFound rules disk provider.ledger.held
 
 module _ {Setup R : Type 0} (SetsUp : SetUpBy Setup) (key : Setup → List ℕ) (rules : RecordRules R)
-    (told : Option (List File)) (file : List ℕ) (before : Outside) (provider : Provider Setup R)
+    (told : Option (List File)) (file : List ℕ) (before but_the_disk : Outside) (provider : Provider Setup R)
     (opened : Outside) where
   -- The config in this file sets such a provider up, its ledger was opened, by all calls of an opening on the disk and
-  -- no other, and else all is as it was. From then on the disk is the provider's own; it tells as it did, reads as an
-  -- image that it may leave, and its count of faults has not fallen.
-  pub record Begins : Type 0 where
+  -- no other, and all but the disk is like this. From then on the disk is the provider's own; it tells as it did, reads
+  -- as an image that it may leave, and its count of faults has not fallen.
+  pub record IsReady : Type 0 where
     pub set_up : SetsUp told file provider.setup
     pub started : IsStarted key rules before.disk provider
     pub opens : Makes (opening rules) before.disk opened.disk
@@ -47,7 +49,19 @@ module _ {Setup R : Type 0} (SetsUp : SetUpBy Setup) (key : Setup → List ℕ) 
     pub tells : is_some opened.disk ≡ is_some before.disk
     pub reads : IfSome opened.disk (λ d. MayLeave d (image_of d))
     pub disk_faults : before.disk_faults ≤ opened.disk_faults
-    pub same : IsButTheDisk before opened
+    pub same : IsButTheDisk but_the_disk opened
+
+module _ {Setup R : Type 0} (SetsUp : SetUpBy Setup) (address key : Setup → List ℕ) (rules : RecordRules R)
+    (told : Option (List File)) (file : List ℕ) (before : Outside) (provider : Provider Setup R) where
+  -- so it is once its ledger was opened: else all is as it was
+  abbrev pub IsOpened : Outside → Type 0
+  IsOpened opened = IsReady SetsUp key rules told file before before provider opened
+
+  -- and so once it begins to serve: the link listens at its address, and else all but its count of faults is as it was
+  abbrev pub Begins : Outside → Type 0
+  Begins begun = let link = option_map (listening (address provider.setup)) before.link in
+      IsReady SetsUp key rules told file before (record before { link = link; link_faults = begun.link_faults })
+      provider begun
 
 -- Why no ledger was opened: what the disk holds is none, and this is the fault that it has, as far as the disk tells;
 -- the disk failed; there was no memory.
@@ -68,15 +82,16 @@ module _ {Setup R : Type 0} (SetsUp : SetUpBy Setup) (rules : RecordRules R)
     pub fails : OpeningFails rules before after result
     pub calls : calls.Begins (opening rules) before.disk after.disk
 
-module _ {Setup R : Type 0} (SetsUp : SetUpBy Setup) (IsBad : BadSetUpBy) (key : Setup → List ℕ) (rules : RecordRules R)
-    (Answers : AnswersBy Setup R) (left : ℕ → Image → Type 0) (told : Option (List File)) (file : List ℕ) (budget : ℕ)
-    (before : Outside) (turns : List (Turn (Provider Setup R))) (result : Result Ended RunFault) (after : Outside) where
+module _ {Setup R : Type 0} (SetsUp : SetUpBy Setup) (IsBad : BadSetUpBy) (address key : Setup → List ℕ)
+    (rules : RecordRules R) (Answers : AnswersBy Setup R) (left : ℕ → Image → Type 0) (told : Option (List File))
+    (file : List ℕ) (budget : ℕ) (before : Outside) (turns : List (Turn (Provider Setup R)))
+    (result : Result Ended RunFault) (after : Outside) where
   -- How a run by the config in this file goes, with this budget of events: the turns of its provider, and what the run
   -- comes to. `left` says of each moment, seen from the end of the run, what a crash since then might have left.
   abbrev pub Runs : Type 0
   Runs = RunsBy (IsProviders rules Answers) (StepLeaves rules Answers) left (IsBad told file)
-      (IsNotOpened SetsUp rules told file before) (Begins SetsUp key rules told file before)
-      budget before turns result after
+      (IsNotOpened SetsUp rules told file before) (IsOpened SetsUp address key rules told file before)
+      (Begins SetsUp address key rules told file before) budget before turns result after
 
 module _ {Setup R : Type 0} (rules : RecordRules R) (Answers : AnswersBy Setup R) where
   -- What a crash at a moment of a run may leave: what one inside the opening of the ledger may, or one inside the

@@ -20,7 +20,8 @@
 //! carries the headline, a crash at any moment leaves what one inside the opening or inside an answer may leave, each
 //! fault has its cause, and where the provider can be run and no fault keeps it from that it served, or there was no
 //! memory (`complete`). What the headlines of all roles have in common stands in `specs/Headlines.antt`. What a run
-//! comes to where serving ended (`ended_of`). That `listen` is called, with the config's address, no clause says.
+//! comes to where serving ended (`ended_of`). Before the first event the link listens at the address of the role, and
+//! at no other (`Begins`).
 #![tactic(auto)]
 
 mod ended;

@@ -1,4 +1,4 @@
-// The run of a provider.
+//! The run of a provider.
 
 ghost use Rattle.std.specs.Prelude.{◌≡◌, ◌≢◌, ◌≤◌, ◌⊎◌, ℕ, List, Option, Err};
 ghost use Rattle.saml_outside.specs.Files.{File};
@@ -8,7 +8,7 @@ ghost use Rattle.serve_loop.specs.Serving.{MightLeave};
 ghost use Rattle.serve_loop.specs.Turns.{Turn};
 ghost use Rattle.provider_node.specs.Step.{OwnsDisk, StepLeaves};
 ghost use Rattle.provider_run.specs.Runs.{IsNotSetUp, IsServed, Outside, outside};
-ghost use Rattle.provider_run.specs.Providers.{Begins, IsRunnable, RunLeaves, Runs};
+ghost use Rattle.provider_run.specs.Providers.{IsOpened, IsRunnable, RunLeaves, Runs};
 
 use crate::ended::{Ended, RunFault, ended_of};
 use crate::runs_provider::RunsProvider;
@@ -21,7 +21,7 @@ use serve_loop::serve;
 use sp_setup::SetupFault;
 use std::alloc::Global;
 
-/// Listens at the address of a provider that was started, and serves.
+/// Listens at the address of a provider whose ledger was opened, and serves.
 fn listen_and_serve<R: RunsProvider, L: Link, D: Disk, C: Clock>(
     alloc: Global,
     node: &mut ProviderNode<R::Role>,
@@ -31,13 +31,13 @@ fn listen_and_serve<R: RunsProvider, L: Link, D: Disk, C: Clock>(
     budget: u64,
 ) -> Result<Ended, RunFault>
     requires { OwnsDisk R.Role.Rows.rules node.old (D.shows disk.old).told }
-    // Where it was set up and started so, this is how the run goes.
+    // Where it was set up and its ledger opened so, this is how the run goes.
     ensures runs { let opened = outside (D.shows disk.old) (L.shows link.old) (C.to_come clock.old) in
         let after = outside (D.shows disk.new) (L.shows link.new) (C.to_come clock.new) in
         (turns : List (Turn _))
         × ((told : Option (List File)) (file : List ℕ) (before : Outside) →
-        Begins R.sets_up R.Role.key R.Role.Rows.rules told file before node.old opened →
-        Runs R.sets_up R.is_bad R.Role.key R.Role.Rows.rules R.Role.answers (D.shows disk.new).left_since told file
+        IsOpened R.sets_up R.listens_at R.Role.key R.Role.Rows.rules told file before node.old opened →
+        Runs R.sets_up R.is_bad R.listens_at R.Role.key R.Role.Rows.rules R.Role.answers (D.shows disk.new).left_since told file
         budget before turns result after)
         × LeavesOnly D.shows disk.old disk.new
         (MightLeave (StepLeaves R.Role.Rows.rules R.Role.answers) (D.shows disk.old).told turns) }
@@ -65,7 +65,7 @@ fn run_by<R: RunsProvider, L: Link, D: Disk, C: Clock>(
         let after = outside (D.shows disk.new) (L.shows link.new) (C.to_come clock.new) in
         (turns : List (Turn _))
         × ((told : Option (List File)) (file : List ℕ) → R.sets_up told file role →
-        Runs R.sets_up R.is_bad R.Role.key R.Role.Rows.rules R.Role.answers (D.shows disk.new).left_since told file
+        Runs R.sets_up R.is_bad R.listens_at R.Role.key R.Role.Rows.rules R.Role.answers (D.shows disk.new).left_since told file
         budget before turns result after)
         × LeavesOnly D.shows disk.old disk.new
         (RunLeaves R.Role.Rows.rules R.Role.answers (D.shows disk.old).told turns) }
@@ -104,7 +104,7 @@ pub fn run<R: RunsProvider, F: Files, L: Link, D: Disk, C: Clock>(
     ensures runs { let before = outside (D.shows disk.old) (L.shows link.old) (C.to_come clock.old) in
         let after = outside (D.shows disk.new) (L.shows link.new) (C.to_come clock.new) in
         (turns : List (Turn _))
-        × Runs R.sets_up R.is_bad R.Role.key R.Role.Rows.rules R.Role.answers (D.shows disk.new).left_since
+        × Runs R.sets_up R.is_bad R.listens_at R.Role.key R.Role.Rows.rules R.Role.answers (D.shows disk.new).left_since
         (F.holds files.old) config.now budget before turns result after
         × R.headline (D.shows disk.new).left_since (F.holds files.old) config.now before turns after
         × LeavesOnly D.shows disk.old disk.new

@@ -23,6 +23,9 @@ pub trait RunsProvider {
     /// its line.
     ghost is_bad: { Option (List File) → List ℕ → List ℕ → ℕ → Type 0 };
 
+    /// The address at which it listens.
+    ghost listens_at: { Self.Role → List ℕ };
+
     /// What is said of each run.
     ghost headline: { HeadlineOf Self.Role Self.Role.Rows.Record };
 
@@ -39,7 +42,8 @@ pub trait RunsProvider {
         ensures never_falls { F.faults_of files.old ≤ F.faults_of files.new };
 
     /// The address at which the provider listens.
-    fn address(role: &Self::Role) -> &str;
+    fn address(role: &Self::Role) -> &str
+        ensures { result.now ≡ listens_at role.now };
 
     /// Where it is told what files there are, a config never sets a provider up and fails to. It does nothing.
     fn never_both()
@@ -49,5 +53,5 @@ pub trait RunsProvider {
     /// Each run carries the headline. It does nothing.
     fn carries_headline<D: Disk>()
         ensures { (disk : D) → EachRunCarries
-            sets_up is_bad Self.Role.key Self.Role.Rows.rules Self.Role.answers headline (D.shows disk).left_since };
+            sets_up is_bad listens_at Self.Role.key Self.Role.Rows.rules Self.Role.answers headline (D.shows disk).left_since };
 }

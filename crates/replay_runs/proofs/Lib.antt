@@ -1,2 +1,3 @@
 mod Usable
 mod Headlines
+mod Starting

@@ -1,8 +1,10 @@
 -- Runs of a schedule over the deployment, and what is carried over them.
-use Rattle.std.specs.Prelude.{◌≡◌, ℕ, Bool, false, List, [], Option, Result, Ok, Err}
-use Rattle.crash_disk.specs.Disk.{empty_image}
+use Rattle.std.specs.Prelude.{◌≡◌, ℕ, Bool, false, List, [], Option, Some, Result, Ok, Err}
+use Rattle.crash_disk.specs.Disk.{empty_image, settled_image}
 use Rattle.record_ledger.specs.Rules.{RecordRules}
+use Rattle.record_ledger.specs.Calls.{opening}
 use Rattle.record_ledger.specs.Ledger.{ledger_in, taken, empty_ledger}
+use Rattle.provider_node.specs.Calls.{Makes}
 use Rattle.provider_node.specs.Starts.{Start}
 use Rattle.provider_node.specs.Step.{OwnsDisk, Provider}
 use Rattle.request_ledger.specs.Record.{request_rules}
@@ -29,9 +31,11 @@ sp_rules = provider_rules request_rules sp.Answers
 abbrev pub idp_rules_of : NodeRules idp.Provider
 idp_rules_of = provider_rules idp_rules idp.Answers
 
--- A provider was started over an empty disk, which is its own: it holds what that is opened as, and no call is to fail or to stop the
--- disk.
+-- A provider was started over a disk in memory that was empty at first, and is its own: it holds what that is opened
+-- as. The disk took the calls of one opening, all of them, and no other; and no call is to fail or to stop it.
 pub record IsStarted {Setup R : Type 0} (records : RecordRules R) (host : Host (Provider Setup R)) : Type 0 where
+  pub start : host.disk.start ≡ empty_image
+  pub calls : Makes (opening records) (Some (settled_image empty_image)) (told host)
   pub opened : taken (ledger_in records empty_image) ≡ Ok host.node.ledger.held
   pub whole : host.node.ledger.broken ≡ false
   pub own : OwnsDisk records host.node (told host)

@@ -12,11 +12,12 @@
 //! # What is proved
 //!
 //! `replay_deployed`: both providers are set up by definition (`specs/Deployed.antt`) and started over empty disks in
-//! memory, and the schedule is replayed over them by the definitions of their own steps (`Goes`), or there was no
-//! memory to start them. What the run does to either is a list of starts from an empty ledger on, in which it was asked
-//! what the agents' bytes completed, and of these the whole sentence holds that joins both providers (`Carries`): a
-//! session is opened exactly where a posted form opens one; where nobody else makes HMACs that match and no hash
-//! collides, each is of a login that the identity provider of this run recorded; and no request opens two.
+//! memory, each of which took the calls of one opening and no other (`IsStarted`), and the schedule is replayed over
+//! them by the definitions of their own steps (`Goes`), or there was no memory to start them. What the run does to
+//! either is a list of starts from an empty ledger on, in which it was asked what the agents' bytes completed, and of
+//! these the whole sentence holds that joins both providers (`Carries`): a session is opened exactly where a posted
+//! form opens one; where nobody else makes HMACs that match and no hash collides, each is of a login that the identity
+//! provider of this run recorded; and no request opens two.
 #![tactic(auto)]
 
 mod deployed;

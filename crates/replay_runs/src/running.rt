@@ -8,7 +8,6 @@ ghost use Rattle.record_ledger.specs.Ledger.{taken};
 ghost use Rattle.provider_node.specs.Step.{OwnsDisk};
 ghost use Rattle.request_ledger.specs.Record.{request_rules};
 ghost use Rattle.idp_ledger.specs.Record.{idp_rules};
-ghost use Rattle.replay_runs.specs.Deployed.{service_provider, IsIdpConfig};
 ghost use Rattle.provider_node.specs.Starts.{Start};
 ghost use Rattle.idp_server.specs.Step as idp;
 ghost use Rattle.sp_server.specs.Step as sp;
@@ -19,6 +18,7 @@ use crate::deployed::{identity_provider, service_provider};
 use crash_disk::MemDisk;
 use idp_server::{IdpNode, IdpRole};
 use owned_values::NoMemory;
+use provider_node::{ProviderNode, Role};
 use saml_outside::Sink;
 use schedule_replay::{ReplayFault, Tally, replay};
 use schedules::Schedule;
@@ -34,30 +34,18 @@ fn without_faults(disk: &mut MemDisk)
     disk.stop_at(0, 0);
 }
 
-/// Starts the service provider over an empty disk. Where that fails, there was no memory.
-fn start_sp(alloc: Global, disk: &mut MemDisk) -> Result<SpNode, NoMemory>
+/// Starts a provider over an empty disk. Where that fails, there was no memory.
+fn start_over_empty<R: Role>(
+    alloc: Global,
+    role: R,
+    disk: &mut MemDisk,
+) -> Result<ProviderNode<R>, NoMemory>
     requires { disk.old ≡ holding empty_image }
-    ensures setup { IfOk result (λ node. node.setup ≡ service_provider) }
-    ensures started { IfOk result (λ node. IsStarted request_rules (alone node disk.new)) }
-    ensures own { IfOk result (λ node. OwnsDisk request_rules node (Some (state_of disk.new))) }
+    ensures setup { IfOk result (λ node. node.setup ≡ role) }
+    ensures started { IfOk result (λ node. IsStarted R.Rows.rules (alone node disk.new)) }
+    ensures own { IfOk result (λ node. OwnsDisk R.Rows.rules node (Some (state_of disk.new))) }
 {
-    let role = service_provider(alloc)?;
-    let Ok(node) = SpNode::start(alloc, role, disk) else {
-        return Err(NoMemory);
-    };
-    without_faults(disk);
-    Ok(node)
-}
-
-/// Starts the identity provider over an empty disk. Where that fails, there was no memory.
-fn start_idp(alloc: Global, disk: &mut MemDisk) -> Result<IdpNode, NoMemory>
-    requires { disk.old ≡ holding empty_image }
-    ensures setup { IfOk result (λ node. IsIdpConfig node.setup) }
-    ensures started { IfOk result (λ node. IsStarted idp_rules (alone node disk.new)) }
-    ensures own { IfOk result (λ node. OwnsDisk idp_rules node (Some (state_of disk.new))) }
-{
-    let role = identity_provider(alloc)?;
-    let Ok(node) = IdpNode::start(alloc, role, disk) else {
+    let Ok(node) = ProviderNode::start(alloc, role, disk) else {
         return Err(NoMemory);
     };
     without_faults(disk);
@@ -76,8 +64,8 @@ fn start_both(
     ensures sp_own { IfOk result (λ (sp, idp). OwnsDisk request_rules sp (Some (state_of sp_disk.new))) }
     ensures idp_own { IfOk result (λ (sp, idp). OwnsDisk idp_rules idp (Some (state_of idp_disk.new))) }
 {
-    let sp = start_sp(alloc, sp_disk)?;
-    let idp = start_idp(alloc, idp_disk)?;
+    let sp = start_over_empty(alloc, service_provider(alloc)?, sp_disk)?;
+    let idp = start_over_empty(alloc, identity_provider(alloc)?, idp_disk)?;
     Ok((sp, idp))
 }
 

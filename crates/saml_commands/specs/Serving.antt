@@ -44,9 +44,9 @@ TurnsOf roles.Hub = List (Turn hub_steps.Provider)
 -- what a crash since then might have left
 abbrev pub RunsAs : (role : Role) → (left : ℕ → Image → Type 0) → Option (List File) → (config : List ℕ) → (events : ℕ)
     → (before : Outside) → TurnsOf role → Result Ended RunFault → (after : Outside) → Type 0
-RunsAs roles.Sp = Runs sp.IsServedBy sp.IsBadFile sp.key request_rules sp_steps.Answers
-RunsAs roles.Idp = Runs idp_setup.IsSetUp idp_setup.IsBadSetUp idp_headline.key idp_rules idp_steps.Answers
-RunsAs roles.Hub = Runs hub_setup.IsSetUp hub_setup.IsBadSetUp hub_headline.key hub_rules hub_steps.Answers
+RunsAs roles.Sp = Runs sp.IsServedBy sp.IsBadFile sp.address sp.key request_rules sp_steps.Answers
+RunsAs roles.Idp = Runs idp_setup.IsSetUp idp_setup.IsBadSetUp idp_headline.address idp_headline.key idp_rules idp_steps.Answers
+RunsAs roles.Hub = Runs hub_setup.IsSetUp hub_setup.IsBadSetUp hub_headline.address hub_headline.key hub_rules hub_steps.Answers
 
 -- what is carried over it
 abbrev pub HeadlineAs : (role : Role) → (left : ℕ → Image → Type 0) → Option (List File) → (config : List ℕ)

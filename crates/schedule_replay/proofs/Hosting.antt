@@ -1,6 +1,6 @@
 -- What becomes of a node at a piece.
 use Rattle.std.specs.Prelude.{◌≡◌, ℕ, List}
-use Rattle.std.proofs.Common.{refl, ap, ◌∙◌, arith}
+use Rattle.std.proofs.Common.{None, refl, ap, ◌∙◌, arith}
 use Rattle.crash_disk.specs.InMemory.{shown_in_memory}
 use Rattle.crash_disk.specs.Memory.{DiskInMemory}
 use Rattle.crash_disk.specs.Soundness.{left_now}
@@ -19,7 +19,8 @@ same_world now old new node disk =
 -- where no link is, a page goes out and all else is as it was
 pub sends_page : {N : Type 0} (conn code now : ℕ) (old new : Host N) → new.node ≡ old.node → new.disk ≡ old.disk →
     OnlySends conn (fixed code) (world_of now old) (world_of now new)
-sends_page conn code now old new node disk = record { out = Whole refl (omega arith); same = same_world now old new node disk }
+sends_page conn code now old new node disk =
+    record { out = Whole None refl refl (omega arith); same = same_world now old new node disk }
 
 -- a disk that is as it was leaves what it may leave
 pub leaves_same : {N : Type 0} (leaves : NodeLeaves N) (old new : Host N) (turns : List (Turn N)) → new.disk ≡ old.disk →

@@ -1,3 +1,4 @@
+mod Answering
 mod Arriving
 mod Calling
 mod Going

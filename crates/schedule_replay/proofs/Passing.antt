@@ -6,7 +6,7 @@ use Rattle.crash_disk.specs.Memory.{DiskInMemory, Call, after_calls}
 use Rattle.crash_disk.specs.Moments.{IsMadeByCalls}
 use Rattle.gate_journal.specs.declared.fault.OpenFault.{OpenFault}
 use Rattle.saml_time.specs.declared.TheConstants.{LAST}
-use Rattle.serve_loop.specs.Turns.{Turn, Taken}
+use Rattle.serve_loop.specs.Turns.{Taken}
 use Rattle.post_agent.specs.declared.site.Site.{Site}
 use Rattle.post_agent.specs.declared.site.Site.TheVariants.{Sp, Idp}
 use Rattle.schedule_replay.specs.declared.sending.Sending.{Sending}

@@ -1,13 +1,19 @@
--- Where the disks of a replay fail and stop, over all its steps: where the steps set that.
-use Rattle.std.specs.Prelude.{◌≡◌, ℕ, zero, suc, ◌+◌, ◌-◌, ◌≤◌, ◌==◌, Bool, true, false, if◌then◌else◌, List, take, count_by, is_some}
+-- Where the disks of a replay fail and stop, over all its steps: where the steps set that. And what comes of a failure.
+use Rattle.std.specs.Prelude.{◌≡◌, ◌≢◌, ℕ, zero, suc, ◌+◌, ◌-◌, ◌≤◌, ◌==◌, Bool, true, false, if◌then◌else◌}
+use Rattle.std.specs.Prelude.{List, take, count_by, is_some, Err}
+use Rattle.std.specs.List.{AllByRecursion}
 use Rattle.crash_disk.specs.Memory.{DiskInMemory, due}
+use Rattle.gate_journal.specs.declared.fault.OpenFault.TheVariants.{DiskFault}
+use Rattle.http_wire.specs.declared.answer.Answer.TheVariants.{Fixed}
 use Rattle.post_agent.specs.declared.site.Site.{Site}
 use Rattle.post_agent.specs.declared.site.Site.TheVariants.{Sp, Idp}
 use Rattle.schedules.specs.declared.step.Step.{Step}
 use Rattle.schedules.specs.declared.step.Step.TheVariants as steps
+use Rattle.schedule_replay.specs.Asked.{BothAsked, asked_doing, asked_replaying}
 use Rattle.schedule_replay.specs.Deployments.{Deployment}
+use Rattle.schedule_replay.specs.Ended.{BothEnded, ended_doing, ended_replaying}
 use Rattle.serve_loop.specs.Worlds.{NodeRules}
-use Rattle.schedule_replay.specs.Steps.{Replays}
+use Rattle.schedule_replay.specs.Steps.{Does, Replays}
 
 -- this is that node
 abbrev pub is_node : Site → Site → Bool
@@ -67,6 +73,16 @@ disk_of Idp world = world.idp.disk
 abbrev pub IsRunning : {S P : Type 0} → Site → Deployment S P → Type 0
 IsRunning site world = (disk_of site world).stopped ≡ false
 
+-- Nothing at this node says that its disk failed: no answer is the page of 50, and no restart and no compaction ended
+-- with DiskFault.
+abbrev pub NoneFailed : {S P : Type 0} → Site → BothAsked S P → BothEnded → Type 0
+NoneFailed Sp asked ended =
+    AllByRecursion (λ one. one.answer ≢ Fixed 50) asked.sp
+    × AllByRecursion (λ result. result ≢ Err DiskFault) ended.sp
+NoneFailed Idp asked ended =
+    AllByRecursion (λ one. one.answer ≢ Fixed 50) asked.idp
+    × AllByRecursion (λ result. result ≢ Err DiskFault) ended.idp
+
 module _ {S P : Type 0} (sp : NodeRules S) (idp : NodeRules P) where
   -- the faults of all those steps in which a node's disk stopped
   abbrev pub faults_of_stops : (site : Site) (done : ℕ) (all : List Step) (first : Deployment S P) (text : List ℕ)
@@ -115,3 +131,21 @@ module _ {S P : Type 0} (sp : NodeRules S) (idp : NodeRules P) where
       → faults_in (disk_of site last)
       ≤ faults_in (disk_of site first) + failures_set site done all
       + faults_of_stops site done all first text last run
+
+  -- A failure has an effect: a call of a node's disk fails only in a step in which the node says so, and in any other
+  -- the disk's count of faults is as it was.
+  abbrev pub EachFaultIsAnswered : Type 0
+  EachFaultIsAnswered =
+      (number : ℕ) (step : Step) (before after : Deployment S P) (does : Does sp idp number step before after)
+      (site : Site) → NoneFailed site (asked_doing sp idp number step before after does)
+      (ended_doing sp idp number step before after does)
+      → (disk_of site after).faults ≡ (disk_of site before).faults
+
+  -- So it is over all steps that were done: where a node says so in none of them, no call of its disk failed.
+  abbrev pub EachFaultOfARunIsAnswered : Type 0
+  EachFaultOfARunIsAnswered =
+      (done : ℕ) (all : List Step) (first : Deployment S P) (text : List ℕ) (last : Deployment S P)
+      (run : Replays sp idp done all first text last) (site : Site)
+      → NoneFailed site (asked_replaying sp idp done all first text last run)
+      (ended_replaying sp idp done all first text last run)
+      → (disk_of site last).faults ≡ (disk_of site first).faults

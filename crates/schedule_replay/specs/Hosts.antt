@@ -57,16 +57,22 @@ outcome_of (Refused conn piece status) = Sent None (fixed status)
 outcome_of (StarvedPiece conn piece) = Sent None (fixed 52)
 outcome_of turn = Silent
 
+-- the turn found memory
+abbrev pub IsFed : {N : Type 0} → Turn N → Type 0
+IsFed (StarvedPiece conn piece) = ⊥
+IsFed turn = Unit {0}
+
 module _ {N : Type 0} (rules : NodeRules N) where
   -- A link event: at this moment of the clock this turn of serving is done, as serve_loop defines it.
   pub record Serves (now : ℕ) (turn : Turn N) (before after : Host N) : Type 0 where
     pub does : Does (IsAnswered rules) before.kept (world_of now before) turn after.kept (world_of now after)
     pub leaves : Leaving before after (MightLeave rules.leaves (told before) (turn ∷ []))
 
-  -- A piece comes on a connection, and this comes of it.
+  -- A piece comes on a connection, finds memory, and this comes of it.
   pub record Takes (now conn : ℕ) (piece : List ℕ) (before : Host N) (outcome : Outcome) (after : Host N) : Type 0 where
     pub turn : Turn N
     pub event : event_at turn ≡ Piece conn piece
+    pub fed : IsFed turn
     pub serves : Serves now turn before after
     pub comes : outcome ≡ outcome_of turn
 

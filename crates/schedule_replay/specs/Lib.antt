@@ -6,5 +6,6 @@ pub mod Hosts
 pub mod Lines
 pub mod Runs
 pub mod Asked
+pub mod Ended
 pub mod Steps
 pub mod Views

@@ -49,7 +49,12 @@ wholes = refl
 
 -- what is to come
 abbrev link : LinkState
-link = record { coming = arrivals.Bytes 7 (codes "ab") ∷ arrivals.Halt ∷ arrivals.Start 8 ∷ []; sent = λ conn. [] }
+link = record {
+  coming = arrivals.Bytes 7 (codes "ab") ∷ arrivals.Halt ∷ arrivals.Start 8 ∷ [];
+  sent = λ conn. [];
+  address = None;
+  closings = record { count = 0; last = 0; behind = 0 };
+}
 
 -- the piece comes first, then Stop, and connection 8 is still to come
 comes : Comes

@@ -7,7 +7,7 @@ use Rattle.http_wire.specs.Requests.{Request, Reading, Whole, More, Refused}
 use Rattle.conn_table.specs.Events.{Completion, AreCompletions}
 use Rattle.conn_table.specs.Table.{Table}
 use Rattle.serve_loop.specs.Worlds.{NodeStep, NodeRules, World, IsAnswered}
-use Rattle.serve_loop.specs.Turns.{Turn, history_of, asked_in, AreTold, Run}
+use Rattle.serve_loop.specs.Turns.{Turn, history_of, asked_in, AreTold, NoneFailed, Run}
 
 -- the request of a connection that was completed by a whole one
 abbrev pub whole_of : ℕ → Reading → List (ℕ × Request)
@@ -31,6 +31,12 @@ module _ {N : Type 0} (step : NodeStep N) where
   MomentsComeInOrder = (first : World N) (turns : List (Turn N)) (kept : Table) (now : World N) (moments : List ℕ)
       → Run step first turns kept now → first.clock ≡ Some moments → (k : ℕ) → k < length (asked_in turns)
       → slice_index (map (λ asked. asked.now) (asked_in turns)) k ≡ min (moment_at moments k) LAST
+
+  -- Where no request of a run was answered by the page of 50, the disk's count of faults is as it was: it rises only at
+  -- requests that are answered so.
+  abbrev pub FaultsAreAnswered : Type 0
+  FaultsAreAnswered = (first : World N) (turns : List (Turn N)) (kept : Table) (last : World N)
+      → Run step first turns kept last → NoneFailed turns → last.disk_faults ≡ first.disk_faults
 
   -- The disk's count of faults never falls in a run: one that did not rise in all rose at no request.
   abbrev pub FaultsNeverFall : Type 0

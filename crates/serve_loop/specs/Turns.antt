@@ -1,9 +1,10 @@
 -- What serving does at each event, one event after the other.
-use Rattle.std.specs.Prelude.{◌≡◌, ℕ, ◌≤◌, List, [], ◌∷◌, ◌++◌, Option, Some, IsSome, IfSome}
+use Rattle.std.specs.Prelude.{◌≡◌, ◌≢◌, ℕ, ◌≤◌, List, [], ◌∷◌, ◌++◌, Option, Some, IsSome, IfSome}
 use Rattle.std.specs.List.{AllByRecursion}
 use Rattle.std.specs.FinMap as map
 use Rattle.crash_disk.specs.Disk.{DiskState}
 use Rattle.http_wire.specs.declared.answer.Answer.{Answer}
+use Rattle.http_wire.specs.declared.answer.Answer.TheVariants.{Fixed}
 use Rattle.http_wire.specs.Answers.{fixed}
 use Rattle.http_wire.specs.Requests.{Request, Whole, Reads}
 use Rattle.http_wire.specs.Views.{answer_bytes}
@@ -12,7 +13,7 @@ use Rattle.conn_table.specs.declared.progress.Start.TheVariants as start
 use Rattle.conn_table.specs.Calls.{IsStarted, TakesPiece}
 use Rattle.conn_table.specs.Events.{Event, Started, Piece, Ended, History}
 use Rattle.conn_table.specs.Table.{Table}
-use Rattle.serve_loop.specs.Worlds.{NodeStep, World, TakesMoment, IsNext, OnlySends}
+use Rattle.serve_loop.specs.Worlds.{CountsAnswer, NodeStep, World, TakesMoment, IsNext, OnlySends}
 
 -- A request that the node was asked: on which connection, at which moment, the node and what its disk told when it
 -- came, and what was answered.
@@ -78,6 +79,11 @@ abbrev pub asked_in : {N : Type 0} → List (Turn N) → List (Asked N)
 asked_in [] = []
 asked_in (turn ∷ past) = asked_in past ++ asked_by turn
 
+-- no answer says that the disk failed: none is the page of 50
+abbrev pub NoneFailed : {N : Type 0} → List (Turn N) → Type 0
+NoneFailed [] = Unit {0}
+NoneFailed (turn ∷ past) = AllByRecursion (λ asked. asked.answer ≢ Fixed 50) (asked_by turn) × NoneFailed past
+
 -- the disk tells whenever a request comes
 abbrev pub AreTold : {N : Type 0} → List (Turn N) → Type 0
 AreTold [] = Unit {0}
@@ -91,13 +97,14 @@ module _ {N : Type 0} (conn code : ℕ) (old : Table) (before : World N) (new : 
 
 -- `step` says what an answer of the node does.
 module _ {N : Type 0} (step : NodeStep N) where
-  -- The node is asked, at one moment of the clock, while the disk's moment goes on and its count of faults never falls.
+  -- The node is asked, at one moment of the clock, while the disk's moment goes on. Its count of faults never falls,
+  -- and is as it was but where the answer says that the disk failed.
   pub record Asks (a : Asked N) (old new : World N) : Type 0 where
     pub node : a.node ≡ old.node
     pub disk : a.disk ≡ old.disk
     pub moment : TakesMoment old.clock a.now new.clock
     pub time : old.moment ≤ new.moment
-    pub disk_faults : old.disk_faults ≤ new.disk_faults
+    pub disk_faults : CountsAnswer a.answer old.disk_faults new.disk_faults
     pub answers : step old.node old.disk a.request a.now old.disk_faults new.disk_faults a.answer new.node new.disk
     pub link : new.link ≡ old.link
     pub send_faults : new.send_faults ≡ old.send_faults

@@ -1,5 +1,5 @@
 -- What serving works on, and what its calls do to it.
-use Rattle.std.specs.Prelude.{◌≡◌, ℕ, ◌≤◌, min, List, take, Option, None, Some, is_some, IfSome, IsTrue, Result, Ok}
+use Rattle.std.specs.Prelude.{◌≡◌, ◌≢◌, ℕ, ◌≤◌, min, List, take, Option, None, Some, is_some, IfSome, IsTrue, Result, Ok}
 use Rattle.std.specs.Option.{option_map}
 use Rattle.saml_time.specs.declared.TheConstants.{LAST}
 use Rattle.crash_disk.specs.Counts.{Rose}
@@ -9,7 +9,7 @@ use Rattle.gate_journal.specs.declared.fault.OpenFault.{OpenFault}
 use Rattle.event_link.specs.declared.link.LinkEvent.{LinkEvent}
 use Rattle.event_link.specs.declared.link.LinkEvent.TheVariants as events
 use Rattle.event_link.specs.Clocks.{now_of, later_of}
-use Rattle.event_link.specs.Links.{LinkShown, LinkState, Sends, next_of}
+use Rattle.event_link.specs.Links.{LinkShown, LinkState, Sends, closed_on, next_of}
 use Rattle.http_wire.specs.declared.answer.Answer.{Answer}
 use Rattle.http_wire.specs.declared.answer.Answer.TheVariants.{Fixed, Full}
 use Rattle.http_wire.specs.Answers.{is_fixed}
@@ -86,6 +86,12 @@ abbrev pub HasBytes : Answer → Type 0
 HasBytes (Fixed code) = IsTrue (is_fixed code)
 HasBytes (Full bytes) = Unit {0}
 
+-- What an answer does to the disk's count of faults: it never falls, and is as it was where the answer is another than
+-- the page of 50, that the disk failed.
+pub record CountsAnswer (answer : Answer) (before now : ℕ) : Type 0 where
+  pub never_falls : before ≤ now
+  pub kept : answer ≢ Fixed 50 → now ≡ before
+
 -- The event that a link gave, with the bytes of a piece; none at Stop.
 abbrev pub event_of : LinkEvent → List ℕ → Option Event
 event_of (events.Started conn) bytes = Some (Started conn)
@@ -111,11 +117,13 @@ pub record TakesMoment (before : Option (List ℕ)) (now : ℕ) (after : Option 
   pub later : after ≡ option_map later_of before
 
 module _ (conn : ℕ) (bytes : List ℕ) (before after : Option LinkState) (faults later : ℕ) where
-  -- The bytes of an answer go out on a connection, and nothing on others, as far as the link tells: all of them, or the
-  -- `send` failed, so that its count of faults rose, and the first of them did.
+  -- An answer goes out on a connection, and nothing on others, as far as the link tells: all its bytes, or the `send`
+  -- failed, so that its count of faults rose, and the first of them did. Then this connection is closed, and no other.
   pub data GoesOut : Type 0 where
-    Whole : Sends {E = Unit {0}} conn bytes before (Ok (tt {0})) after → faults ≤ later → GoesOut
-    Cut : (n : ℕ) → Sends {E = Unit {0}} conn (take n bytes) before (Ok (tt {0})) after → Rose faults later → GoesOut
+    Whole : (sent : Option LinkState) → Sends {E = Unit {0}} conn bytes before (Ok (tt {0})) sent
+        → after ≡ option_map (closed_on conn) sent → faults ≤ later → GoesOut
+    Cut : (n : ℕ) (sent : Option LinkState) → Sends {E = Unit {0}} conn (take n bytes) before (Ok (tt {0})) sent
+        → after ≡ option_map (closed_on conn) sent → Rose faults later → GoesOut
 
 -- That answer goes out, and else all is as it was.
 pub record OnlySends {N : Type 0} (conn : ℕ) (bytes : List ℕ) (before after : World N) : Type 0 where

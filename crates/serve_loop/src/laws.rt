@@ -1,5 +1,5 @@
 //! Laws of serving, each the contract of a function that does nothing.
-ghost use Rattle.serve_loop.specs.Laws.{RequestsAreCompletions, MomentsComeInOrder, FaultsNeverFall};
+ghost use Rattle.serve_loop.specs.Laws.{RequestsAreCompletions, MomentsComeInOrder, FaultsAreAnswered, FaultsNeverFall};
 ghost use Rattle.serve_loop.specs.Laws.{ADiskThatTellsGoesOnTelling, ADiskGoesOnReadingAnImage};
 ghost use Rattle.serve_loop.specs.Worlds.{IsAnswered};
 
@@ -24,6 +24,12 @@ pub fn moments_come_in_order<N: Node>()
 /// says of a fault is said of none.
 pub fn faults_never_fall<N: Node>()
     ensures { FaultsNeverFall (IsAnswered N.rules) }
+{}
+
+/// The disk's count of faults rises only at requests that are answered by the page of 50: where none is, it is as it
+/// was.
+pub fn faults_are_answered<N: Node>()
+    ensures { FaultsAreAnswered (IsAnswered N.rules) }
 {}
 
 /// A disk that tells goes on telling: whenever a request comes, and at the end.

@@ -4,7 +4,7 @@ ghost use Rattle.crash_disk.specs.Disk.{DiskState};
 ghost use Rattle.crash_disk.specs.Moments.{LeavesOnly};
 ghost use Rattle.http_wire.specs.Views.{request_view};
 ghost use Rattle.gate_journal.specs.Opening.{CausesFaults};
-ghost use Rattle.serve_loop.specs.Worlds.{HasBytes, NodeRules};
+ghost use Rattle.serve_loop.specs.Worlds.{CountsAnswer, HasBytes, NodeRules};
 
 use crash_disk::Disk;
 use gate_journal::OpenFault;
@@ -30,7 +30,7 @@ pub trait Node {
         ensures own { rules.own self.new (D.shows disk.new).told }
         ensures moments { LeavesOnly D.shows disk.old disk.new
             (rules.leaves self.old (D.shows disk.old).told (request_view request.now) now) }
-        ensures faults { (D.shows disk.old).faults ≤ (D.shows disk.new).faults };
+        ensures faults { CountsAnswer result (D.shows disk.old).faults (D.shows disk.new).faults };
 
     /// Opens what is kept on the disk again, whatever a crash left there. Where that fails the node goes on owning the
     /// disk if nothing else may be left there than what it can be opened from.

@@ -26,7 +26,7 @@ use Rattle.request_ledger.specs.Ledger.{Held}
 use Rattle.request_ledger.specs.Record.{request_rules}
 use Rattle.sp_runs.specs.Headline.{Headline, ClosesExactly, GoesExactly, GuardsExactly, IsRecordedFirst, KeepsToItsConfig, OpensExactly, Says}
 use Rattle.sp_runs.specs.Laws.{AnEndedRegistryAsksNothing, AnEndedRegistryRecordsNothing, ARunUsesWhatItsRegistryLists, ASessionIsShownByItsRow, EachRequestIsServedByTheSameSetup, EachSessionWasSigned, SessionsStayClosedInARun, WhatARunAcknowledgedIsKeptOnce, WithoutARegistryNothingIsExpired}
-use Rattle.sp_runs.specs.Runs.{Begins, IsBadFile, IsServedBy, key}
+use Rattle.sp_runs.specs.Runs.{Begins, IsBadFile, IsServedBy, address, key}
 use Rattle.sp_server.specs.Staying.{IsAsLeft, WasOpened}
 use Rattle.provider_node.specs.Staying.{SessionsStayInAService, WhatWasOpenedIsAsLeft}
 use Rattle.provider_node.specs.Starving.{RowsAnswerAsBefore}
@@ -143,10 +143,10 @@ module _ (laws : Laws) where
         λ asked none there. laws.without told file before opened provider turns kept behind asked begins run none there;
   }
 
-  pub headline : (left : ℕ → Image → Type 0) → EachRunCarries IsServedBy IsBadFile key request_rules Answers Headline
+  pub headline : (left : ℕ → Image → Type 0) → EachRunCarries IsServedBy IsBadFile address key request_rules Answers Headline
       left
   headline left =
-      carries IsServedBy key request_rules Answers IsBadFile Says left (λ told file before turns after run. record {
+      carries IsServedBy address key request_rules Answers IsBadFile Says left (λ told file before turns after run. record {
         config =
             to_its_config told file before run.opened run.provider turns run.serves.kept run.serves.last run.begins
             run.serves.run;
@@ -155,13 +155,13 @@ module _ (laws : Laws) where
             laws.kept told file run.budget before run.opened after run.provider run.last turns run.serves.kept
             run.serves.last run.served tells run.begins run.serves.run run.serves.ends;
         since = λ tells.
-            kept_since IsServedBy key request_rules Answers laws.hold left told file before turns after run tells
+            kept_since IsServedBy address key request_rules Answers laws.hold left told file before turns after run tells
             draws_above;
         closed = λ tells.
             laws.closed told file run.budget before run.opened after run.provider run.last turns run.serves.kept
             run.serves.last run.served tells run.begins run.serves.run run.serves.ends;
         stay = λ tells.
-            sessions_stay IsServedBy key request_rules Answers laws.hold left told file before turns after run tells
+            sessions_stay IsServedBy address key request_rules Answers laws.hold left told file before turns after run tells
             WasOpened IsAsLeft laws.stay;
         as_left = laws.as_left;
       })

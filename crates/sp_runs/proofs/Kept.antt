@@ -13,14 +13,14 @@ use Rattle.provider_run.specs.Runs.{world_of}
 use Rattle.provider_run.proofs.Ending.{at_end}
 use Rattle.provider_run.proofs.Kept as any
 use Rattle.sp_runs.specs.Laws.{SessionsStayClosedInARun, WhatARunAcknowledgedIsKeptOnce}
-use Rattle.sp_runs.specs.Runs.{IsServedBy, key}
+use Rattle.sp_runs.specs.Runs.{IsServedBy, address, key}
 
 pub kept_once : ImagesHoldRecords → WhatIsAcknowledgedIsKeptOnce → WhatARunAcknowledgedIsKeptOnce
 kept_once hold acknowledged told file budget before opened after provider last turns kept behind served tells begins run
     ends =
     let is = acknowledged (world_of provider opened) behind turns kept
-    (any.started IsServedBy key request_rules Answers hold told file before opened provider tells begins)
-    (any.still_tells IsServedBy key request_rules Answers hold told file before opened provider tells begins) run in
+    (any.started IsServedBy address key request_rules Answers hold told file before opened provider tells begins)
+    (any.still_tells IsServedBy address key request_rules Answers hold told file before opened provider tells begins) run in
     let same = at_end budget turns behind (world_of last after) served ends in
     record {
       all = kept_then Answers _ behind turns is.all (world_of last after)
@@ -34,5 +34,5 @@ stay_closed hold closed told file budget before opened after provider last turns
     any.points_behind StayClosed (world_of provider opened) turns behind (world_of last after)
     (at_end budget turns behind (world_of last after) served ends)
     (closed (world_of provider opened) behind turns kept
-    (any.started IsServedBy key request_rules Answers hold told file before opened provider tells begins)
-    (any.still_tells IsServedBy key request_rules Answers hold told file before opened provider tells begins) run)
+    (any.started IsServedBy address key request_rules Answers hold told file before opened provider tells begins)
+    (any.still_tells IsServedBy address key request_rules Answers hold told file before opened provider tells begins) run)

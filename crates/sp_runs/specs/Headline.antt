@@ -57,7 +57,7 @@ use Rattle.provider_run.specs.Providers.{Begins}
 use Rattle.provider_run.specs.Runs.{Outside, world_of}
 use Rattle.sp_setup.specs.Laws.{IsFromRegistry}
 use Rattle.sp_runs.specs.Laws.{AsksAndOpensNothing}
-use Rattle.sp_runs.specs.Runs.{IsServedBy, key, served_by}
+use Rattle.sp_runs.specs.Runs.{IsServedBy, address, key, served_by}
 
 -- ---- one request, which the provider was asked in one world, and which left another behind
 
@@ -167,7 +167,7 @@ pub record GoesExactly (asked : Asked Provider) : Type 0 where
 -- is recorded, no login is asked for, no session is opened and no logout is served; and without a registry it is never
 -- answered that one has ended.
 pub record KeepsToItsConfig (told : Option (List File)) (file : List ℕ) (before : Outside) (provider : Provider)
-    (opened : Outside) (begins : Begins IsServedBy key request_rules told file before provider opened)
+    (opened : Outside) (begins : Begins IsServedBy address key request_rules told file before provider opened)
     (turns : List (Turn Provider)) : Type 0 where
   pub tells : (line : RegistryLine) → Contains begins.set_up.setup.lines.files (Registry line)
       → IsFromRegistry told line begins.set_up.setup × (provider.setup ≡ served_by begins.set_up.setup)
@@ -195,7 +195,7 @@ pub record KeepsToItsConfig (told : Option (List File)) (file : List ℕ) (befor
 -- could be answered.
 pub record Says (left : ℕ → Image → Type 0) (told : Option (List File)) (file : List ℕ) (before : Outside)
     (turns : List (Turn Provider)) (after : Outside)
-    (run : ServedRun IsServedBy key request_rules Answers left told file before turns after) : Type 0 where
+    (run : ServedRun IsServedBy address key request_rules Answers left told file before turns after) : Type 0 where
   pub config : KeepsToItsConfig told file before run.provider run.opened run.begins turns
   pub each : EachGoes GoesExactly turns
   pub once : IsSome before.disk → AreKeptOnce (world_of run.provider run.opened) (world_of run.last after) turns
@@ -209,4 +209,4 @@ pub record Says (left : ℕ → Image → Type 0) (told : Option (List File)) (f
 
 -- A run served nothing, or it served so.
 abbrev pub Headline : HeadlineOf Setup SpRecord
-Headline = HeadlineBy IsServedBy key request_rules Answers Says
+Headline = HeadlineBy IsServedBy address key request_rules Answers Says

@@ -23,10 +23,15 @@ pub record IsServedBy (told : Option (List File)) (file : List ℕ) (by : steps.
 abbrev pub IsBadFile : Option (List File) → (config file : List ℕ) → (line : ℕ) → Type 0
 IsBadFile told config file line = IsBadSetUp told Serve config file line
 
+-- where a provider listens
+abbrev pub address : steps.Setup → List ℕ
+address setup = setup.config.listen
+
 -- the key of the IDs that a provider draws
 abbrev pub key : steps.Setup → List ℕ
 key setup = setup.config.id_key
 
--- The config in this file sets such a provider up, its ledger was opened, and else all is as it was.
+-- The config in this file sets such a provider up, its ledger was opened, it listens at its address, and else all is as
+-- it was.
 abbrev pub Begins : Option (List File) → (file : List ℕ) → (before : Outside) → Provider → (opened : Outside) → Type 0
-Begins = any.Begins IsServedBy key request_rules
+Begins = any.Begins IsServedBy address key request_rules

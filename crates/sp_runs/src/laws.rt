@@ -6,7 +6,7 @@ ghost use Rattle.provider_node.specs.Histories.{AnyMoment};
 ghost use Rattle.provider_run.specs.Joining.{EachImageOfARunGoesOn};
 ghost use Rattle.sp_server.specs.Step.{Answers};
 ghost use Rattle.request_ledger.specs.Record.{request_rules};
-ghost use Rattle.sp_runs.specs.Runs.{IsBadFile, IsServedBy, key};
+ghost use Rattle.sp_runs.specs.Runs.{IsBadFile, IsServedBy, address, key};
 ghost use Rattle.sp_runs.specs.Laws.{AnEndedRegistryAsksNothing, AnEndedRegistryRecordsNothing, ARunUsesWhatItsRegistryLists, ASessionIsShownByItsRow, EachRequestIsServedByTheSameSetup, EachSessionWasSigned, EqualRowsAreShownAlike, NoImageHasARequestTwice, SessionsStayClosedInARun, WhatARunAcknowledgedIsKeptOnce, WithoutARegistryNothingIsExpired};
 
 use request_ledger::Disk;
@@ -42,7 +42,7 @@ pub fn sessions_stay_closed_in_a_run()
 /// A run that served is a start of its provider. So by the laws of starts of `sp_server` what several runs acknowledged
 /// is kept, once, over restarts with crashes between them.
 pub fn a_run_is_a_start()
-    ensures { EachRunIsAStart IsServedBy key request_rules Answers }
+    ensures { EachRunIsAStart IsServedBy address key request_rules Answers }
 {
     images_hold_records();
 }
@@ -84,7 +84,7 @@ pub fn a_session_is_shown_by_its_row()
 /// session whose answer went out is as it was left. A live session is shown what the policy says of its row,
 /// and the run keeps to its registry, up to the moment at which this ends.
 pub fn a_run_carries_the_headline<D: Disk>()
-    ensures { (disk : D) → EachRunCarries IsServedBy IsBadFile key request_rules Answers Headline
+    ensures { (disk : D) → EachRunCarries IsServedBy IsBadFile address key request_rules Answers Headline
         (D.shows disk).left_since }
 {
     images_hold_records();
@@ -107,9 +107,9 @@ pub fn a_run_carries_the_headline<D: Disk>()
 /// moment, inside the answer to the request that was asked then: so runs that a crash cut join into one service, of
 /// which the laws of starts speak, with the moments of all its requests, those that a crash cut too.
 pub fn each_image_of_a_run_goes_on<D: Disk>()
-    ensures any { (disk : D) → EachImageOfARunGoesOn IsServedBy IsBadFile key request_rules Answers
+    ensures any { (disk : D) → EachImageOfARunGoesOn IsServedBy IsBadFile address key request_rules Answers
         (D.shows disk).left_since AnyMoment }
-    ensures at { (disk : D) (moments : List ℕ) → EachImageOfARunGoesOn IsServedBy IsBadFile key request_rules Answers
+    ensures at { (disk : D) (moments : List ℕ) → EachImageOfARunGoesOn IsServedBy IsBadFile address key request_rules Answers
         (D.shows disk).left_since (Contains moments) }
 {
     images_hold_records();

@@ -38,7 +38,7 @@
 //! own row alone (`a_session_is_shown_by_its_row`); from each image that a crash at a moment of a run may leave a later
 //! start goes on, as behind that run cut there, inside the answer that was made then (`each_image_of_a_run_goes_on`).
 //! What the laws say of policies, registries and guards is part of the headline, and so is that a session is found as
-//! it was left. That `listen` is called, with the config's address, no clause says.
+//! it was left.
 #![tactic(auto)]
 
 pub mod laws;

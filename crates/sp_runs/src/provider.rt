@@ -26,6 +26,8 @@ impl RunsProvider for ServiceProvider {
 
     ghost is_bad = { IsBadFile };
 
+    ghost listens_at = { λ r. r.config.listen };
+
     ghost headline = { Headline };
 
     fn set_up<F: Files>(alloc: Global, files: &mut F, config: &str) -> Result<SpRole, SetupFault> {

@@ -19,3 +19,4 @@ mod Starts
 mod Starving
 mod Told
 mod Staying
+mod Tokens

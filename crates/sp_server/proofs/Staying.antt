@@ -1,5 +1,5 @@
 -- That what was opened is found as it was left.
-use Rattle.std.specs.Prelude.{Contains, IsSome, ◌||◌, max}
+use Rattle.std.specs.Prelude.{Contains, Some, ◌||◌, max}
 use Rattle.std.specs.List.{list_any}
 use Rattle.std.proofs.Common.{◌≡◌, inl, inr, ℕ, ◌<◌, Bool, true, false, List, [], ◌∷◌, ◌++◌, bytes_eq, refl, sym, subst, ap, ◌∙◌, arith}
 use Rattle.std.proofs.lemmas.Bool.{lt-ltb, or_left, or_right}
@@ -15,20 +15,19 @@ use Rattle.request_rows.specs.Rows.{is_spent, session_row}
 use Rattle.record_ledger.specs.Runs.{EndsBehind, IsVisibleThroughout, added}
 use Rattle.record_ledger.proofs.Staying.{any_joined, visible_records_stay}
 use Rattle.request_ledger.specs.Laws.{ImagesHoldRecords, SessionsStay as RowsStay}
-use Rattle.request_ledger.specs.Ledger.{Held}
+use Rattle.request_ledger.specs.Ledger.{Held, ledger_in}
 use Rattle.record_ledger.specs.Ledger.{held_with}
 use Rattle.request_ledger.specs.Naming.{names}
-use Rattle.request_ledger.specs.Record.{request_rules}
+use Rattle.request_ledger.specs.Record.{AreRecords, request_rules}
 use Rattle.request_ledger.specs.RowsOf.{SpRows, closed_if, closes, opened_row, opened_rows}
 use Rattle.request_ledger.proofs.RowLaws.{rows_of-push}
 use Rattle.provider_node.specs.Histories.{CameFrom}
-use Rattle.provider_node.proofs.Sessions.{live_found}
 use Rattle.provider_node.proofs.Staying.{Stood, found_as_left, stay_in_a_service, stay_over_starts, stood}
 use Rattle.sp_server.specs.Staying.{IsAsLeft, WasOpened}
 use Rattle.provider_node.specs.Staying.{SessionsStayInAService, SessionsStayOverStarts, WhatWasOpenedIsAsLeft}
 use Rattle.sp_server.specs.Step.{Answers}
 use Rattle.sp_server.proofs.Histories.{draws_above}
-use Rattle.sp_server.proofs.StayingClosed.{opened_sessions}
+use Rattle.sp_server.proofs.Tokens.{found_by_token, opened_records}
 
 -- ---- rows
 
@@ -88,12 +87,13 @@ module _ (rows_stay : RowsStay) (moments : List ℕ) (start held : Held) (record
         rows_stay (held_with (kinds.Opened r) s.was.before) held s.was.later moments (opened_row false r) s.was.leads
         s.at (last_row s.was.before.records r) (s.ends r.until ends)
 
-    its_life : EndsBehind start.header.horizon moments r.until → closed ≡ false → (now : ℕ) → now < r.until
-        → held.header.horizon < r.until
-        → IsSome (session_row (opened_rows held.records) r.token now held.header.horizon)
-    its_life ends none now less also =
-        live_found opened_sessions (opened_rows held.records) now held.header.horizon
-        (closed_if closed (opened_row false r)) (its_row ends) none less also
+    its_life : AreRecords held.records → EndsBehind start.header.horizon moments r.until → closed ≡ false → (now : ℕ)
+        → now < r.until → held.header.horizon < r.until
+        → session_row (opened_rows held.records) r.token now held.header.horizon ≡ Some (opened_row false r)
+    its_life are ends none now less also =
+        let there = subst (λ (b : Bool). Contains (opened_rows held.records) (closed_if b (opened_row false r))) none
+        (its_row ends) in
+        found_by_token held.records r now held.header.horizon are there less also
 
     its_request : (front behind : List SpRecord) (a : AskedRecord)
         → s.was.before.records ≡ front ++ kinds.Asked a ∷ behind → r.request ≡ a.request
@@ -117,27 +117,48 @@ module _ (rows_stay : RowsStay) (moments : List ℕ) (start held : Held) (record
         (list_any p stays.behind_it) any_behind in
         spent_by held.records a (ap (list_any p) stays.stands ∙ all)
 
-  pub as_left : IsAsLeft moments start r held
-  as_left = record {
+  pub as_left : AreRecords held.records → IsAsLeft moments start r held
+  as_left are = record {
     events = came.events;
     leads = came.leads;
     was = since.was;
     row = its_row since;
-    live = its_life since;
+    live = its_life since are;
     spent = its_request since;
   }
 
 -- ---- the laws
 
-module _ (rows_stay : RowsStay) where
+-- of a ledger that holds records
+abbrev OfRecords : (moments : List ℕ) (start : Held) → OpenedRecord → Held → Type 0
+OfRecords moments start r held = AreRecords held.records → IsAsLeft moments start r held
+
+module _ (rows_stay : RowsStay) (law : ImagesHoldRecords) where
   pub was_left : WhatWasOpenedIsAsLeft request_rules WasOpened IsAsLeft
-  was_left = found_as_left request_rules WasOpened IsAsLeft Answers (as_left rows_stay)
+  was_left moments start records r image holds opened =
+      let (held, is, left) = found_as_left request_rules WasOpened OfRecords Answers (as_left rows_stay) moments start
+      records r image holds opened in
+      (held, is, left (law image held is))
 
-  module _ (law : ImagesHoldRecords) where
-    pub sessions_stay_in_a_service : SessionsStayInAService request_rules WasOpened IsAsLeft Answers
-    sessions_stay_in_a_service =
-        stay_in_a_service request_rules WasOpened IsAsLeft Answers (as_left rows_stay) law draws_above
+  pub sessions_stay_in_a_service : SessionsStayInAService request_rules WasOpened IsAsLeft Answers
+  sessions_stay_in_a_service first last turns kept at tells run =
+      let stays = stay_in_a_service request_rules WasOpened OfRecords Answers (as_left rows_stay) law draws_above first
+      last turns kept at tells run in
+      record {
+        records = stays.records;
+        are = stays.are;
+        stay = λ r image opened left.
+            let (held, is, as_it_was) = stays.stay r image opened left in (held, is, as_it_was (law image held is));
+      }
 
-    pub sessions_stay_over_starts : SessionsStayOverStarts request_rules WasOpened IsAsLeft Answers
-    sessions_stay_over_starts =
-        stay_over_starts request_rules WasOpened IsAsLeft Answers (as_left rows_stay) law draws_above
+  pub sessions_stay_over_starts : SessionsStayOverStarts request_rules WasOpened IsAsLeft Answers
+  sessions_stay_over_starts moments start starts begun =
+      let stays = stay_over_starts request_rules WasOpened OfRecords Answers (as_left rows_stay) law draws_above
+      moments start starts begun in
+      record {
+        records = stays.records;
+        are = stays.are;
+        stay = λ r image opened left.
+            let (held, is, as_it_was) = stays.stay r image opened left in
+            (held, is, as_it_was (opened_records (ledger_in image) held is (law image)));
+      }

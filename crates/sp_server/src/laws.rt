@@ -119,11 +119,12 @@ pub fn what_is_visible_stays()
 
 /// A session whose answer went out is as it was left in each ledger that came from the one at the start by events,
 /// among them its record's: where it ends behind each moment at which the ledger was compacted it has its row, closed
-/// only where a record that was added since closes it, and it is found live until then and until its end. A request
-/// stays spent while it could be answered.
+/// only where a record that was added since closes it, and until then and until its end this row is the one that is
+/// found by its token. A request stays spent while it could be answered.
 pub fn what_was_opened_is_as_left()
     ensures { WhatWasOpenedIsAsLeft request_rules WasOpened IsAsLeft }
 {
+    request_ledger::laws::images_hold_records();
     request_ledger::laws::sessions_stay();
 }
 

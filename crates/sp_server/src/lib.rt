@@ -54,10 +54,10 @@
 //! the step, as far as the disk tells (`what_is_answered_is_recorded`); a guard answers 200 exactly where the cookie's
 //! session lives and there is no policy, or one that allows the path, which is plain then, names that session's user
 //! and values, depends on nothing but that row, and leaves the ledger as it was (`a_guard_tells_exactly`). A session
-//! whose answer went out is found as it was left in each image that a crash may leave, in a service and over starts,
-//! and a request stays spent while it could be answered (`what_was_opened_is_as_left`, `sessions_stay_in_a_service`,
-//! `sessions_stay_over_starts`); at 52 all that may be asked of the rows is answered as before, where the ledger was
-//! not broken (`what_is_visible_stays`).
+//! whose answer went out is found as it was left in each image that a crash may leave, in a service and over starts:
+//! until it is closed or ends, the row of its own record is what its token finds; and a request stays spent while it
+//! could be answered (`what_was_opened_is_as_left`, `sessions_stay_in_a_service`, `sessions_stay_over_starts`); at 52
+//! all that may be asked of the rows is answered as before, where the ledger was not broken (`what_is_visible_stays`).
 #![tactic(auto)]
 
 mod app;

@@ -1,5 +1,5 @@
 //! What a call of the system answered, as a trait's answer.
-ghost use Rattle.std.specs.Prelude.{◌≡◌, IsErr, MatchResult, OnOk, OnErr};
+ghost use Rattle.std.specs.Prelude.{◌≡◌, IsErr, MatchResult, OnErr};
 ghost use Rattle.crash_disk.specs.Counts.{CountsFaults, one_more};
 
 use crash_disk::Failed;
@@ -9,7 +9,6 @@ use std::io;
 pub(crate) fn counted<T>(answer: io::Result<T>, faults: &mut u64) -> Result<T, Failed>
     ensures answers { MatchResult answer (λ value. result ≡ Ok value) (λ _. IsErr result) }
     ensures counts { CountsFaults result faults.old faults.new }
-    ensures kept { OnOk result (faults.new ≡ faults.old) }
     ensures risen { OnErr result (faults.new ≡ one_more faults.old) }
 {
     let count = *faults;

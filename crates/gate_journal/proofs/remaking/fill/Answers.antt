@@ -97,7 +97,7 @@ loop-record-preserved g c =
       each = All-tail (λ p. length p ≤ 1048576) c.in-Some.record.now c.in-Some.rest.now (subst (All (λ p. length p ≤ 1048576)) left_is c.loop-record.invariant.each);
       room = λ k d le.
           omega (arith, room, All-tail (λ p. length p + 5 ≤ vec_capacity c.loop-record.body) c.in-Some.record.now c.in-Some.rest.now (subst (All (λ p. length p + 5 ≤ vec_capacity c.loop-record.body)) left_is c.loop-record.invariant.room) k d le);
-      never_falls = omega (arith, c.loop-record.invariant.never_falls, c.write_at.ensures.faults.never_falls);
+      kept = c.in_ok-write_at.ensures.faults.kept ∙ c.loop-record.invariant.kept;
       in_range = c.write_at.ensures.faults.in_range;
     }
 
@@ -154,6 +154,6 @@ loop-record-init g c =
       );
       each = c.requires.fits.each;
       room = c.requires.room;
-      never_falls = c.begin_anew.ensures.faults.never_falls;
+      kept = c.in_ok-begin_anew.ensures.faults.kept;
       in_range = c.begin_anew.ensures.faults.in_range;
     }

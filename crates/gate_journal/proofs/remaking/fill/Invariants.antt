@@ -16,7 +16,7 @@ invariant-loop-record g l = record {
       × Made g.D.Disk.shows (λ _. front) l.fn.disk l.disk;
   each : All (λ payload. length payload ≤ 1048576) l.left;
   room : All (λ payload. length payload + 5 ≤ vec_capacity l.body) l.left;
-  never_falls : (g.D.Disk.shows l.fn.disk).faults ≤ (g.D.Disk.shows l.disk).faults;
+  kept : (g.D.Disk.shows l.disk).faults ≡ (g.D.Disk.shows l.fn.disk).faults;
   in_range : (g.D.Disk.shows l.disk).faults < 2 ^ 64;
 }
 

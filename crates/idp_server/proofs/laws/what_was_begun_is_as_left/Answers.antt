@@ -2,4 +2,4 @@ use Rattle.idp_server.proofs.Staying.{was_left}
 use Rattle.idp_server.proofs.laws.what_was_begun_is_as_left.Goals as goal
 
 pub returns : goal.returns
-returns c = was_left c.sessions_stay.ensures
+returns c = was_left c.sessions_stay.ensures c.images_hold_records.ensures

@@ -1,5 +1,3 @@
-use Rattle.std.specs.Prelude.{Contains}
-use Rattle.provider_node.specs.Staying.{RowIsAsLeft}
 use Rattle.provider_node.proofs.Staying.{row_as_left}
 use Rattle.provider_node.proofs.laws.each_row_stays.Goals as goal
 

@@ -54,7 +54,7 @@ returns-in-Ready-clause-serves g c = let old = seen c.args.ledger.now in
     r _ _ c.added.result (provider c.args.role.now mid)
     (provider c.args.role.now new) (g.D.Disk.shows c.make_room.new.disk).told (g.D.Disk.shows c.added.new.disk).told
     (rose_later (g.D.Disk.shows c.args.disk.now).faults (g.D.Disk.shows c.make_room.new.disk).faults
-    (g.D.Disk.shows c.added.new.disk).faults c.make_room.ensures.faults) c.added.ensures.adds)
+    (g.D.Disk.shows c.added.new.disk).faults c.make_room.ensures.faults.never_falls) c.added.ensures.adds)
 
 pub returns-in-Ready-clause-moments : goal.returns-in-Ready-clause-moments
 returns-in-Ready-clause-moments g c = let old = seen c.args.ledger.now in

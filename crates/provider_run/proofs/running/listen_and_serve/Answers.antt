@@ -1,11 +1,11 @@
-use Rattle.std.proofs.Common.{rules, ◌≡◌, [], Err, refl, ap, inl, subst}
+use Rattle.std.specs.Option.{option_map}
+use Rattle.std.proofs.Common.{rules, ◌≡◌, ◌∙◌, ℕ, List, [], Err, refl, ap, inl}
 use Rattle.crash_disk.specs.Steps.{started}
-use Rattle.serve_loop.specs.Serving.{MightLeave, Serves}
-use Rattle.serve_loop.specs.Worlds.{World}
+use Rattle.event_link.specs.Links.{listening}
+use Rattle.serve_loop.specs.Serving.{MightLeave}
 use Rattle.provider_run.specs.declared.ended.RunFault.TheVariants as faults
-use Rattle.provider_run.specs.Runs.{Deaf, Serving, outside, world_of}
-use Rattle.provider_run.proofs.Serving.{only_listened}
-use Rattle.provider_node.specs.Histories.{IsProviders}
+use Rattle.provider_run.specs.Runs.{Deaf, Serving, outside}
+use Rattle.provider_run.proofs.Serving.{begins_then, only_listened}
 use Rattle.provider_node.specs.Step.{StepLeaves}
 use Rattle.provider_run.proofs.running.listen_and_serve.Goals as goal
 
@@ -17,7 +17,7 @@ returns-in_err-listen-clause-runs g c = let link = c.args.link.now in
     let opened = outside disk (g.L.Link.shows link) clock in
     let is : c.from_residual.result ≡ Err faults.LinkFault = search rules in
     let only = only_listened disk (g.L.Link.shows link)
-    (g.L.Link.shows heard) clock c.in_err-listen.ensures.same c.in_err-listen.ensures.send_faults in (
+    (g.L.Link.shows heard) clock c.in_err-listen.ensures.listens c.in_err-listen.ensures.send_faults in (
       [],
       λ files file before begins. Deaf c.args.node.now opened begins is c.in_err-listen.ensures.faults.failed refl only,
       started g.D.Disk.shows c.args.disk.now (MightLeave (StepLeaves g.R.Role.Rows.Standing.rules
@@ -29,17 +29,15 @@ returns-clause-runs g c = let link = c.args.link.now in
     let heard = c.listen.new.self in
     let disk = g.D.Disk.shows c.args.disk.now in
     let clock = g.C.Clock.to_come c.args.clock.now in
-    let opened = outside disk (g.L.Link.shows link) clock in
-    let listening = outside disk (g.L.Link.shows heard) clock in
     let now = c.serve.new in
-    let after = outside (g.D.Disk.shows now.disk) (g.L.Link.shows now.link) (g.C.Clock.to_come now.clock) in
-    let only = only_listened disk
-    (g.L.Link.shows link) (g.L.Link.shows heard) clock c.in_ok-listen.ensures.same c.in_ok-listen.ensures.send_faults in
+    let listens = c.in_ok-listen.ensures.listens ∙ ap
+    (λ (address : List ℕ). option_map (listening address) (g.L.Link.shows link).told)
+    (c.address.ensures ∙ ap g.R.RunsProvider.listens_at c.role.ensures) in
     let (turns, serves, leaves) = c.serve.ensures.serves in (
       turns,
-      λ files file before begins. Serving c.args.node.now now.node opened c.serve.result begins
-          (subst (λ (w : World _). Serves (IsProviders g.R.Role.Rows.Standing.rules g.R.Role.Role.answers) (StepLeaves
-          g.R.Role.Rows.Standing.rules g.R.Role.Role.answers) (g.D.Disk.shows now.disk).left_since c.args.budget turns
-          w c.serve.result (world_of now.node after)) (ap (world_of c.args.node.now) only) serves) c.ended_of.ensures,
+      λ files file before opens. Serving c.args.node.now now.node (outside disk (g.L.Link.shows heard) clock)
+          c.serve.result (begins_then g.R.RunsProvider.sets_up g.R.RunsProvider.listens_at g.R.Role.Role.key
+          g.R.Role.Rows.Standing.rules files file before c.args.node.now disk (g.L.Link.shows link)
+          (g.L.Link.shows heard) clock opens listens c.in_ok-listen.ensures.send_faults) serves c.ended_of.ensures,
       leaves,
     )

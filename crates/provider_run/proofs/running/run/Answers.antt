@@ -23,7 +23,7 @@ returns-in-Ok-clause-complete g c = λ can no_read no_link no_disk. let (turns, 
     let from = c.in-Ok.ensures.ok in let told = g.F.Files.holds c.args.files.now in let result = c.run_by.result in
     let unread : result ≢ Err faults.ReadFault = λ e. c.run_by.ensures.set_up (subst IsNotSetUp (sym e) tt) in
     let unlinked : result ≢ Err faults.LinkFault = λ e. no_link (c.run_by.ensures.link_fault e) in
-    complete g.R.RunsProvider.sets_up g.R.RunsProvider.is_bad g.R.Role.Role.key g.R.Role.Rows.Standing.rules
+    complete g.R.RunsProvider.sets_up g.R.RunsProvider.is_bad g.R.RunsProvider.listens_at g.R.Role.Role.key g.R.Role.Rows.Standing.rules
     g.R.Role.Role.answers result unread no_disk unlinked c.never_both.ensures (g.D.Disk.shows
     c.run_by.new.disk).left_since told c.args.config.now c.args.budget _ _ turns can (goes told c.args.config.now from)
 

@@ -1,4 +1,4 @@
-use Rattle.std.proofs.Common.{refl, ℕ, List, sym, ap, ◌∙◌, subst, Some, arith}
+use Rattle.std.proofs.Common.{refl, ℕ, List, sym, ap, ◌∙◌, subst, None, Some, arith}
 use Rattle.std.specs.Prelude.{IfSome}
 use Rattle.std.specs.FinMap as map
 use Rattle.http_wire.specs.Requests.{Whole, Reads}
@@ -20,7 +20,7 @@ returns-clause-answers g c =
         request = subst (λ (n : ℕ). IfSome (map.get c.args.self.now.conns.now n) (λ bytes. Reads bytes (Whole a.0.request))) (sym a.1) a.4;
         told = world_of c.args.now (host_in c.ask.new.self);
         asks = a.5;
-        sends = record { out = WentOut refl (omega arith); same = refl };
+        sends = record { out = WentOut None refl refl (omega arith); same = refl };
         gone =
             c.gone.ensures ∙ ap (λ (t : Table). map.remove t c.args.conn) c.ask.ensures.conns
             ∙ ap (λ (n : ℕ). map.remove c.args.self.now.conns.now n) (sym a.1);

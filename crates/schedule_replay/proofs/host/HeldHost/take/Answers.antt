@@ -27,6 +27,7 @@ returns-in-Waiting-clause-takes g c =
           record {
             turn = Waiting conn bytes;
             event = refl;
+            fed = tt;
             serves = record { does = (subst takes is c.piece.ensures, refl); leaves = leaves_same g.N.Node.rules.leaves host host (Waiting conn bytes ∷ []) refl };
             comes = refl;
           }
@@ -34,6 +35,7 @@ returns-in-Waiting-clause-takes g c =
           record {
             turn = Unknown conn bytes;
             event = refl;
+            fed = tt;
             serves = record { does = (subst takes is c.piece.ensures, refl); leaves = leaves_same g.N.Node.rules.leaves host host (Unknown conn bytes ∷ []) refl };
             comes = refl;
           }
@@ -47,6 +49,7 @@ returns-in_ok-answer-in-Ready-clause-takes g c =
     record {
       turn = Answered bytes a.0;
       event = ap (λ (n : ℕ). Piece n bytes) a.1;
+      fed = tt;
       serves = record {
         does = (c.piece.new.self, subst (λ (n : ℕ). TakesPiece host.kept n bytes progress.Ready c.piece.new.self) (sym a.1) c.in-Ready.ensures, a.3);
         leaves =
@@ -67,6 +70,7 @@ returns-in_ok-refuse-in-Refused-clause-takes g c =
     record {
       turn = Refused conn bytes status;
       event = refl;
+      fed = tt;
       serves = record {
         does = (
           c.piece.new.self,
