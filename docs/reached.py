@@ -347,11 +347,12 @@ class Code:
 # ---- what is reached
 
 class Reached:
-    """Follows names from some clauses on, but not into the crates that are passed over."""
+    """Follows names from some clauses on, but not into the crates that are passed over, and not into definitions that are fixed
+    by laws: in the place of such a one these laws are followed, each given by its crate, its name and the name of a clause."""
 
-    def __init__(self, files, code, passed_over=()):
-        self.files, self.code, self.passed_over = files, code, passed_over
-        self.found, self.types, self.missing = {}, {}, []
+    def __init__(self, files, code, passed_over=(), fixed=None):
+        self.files, self.code, self.passed_over, self.fixed = files, code, passed_over, fixed or {}
+        self.found, self.types, self.missing, self.by_laws = {}, {}, [], set()
         self.queue = []
 
     def module_file(self, module):
@@ -407,9 +408,19 @@ class Reached:
 
     def reach(self, file, name):
         key = (file.crate, file.name, name)
-        if key not in self.found:
+        if key in self.fixed:
+            self.follow_laws(key)
+        elif key not in self.found:
             self.found[key] = file.definitions[name]
             self.queue.append((file, file.definitions[name]))
+
+    def follow_laws(self, key):
+        """What the laws say that fix a definition."""
+        if key not in self.by_laws:
+            self.by_laws.add(key)
+            for crate, law, clause in self.fixed[key]:
+                if not self.begin_at_call(crate, law, clause=clause):
+                    self.missing.append(f"{'/'.join(key)}: no law {crate}::laws::{law}")
 
     def follow(self, scope, names, whence, file=None):
         for name in names:
@@ -450,17 +461,17 @@ class Reached:
             return there[:1].isupper() or "◌" in there
         return False
 
-    def begin_at_clauses(self, key, text):
-        """The clauses of a function or a trait."""
+    def begin_at_clauses(self, key, text, named=None):
+        """The clauses of a function or a trait, or the one of this name."""
         scope = self.code.scopes[key]
         plain = "\n".join(re.sub(r"^\s*//.*", "", line) for line in text)
-        for clause in clauses_of(plain):
+        for clause in clauses_of(plain, named):
             self.follow(scope, uses(words_of(clause), (), lambda name: False), f"{key[0]}/src/{key[1]}")
 
-    def begin_at_call(self, crate, name, file=None):
+    def begin_at_call(self, crate, name, file=None, clause=None):
         for key, text in self.code.clauses.get((crate, name), []):
             if file is None or key[1] == file:
-                self.begin_at_clauses(key, text)
+                self.begin_at_clauses(key, text, clause)
                 for word in re.findall(r"\b[A-Z]\w*\b", "\n".join(text)):
                     home = self.code.uses[key].get(word)
                     if (home, word) in self.code.traits:
@@ -476,10 +487,10 @@ class Reached:
         return False
 
 
-def clauses_of(text):
-    """What stands in the braces of the clauses and ghost members of an item."""
-    found = []
-    for match in re.finditer(r"(?:requires|ensures)\s+(?:\w+\s+)?\{|ghost \w+\s*(?::|=)\s*\{", text):
+def clauses_of(text, named=None):
+    """What stands in the braces of the clauses and ghost members of an item, or of its clause of this name."""
+    found, name = [], r"(?:\w+\s+)?" if named is None else named + r"\s+"
+    for match in re.finditer(r"(?:requires|ensures)\s+" + name + r"\{|ghost \w+\s*(?::|=)\s*\{", text):
         depth, at = 1, match.end()
         while at < len(text) and depth:
             depth += (text[at] == "{") - (text[at] == "}")

@@ -4,3 +4,7 @@ pub mod Loop
 pub mod SpOnce
 pub mod IdpOnce
 pub mod HubOnce
+pub mod Back
+pub mod SpBack
+pub mod IdpBack
+pub mod HubBack

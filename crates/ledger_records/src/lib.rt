@@ -20,8 +20,10 @@
 //!
 //! The payloads of the records of all three roles: `payload` writes exactly the bytes of the definition, `read_sp_record`,
 //! `read_idp_record` and `read_hub_record` give the record exactly where a payload is one, and none exactly where it is
-//! the bytes of none; a payload is one record at most, and that is a function of its bytes (`is`, `laws`). A session of
-//! a version 1 journal is read with the first key.
+//! the bytes of none; a payload is one record at most, and that is a function of its bytes (`is`, `laws`). The functions
+//! by which the ledgers' definitions find records are fixed by the bytes of each record: they give one exactly where the
+//! bytes are its payload (`a_record_is_found_in_its_payload`, `a_found_record_has_that_payload`). A session of a version 1
+//! journal is read with the first key.
 #![tactic(auto)]
 
 pub mod hub_record;
