@@ -19,8 +19,8 @@
 //!
 //! Places that take bytes piece by piece: a list of bytes, SHA-256 (`HashOctets::finish`) and HMAC
 //! (`MacOctets::finish`) of what was put, which take so many bytes and no more: a piece that passes the limit is
-//! counted and refused, not hashed, and then there is no hash (`within`, `put`). Escapes, attributes, declarations,
-//! start and end tags and instructions as Canonical XML writes them.
+//! counted and refused, and then there is no hash (`within`, `put`). Escapes, attributes, declarations, start and end
+//! tags and instructions as Canonical XML writes them.
 #![tactic(auto)]
 
 mod escape;

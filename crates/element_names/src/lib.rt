@@ -16,8 +16,8 @@
 //!
 //! The names of an element by Namespaces in XML 1.0: `Spaces::enter` and `leave` keep which prefix is bound to which
 //! namespace; `element_names` gives the number of the namespace of each name exactly where the names keep the rules
-//! (`named`, `resolved`), else BadNames (`err`). Two numbers of a `Table` have one namespace only where they are the
-//! same (`Table::is_same`), and `RankedTable::order` gives the order of their bytes.
+//! (`named`, `resolved`), else BadNames (`err`). `Table::is_same` says whether two numbers have one namespace, and
+//! `RankedTable::order` gives the order of their bytes.
 #![tactic(auto)]
 
 mod distinct;

@@ -6,8 +6,8 @@
 //! let digest = hash.finish();
 //! ```
 //!
-//! The form is put piece by piece into any [`Octets`], so that a hash of it gathers nothing: no piece is longer than
-//! what it comes from in the document.
+//! The form is put piece by piece into any [`Octets`], so that a hash of it gathers no more than one text or value: no
+//! piece is longer than 64 bytes or than what it comes from in the document.
 //!
 //! # What is proved
 //!

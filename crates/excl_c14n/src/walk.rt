@@ -343,8 +343,8 @@ impl<'d, 'a> Walk<'d, 'a> {
 /// Appends the exclusive canonical form of an element, without comments and without the element `skip`, where
 /// `prefixes` is the PrefixList of InclusiveNamespaces (Exclusive C14N 1.0, 3 and 4). `skip` comes behind the element in
 /// document order; one that does not stand in it changes nothing. The form is put piece by piece, in document order, and no
-/// piece is longer than what it comes from; the memory that it takes is that of the longest value and of what is declared
-/// around a place. Where memory runs out, or the place refuses a piece, nothing more is put: a part of the form from
+/// piece is longer than 64 bytes or than what it comes from; the memory that it takes is that of the longest value and of what
+/// is declared around a place. Where memory runs out, or the place refuses a piece, nothing more is put: a part of the form from
 /// its first byte on may have been appended.
 pub fn canon_into<O: Octets>(
     alloc: Global,

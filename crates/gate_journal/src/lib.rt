@@ -31,12 +31,12 @@
 //! with the new horizon and next number, or with the old ones; `reserve`, `room` and the calls that show the journal
 //! are exact. At every moment during and after a call each image that a crash may leave stands for the list before or
 //! with the new record (`append`), for the old journal or the new one (`compact`, `migrate`), or for what an image at
-//! the start stood for (`open_journal`, `reopen`). Each of these calls makes the changing calls of the disk that its
-//! plan names, in their order and no other: all of them where it answers Ok, and else a beginning; an opening writes
-//! nothing but the first journal where there is none (`calls`: `Follows` of crash_disk, over the plans of
-//! `specs/Calls.antt`). The disk's count of faults rises where a call answers DiskFault, which breaks the journal, and
-//! in no other; want of memory leaves journal and disk as they were in `compact`, `migrate` and `reserve`, the calls
-//! with a journal that take memory.
+//! the start stood for, or the first journal where that was none (`open_journal`, `reopen`). Each of these calls
+//! makes the changing calls of the disk that its plan names, in their order and no other: all of them where it
+//! answers Ok, and else a beginning; an opening writes nothing but the first journal where there is none (`calls`:
+//! `Follows` of crash_disk, over the plans of `specs/Calls.antt`). The disk's count of faults rises where a call
+//! answers Failed or DiskFault, which breaks the journal, and in no other; want of memory leaves journal and disk as
+//! they were in `compact`, `migrate` and `reserve`, and breaks the journal in `reopen`.
 #![tactic(auto)]
 
 mod compacting;

@@ -27,8 +27,8 @@
 //! (`laws::compactions_change_no_answer`). No ledger has two logins that one request backs, nor has a whole run of
 //! additions, compactions and openings, what was left out since included (`laws::no_request_backs_twice`,
 //! `laws::no_request_backs_twice_in_a_run`). Each login that was passed on has its request upwards, and goes to the
-//! request below for which that was sent (`laws::each_login_has_its_request`), whose texts a document may hold
-//! (`laws::the_texts_of_a_routed_request_may_stand`).
+//! request below for which that was sent (`laws::each_login_has_its_request`), whose texts but a relay state a
+//! document may hold (`laws::the_texts_of_a_routed_request_may_stand`).
 #![tactic(auto)]
 
 mod checks;

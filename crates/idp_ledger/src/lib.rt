@@ -37,8 +37,9 @@
 //! was not ended (`each_issue_has_its_cause`); each row of a round is that of a record that began it, with the answers that
 //! came later (`each_round_has_its_record`), and what it counts says whether all providers confirmed
 //! (`rounds_are_counted`); the answers of a round are to its requests, in order, and a request more follows one exactly
-//! where a turn is left, so none is asked twice (`rounds_ask_in_turn`). A session that ends behind each moment at which a run compacts the
-//! ledger has a row to the end of the run, open or ended as it was left (`laws::sessions_stay`).
+//! where a turn is left, so no turn is asked twice (`rounds_ask_in_turn`). A session that ends behind each moment at
+//! which a run compacts the ledger has a row to the end of the run, open or ended as it was left
+//! (`laws::sessions_stay`).
 #![tactic(auto)]
 
 mod ask;

@@ -44,13 +44,13 @@
 //! and unused, or in the user's live session, to the peer that asked by a form, at its address and with its relay
 //! state, and not where the user is to be authenticated anew (`each_issue_has_a_password_or_a_session`); a login is
 //! pending, and a Response without an Assertion is recorded, only where a peer asked for it by a form
-//! (`each_question_has_an_asker`); whatever is answered to a request for a login or a message of a logout stands for a
-//! record that is in every image that a crash may leave behind the step (`what_is_answered_is_recorded`); each signed
-//! element in an answer, those of a logout too, is one that its record stands for, and the answer is of the record's
-//! kind, at its address and with its relay state (`each_signed_element_is_of_a_record`); a page that stands for no
-//! record is the metadata (`no_other_page_is_unrecorded`); a session is ended only where its user leaves it or a peer
-//! asks to end it that it issued to, alone where no other provider is to be asked and else with all of them, and
-//! wherever one does, where there is room, at once or behind one compaction, the disk does not fail and memory is found
+//! (`each_question_has_an_asker`); each form and page that is answered to a POST stands for a record that is in every
+//! image that a crash may leave behind the step (`what_is_answered_is_recorded`); each signed element in an answer,
+//! those of a logout too, is one that its record stands for, and the answer is of the record's kind, at its address and
+//! with its relay state (`each_signed_element_is_of_a_record`); a page that stands for no record is the metadata
+//! (`no_other_page_is_unrecorded`); a session is ended only where its user leaves it or a peer asks to end it that it
+//! issued to, alone where no other provider is to be asked and else with all of them, and wherever one does, where
+//! there is room, at once or behind one compaction, the disk does not fail and memory is found
 //! (`a_session_is_ended_exactly`); where the disk tells, what an answer acknowledged is in the history of every ledger
 //! that a crash may leave, and in none of these a session lives that was ended (`what_is_acknowledged_is_kept`); over
 //! each list of starts the first half holds (`what_is_acknowledged_is_kept_over_starts`), and a session that was ended

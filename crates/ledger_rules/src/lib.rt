@@ -24,10 +24,10 @@
 //! # What is proved
 //!
 //! `has_number`, `is_xml_text` are exact, and what the latter lets through is a text that a document may hold
-//! (`laws::an_allowed_text_may_stand`); `Numbers` are numbers that ascend, and `RowPlaces` finds by them the only row
-//! whose ID a text may be; `TextSet` says whether a text is among those of a list; the checks that the readings of all
-//! ledgers share; `keep` sets the flags of exactly those records from which steps between records that
-//! name one another lead to one that is seen (`AreFlagsOf`).
+//! (`laws::an_allowed_text_may_stand`); `Numbers` are numbers that ascend, and give the only row whose ID a text may be
+//! (`place_of`); `RowPlaces` shows the places of such rows; `TextSet` says whether a text is among those of a list;
+//! the checks that the readings of all ledgers share; `keep` sets the flags of exactly those records from which steps
+//! between records that name one another lead to one that is seen (`AreFlagsOf`).
 #![tactic(auto)]
 
 mod checks;

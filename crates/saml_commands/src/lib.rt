@@ -23,17 +23,17 @@
 //! BODYFILE NOW`, `records ROLE`, `sp CONFIG EVENTS`, `idp CONFIG EVENTS`, `hub CONFIG EVENTS`, `replay SCHEDULE` and
 //! `make N START`. What `replay` and `make` print is what the steps of the schedule come to by the definitions of both
 //! providers' own steps (`Goes`). A run carries its headline (`ends`, by `Carries`): with `sp` each request opens a
-//! session exactly where the posted form opens one, where there is room, at once or behind one compaction, the disk
-//! does not fail and memory is found, each of a login that was signed, if no HMAC is forged and no hash collides, and
-//! no two of one request; with `idp` each Assertion is issued to a user with a password or a session, and each signed
-//! element is one of a record that was durable before it was sent; with `hub` a login from above is passed on exactly
-//! where a posted form brings it for a request of a provider below, with its name and attributes and to that provider
-//! alone, no request upwards backs two, and each session below is of a login that the provider above recorded, or of a
-//! record that the hub had at the start, where nobody else makes HMACs that match and no hash collides; with any of
-//! them, where the disk tells, each image that a crash might leave since a point of the service, also inside later
-//! requests, has in its history the records for which the answers up to that point stand. With `replay` and `make` the
-//! whole sentence that joins both providers holds of what was replayed, restarts, stops and failures of the disks and
-//! compactions included (`Carries` of replay_runs).
+//! session exactly where the posted form opens one, where no registry has ended, there is room, at once or behind one
+//! compaction, the disk does not fail and memory is found, each of a login that was signed, if no HMAC is forged and
+//! no hash collides, and no two of one request; with `idp` each Assertion is issued to a user with a password or a
+//! session, and each signed element is one of a record that was durable before it was sent; with `hub` a login from
+//! above is passed on exactly where a posted form brings it for a request of a provider below, with its name and
+//! attributes and to that provider alone, no request upwards backs two, and each session below is of a login that the
+//! provider above recorded, or of a record that the hub had at the start, where nobody else makes HMACs that match
+//! and no hash collides; with any of them, where the disk tells, each image that a crash might leave since a point of
+//! the service, also inside later requests, has in its history the records for which the answers up to that point
+//! stand. With `replay` and `make` the whole sentence that joins both providers holds of what was replayed, restarts,
+//! stops and failures of the disks and compactions included (`Carries` of replay_runs).
 #![tactic(auto)]
 
 mod answer;

@@ -7,7 +7,7 @@
 //!
 //! The words behind the program's name (`words_behind_name`), and the exit status that is the number of a status
 //! (`exit_code`). That `main` hands these words to `run` with the objects of the system, and ends with the status that
-//! `run` gives, no clause says: it stands in `main.rt`, in a dozen lines.
+//! `run` gives, no clause says: it stands in `main.rt`, in some thirty lines.
 #![tactic(auto)]
 
 ghost use Rattle.std.specs.Prelude.{◌≡◌, drop, map, string_bytes, IfOk};

@@ -46,9 +46,9 @@
 //! (`what_is_acknowledged_is_kept_once`), and so over each list of starts, wherever a crash stopped one
 //! (`what_is_acknowledged_is_kept_once_over_starts`); from the moment of a compaction on each form has the verdict that
 //! it had without (`compactions_change_no_verdict`); a session is closed only where its user leaves it or an accepted
-//! LogoutRequest asks to end it, and wherever one does, where there is room, at once or behind one compaction, the disk
-//! does not fail and memory is found (`a_session_is_closed_exactly`), nothing else closes one, and it is live at no
-//! later request and in no ledger that a crash may leave since (`a_closed_session_stays_closed`,
+//! LogoutRequest asks to end it, and wherever one does, where no registry has ended, there is room, at once or behind
+//! one compaction, the disk does not fail and memory is found (`a_session_is_closed_exactly`), nothing else closes one,
+//! and it is live at no later request and in no ledger that a crash may leave since (`a_closed_session_stays_closed`,
 //! `sessions_stay_closed_in_a_service`, `sessions_stay_closed_over_starts`); each form and page that is answered to a
 //! POST, and each form that asks for a login, stands for a record that is in every image that a crash may leave behind
 //! the step, as far as the disk tells (`what_is_answered_is_recorded`); a guard answers 200 exactly where the cookie's

@@ -9,7 +9,7 @@
 //! (`bytes_begin_with_one_token`); texts of a spelled tree are joined (`a_spelled_tree_is_joined`); paths lead to
 //! numbers and back (`a_path_leads_to_its_node`, `a_number_leads_to_its_path`); the classes are their ranges
 //! (`classes_are_their_ranges`); declarations and attributes are written in order, none lost, none doubled
-//! (`declarations_are_in_order`, `attributes_are_in_order`). Worked examples from the standards compute as theorems.
+//! (`declarations_are_in_order`, `attributes_are_in_order`). Worked examples compute as theorems.
 #![tactic(auto)]
 
 /// How deep an element of a document may stand; the root has depth 1 (profile).

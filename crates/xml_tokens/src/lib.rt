@@ -5,7 +5,7 @@
 //! The tokens of a document, one after the other: what is read is the first token of the text, as long as it can be,
 //! and what follows it; a refusal says that no valid tokens are written so (`next_token`). A start tag of a name alone,
 //! none exactly where none begins the text (`bare_start`). What stands behind the byte order mark and the XML
-//! declaration, none exactly where no document is written so (`behind_head`); line ends (`put_line_ends`,
+//! declaration, none only where no document is written so (`behind_head`); line ends (`put_line_ends`,
 //! `strip_line_ends`). A text of an element that is kept as it is written: what it means (`ElementText::put`, `is`),
 //! read token by token (`TextRun`). A name with the place of its first colon (`WrittenName`); a quick test for names of
 //! ASCII without a colon, of which `false` says nothing (`is_ascii_no_colon_name`).
