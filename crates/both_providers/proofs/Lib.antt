@@ -1,1 +1,2 @@
 mod Together
+mod Over

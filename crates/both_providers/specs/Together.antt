@@ -18,16 +18,23 @@ use Rattle.serve_loop.specs.Turns.{Asked}
 use Rattle.serve_loop.specs.Worlds.{World}
 use Rattle.provider_node.specs.declared.codes.TheConstants.{NO_MEMORY}
 use Rattle.provider_node.specs.Starts as any
-use Rattle.provider_node.specs.Starts.{Start, asked_over, last_of, AreStarts}
+use Rattle.provider_node.specs.Starts.{Start, asked_over, last_of, AreOverBehind, AreStarts, AreStartsAt}
+use Rattle.provider_node.specs.Staying.{SessionsStayOver}
 use Rattle.request_ledger.specs.Ledger.{Held}
 use Rattle.request_ledger.specs.Record.{AreRecords, request_rules}
+use Rattle.request_ledger.specs.RowsOf.{closes}
+use Rattle.sp_server.specs.Logouts.{IsClosed, IsOver}
 use Rattle.sp_server.specs.Sessions.{GivesSession, HasRoom, IsOpened, OpensOver}
 use Rattle.sp_server.specs.Starts.{AreKeptOnceOver}
+use Rattle.sp_server.specs.Staying as opened
 use Rattle.sp_server.specs.Step.{Answers}
 use Rattle.sp_server.specs.Step as sp
 use Rattle.idp_ledger.specs.Ledger as idp_ledger
 use Rattle.idp_ledger.specs.Record.{idp_rules}
 use Rattle.idp_rules.specs.declared.config.IdpConfig.{IdpConfig}
+use Rattle.idp_rows.specs.RowsOf.{ends}
+use Rattle.idp_server.specs.Histories.{IsDead, IsEnded}
+use Rattle.idp_server.specs.Staying as begun
 use Rattle.idp_server.specs.Step as idp
 use Rattle.recorded_logins.specs.Recorded.{Added, AreOf}
 use Rattle.recorded_logins.specs.Logins.{IsRecordedSession}
@@ -77,10 +84,14 @@ pub record OpensExactly (asked : Asked sp.Provider) : Type 0 where
       → ¬ (Rose faults later)
       → (asked.answer ≡ Fixed NO_MEMORY) ⊎ IsOpened asked.node.setup found asked.request asked.now b asked.answer new.ledger.held
 
--- Sessions are opened exactly where forms open them, also where a crash cut the request. Each that is given, with whatever answer, is of
--- a recorded login: for each list of what the identity provider signed for records of these starts, or that it had at first, where no
--- HMAC in the posted form is made by anybody else and no other text there has the hash of one of them. And what the service provider
--- acknowledged is kept, once: no request opens two sessions, those whose answer was lost included.
+-- Sessions are opened exactly where forms open them, also where a crash cut the request. Each that is given, with
+-- whatever answer, is of a recorded login: for each list of what the identity provider signed for records of these
+-- starts, or that it had at first, where no HMAC in the posted form is made by anybody else and no other text there has
+-- the hash of one of them. What the service provider acknowledged is kept, once: no request opens two sessions, those
+-- whose answer was lost included. A session of the service provider that was closed, at first or by what it
+-- acknowledged, is live in no ledger that may be opened behind these starts, and none of the identity provider that was
+-- ended, at first or by what that acknowledged. And at both, for each list of moments among which are all of these
+-- starts, those of requests that were cut included, each session whose answer went out stays as it was left.
 pub record Headline (start : Held) (sp_starts : List (Start sp.Provider)) (idp_start : idp_ledger.Held)
     (idp_starts : List (Start idp.Provider)) : Type 0 where
   pub opens : (asked : Asked sp.Provider) → WasAsked sp_starts asked → OpensExactly asked
@@ -92,6 +103,12 @@ pub record Headline (start : Held) (sp_starts : List (Start sp.Provider)) (idp_s
       → IsOfARecordedLogin setup idp_start idp_starts added asked.node.setup.config asked.now
       (session_of asked.node.setup.config asked.now gives.brought.key.number gives.brought.login)
   pub once : AreKeptOnceOver start sp_starts
+  pub closed : AreOverBehind request_rules Answers IsClosed closes IsOver start sp_starts
+  pub ended : AreOverBehind idp_rules idp.Answers IsEnded ends IsDead idp_start idp_starts
+  pub opened_stay : (moments : List ℕ) → AreStartsAt request_rules Answers (Contains moments) start sp_starts
+      → SessionsStayOver request_rules opened.WasOpened opened.IsAsLeft Answers moments start sp_starts
+  pub begun_stay : (moments : List ℕ) → AreStartsAt idp_rules idp.Answers (Contains moments) idp_start idp_starts
+      → SessionsStayOver idp_rules begun.Began begun.IsAsLeft idp.Answers moments idp_start idp_starts
 
 -- It holds of all starts of the two, each of which opens what a crash of the one before it may have left.
 abbrev pub TheHeadlineHoldsOfBoth : Type 0

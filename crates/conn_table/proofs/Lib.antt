@@ -1,4 +1,5 @@
 pub mod Ending
+pub mod Few
 pub mod Found
 pub mod Lasting
 pub mod Numbers

@@ -1,5 +1,8 @@
 -- The laws of connections.
-use Rattle.std.specs.Prelude.{◌≡◌, ℕ, ◌<◌, ◌≤◌, true, List, ◌∷◌, ◌++◌, length}
+use Rattle.std.specs.Prelude.{◌≡◌, ℕ, ◌+◌, ◌*◌, ◌<◌, ◌≤◌, true, List, ◌∷◌, ◌++◌, length, IfSome}
+use Rattle.std.specs.FinMap as map
+use Rattle.std.specs.List.{sum_by}
+use Rattle.http_wire.specs.declared.limits.TheConstants.{HEAD_LIMIT, BODY_LIMIT}
 use Rattle.http_wire.specs.Requests.{Request, Reading, Whole, More, Reads}
 use Rattle.http_wire.specs.Laws.{EndsAt}
 use Rattle.conn_table.specs.declared.limits.TheConstants.{CONNECTION_LIMIT}
@@ -34,6 +37,31 @@ abbrev pub KeptBytesAreMore : Type 0
 KeptBytesAreMore =
     (read : List ℕ → Reading) (events : History) (conn : ℕ) → IsRight read events → contains conn (kept read events) ≡ true
     → Reads (bytes_since conn events) More
+
+-- as many bytes as the longest request has: the longest head, and the longest body behind it
+abbrev pub longest_request : ℕ
+longest_request = HEAD_LIMIT + BODY_LIMIT
+
+-- a connection that is kept has brought fewer bytes
+abbrev pub KeptBytesAreFew : Type 0
+KeptBytesAreFew =
+    (read : List ℕ → Reading) (events : History) (conn : ℕ)
+    → IsRight read events → contains conn (kept read events) ≡ true → length (bytes_since conn events) < longest_request
+
+-- so all that are kept have brought together fewer than CONNECTION_LIMIT times as many
+abbrev pub AllKeptBytesAreFew : Type 0
+AllKeptBytesAreFew =
+    (read : List ℕ → Reading) (events : History) → IsRight read events
+    → sum_by (λ conn. length (bytes_since conn events)) (kept read events) < CONNECTION_LIMIT * longest_request
+
+-- a table has at most CONNECTION_LIMIT connections, each with fewer bytes than the longest request has
+pub record IsSmall (table : Table) : Type 0 where
+  pub count : map.len table ≤ CONNECTION_LIMIT
+  pub bytes : (conn : ℕ) → IfSome (map.get table conn) (λ bytes. length bytes < longest_request)
+
+-- so is the table that the calls leave behind each event
+abbrev pub TablesAreSmall : Type 0
+TablesAreSmall = (events : History) (done : List Completion) (table : Table) → Served events done table → IsSmall table
 
 -- a request is completed by the piece that brings the place where it ends
 abbrev pub RequestsEndInTheirPiece : Type 0

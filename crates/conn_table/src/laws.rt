@@ -1,5 +1,5 @@
 //! Laws of many connections, each the contract of a function that does nothing.
-ghost use Rattle.conn_table.specs.Laws.{AnswersAreExact, FewAreKept, EventsCompleteOneThing, CallsGiveCompletions, KeptBytesAreMore, RequestsEndInTheirPiece, CutsChangeNothing, EachIsAsAlone, OthersChangeNothing};
+ghost use Rattle.conn_table.specs.Laws.{AnswersAreExact, FewAreKept, EventsCompleteOneThing, CallsGiveCompletions, KeptBytesAreMore, KeptBytesAreFew, AllKeptBytesAreFew, TablesAreSmall, RequestsEndInTheirPiece, CutsChangeNothing, EachIsAsAlone, OthersChangeNothing};
 
 /// The answer to a piece is that of whatever all the bytes are: `Waiting` just where they are the beginning of a request,
 /// `Ready` where they are a whole one, and `Refused` where they are refused, with the same status.
@@ -33,6 +33,18 @@ pub fn calls_give_completions()
 pub fn kept_bytes_are_more()
     ensures { KeptBytesAreMore }
 {}
+
+/// The bytes of a connection that is kept are fewer than the longest request has: fewer than `HEAD_LIMIT` and
+/// `BODY_LIMIT` of `http_wire` together. So all that are kept have fewer than
+/// [`CONNECTION_LIMIT`](crate::CONNECTION_LIMIT) times as many, and so has the table that the calls leave behind each
+/// event. Where a piece completes a connection, the table has all of that piece too, until the connection is gone.
+pub fn kept_bytes_are_few()
+    ensures each { KeptBytesAreFew }
+    ensures all { AllKeptBytesAreFew }
+    ensures table { TablesAreSmall }
+{
+    http_wire::laws::bytes_have_one_reading();
+}
 
 /// A request is completed by the piece that brings the place where it ends.
 pub fn requests_end_in_their_piece()

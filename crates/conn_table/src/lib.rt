@@ -35,7 +35,9 @@
 //! `gone` are exact on it: the answer to a piece is what `http_wire` says of all the connection's bytes, and the others
 //! are as they were. Over each list of events the calls complete what the definition says without a table
 //! (`laws::calls_give_completions`); a piece may as well come as two (`cuts_change_nothing`), and a connection brings
-//! what it would bring alone, but for whether it was taken (`others_change_nothing`).
+//! what it would bring alone, but for whether it was taken (`others_change_nothing`). Behind each event a connection
+//! that is kept has brought fewer bytes than `HEAD_LIMIT` and `BODY_LIMIT` of `http_wire` together, and all that are
+//! kept fewer than 64 times as many (`kept_bytes_are_few`).
 #![tactic(auto)]
 
 mod connection;

@@ -5,13 +5,14 @@ use Rattle.http_wire.specs.declared.answer.Answer.TheVariants as answers
 use Rattle.serve_loop.specs.Turns.{Asked, Asks, asked_in}
 use Rattle.serve_loop.specs.Worlds.{World}
 use Rattle.provider_run.specs.Headlines.{EachRunCarries}
-use Rattle.provider_run.proofs.Headlines.{adds_its_own, carries, each_goes, keeps_visible, kept_since, once_recorded, stepped, of_asked}
+use Rattle.provider_run.proofs.Headlines.{adds_its_own, carries, each_goes, for_a_cause, keeps_visible, kept_since, once_recorded, stepped, of_asked}
 use Rattle.provider_run.proofs.Setups.{asked_same}
 use Rattle.provider_run.specs.Runs.{world_of}
 use Rattle.provider_node.specs.Starts.{asked_over}
 use Rattle.hub_ledger.specs.Laws.{AnswerAlike, ImagesHoldRecords}
 use Rattle.hub_ledger.specs.Record.{hub_rules}
 use Rattle.identity_hub.specs.Histories.{WhatIsAcknowledgedIsKeptOnce, WhatIsAcknowledgedIsKeptOnceOverStarts}
+use Rattle.provider_node.specs.Causes.{GivesNoOwnCode}
 use Rattle.provider_node.specs.Histories.{IsProviders}
 use Rattle.identity_hub.specs.Passing.{EachRefusalIsOfOneBelow, EachRequestUpwardsIsOfOneBelow, NothingIsAskedOfAUserWhoMayNotBeAsked, OnlyWhereALoginIsBrought, WhereverALoginIsBrought}
 use Rattle.identity_hub.specs.Recorded.{IsPosted}
@@ -26,6 +27,7 @@ use Rattle.hub_runs.proofs.Kept.{kept_once}
 
 -- the laws on which it stands
 pub record Laws : Type 0 where
+  pub none_own : GivesNoOwnCode Answers
   pub only : OnlyWhereALoginIsBrought
   pub wherever : WhereverALoginIsBrought
   pub back : EachLoginGoesBack
@@ -68,6 +70,7 @@ module _ (laws : Laws) (asked : Asked Provider) where
   pub goes_exactly : GoesExactly asked
   goes_exactly = record {
     steps = stepped hub_rules Answers asked;
+    causes = for_a_cause hub_rules Answers asked laws.none_own;
     passes = λ before after asks. passes_exactly before after;
     signs = signs_only;
     passive = λ held answer r login peer asks passive answers.

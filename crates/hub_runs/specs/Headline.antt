@@ -34,7 +34,7 @@ use Rattle.provider_node.specs.declared.codes.TheConstants.{NO_MEMORY}
 use Rattle.provider_node.specs.Added.{IsAddedBy}
 use Rattle.provider_node.specs.Lasting.{AreKeptSince}
 use Rattle.provider_node.specs.Starts.{AreStarts, Start, asked_over}
-use Rattle.provider_run.specs.Headlines.{AddsOnlyItsOwn, AnswersOnceRecorded, EachGoes, GoesOnDisk, HeadlineBy, HeadlineOf, KeepsWhatIsVisible, ServedOver, ServedRun, WhereAsked}
+use Rattle.provider_run.specs.Headlines.{AddsOnlyItsOwn, AnswersForACause, AnswersOnceRecorded, EachGoes, GoesOnDisk, HeadlineBy, HeadlineOf, KeepsWhatIsVisible, ServedOver, ServedRun, WhereAsked}
 use Rattle.provider_run.specs.Runs.{Outside, world_of}
 use Rattle.identity_hub.specs.Histories.{AreKeptOnce, AreKeptOnceOver}
 use Rattle.identity_hub.specs.Passing.{CanPassOn, HasRoom, IsOfBelow, IsOfPassive, IsPassedOn, IsSpoken, PassesLogin}
@@ -125,6 +125,7 @@ key config = config.upstream.id_key
 -- a request is answered by one step, and so it is of it, whatever the worlds are in which the hub was asked
 pub record GoesExactly (asked : Asked Provider) : Type 0 where
   pub steps : WhereAsked hub_rules Answers asked (GoesOnDisk hub_rules Answers asked)
+  pub causes : WhereAsked hub_rules Answers asked (AnswersForACause hub_rules Answers asked)
   pub passes : WhereAsked hub_rules Answers asked (PassesOnExactly asked)
   pub signs : WhereAsked hub_rules Answers asked (λ before after. SignsOnlyItsRecords asked after)
   pub passive : AsksNobodyAbove asked
@@ -136,11 +137,12 @@ pub record GoesExactly (asked : Asked Provider) : Type 0 where
 -- What is said of a run that served: each request, all of them served by what the hub was set up with, passed logins on
 -- exactly, and was answered once its record was durable; where the disk tells, what the answers acknowledged is in the
 -- history of every ledger that a crash may leave behind the run, and no request upwards backs two logins, those at the
--- start and those that were let go included; from each point of the run on, also inside later requests, what was
--- acknowledged by then is in the history of every ledger that a crash might leave; in each of these images each login
--- that was passed on has its request upwards, and goes back to the one below for which that was sent; and each session
--- that a provider below opens is of a login that the provider above recorded for the hub, or of a record that this had
--- at the start, where nobody else makes HMACs that match and no hash collides.
+-- start and those that were let go included, so no two of those that the answers acknowledged; from each point of the
+-- run on, also inside later requests, what was acknowledged by then is in the history of every ledger that a crash
+-- might leave; in each of these images each login that was passed on has its request upwards, and goes back to the one
+-- below for which that was sent; and each session that a provider below opens is of a login that the provider above
+-- recorded for the hub, or of a record that this had at the start, where nobody else makes HMACs that match and no hash
+-- collides.
 pub record Says (left : ℕ → Image → Type 0) (told : Option (List File)) (file : List ℕ) (before : Outside)
     (turns : List (Turn Provider)) (after : Outside)
     (run : ServedRun IsSetUp address key hub_rules Answers left told file before turns after) : Type 0 where

@@ -71,6 +71,7 @@ pub fn a_run_carries_the_headline<D: Disk>()
     ensures { (disk : D) → EachRunCarries IsSetUp IsBadSetUp address key hub_rules Answers Headline (D.shows disk).left_since }
 {
     hub_ledger::laws::images_hold_records();
+    identity_hub::laws::no_definition_gives_an_own_code();
     identity_hub::laws::a_login_is_passed_on_exactly();
     identity_hub::laws::each_request_upwards_is_of_one_below();
     identity_hub::laws::each_signed_element_is_of_a_record();
@@ -88,6 +89,7 @@ pub fn a_run_carries_the_headline<D: Disk>()
 pub fn the_headline_holds_over_starts()
     ensures { TheHeadlineHoldsOverStarts }
 {
+    identity_hub::laws::no_definition_gives_an_own_code();
     identity_hub::laws::a_login_is_passed_on_exactly();
     identity_hub::laws::each_request_upwards_is_of_one_below();
     identity_hub::laws::each_signed_element_is_of_a_record();

@@ -27,17 +27,19 @@
 //! and the record is durable before the answer is sent (`SignsOnlyItsRecords`); nobody above is asked where the user
 //! may not be asked (`AsksNobodyAbove`), and of what is asked IsPassive and ForceAuthn are read as false (a law,
 //! `laws::each_request_leaves_it_to_the_one_above`); where the disk tells, what was acknowledged is kept, no request
-//! upwards backs two logins (`AreKeptOnce`), and each image that a crash might leave since a point of the run, also
-//! inside later requests, has in its history the records for which the answers up to that point stand (`AreKeptSince`);
-//! each login goes back to the request below for which one was sent upwards (`EachLoginInAnImageHasItsRequest`). Where
-//! only the provider above makes HMACs that match and no hash collides, each login that is passed on is one that it
-//! signed, or recorded for the hub (`IsOfALoginFromAbove`), and over both hops, where besides nobody but the hub makes
-//! HMACs that match for those below, each session that a provider below opens is of such a login, or of a record that
-//! the hub had at the start (`SessionsBelowAreOfLoginsAbove`). Over all starts of a hub it holds of each request, of
-//! what is kept, once, and of the sessions below (`laws::the_headline_holds_over_starts`): a run that served is a start
+//! upwards backs two logins, neither in the history of an image nor of those that were acknowledged or stood at the
+//! start (`AreKeptOnce`), and each image that a crash might leave since a point of the run, also inside later requests,
+//! has in its history the records for which the answers up to that point stand (`AreKeptSince`); each login goes back
+//! to the request below for which one was sent upwards (`EachLoginInAnImageHasItsRequest`). Where only the provider
+//! above makes HMACs that match and no hash collides, each login that is passed on is one that it signed, or recorded
+//! for the hub (`IsOfALoginFromAbove`), and over both hops, where besides nobody but the hub makes HMACs that match for
+//! those below, each session that a provider below opens is of such a login, or of a record that the hub had at the
+//! start (`SessionsBelowAreOfLoginsAbove`). Over all starts of a hub it holds of each request, of what is kept, once,
+//! and of the sessions below (`laws::the_headline_holds_over_starts`): a run that served is a start
 //! (`laws::a_run_is_a_start`), and from each image that a crash may leave a later start goes on
 //! (`laws::each_image_of_a_run_goes_on`). Each fault comes only where its count rose; where a hub can be run and
-//! nothing failed it served, or memory ran out (`complete`).
+//! nothing failed it served, or memory ran out (`complete`). 50, 51 and 53 are answered for their causes alone
+//! (`AnswersForACause`).
 #![tactic(auto)]
 
 pub mod laws;

@@ -5,13 +5,16 @@ use Rattle.http_wire.specs.declared.answer.Answer.{Answer}
 use Rattle.http_wire.specs.Requests.{Request}
 use Rattle.ledger_records.specs.declared.hub_record.HubRecord.{HubRecord}
 use Rattle.provider_node.specs.Histories.{moments_of}
-use Rattle.provider_node.proofs.Histories.{DrawsAbove, IsAbove, above_of_each, came_so, kept_so, what_is_kept}
+use Rattle.provider_node.proofs.Histories.{DrawsAbove, IsAbove, above_of_each, came_so, kept_so, some_left}
+use Rattle.provider_node.proofs.Histories.{what_is_kept}
 use Rattle.provider_node.proofs.Starts.{kept_over, kept_over_so}
 use Rattle.hub_ledger.specs.Laws.{ImagesHoldRecords, NoRequestBacksTwiceInARun}
 use Rattle.hub_ledger.specs.Ledger.{Held}
 use Rattle.hub_ledger.specs.Record.{hub_rules}
+use Rattle.hub_ledger.specs.Runs.{requests_backed}
 use Rattle.identity_hub.specs.declared.config.HubConfig.{HubConfig}
 use Rattle.identity_hub.specs.Histories.{PassOnce, WhatIsAcknowledgedIsKeptOnce, WhatIsAcknowledgedIsKeptOnceOverStarts}
+use Rattle.identity_hub.proofs.Once.{still_differ}
 use Rattle.identity_hub.specs.Step as steps
 use Rattle.identity_hub.specs.Step.{Answers, backed_for, below_of, routed_for, spoken_for}
 
@@ -41,11 +44,23 @@ pub kept_once : ImagesHoldRecords → NoRequestBacksTwiceInARun → WhatIsAcknow
 kept_once law never_twice first last turns kept at tells run =
     let start = first.node.ledger.held in
     let is = what_is_kept hub_rules Answers law draws_above first last turns kept at tells run in
-    kept_so Answers _ last turns is _
-    (came_so hub_rules PassOnce (Contains (moments_of turns)) start
-    (λ held events leads. never_twice start held events at.records leads) is.records)
+    let (image, left) = some_left hub_rules Answers first last turns kept at tells run in
+    let (found, stands, came) = is.kept image left in
+    record {
+      all = kept_so Answers _ last turns is _
+          (came_so hub_rules PassOnce (Contains (moments_of turns)) start
+          (λ held events leads. never_twice start held events at.records leads) is.records);
+      once = still_differ came.events is.records (requests_backed start.records) came.includes
+          (never_twice start found came.events at.records came.leads);
+    }
 
 pub kept_once_over : ImagesHoldRecords → NoRequestBacksTwiceInARun → WhatIsAcknowledgedIsKeptOnceOverStarts
 kept_once_over law never_twice start starts are begun =
-    kept_over_so hub_rules Answers PassOnce start starts (λ held events leads. never_twice start held events are leads)
-    (kept_over hub_rules Answers law draws_above start starts begun)
+    let is = kept_over hub_rules Answers law draws_above start starts begun in
+    let (found, came) = is.history in
+    record {
+      all = kept_over_so hub_rules Answers PassOnce start starts
+          (λ held events leads. never_twice start held events are leads) is;
+      once = still_differ came.events is.records (requests_backed start.records) came.includes
+          (never_twice start found came.events are came.leads);
+    }

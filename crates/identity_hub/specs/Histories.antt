@@ -1,12 +1,13 @@
 -- What became of a ledger over a service, and over several starts with crashes between: what was acknowledged is kept,
 -- and no request upwards backs two logins.
-use Rattle.std.specs.Prelude.{List, Contains, IsSome}
+use Rattle.std.specs.Prelude.{List, ◌++◌, Contains, IsSome}
+use Rattle.std.specs.List.{flat_map}
 use Rattle.conn_table.specs.Table.{Table}
 use Rattle.serve_loop.specs.Worlds.{World}
 use Rattle.serve_loop.specs.Turns.{Turn, Run}
 use Rattle.hub_ledger.specs.Ledger.{Held}
 use Rattle.hub_ledger.specs.Record.{AreRecords, hub_rules}
-use Rattle.hub_ledger.specs.Runs.{AreDifferent, Event, requests_of_run}
+use Rattle.hub_ledger.specs.Runs.{AreDifferent, Event, request_backed, requests_backed, requests_of_run}
 use Rattle.provider_node.specs.Histories as any
 use Rattle.provider_node.specs.Histories.{AnyMoment, IsAtStart, moments_of, IsProviders}
 use Rattle.provider_node.specs.Starts.{AreKeptOverSo, AreStarts, LeftBehind, OpensWhatCameSo, Start}
@@ -19,24 +20,24 @@ PassOnce start events = AreDifferent (requests_of_run start events)
 
 -- Of the records for which the answers of a service stand: each is in the history of every ledger that a crash may
 -- leave behind it, in which each compaction was at the moment of one of its requests, and no two logins of such a
--- history answer one request upwards.
-abbrev pub AreKeptOnce : (first last : World Provider) → List (Turn Provider) → Type 0
-AreKeptOnce first last turns =
-    any.AreKeptSo Answers (any.HoldsWhatCameSo hub_rules PassOnce (Contains (moments_of turns)) first.node.ledger.held)
-    last
-    turns
+-- history answer one request upwards; so no two of their logins, with those of the ledger at the start, do.
+pub record AreKeptOnce (first last : World Provider) (turns : List (Turn Provider)) : Type 0 where
+  pub all : any.AreKeptSo Answers
+      (any.HoldsWhatCameSo hub_rules PassOnce (Contains (moments_of turns)) first.node.ledger.held) last turns
+  pub once : AreDifferent (flat_map request_backed all.records ++ requests_backed first.node.ledger.held.records)
 
 abbrev pub WhatIsAcknowledgedIsKeptOnce : Type 0
 WhatIsAcknowledgedIsKeptOnce =
     (first last : World Provider) (turns : List (Turn Provider)) (kept : Table) → IsAtStart hub_rules first
     → IsSome first.disk → Run (IsProviders hub_rules Answers) first turns kept last → AreKeptOnce first last turns
 
--- And it is so over each list of starts, of which each opens what a crash of the one before it may have left.
-abbrev pub AreKeptOnceOver : (start : Held) → List (Start Provider) → Type 0
-AreKeptOnceOver start starts =
-    AreKeptOverSo Answers (LeftBehind hub_rules Answers start starts)
-    (OpensWhatCameSo hub_rules PassOnce AnyMoment start)
-    starts
+-- And of those for which the answers of starts stand, of which each opens what a crash of the one before it may have
+-- left: each is in the history of every ledger that may be opened behind them, and no two logins of such a history
+-- answer one request upwards; so no two of their logins, with those at the start, do.
+pub record AreKeptOnceOver (start : Held) (starts : List (Start Provider)) : Type 0 where
+  pub all : AreKeptOverSo Answers (LeftBehind hub_rules Answers start starts)
+      (OpensWhatCameSo hub_rules PassOnce AnyMoment start) starts
+  pub once : AreDifferent (flat_map request_backed all.records ++ requests_backed start.records)
 
 abbrev pub WhatIsAcknowledgedIsKeptOnceOverStarts : Type 0
 WhatIsAcknowledgedIsKeptOnceOverStarts =

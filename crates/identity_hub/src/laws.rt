@@ -1,4 +1,5 @@
 //! Laws of a hub, each the contract of a function that does nothing.
+ghost use Rattle.provider_node.specs.Causes.{GivesNoOwnCode};
 ghost use Rattle.identity_hub.specs.Histories.{WhatIsAcknowledgedIsKeptOnce, WhatIsAcknowledgedIsKeptOnceOverStarts};
 ghost use Rattle.identity_hub.specs.Passing.{EachRefusalIsOfOneBelow, EachRequestUpwardsIsOfOneBelow, NothingIsAskedOfAUserWhoMayNotBeAsked, OnlyWhereALoginIsBrought, WhereverALoginIsBrought};
 ghost use Rattle.identity_hub.specs.Recorded.{IsPosted};
@@ -56,7 +57,8 @@ pub fn what_is_answered_is_recorded()
 {}
 
 /// Over each list of events, moments, disk faults and openings: what an answer acknowledged is in the history of every
-/// ledger that a crash may leave, and no request upwards backs two logins.
+/// ledger that a crash may leave, and no request upwards backs two logins: neither of such a history, nor of those that
+/// were acknowledged with those at the start.
 pub fn what_is_acknowledged_is_kept_once()
     ensures { WhatIsAcknowledgedIsKeptOnce }
 {
@@ -71,3 +73,8 @@ pub fn what_is_acknowledged_is_kept_once_over_starts()
     hub_ledger::laws::images_hold_records();
     hub_ledger::laws::no_request_backs_twice_in_a_run();
 }
+
+/// No answer where nothing fails is one of the codes that a provider answers for itself: 50 to 53.
+pub fn no_definition_gives_an_own_code()
+    ensures { GivesNoOwnCode Answers }
+{}

@@ -38,8 +38,10 @@
 //! the step (`what_is_answered_is_recorded`); for those below it signs nothing but the Assertions of its records, and
 //! what it sends goes to the record's address with its relay state (`each_signed_element_is_of_a_record`); a page that
 //! stands for no record is the metadata (`no_other_page_is_unrecorded`); what an answer acknowledged is in the history
-//! of every ledger that a crash may leave, and no request upwards backs two logins, over each list of events and of
-//! starts (`what_is_acknowledged_is_kept_once`, `what_is_acknowledged_is_kept_once_over_starts`).
+//! of every ledger that a crash may leave, and no request upwards backs two logins of such a history, those that were
+//! let go included, nor two of those that were acknowledged or stood at the start, over each list of events and of
+//! starts (`what_is_acknowledged_is_kept_once`, `what_is_acknowledged_is_kept_once_over_starts`). Where nothing fails
+//! none of the codes 50 to 53 is answered (`no_definition_gives_an_own_code`).
 #![tactic(auto)]
 
 mod config;

@@ -5,11 +5,14 @@ use Rattle.http_wire.specs.declared.answer.Answer.TheVariants as answers
 use Rattle.serve_loop.specs.Turns.{Asked, Asks}
 use Rattle.serve_loop.specs.Worlds.{World}
 use Rattle.provider_run.specs.Headlines.{EachRunCarries}
-use Rattle.provider_run.proofs.Headlines.{adds_its_own, carries, each_goes, keeps_visible, kept_since, of_asked, once_recorded, sessions_stay, stepped, stepped_to}
+use Rattle.provider_run.proofs.Headlines.{adds_its_own, carries, each_goes, for_a_cause, keeps_visible, kept_since, of_asked, once_recorded, sessions_stay, stepped, stepped_to}
+use Rattle.provider_run.proofs.Setups.{asked_same}
+use Rattle.provider_run.specs.Runs.{world_of}
 use Rattle.idp_ledger.specs.Laws.{AnswerAlike, ImagesHoldRecords}
 use Rattle.idp_ledger.specs.Record.{idp_rules}
 use Rattle.idp_ledger.specs.Turns.{RoundsAskInTurn}
 use Rattle.idp_server.specs.Histories.{SessionsStayEndedInAService, WhatIsAcknowledgedIsKept}
+use Rattle.provider_node.specs.Causes.{GivesNoOwnCode}
 use Rattle.provider_node.specs.Histories.{IsProviders}
 use Rattle.idp_server.specs.Issues.{AnswersHaveAskers, AnswersHaveUsers, IsPosted, RefusalsHaveAskers}
 use Rattle.idp_server.specs.Logouts.{AnswersEndExactly, ServicesEndExactly, SessionsEndBeforeTheAnswer}
@@ -28,6 +31,7 @@ use Rattle.idp_runs.proofs.Kept.{ended_behind, kept_behind}
 
 -- the laws on which it stands
 pub record Laws : Type 0 where
+  pub none_own : GivesNoOwnCode Answers
   pub users : AnswersHaveUsers
   pub askers : AnswersHaveAskers
   pub refusals : RefusalsHaveAskers
@@ -83,6 +87,7 @@ module _ (laws : Laws) (asked : Asked Provider) where
   goes_exactly : GoesExactly asked
   goes_exactly = record {
     steps = stepped idp_rules Answers asked;
+    causes = for_a_cause idp_rules Answers asked laws.none_own;
     issues = issues;
     ends = ends_exactly;
     rounds = record {
@@ -99,6 +104,9 @@ pub headline : Laws → (left : ℕ → Image → Type 0) → EachRunCarries IsS
     left
 headline laws left =
     carries IsSetUp address key idp_rules Answers IsBadSetUp Says left (λ told file before turns after run. record {
+      same = λ asked there.
+          asked_same idp_rules Answers (world_of run.provider run.opened) run.serves.last turns run.serves.kept asked
+          run.serves.run there;
       each = each_goes GoesExactly (goes_exactly laws) turns;
       kept = λ tells. kept_behind laws.hold left told file before turns after run tells laws.kept;
       since = λ tells.

@@ -2,7 +2,7 @@
 -- signed element is one of a record that is durable before it is sent; sessions are ended exactly where their users
 -- leave them or a peer ends them, and one that is ended never lives again; a logout that asks all others asks each in
 -- its turn, and says Success exactly where each confirmed.
-use Rattle.std.specs.Prelude.{◌≡◌, ◌⊎◌, ℕ, true, false, List, Option, IsSome, None, Some}
+use Rattle.std.specs.Prelude.{◌≡◌, ◌⊎◌, ℕ, true, false, List, Contains, Option, IsSome, None, Some}
 use Rattle.saml_outside.specs.Files.{File}
 use Rattle.crash_disk.specs.Counts.{Rose}
 use Rattle.crash_disk.specs.Disk.{Image}
@@ -15,9 +15,9 @@ use Rattle.ledger_records.specs.declared.idp_record.Pending.{Pending}
 use Rattle.ledger_records.specs.declared.idp_record.Spoke.{Spoke}
 use Rattle.ledger_records.specs.declared.idp_round.Round.{Round}
 use Rattle.ledger_records.specs.declared.idp_round.Told.{Told}
-use Rattle.serve_loop.specs.Turns.{Asked, Turn}
+use Rattle.serve_loop.specs.Turns.{Asked, Turn, asked_in}
 use Rattle.serve_loop.specs.Worlds.{World}
-use Rattle.provider_run.specs.Headlines.{AddsOnlyItsOwn, AnswersOnceRecorded, EachGoes, GoesOnDisk, HeadlineBy, HeadlineOf, KeepsWhatIsVisible, ServedOver, ServedRun, WhereAsked}
+use Rattle.provider_run.specs.Headlines.{AddsOnlyItsOwn, AnswersForACause, AnswersOnceRecorded, EachGoes, GoesOnDisk, HeadlineBy, HeadlineOf, KeepsWhatIsVisible, ServedOver, ServedRun, WhereAsked}
 use Rattle.provider_run.specs.Runs.{Outside, world_of}
 use Rattle.peer_keys.specs.declared.peers.LogoutPeer.{LogoutPeer}
 use Rattle.protocol_messages.specs.declared.logout.LogoutRequest.{LogoutRequest}
@@ -126,6 +126,7 @@ key config = config.id_key
 -- a request is answered by one step, and so it is of it, whatever the worlds are in which the provider was asked
 pub record GoesExactly (asked : Asked Provider) : Type 0 where
   pub steps : WhereAsked idp_rules Answers asked (GoesOnDisk idp_rules Answers asked)
+  pub causes : WhereAsked idp_rules Answers asked (AnswersForACause idp_rules Answers asked)
   pub issues : WhereAsked idp_rules Answers asked (IssuesOnlyToUsers asked)
   pub ends : WhereAsked idp_rules Answers asked (EndsExactly asked)
   pub rounds : AsksInTurn asked
@@ -133,17 +134,19 @@ pub record GoesExactly (asked : Asked Provider) : Type 0 where
   pub starved : WhereAsked idp_rules Answers asked (λ before after. KeepsWhatIsVisible idp_rules AnswerAlike asked
       after)
 
--- What is said of a run that served: each request issued Assertions to users alone, was answered once its record was
--- durable, and ended sessions exactly; and where the disk tells, what the answers acknowledged is in the history of
--- every ledger that a crash may leave behind the run, and in none of these a session lives that one of the answers
--- ended, or that was ended at the start; from each point of the run on, also inside later requests, what was
--- acknowledged by then is in the history of every ledger that a crash might leave; and a session that is ended is live
--- at no later request, and in no ledger that a crash may leave since; and one whose answer went out is as it was left
--- in every image that a crash may leave behind the run, or since a point of it: where it ends behind each moment of the
--- run it lives there, ended only where a record that was added since ends it.
+-- What is said of a run that served: each request, all of them served by what the provider was set up with, issued
+-- Assertions to users alone, was answered once its record was durable, and ended sessions exactly; and where the disk
+-- tells, what the answers acknowledged is in the history of every ledger that a crash may leave behind the run, and in
+-- none of these a session lives that one of the answers ended, or that was ended at the start; from each point of the
+-- run on, also inside later requests, what was acknowledged by then is in the history of every ledger that a crash
+-- might leave; and a session that is ended is live at no later request, and in no ledger that a crash may leave since;
+-- and one whose answer went out is as it was left in every image that a crash may leave behind the run, or since a
+-- point of it: where it ends behind each moment of the run it lives there, ended only where a record that was added
+-- since ends it.
 pub record Says (left : ℕ → Image → Type 0) (told : Option (List File)) (file : List ℕ) (before : Outside)
     (turns : List (Turn Provider)) (after : Outside)
     (run : ServedRun IsSetUp address key idp_rules Answers left told file before turns after) : Type 0 where
+  pub same : (asked : Asked Provider) → Contains (asked_in turns) asked → asked.node.setup ≡ run.provider.setup
   pub each : EachGoes GoesExactly turns
   pub kept : IsSome before.disk → AreKept (world_of run.provider run.opened) (world_of run.last after) turns
   pub since : IsSome before.disk → AreKeptSince idp_rules Answers left (world_of run.provider run.opened) turns

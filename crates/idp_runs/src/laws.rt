@@ -17,12 +17,14 @@ use idp_ledger::Disk;
 /// before it answers; and one that is ended is live at no later request, and in no ledger that a crash may leave since.
 /// From each point of the run on, also inside later requests, what was acknowledged by then is in the history of each
 /// ledger that a crash might leave, and each session whose answer went out is as it was left. A logout that asks all
-/// others asks each in its turn, and says Success exactly where each confirmed.
+/// others asks each in its turn, and says Success exactly where each confirmed. And each request of it is served by
+/// what the provider was set up with.
 pub fn a_run_carries_the_headline<D: Disk>()
     ensures { (disk : D) → EachRunCarries IsSetUp IsBadSetUp address key idp_rules Answers Headline (D.shows disk).left_since }
 {
     idp_ledger::laws::images_hold_records();
     idp_ledger::laws::rounds_ask_in_turn();
+    idp_server::laws::no_definition_gives_an_own_code();
     idp_server::laws::each_issue_has_a_password_or_a_session();
     idp_server::laws::each_question_has_an_asker();
     idp_server::laws::each_signed_element_is_of_a_record();

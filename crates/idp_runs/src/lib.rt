@@ -17,19 +17,20 @@
 //! # What is proved
 //!
 //! [`run`] over [`IdentityProvider`]: a run of an identity provider goes by the five cases, with its own setup, ledger
-//! and steps, and carries its headline (`runs`, by `Runs` and `Headline`): at each request an Assertion is issued to a
-//! user with a password or a session alone, each signed element is one that its record stands for, and the answer is of
-//! the record's kind, a user is asked for a password only where a peer asked by a form, a page without a record is the
-//! metadata, the record is durable, and each session that it ends is ended, before the answer is sent
-//! (`IssuesOnlyToUsers`, `EndsExactly`), and sessions are ended exactly where their users leave them or a peer ends
-//! them, where there is room, at once or behind one compaction, the disk does not fail and memory is found; and where
-//! the disk tells, what was acknowledged is kept, and a session that was ended is live at no later request and behind
-//! the run; a logout that asks all others asks each in its turn and once, and says Success exactly where each confirmed
-//! (`AsksInTurn`); and each image that a crash might leave since a point of the run, also inside later requests, has in
-//! its history the records for which the answers up to that point stand (`AreKeptSince`). A run that served is a start,
-//! over which the laws of starts go (`laws::a_run_is_a_start`), and from each image that a crash may leave a later
-//! start goes on (`laws::each_image_of_a_run_goes_on`). Each fault comes only where its count rose; where a provider
-//! can be run and nothing failed it served, or memory ran out (`complete`).
+//! and steps, and carries its headline (`runs`, by `Runs` and `Headline`): at each request, all of them served by what
+//! the provider was set up with, an Assertion is issued to a user with a password or a session alone, each signed
+//! element is one that its record stands for, and the answer is of the record's kind, a user is asked for a password
+//! only where a peer asked by a form, a page without a record is the metadata, the record is durable, and each session
+//! that it ends is ended, before the answer is sent (`IssuesOnlyToUsers`, `EndsExactly`), and sessions are ended
+//! exactly where their users leave them or a peer ends them, where there is room, at once or behind one compaction, the
+//! disk does not fail and memory is found; and where the disk tells, what was acknowledged is kept, and a session that
+//! was ended is live at no later request and behind the run; a logout that asks all others asks each in its turn and
+//! once, and says Success exactly where each confirmed (`AsksInTurn`); and each image that a crash might leave since a
+//! point of the run, also inside later requests, has in its history the records for which the answers up to that point
+//! stand (`AreKeptSince`). A run that served is a start, over which the laws of starts go (`laws::a_run_is_a_start`),
+//! and from each image that a crash may leave a later start goes on (`laws::each_image_of_a_run_goes_on`). Each fault
+//! comes only where its count rose; where a provider can be run and nothing failed it served, or memory ran out
+//! (`complete`). 50, 51 and 53 are answered for their causes alone (`AnswersForACause`).
 #![tactic(auto)]
 
 pub mod laws;

@@ -26,3 +26,4 @@ pub mod TurnRows
 pub mod TurnTexts
 mod Starving
 mod Staying
+mod Codes

@@ -1,4 +1,5 @@
 //! Laws of an identity provider, each the contract of a function that does nothing.
+ghost use Rattle.provider_node.specs.Causes.{GivesNoOwnCode};
 ghost use Rattle.idp_server.specs.Issues.{AnswersHaveAskers, AnswersHaveUsers, IsPosted, RefusalsHaveAskers, ServicesHaveUsers};
 ghost use Rattle.provider_node.specs.Recorded.{WhatIsAnsweredIsRecorded};
 ghost use Rattle.idp_server.specs.Histories.{AnEndedSessionStaysEnded, SessionsStayEndedInAService, SessionsStayEndedOverStarts, WhatIsAcknowledgedIsKept, WhatIsAcknowledgedIsKeptOverStarts};
@@ -162,3 +163,8 @@ pub fn sessions_stay_over_starts()
     idp_ledger::laws::images_hold_records();
     idp_ledger::laws::sessions_stay();
 }
+
+/// No answer where nothing fails is one of the codes that a provider answers for itself: 50 to 53.
+pub fn no_definition_gives_an_own_code()
+    ensures { GivesNoOwnCode Answers }
+{}

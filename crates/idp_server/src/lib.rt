@@ -65,7 +65,8 @@
 //! Success exactly where none was skipped, as many providers answered as there are turns, and each confirmed
 //! (`a_round_ends_as_confirmed`); all its sessions are ended in every image that a crash may leave before the first
 //! provider is asked (`sessions_end_before_the_answer`). That a provider answers is not claimed: a round whose provider
-//! never does is never finished.
+//! never does is never finished. Where nothing fails none of the codes 50 to 53 is answered
+//! (`no_definition_gives_an_own_code`).
 #![tactic(auto)]
 
 mod issuing;

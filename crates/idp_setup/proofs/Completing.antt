@@ -1,5 +1,5 @@
 -- A config that names each file that is needed sets a provider up, and a provider can be started with what is set up.
-use Rattle.std.proofs.Common.{◌≡◌, ℕ, ◌+◌, ◌*◌, ◌≤◌, Bool, true, false, cond, ◌||◌, List, [], ◌∷◌, length, length-append, Option, None, Some, IfSome, Ok, IsTrue, is_some, refl, sym, ap, subst, ◌∙◌, arith}
+use Rattle.std.proofs.Common.{◌≡◌, ℕ, ◌+◌, ◌*◌, ◌≤◌, Bool, true, false, cond, ◌||◌, List, [], ◌∷◌, length, length-append, Option, None, Some, IfSome, IsTrue, is_some, count_by, refl, sym, ap, subst, ◌∙◌, arith}
 use Rattle.std.specs.List.{AllByRecursion}
 use Rattle.std.proofs.lemmas.Bool.{and_parts}
 use Rattle.xml_spec.specs.Characters.{IsText}
@@ -10,6 +10,7 @@ use Rattle.provider_config.specs.IdpConfig as configs
 use Rattle.provider_config.specs.IdpConfig.{is_users, is_id_key, is_peer_file, has_files}
 use Rattle.provider_config.specs.declared.idp_config.IdpFile.{IdpFile}
 use Rattle.provider_config.specs.declared.idp_config.IdpFile.TheVariants as named
+use Rattle.provider_config.specs.declared.idp_config.TheConstants.{MAX_PEERS}
 use Rattle.provider_config.specs.declared.line.TheConstants.{MILLIS, MOST_SKEW}
 use Rattle.peer_keys.specs.Peers.{place_of, differ}
 use Rattle.idp_rules.specs.Config.{IsTextPeer, IsTextUser, IsUsable}
@@ -18,7 +19,6 @@ use Rattle.tree_read.proofs.WritableTexts.{AreWritable}
 use Rattle.idp_setup.specs.declared.loaded.Loaded.{Loaded}
 use Rattle.idp_setup.specs.Config.{config_of}
 use Rattle.idp_setup.specs.Setup.{nothing, load, set_up_by}
-use Rattle.provider_config.proofs.IdpRunning.{few_named}
 use Rattle.sp_setup.specs.Files.{in_order}
 use Rattle.sp_setup.proofs.Loading.{kept, named_is_read, count_all}
 use Rattle.idp_setup.proofs.Naming.{none_doubled, differ_with}
@@ -94,12 +94,12 @@ made_from (Some u) (Some k) make config e = (u, k, refl, cc)
 made_from None id_key make config e = absurd (cc)
 made_from users None make config e = absurd (cc)
 
-pub usable : (told : Option (List File)) (text file : List ℕ) (lines : configs.IdpConfig) (config : IdpConfig) → AreWritable → configs.idp_config text ≡ Ok lines →
-    (set_up_by file lines).gives told config → IsText lines.entity → IsText lines.base → lines.skew ≤ MILLIS * MOST_SKEW → IsUsable config
-usable told text file lines config law spelled (loaded, all, (unit, none, is)) entity base skew =
+pub usable : (told : Option (List File)) (file : List ℕ) (lines : configs.IdpConfig) (config : IdpConfig) → AreWritable →
+    (set_up_by file lines).gives told config → IsText lines.entity → IsText lines.base → lines.skew ≤ MILLIS * MOST_SKEW →
+    count_by is_peer_file lines.files ≤ MAX_PEERS → IsUsable config
+usable told file lines config law (loaded, all, (unit, none, is)) entity base skew few =
     let sound = kept load told IsSound (sound_more told law) lines.files nothing loaded all (record { peers = tt; users = tt; apart = λ none. refl }) in
     let made = made_from loaded.users loaded.id_key _ config is in
-    let few = few_named text lines spelled in
     let count = count_all load told is_peer_file (λ (l : Loaded). length l.read.peers) (count_more told) lines.files nothing loaded all in
     let users = subst (λ (o : Option (List User)). IfSome o (AllByRecursion IsTextUser)) made.2 sound.users in
     subst IsUsable made.3 (record {

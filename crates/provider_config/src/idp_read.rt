@@ -1,17 +1,17 @@
 // An identity provider's config is read.
 
-ghost use Rattle.std.specs.Prelude.{◌<◌, ◌≤◌, ◌*◌, ◌^◌, length, IfOk, IsTrue};
+ghost use Rattle.std.specs.Prelude.{◌<◌, ◌≤◌, ◌*◌, ◌^◌, length, count_by, IfOk, IsTrue};
 ghost use Rattle.owned_values.specs.Gives.{Gives};
 ghost use Rattle.xml_spec.specs.Characters.{IsText};
 ghost use Rattle.text_lines.specs.Views.{said_view};
 ghost use Rattle.text_lines.specs.Lines.{number_said, SaysText};
-ghost use Rattle.provider_config.specs.IdpConfig.{idp_config, config_view, IsSound, has_files};
+ghost use Rattle.provider_config.specs.IdpConfig.{idp_config, config_view, IsSound, has_files, is_peer_file};
 ghost use Rattle.provider_config.specs.IdpDrafts.{next_line};
 ghost use Rattle.provider_config.specs.Shared.{fault_of};
 
 use crate::config::MAX_CONFIG_LENGTH;
 use crate::fault::ConfigFault;
-use crate::idp_config::IdpLines;
+use crate::idp_config::{IdpLines, MAX_PEERS};
 use crate::idp_draft::IdpDraft;
 use crate::idp_line::{IdpLine, line_of};
 use crate::line::{MILLIS, MOST_SKEW};
@@ -51,6 +51,7 @@ pub fn read_idp_config(alloc: Global, text: &[u8]) -> Result<IdpLines, ConfigFau
     ensures skew { IfOk result (λ lines. lines.skew ≤ MILLIS * MOST_SKEW) }
     ensures texts { IfOk result (λ lines. IsText lines.entity × IsText lines.base × IsText lines.listen) }
     ensures files { IfOk result (λ lines. IsTrue (has_files lines.files.items)) }
+    ensures few { IfOk result (λ lines. count_by is_peer_file lines.files.items ≤ MAX_PEERS) }
 {
     let mut draft = IdpDraft::new(alloc);
     let mut lines = Lines::new(text);

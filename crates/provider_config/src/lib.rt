@@ -27,8 +27,8 @@
 //! `read_sp_config`: the config that a file's lines say, exactly, or the number of the first line that is bad, or 0
 //! where a key is missing (`value`); what it gives is within the bounds that callers need (`skew`, `times`, `files`). A
 //! service provider's config has metadata or a registry, and no two of its files have one role
-//! (`laws::no_role_is_named_twice`). `read_idp_config` the same for an identity provider, and `read_hub_config` for a hub,
-//! whose peers are at most [`MAX_PEERS`] (`few`).
+//! (`laws::no_role_is_named_twice`). `read_idp_config` the same for an identity provider, and `read_hub_config` for a
+//! hub: the peers of either are at most [`MAX_PEERS`] (`few`).
 #![tactic(auto)]
 
 mod config;

@@ -23,3 +23,5 @@ pub mod Replying
 pub mod Drafting
 pub mod Ids
 pub mod Judged
+pub mod Causes
+pub mod Refusals

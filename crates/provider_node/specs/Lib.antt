@@ -16,3 +16,4 @@ pub mod Staying
 pub mod Recorded
 pub mod Changes
 pub mod Room
+pub mod Causes

@@ -1,6 +1,7 @@
 //! The laws of a provider of any role, each the contract of a function that does nothing.
 ghost use Rattle.std.specs.Prelude.{Contains};
 ghost use Rattle.provider_node.specs.Added.{WhatIsNewIsOfTheRequest};
+ghost use Rattle.provider_node.specs.Causes.{EachCodeHasItsCause};
 ghost use Rattle.provider_node.specs.Starving.{WhatIsVisibleStays};
 ghost use Rattle.provider_node.specs.Staying.{RowIsAsLeft, WhatWasOpenedIsAsLeft};
 
@@ -23,4 +24,11 @@ pub fn each_row_stays<R: Role>()
 /// the request is visible behind it.
 pub fn what_is_visible_stays<R: Role>()
     ensures { WhatIsVisibleStays R.Rows.rules R.answers }
+{}
+
+/// Where no answer of a role is one of the codes that a provider answers for itself, each of these is answered for its
+/// cause alone: that the disk failed where its count of faults rose, that there is no room where one compaction made
+/// none, and that the disk holds no ledger of this provider where its image stands for none.
+pub fn each_code_has_its_cause<R: Role>()
+    ensures { EachCodeHasItsCause R.Rows.rules R.answers }
 {}

@@ -30,7 +30,8 @@
 //! found as it was left, and so is each row; `specs/Added.antt` that what stands anew is of the request; `specs/Changes.antt` what a
 //! request may do to a ledger; `specs/Room.antt` where there is room for a record, at once or behind one compaction;
 //! `specs/Recorded.antt` that the record of an answer is kept; `specs/Starving.antt` that nothing visible is lost where
-//! there was no memory; and `specs/Joining.antt` that a later start goes on from whatever a crash left of a run, inside the
+//! there was no memory; `specs/Causes.antt` what the codes that a provider answers for itself stand for; and
+//! `specs/Joining.antt` that a later start goes on from whatever a crash left of a run, inside the
 //! answer that it cut. The laws of any role are in [`laws`].
 //!
 //! # What is proved
@@ -55,7 +56,10 @@
 //! is written, and a second try comes only behind a compaction that ended; `start`, `restart` and `compact` give what
 //! the disk stands for, or a fault by its cause. The disk's count of faults rises in a request that is answered by 50,
 //! and in no other (`CountsAnswer`). The laws of each provider say these of its own answers; `code_of`
-//! gives the code of a fault.
+//! gives the code of a fault. Where no answer of a role is one of the codes that a provider answers for itself, 50 is
+//! answered only where the disk's count of faults rose, 51 only where there was no place for a record, at once and
+//! behind one compaction, and 53 only where the ledger was broken and, as far as the disk tells, this stands for none
+//! (`laws::each_code_has_its_cause`).
 #![tactic(auto)]
 
 mod answering;

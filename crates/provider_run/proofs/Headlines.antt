@@ -21,9 +21,11 @@ use Rattle.provider_node.specs.Points.{Point, points}
 use Rattle.provider_node.specs.Recorded.{WhatIsAnsweredIsRecorded}
 use Rattle.provider_node.specs.Staying.{SessionsStay, SessionsStayInAService}
 use Rattle.provider_node.specs.Step.{AnswersBy, Provider, Steps, StepsOnDisk}
+use Rattle.provider_node.specs.Causes.{GivesNoOwnCode}
 use Rattle.provider_node.proofs.Added.{new_is_of_the_request}
+use Rattle.provider_node.proofs.Causes.{each_has_its_cause}
 use Rattle.provider_node.proofs.Histories.{DrawsAbove}
-use Rattle.provider_run.specs.Headlines.{AddsOnlyItsOwn, AnswersOnceRecorded, EachGoes, EachRunCarries, EachRunIsAStart, HeadlineBy}
+use Rattle.provider_run.specs.Headlines.{AddsOnlyItsOwn, AnswersForACause, AnswersOnceRecorded, EachGoes, EachRunCarries, EachRunIsAStart, HeadlineBy}
 use Rattle.provider_run.specs.Headlines.{KeepsWhatIsVisible, ServedRun}
 use Rattle.provider_run.specs.Providers.{BadSetUpBy, SetUpBy}
 use Rattle.provider_run.specs.Runs.{Outside, world_of}
@@ -73,6 +75,12 @@ module _
   adds_its_own before told asks image held r tells left is there new = new_is_of_the_request rules
       Answers asked.node asked.disk asked.request asked.now image held r tells (subst (λ (d : Option DiskState).
       IfSome d (λ x. MayLeave x (image_of x))) (sym asks.disk) asks.answers.reads) left is there new
+
+  pub for_a_cause : GivesNoOwnCode Answers → (before told : World (Provider Setup R))
+      → Asks (IsProviders rules Answers) asked before told → AnswersForACause rules Answers asked before told
+  for_a_cause none_own before told asks =
+      each_has_its_cause rules Answers none_own asked.node told.node asked.disk asked.request asked.now
+      before.disk_faults told.disk_faults asked.answer (stepped before told asks).step
 
   pub keeps_visible : (AnswerAlike : ℕ → Held R → Held R → Type 0) → ((old new : Provider Setup R)
       (disk : Option DiskState) (request : Request) (now before after : ℕ) → AreRecords rules old.ledger.held.records →

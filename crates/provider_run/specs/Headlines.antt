@@ -16,6 +16,7 @@ use Rattle.record_ledger.specs.Rules.{AreRecords, RecordRules}
 use Rattle.record_ledger.specs.Ledger.{Held, ledger_in}
 use Rattle.provider_node.specs.declared.codes.TheConstants.{NO_MEMORY}
 use Rattle.provider_node.specs.Added.{IsAddedBy, IsNew}
+use Rattle.provider_node.specs.Causes.{HasItsCause}
 use Rattle.provider_node.specs.Histories.{IsProviders}
 use Rattle.provider_node.specs.Recorded.{IsRecorded}
 use Rattle.provider_node.specs.Starts.{IsServed}
@@ -51,6 +52,11 @@ module _ {Setup R : Type 0} (rules : RecordRules R) (Answers : AnswersBy Setup R
       → StepLeaves rules Answers asked.node asked.disk asked.request asked.now image
       → ledger_in rules image ≡ Ok (Some held) → Contains held.records r → IsNew rules asked.node asked.disk r
       → IsAddedBy Answers asked.node.setup asked.request asked.now r
+
+  -- Each of the codes that a provider answers for itself has its cause.
+  abbrev pub AnswersForACause : Asked (Provider Setup R) → (before after : World (Provider Setup R)) → Type 0
+  AnswersForACause asked before after = HasItsCause rules Answers asked.node asked.disk asked.request asked.now
+      (Rose before.disk_faults after.disk_faults) asked.answer
 
   -- Each page that is answered to a request that goes to one of these services stands for one record, which is in every
   -- image that a crash may leave once the provider has answered, before a byte is sent.

@@ -6,4 +6,5 @@ pub mod Judging
 pub mod Laws
 pub mod Lines
 pub mod Reading
+pub mod Secrets
 pub mod Views

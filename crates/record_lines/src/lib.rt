@@ -24,7 +24,8 @@
 //! the first place that is wrong, exactly (`IsJudged`). `put_lines` puts the line of each record, in their order, each
 //! once. Whatever a record holds, its line is one line, and a space stands nowhere but in front of a piece
 //! (`laws::a_record_is_one_line`); a text that is printed whole is told by its piece
-//! (`laws::a_text_is_told_by_its_piece`). Of a secret no more than its number is printed, by the definition of a line.
+//! (`laws::a_text_is_told_by_its_piece`). Of a secret no more than its number is printed, and of a relay state nothing: a
+//! line is that of the record without them (`laws::a_line_tells_no_secret`).
 #![tactic(auto)]
 
 mod escaping;

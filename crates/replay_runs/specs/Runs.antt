@@ -64,9 +64,10 @@ pub data Goes (steps : List Step) (quiet : Bool) (sp_starts : List (Start sp.Pro
       → AreStartsOf idp_rules idp.Answers first.idp ran.last.idp (asked_in_run sp_rules idp_rules_of ran).idp idp_starts
       → Goes steps quiet sp_starts idp_starts result before after
 
--- What is carried over a run with these starts, which begin with no record: the whole sentence. The service provider opened a session
--- exactly where a form that was posted to it opens one; each is of a login that the identity provider of this run recorded, where only
--- this makes HMACs that match in the forms that were posted and no hash collides; and no request opened two, over all restarts, stops and
--- failures of the disks, those whose answer was lost included.
+-- What is carried over a run with these starts, which begin with no record: the whole sentence. The service provider opened
+-- a session exactly where a form that was posted to it opens one; each is of a login that the identity provider of this run
+-- recorded, where only this makes HMACs that match in the forms that were posted and no hash collides; no request opened
+-- two, over all restarts, stops and failures of the disks, those whose answer was lost included; and none that an answer
+-- closed at the service provider, or ended at the identity provider, is live in what may be left of their disks.
 abbrev pub Carries : List (Start sp.Provider) → List (Start idp.Provider) → Type 0
 Carries sp_starts idp_starts = Headline empty_ledger sp_starts empty_ledger idp_starts

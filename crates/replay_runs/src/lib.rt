@@ -17,7 +17,8 @@
 //! either is a list of starts from an empty ledger on, in which it was asked what the agents' bytes completed, and of
 //! these the whole sentence holds that joins both providers (`Carries`): a session is opened exactly where a posted
 //! form opens one; where nobody else makes HMACs that match and no hash collides, each is of a login that the identity
-//! provider of this run recorded; and no request opens two.
+//! provider of this run recorded; no request opens two; and none that was closed at the service provider, or ended at
+//! the identity provider, is live in what may be left of their disks.
 #![tactic(auto)]
 
 mod deployed;

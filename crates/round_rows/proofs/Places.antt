@@ -206,7 +206,7 @@ module _ (rows : List RoundRow) (request : List ℕ) where
   its_request : (row : RoundRow) → waits_for request row ≡ true → row.request ≡ request
   its_request row waits = (bytes_eq-Decides row.request request).0 (and_parts (bytes_eq row.request request) (not (is_done row)) waits).0
 
-  read_row : (p : ℕ) (at : HasRequestAt rows request p) (row : RoundRow) → row ≡ get_or rows p row → at.row ≡ row
+  pub read_row : (p : ℕ) (at : HasRequestAt rows request p) (row : RoundRow) → row ≡ get_or rows p row → at.row ≡ row
   read_row p at row read = sym (get_or_from_slice_get rows p at.row row at.there) ∙ sym read
 
   pub at_within : (p : ℕ) → HasRequestAt rows request p → p < length rows

@@ -32,6 +32,10 @@ pub record HasRequestAt (rows : List RoundRow) (request : List ℕ) (place : ℕ
   pub is : row.request ≡ request
   pub only : (k : ℕ) (other : RoundRow) → slice_get rows k ≡ Some other → other.request ≡ request → k ≡ place
 
+-- This row has the request, at one place, and no row at another place has it.
+abbrev pub HasItAlone : List RoundRow → (request : List ℕ) → RoundRow → Type 0
+HasItAlone rows request row = (place : ℕ) × (at : HasRequestAt rows request place) × (at.row ≡ row)
+
 -- This is the only round that waits for the answer to a request: the one that is found with any test more.
 abbrev pub passing : (RoundRow → Bool) → Option RoundRow → Option RoundRow
 passing test None = None

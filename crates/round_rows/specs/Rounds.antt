@@ -1,7 +1,7 @@
 -- Rounds of logouts, and what is looked up in them. A moment is the milliseconds since 1970-01-01T00:00:00Z.
 -- SAML Profiles, 4.4.3.3: an identity provider has to send a LogoutRequest "to each session participant for which it issued
 -- assertions in the current session". In a round it sends them one after the other, each behind the answer to the one before.
-use Rattle.std.specs.Prelude.{ℕ, ◌+◌, Bool, false, ◌&&◌, not, nat_lt, nat_le, max, List, map, length, slice_get, Option, Some, if◌then◌else◌}
+use Rattle.std.specs.Prelude.{ℕ, ◌+◌, Bool, false, ◌&&◌, not, nat_lt, nat_le, max, List, map, length, slice_get, Option, if◌then◌else◌}
 use Rattle.std.specs.List.{find}
 use Rattle.std.specs.Option.{option_map, unwrap_or, option_map_or}
 use Rattle.std.specs.Str.{bytes_eq}

@@ -17,9 +17,9 @@
 //!
 //! # What is proved
 //!
-//! The rounds of an identity provider: `waiting` finds the round that waits for an answer, and no other can have its request;
-//! `tell` counts an answer in that row, gives it its next request, and changes no other row (`answered`); `put` puts a row at
-//! the end. `reserve` may want memory, and changes nothing else; the other calls can't fail.
+//! The rounds of an identity provider: `waiting` finds the round that waits for an answer, and no other row has its
+//! request (`only`); `tell` counts an answer in that row, gives it its next request, and changes no other row (`rows`,
+//! `only`); `put` puts a row at the end. `reserve` may want memory, and changes nothing else; the other calls can't fail.
 #![tactic(auto)]
 
 mod row;

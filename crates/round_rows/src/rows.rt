@@ -1,10 +1,10 @@
 //! The rows of rounds.
-ghost use Rattle.std.specs.Prelude.{◌≡◌, ◌≤◌, ◌<◌, ◌+◌, true, false, [], ◌∷◌, ◌++◌, length, option_copied, OnOk, IfSome, IfNone};
+ghost use Rattle.std.specs.Prelude.{◌≡◌, ℕ, ◌≤◌, ◌<◌, ◌+◌, true, false, [], ◌∷◌, ◌++◌, length, option_copied, OnOk, IfSome, IfNone};
 ghost use Rattle.std.specs.List.{list_any};
 ghost use Rattle.std.specs.Str.{bytes_eq};
 ghost use Rattle.ledger_rules.specs.Numbers.{AreBelow, has_number};
 ghost use Rattle.round_rows.specs.Rounds.{answered, id_of, waits_for};
-ghost use Rattle.round_rows.specs.Kept.{AreFew, HasRequestAt, IsRoundOf, numbers_with};
+ghost use Rattle.round_rows.specs.Kept.{AreFew, HasItAlone, HasRequestAt, IsRoundOf, numbers_with};
 
 use crate::row::{NextRequest, RoundRow};
 use ledger_rules::Numbers;
@@ -69,10 +69,11 @@ impl RoundRows {
         }
     }
 
-    /// The round that waits for the answer to a request, none where no round does. It takes no memory: it halves what is left
-    /// at each step.
+    /// The round that waits for the answer to a request, none where no round does. No other row has that request. It
+    /// takes no memory: it halves what is left at each step.
     pub fn waiting(&self, request: &str) -> Option<&RoundRow>
-        ensures { IsRoundOf self.now.rows request.now (option_copied result) }
+        ensures round { IsRoundOf self.now.rows request.now (option_copied result) }
+        ensures only { IfSome result (λ row. HasItAlone self.now.rows request.now row.now) }
     {
         let place = self.place(request)?;
         let row = &self.rows[place];
@@ -114,7 +115,7 @@ impl RoundRows {
     }
 
     /// Counts an answer to the request for which a round waits, and where a request follows lets the round wait for that one.
-    /// It takes no memory.
+    /// No other row had the request, so no other is changed. It takes no memory.
     pub fn tell(&mut self, request: &str, confirmed: bool, next: Option<NextRequest>)
         requires few { AreFew self.old.rows }
         requires waits { list_any (waits_for request.now) self.old.rows ≡ true }
@@ -122,6 +123,7 @@ impl RoundRows {
         requires has { IfSome next (λ n. has_number n.number n.id ≡ true) }
         requires room { IfSome next (λ n. 0 < self.old.spare) }
         ensures rows { self.new.rows ≡ answered request.now confirmed (id_of next) self.old.rows }
+        ensures only { (place : ℕ) × HasRequestAt self.old.rows request.now place }
         ensures numbers { self.new.numbers ≡ numbers_with next self.old.numbers }
     {
         let Some(place) = self.place(request) else {

@@ -5,13 +5,16 @@
 //!
 //! # What is proved
 //!
-//! The words behind the program's name (`words_behind_name`), and the exit status that is the number of a status
-//! (`exit_code`). That `main` hands these words to `run` with the objects of the system, and ends with the status that
-//! `run` gives, no clause says: it stands in `main.rt`, in some thirty lines.
+//! The words behind the program's name, none where the system tells no arguments, as where one of them is no UTF-8
+//! (`words`), and the exit status that is the number of a status (`exit_code`). That `main` hands these words to `run`
+//! with the objects of the system, and ends with the status that `run` gives, no clause says: it stands in `main.rt`,
+//! in some thirty lines.
 #![tactic(auto)]
 
-ghost use Rattle.std.specs.Prelude.{◌≡◌, drop, map, string_bytes, IfOk};
+ghost use Rattle.std.specs.Prelude.{◌≡◌, [], drop, map, string_bytes, IfErr, IfOk, IsErr};
+ghost use Rattle.std.specs.IoError.{error_kind};
 ghost use Rattle.std.specs.Vec.Iter.{into_iter_items};
+ghost use Rattle.std.specs.declared.io.ErrorKind.TheVariants.{OutOfMemory};
 ghost use Rattle.std.specs.Process.{exit_status};
 ghost use Rattle.saml_commands.specs.Exit.{exit_number};
 
@@ -39,12 +42,18 @@ fn words_behind_name(alloc: Global, mut arguments: Args) -> Result<Vec<Text>, No
     Ok(words)
 }
 
-// The program's words. Where one of them is no UTF-8 there are none, so that the program prints its usage.
-fn words<R: Env + AllocGlobal>(rt: &R) -> Result<Vec<Text>, NoMemory> {
-    match env::args(rt) {
-        Ok(arguments) => words_behind_name(rt.alloc(), arguments),
+// The program's words, by what the system told of its arguments. Where one of them is no UTF-8 there are none, so that the
+// program prints its usage.
+fn words(alloc: Global, told: io::Result<Args>) -> Result<Vec<Text>, NoMemory>
+    ensures behind { IfOk told (λ arguments. IfOk result (λ words.
+        words.items ≡ map string_bytes (drop 1 (into_iter_items arguments)))) }
+    ensures none { IfErr told (λ e. IfOk result (λ words. words.items ≡ [])) }
+    ensures memory { IfErr told (λ e. error_kind e ≡ OutOfMemory → IsErr result) }
+{
+    match told {
+        Ok(arguments) => words_behind_name(alloc, arguments),
         Err(e) if e.kind() == ErrorKind::OutOfMemory => Err(NoMemory),
-        Err(_) => Ok(Vec::new(rt.alloc())),
+        Err(_) => Ok(Vec::new(alloc)),
     }
 }
 
@@ -55,7 +64,7 @@ fn open_nowhere<R: Files<File = File>>(rt: &R) -> Option<File> {
 
 // Makes the real objects and runs the program over them. What was sent and did not yet go out goes out before it ends.
 fn run_over<R: Env + Files<File = File> + Clock + Net + Print + AllocGlobal>(rt: &R) -> Status {
-    let Ok(words) = words(rt) else {
+    let Ok(words) = words(rt.alloc(), env::args(rt)) else {
         return Status::NoMemory;
     };
     let mut link = TcpLink::new(rt);

@@ -1,14 +1,18 @@
 -- What rows are asked for in a verdict.
-use Rattle.std.specs.Prelude.{IsSome, IsTrue, not, Option, Some}
+use Rattle.std.specs.Prelude.{[], ◌∷◌, IsSome, IsTrue, not, None, Option, Some}
 use Rattle.std.proofs.Common.{◌≡◌, ℕ, Bool, List, refl, sym, subst, ap, ◌∙◌}
+use Rattle.protocol_messages.specs.declared.response.ResponseHead.{ResponseHead}
+use Rattle.assertion_model.specs.declared.login.Login.{Login}
 use Rattle.verdict_codes.specs.declared.codes.Verdict.{Verdict}
+use Rattle.verdict_codes.specs.declared.codes.Verdict.TheVariants as verdicts
 use Rattle.request_rows.specs.declared.row.AskedRow.{AskedRow}
 use Rattle.request_rows.specs.declared.row.OpenedRow.{OpenedRow}
 use Rattle.request_rows.specs.Rows.{RowsView, asked_row, is_seen, is_spent}
 use Rattle.sp_rules.specs.declared.config.SpConfig.{SpConfig}
-use Rattle.sp_rules.specs.Outstanding.{asked_for}
-use Rattle.sp_rules.specs.Verdict.{IsRefused, by_form, by_document, by_root, by_head, by_signature, by_assertion, by_login}
-use Rattle.sp_answers.specs.Judging.{LikeRowsOpenAlike, RowsAnswerAlike, SameRowsAcceptAlike, SameRowsRefuseAlike}
+use Rattle.sp_rules.specs.Meant.{consumer, is_from, is_for, is_sent_to, is_in_time}
+use Rattle.sp_rules.specs.Outstanding.{asked_for, is_outstanding, is_relayed}
+use Rattle.sp_rules.specs.Verdict.{IsRefused, by_form, by_document, by_root, by_head, by_signature, by_assertion, by_login, first_failing, login_refusal}
+use Rattle.sp_answers.specs.Judging.{LikeRowsAcceptAlike, LikeRowsOpenAlike, LikeRowsRefuseAlike, RowsAnswerAlike}
 
 pub open_alike : LikeRowsOpenAlike
 open_alike config now one horizon other other_horizon body b row like opens =
@@ -24,46 +28,67 @@ open_alike config now one horizon other other_horizon body b row like opens =
       relayed = opens.relayed;
     }
 
-same_alike : (now horizon : ℕ) (one other : RowsView) → one.asked ≡ other.asked → one.opened ≡ other.opened
-    → RowsAnswerAlike now other horizon one horizon
+-- equal rows answer alike
+pub same_alike : (now horizon : ℕ) (one other : RowsView) → one.asked ≡ other.asked → one.opened ≡ other.opened
+    → RowsAnswerAlike now one horizon other horizon
 same_alike now horizon one other asked opened = record {
-  asked = λ request. ap (λ (rows : List AskedRow). asked_row rows request now horizon) (sym asked);
-  spent = λ request some. ap (λ (rows : List OpenedRow). is_spent rows request) (sym opened);
-  seen = λ issuer assertion. ap (λ (rows : List OpenedRow). is_seen rows issuer assertion now horizon) (sym opened);
+  asked = λ request. ap (λ (rows : List AskedRow). asked_row rows request now horizon) asked;
+  spent = λ request some. ap (λ (rows : List OpenedRow). is_spent rows request) opened;
+  seen = λ issuer assertion. ap (λ (rows : List OpenedRow). is_seen rows issuer assertion now horizon) opened;
 }
 
-pub accept_alike : SameRowsAcceptAlike
-accept_alike config one other horizon now body accepted asked opened opening = record {
+pub accept_alike : LikeRowsAcceptAlike
+accept_alike config now one horizon other other_horizon body accepted like opening = record {
   brought = opening.brought;
   asked = opening.asked;
   opens =
-      open_alike config now other horizon one horizon body opening.brought opening.asked
-      (same_alike now horizon one other asked opened) opening.opens;
+      open_alike config now one horizon other other_horizon body opening.brought opening.asked like opening.opens;
   is = opening.is;
 }
 
--- a refusal sees no other rows
-abbrev with_rest : RowsView → RowsView → RowsView
-with_rest one other = record { asked = one.asked; opened = one.opened; left = other.left; spare = other.spare }
+module _ (config : SpConfig) (now : ℕ) (head : ResponseHead) (relay : Option (List ℕ)) (login : Login) where
+  -- what a login is refused for, by what is looked up of it in the rows
+  abbrev refusal_by : Option AskedRow → (spent seen : Bool) → Option Verdict
+  refusal_by asked spent seen =
+      first_failing ((is_from config head login, verdicts.WrongIssuer)
+      ∷ (is_for config login, verdicts.WrongAudience)
+      ∷ (is_sent_to (consumer config) head login, verdicts.WrongRecipient)
+      ∷ (is_in_time config now login, verdicts.NotInTime)
+      ∷ (is_outstanding asked head login, verdicts.NotOutstanding)
+      ∷ (not spent, verdicts.RequestSpent)
+      ∷ (not seen, verdicts.AssertionSeen)
+      ∷ (is_relayed asked relay, verdicts.RelayDiffers) ∷ [])
 
-refused_over : (config : SpConfig) (one other : RowsView) (horizon now : ℕ) (body : List ℕ) (verdict : Verdict)
-    → IsRefused config one horizon now body verdict → IsRefused config (with_rest one other) horizon now body verdict
-refused_over config one other horizon now body verdict (by_form is) = by_form is
-refused_over config one other horizon now body verdict (by_document message relay fault posts refused is) =
-    by_document message relay fault posts refused is
-refused_over config one other horizon now body verdict (by_root message relay tree posts spelled none is) =
-    by_root message relay tree posts spelled none is
-refused_over config one other horizon now body verdict (by_head c carries is) = by_head c carries is
-refused_over config one other horizon now body verdict (by_signature c p fault carries asserts uncovered is) =
-    by_signature c p fault carries asserts uncovered is
-refused_over config one other horizon now body verdict (by_assertion c p e key carries asserts covered none is) =
-    by_assertion c p e key carries asserts covered none is
-refused_over config one other horizon now body verdict (by_login b brings is) = by_login b brings is
+  -- where no request was asked it does not matter whether it is spent: the login is refused before
+  spent_alike : (asked : Option AskedRow) (one other seen : Bool) → (IsSome asked → one ≡ other)
+      → refusal_by asked one seen ≡ refusal_by asked other seen
+  spent_alike None one other seen same = refl
+  spent_alike (Some row) one other seen same = ap (λ (s : Bool). refusal_by (Some row) s seen) (same refl)
 
-same_rows : (one other : RowsView) → one.asked ≡ other.asked → one.opened ≡ other.opened → with_rest one other ≡ other
-same_rows one other asked opened = λ i. record { asked = asked i; opened = opened i; left = other.left; spare = other.spare }
+  refusal_alike : (one : RowsView) (horizon : ℕ) (other : RowsView) (other_horizon : ℕ)
+      → RowsAnswerAlike now one horizon other other_horizon
+      → login_refusal config one horizon now head relay login
+      ≡ login_refusal config other other_horizon now head relay login
+  refusal_alike one horizon other other_horizon like =
+      let asked = asked_for one horizon now login in
+      let others = is_spent other.opened login.request in
+      let seen = is_seen one.opened login.issuer login.id now horizon in
+      spent_alike asked (is_spent one.opened login.request) others seen (like.spent login.request)
+      ∙ (ap (λ (s : Bool). refusal_by asked others s) (like.seen login.issuer login.id)
+      ∙ ap (λ (a : Option AskedRow). refusal_by a others (is_seen other.opened login.issuer login.id now other_horizon))
+      (like.asked login.request))
 
-pub refuse_alike : SameRowsRefuseAlike
-refuse_alike config one other horizon now body verdict asked opened refused =
-    subst (λ (rows : RowsView). IsRefused config rows horizon now body verdict) (same_rows one other asked opened)
-    (refused_over config one other horizon now body verdict refused)
+pub refuse_alike : LikeRowsRefuseAlike
+refuse_alike config now one horizon other other_horizon body verdict like (by_form is) = by_form is
+refuse_alike config now one horizon other other_horizon body verdict like (by_document message relay fault posts refused
+    is) = by_document message relay fault posts refused is
+refuse_alike config now one horizon other other_horizon body verdict like (by_root message relay tree posts spelled none
+    is) = by_root message relay tree posts spelled none is
+refuse_alike config now one horizon other other_horizon body verdict like (by_head c carries is) = by_head c carries is
+refuse_alike config now one horizon other other_horizon body verdict like (by_signature c p fault carries asserts
+    uncovered is) = by_signature c p fault carries asserts uncovered is
+refuse_alike config now one horizon other other_horizon body verdict like (by_assertion c p e key carries asserts
+    covered none is) = by_assertion c p e key carries asserts covered none is
+refuse_alike config now one horizon other other_horizon body verdict like (by_login b brings is) =
+    by_login b brings (refusal_alike config now b.carried.head b.carried.relay b.login one horizon other other_horizon
+    like ∙ is)

@@ -30,18 +30,18 @@ LikeRowsOpenAlike =
     (b : Brought) (row : AskedRow) → RowsAnswerAlike now one horizon other other_horizon
     → Opens config other other_horizon now body b row → Opens config one horizon now body b row
 
--- And over the same asked and opened rows each form is judged alike.
-abbrev pub SameRowsAcceptAlike : Type 0
-SameRowsAcceptAlike =
-    (config : SpConfig) (one other : RowsView) (horizon now : ℕ) (body : List ℕ) (accepted : Accepted)
-    → one.asked ≡ other.asked → one.opened ≡ other.opened
-    → IsOpening config one horizon now body accepted → IsOpening config other horizon now body accepted
+-- And of each form the same is accepted, or it is refused with the same verdict.
+abbrev pub LikeRowsAcceptAlike : Type 0
+LikeRowsAcceptAlike =
+    (config : SpConfig) (now : ℕ) (one : RowsView) (horizon : ℕ) (other : RowsView) (other_horizon : ℕ) (body : List ℕ)
+    (accepted : Accepted) → RowsAnswerAlike now one horizon other other_horizon
+    → IsOpening config other other_horizon now body accepted → IsOpening config one horizon now body accepted
 
-abbrev pub SameRowsRefuseAlike : Type 0
-SameRowsRefuseAlike =
-    (config : SpConfig) (one other : RowsView) (horizon now : ℕ) (body : List ℕ) (verdict : Verdict)
-    → one.asked ≡ other.asked → one.opened ≡ other.opened
-    → IsRefused config one horizon now body verdict → IsRefused config other horizon now body verdict
+abbrev pub LikeRowsRefuseAlike : Type 0
+LikeRowsRefuseAlike =
+    (config : SpConfig) (now : ℕ) (one : RowsView) (horizon : ℕ) (other : RowsView) (other_horizon : ℕ) (body : List ℕ)
+    (verdict : Verdict) → RowsAnswerAlike now one horizon other other_horizon
+    → IsRefused config other other_horizon now body verdict → IsRefused config one horizon now body verdict
 
 -- The session of an accepted form can be recorded: a document may hold its texts, and its key is the first or the second.
 pub record CanBeRecorded (session : NewSession) : Type 0 where

@@ -12,10 +12,10 @@
 //! # What is proved
 //!
 //! `ask_answer` (a form with a signed AuthnRequest), `user_answer`, `denied_answer`, `opened_answer` and
-//! `metadata_answer` are the bytes of their definitions. Whether a form opens a session depends on no more of the rows
-//! than which request was asked, whether it is spent, and whether an assertion was seen, and its verdict on no more
-//! than the asked and the opened rows (`laws::like_rows_are_judged_alike`), and the session of each accepted form can
-//! be recorded (`laws::what_is_accepted_can_be_recorded`).
+//! `metadata_answer` are the bytes of their definitions. Whether a form opens a session, what is accepted of it, and
+//! the verdict with which it is refused depend on no more of the rows than which request was asked, whether it is
+//! spent, and whether an assertion was seen (`laws::like_rows_are_judged_alike`), and the session of each accepted form
+//! can be recorded (`laws::what_is_accepted_can_be_recorded`).
 #![tactic(auto)]
 
 mod asking;

@@ -11,9 +11,10 @@ use Rattle.http_wire.specs.Requests.{Request}
 use Rattle.serve_loop.specs.Turns.{Asked, Asks, Run, Turn}
 use Rattle.serve_loop.specs.Worlds.{World}
 use Rattle.provider_run.specs.Headlines.{EachRunCarries}
-use Rattle.provider_run.proofs.Headlines.{adds_its_own, carries, each_goes, keeps_visible, kept_since, once_recorded, sessions_stay, stepped, of_asked}
+use Rattle.provider_run.proofs.Headlines.{adds_its_own, carries, each_goes, for_a_cause, keeps_visible, kept_since, once_recorded, sessions_stay, stepped, of_asked}
 use Rattle.provider_run.specs.Runs.{Outside, world_of}
 use Rattle.sp_server.specs.Guarding.{AGuardTellsExactly, OnlyASessionIsVouchedFor}
+use Rattle.provider_node.specs.Causes.{GivesNoOwnCode}
 use Rattle.provider_node.specs.Histories.{IsProviders}
 use Rattle.sp_server.specs.Logouts.{NothingElseCloses, OnlyWhereAUserLeaves, OnlyWhereSessionsEnd, WhereverAUserLeaves, WhereverSessionsEnd}
 use Rattle.sp_server.specs.Recorded.{IsPosted, WhatIsAskedIsRecorded}
@@ -34,6 +35,7 @@ use Rattle.sp_server.proofs.Histories.{draws_above}
 
 -- the laws on which it stands
 pub record Laws : Type 0 where
+  pub none_own : GivesNoOwnCode Answers
   pub opens_only : OnlyWhereAFormOpens
   pub opens_wherever : WhereverAFormOpens
   pub signed : EachSessionWasSigned
@@ -109,6 +111,7 @@ module _ (laws : Laws) (asked : Asked Provider) where
   goes_exactly : GoesExactly asked
   goes_exactly = record {
     steps = stepped request_rules Answers asked;
+    causes = for_a_cause request_rules Answers asked laws.none_own;
     opens = λ before after asks. opens_exactly before after;
     closes = λ before after asks. closes_exactly before after;
     recorded = recorded_first;
@@ -118,10 +121,7 @@ module _ (laws : Laws) (asked : Asked Provider) where
         asked.now r answer all unforged none gives;
     starved = keeps_visible request_rules Answers asked AnswerAlike laws.starved;
     added = adds_its_own request_rules Answers asked;
-    shown = λ before after asks row whole app live.
-        laws.shown asked.node after.node asked.disk asked.request asked.now before.disk_faults after.disk_faults
-        asked.answer row whole app live
-        (stepped request_rules Answers asked before after asks).step;
+    shown = λ before after asks. of_asked asked before after laws.shown;
   }
 
 module _ (laws : Laws) where

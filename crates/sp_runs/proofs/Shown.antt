@@ -1,7 +1,8 @@
 -- What a live session is shown.
 use Rattle.std.specs.Prelude.{Option, None, Some}
-use Rattle.std.proofs.Common.{◌≡◌, ◌⊎◌, inl, inr, ℕ, List, sym, subst, ap, ◌∙◌}
+use Rattle.std.proofs.Common.{◌≡◌, ◌⊎◌, inl, inr, ℕ, false, List, sym, subst, ap, ◌∙◌}
 use Rattle.crash_disk.specs.Counts.{Rose}
+use Rattle.crash_disk.specs.Disk.{DiskState}
 use Rattle.access_policy.specs.declared.rule.Rule.{Rule}
 use Rattle.http_wire.specs.declared.answer.Answer.{Answer}
 use Rattle.http_wire.specs.declared.answer.Answer.TheVariants.{Fixed, Full}
@@ -81,7 +82,16 @@ serves_shown found request now Risen answer old new row app live serves =
     ]
 
 pub shown_by_row : ASessionIsShownByItsRow
-shown_by_row old new disk request now faults later answer row whole app live step = which step
+shown_by_row found request now faults later answer old new row serves app live =
+    serves_shown found request now (Rose faults later) answer old new row app live serves
+
+-- a ledger that is whole is the one that the step found
+shown_whole : (old new : Provider) (disk : Option DiskState) (request : Request) (now faults later : ℕ)
+    (answer : Answer) (row : OpenedRow)
+    → old.ledger.broken ≡ false → route request ≡ To App → session_for old.ledger.held now request ≡ Some row
+    → Steps request_rules Answers old disk request now (Rose faults later) answer new
+    → (answer ≡ Full (shown_to old.setup.policy request.path row)) ⊎ (answer ≡ Fixed NO_MEMORY)
+shown_whole old new disk request now faults later answer row whole app live step = which step
   where
     which : Steps request_rules Answers old disk request now (Rose faults later) answer new
         → (answer ≡ Full (shown_to old.setup.policy request.path row)) ⊎ (answer ≡ Fixed NO_MEMORY)
@@ -103,8 +113,8 @@ pub shown_alike : EqualRowsAreShownAlike
 shown_alike old new other newer disk another request now faults later before after one second row policy whole too app
     live live_too step step_too =
     let page = Full (shown_to old.setup.policy request.path row) in
-    let first = shown_by_row old new disk request now faults later one row whole app live step in
-    let next = shown_by_row other newer another request now before after second row too app live_too step_too in
+    let first = shown_whole old new disk request now faults later one row whole app live step in
+    let next = shown_whole other newer another request now before after second row too app live_too step_too in
     either one second page first
     (subst (λ (p : Option (List Rule)). (second ≡ Full (shown_to p request.path row)) ⊎ (second ≡ Fixed NO_MEMORY))
     policy next)

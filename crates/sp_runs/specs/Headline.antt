@@ -52,7 +52,7 @@ use Rattle.provider_node.specs.Step.{IsWhole}
 use Rattle.sp_server.specs.Step.{Provider, Answers, Setup, ended_by, ended_record, left_record, session_for, shown_to}
 use Rattle.verdict_codes.specs.Codes.{number_of}
 use Rattle.verdict_codes.specs.declared.codes.Verdict.TheVariants.{RegistryExpired}
-use Rattle.provider_run.specs.Headlines.{AddsOnlyItsOwn, AnswersOnceRecorded, EachGoes, GoesOnDisk, HeadlineBy, HeadlineOf, KeepsWhatIsVisible, ServedOver, ServedRun, WhereAsked}
+use Rattle.provider_run.specs.Headlines.{AddsOnlyItsOwn, AnswersForACause, AnswersOnceRecorded, EachGoes, GoesOnDisk, HeadlineBy, HeadlineOf, KeepsWhatIsVisible, ServedOver, ServedRun, WhereAsked}
 use Rattle.provider_run.specs.Providers.{Begins}
 use Rattle.provider_run.specs.Runs.{Outside, world_of}
 use Rattle.sp_setup.specs.Laws.{IsFromRegistry}
@@ -125,12 +125,12 @@ IsOfASignedLogin asked =
     → (gives : GivesSession asked.node.setup held asked.request asked.now r answer)
     → IsLoginOf issued gives.brought.login
 
--- Over a ledger that is whole a live session is answered by the page of its user, or by that of the rule of the policy
--- that denies it; or there was no memory.
-abbrev pub IsShownByItsRow : (asked : Asked Provider) → Type 0
-IsShownByItsRow asked =
-    (row : OpenedRow) → asked.node.ledger.broken ≡ false → route asked.request ≡ To App → session_for
-    asked.node.ledger.held asked.now asked.request ≡ Some row
+-- A session that lives over the ledger that the step found is answered by the page of its user, or by that of the rule
+-- of the policy that denies it; or there was no memory.
+abbrev pub IsShownByItsRow : (asked : Asked Provider) (before after : World Provider) → Type 0
+IsShownByItsRow asked before after =
+    (found : Held) (row : OpenedRow) → ServedOver request_rules Answers found asked before after
+    → route asked.request ≡ To App → session_for found asked.now asked.request ≡ Some row
     → (asked.answer ≡ Full (shown_to asked.node.setup.policy asked.request.path row)) ⊎ (asked.answer ≡ Fixed NO_MEMORY)
 
 -- A proxy that asks at /auth is answered 200 exactly where the session of the request's cookie lives at that moment
@@ -150,6 +150,7 @@ pub record GuardsExactly (asked : Asked Provider) (before after : World Provider
 -- a request is answered by one step, and so it is of it, whatever the worlds are in which the provider was asked
 pub record GoesExactly (asked : Asked Provider) : Type 0 where
   pub steps : WhereAsked request_rules Answers asked (GoesOnDisk request_rules Answers asked)
+  pub causes : WhereAsked request_rules Answers asked (AnswersForACause request_rules Answers asked)
   pub opens : WhereAsked request_rules Answers asked (OpensExactly asked)
   pub closes : WhereAsked request_rules Answers asked (ClosesExactly asked)
   pub recorded : WhereAsked request_rules Answers asked (IsRecordedFirst asked)
@@ -158,7 +159,7 @@ pub record GoesExactly (asked : Asked Provider) : Type 0 where
   pub added : WhereAsked request_rules Answers asked (λ before after. AddsOnlyItsOwn request_rules Answers asked)
   pub starved : WhereAsked request_rules Answers asked (λ before after. KeepsWhatIsVisible request_rules AnswerAlike
       asked after)
-  pub shown : WhereAsked request_rules Answers asked (λ before after. IsShownByItsRow asked)
+  pub shown : WhereAsked request_rules Answers asked (IsShownByItsRow asked)
 
 -- ---- its files
 

@@ -30,7 +30,7 @@ use Rattle.sp_server.specs.Routes.{route}
 use Rattle.provider_node.specs.declared.codes.TheConstants.{NO_MEMORY}
 use Rattle.provider_node.specs.Points.{points}
 use Rattle.sp_server.specs.Step.{Provider, Setup, session_for, shown_to, Answers}
-use Rattle.provider_node.specs.Step.{Steps}
+use Rattle.provider_node.specs.Step.{Serves, Steps}
 use Rattle.request_ledger.specs.Record.{request_rules}
 use Rattle.verdict_codes.specs.Codes.{number_of}
 use Rattle.verdict_codes.specs.declared.codes.Verdict.TheVariants.{RegistryExpired}
@@ -139,14 +139,13 @@ WithoutARegistryNothingIsExpired =
 
 -- POLICIES
 
--- Over a whole ledger a live session is answered by the page of its user, or by that of the rule that denies it, or
--- there was no memory.
+-- A session that lives over the ledger that a step found is answered by the page of its user, or by that of the rule
+-- that denies it, or there was no memory.
 abbrev pub ASessionIsShownByItsRow : Type 0
 ASessionIsShownByItsRow =
-    (old new : Provider) (disk : Option DiskState) (request : Request) (now faults later : ℕ) (answer : Answer)
-    (row : OpenedRow)
-    → old.ledger.broken ≡ false → route request ≡ To App → session_for old.ledger.held now request ≡ Some row
-    → Steps request_rules Answers old disk request now (Rose faults later) answer new
+    (found : Held) (request : Request) (now faults later : ℕ) (answer : Answer) (old new : Provider) (row : OpenedRow)
+    → Serves request_rules Answers found request now (Rose faults later) answer old new
+    → route request ≡ To App → session_for found now request ≡ Some row
     → (answer ≡ Full (shown_to old.setup.policy request.path row)) ⊎ (answer ≡ Fixed NO_MEMORY)
 
 -- Two providers of one policy in whose whole ledgers the session has the same row answer alike, whatever their other

@@ -88,6 +88,7 @@ pub fn a_run_carries_the_headline<D: Disk>()
         (D.shows disk).left_since }
 {
     images_hold_records();
+    sp_server::laws::no_definition_gives_an_own_code();
     sp_server::laws::a_session_opens_exactly();
     sp_server::laws::a_session_is_closed_exactly();
     sp_server::laws::what_is_answered_is_recorded();

@@ -24,7 +24,8 @@ use Rattle.request_rows.specs.declared.row.OpenedRow.{OpenedRow}
 use Rattle.sp_answers.specs.Answers.{denied_answer}
 use Rattle.sp_server.proofs.Held.{session_record}
 use Rattle.sp_server.specs.Guard.{decide_plain, guard_answer, is_plain, path_asked, to_session, vouched_by, vouched_to}
-use Rattle.sp_server.specs.Guarding.{AGuardTellsExactly, AsksGuard, EqualRowsAreVouchedForAlike, Finds, IsAllowed, IsVouchedAt, IsVouchedFor, LetsIn, OnlyASessionIsVouchedFor, TellsExactly}
+use Rattle.provider_node.specs.Causes.{Finds}
+use Rattle.sp_server.specs.Guarding.{AGuardTellsExactly, AsksGuard, EqualRowsAreVouchedForAlike, IsAllowed, IsVouchedAt, IsVouchedFor, LetsIn, OnlyASessionIsVouchedFor, TellsExactly}
 use Rattle.service_routes.specs.Routes.{is_method}
 use Rattle.service_routes.specs.declared.route.Route.TheVariants.{To}
 use Rattle.sp_server.specs.declared.route.Service.TheVariants.{Guard}
@@ -245,7 +246,7 @@ module _ (laws : AnswerLaws) where
 
   by_serving : (found : Held) (disk : Option DiskState) (request : Request) (now faults later : ℕ) (answer : Answer)
       (old new : Provider) → route request ≡ To Guard
-      → Finds old disk found → Serves request_rules Answers found request now (Rose faults later) answer old new
+      → Finds request_rules old disk found → Serves request_rules Answers found request now (Rose faults later) answer old new
       → HasStatus 200 (answer_bytes answer) → IsVouchedAt old disk request now (answer_bytes answer)
   by_serving found disk request now faults later answer old new at finds serves ok =
       which (done found request now (Rose faults later) answer old new at serves).says

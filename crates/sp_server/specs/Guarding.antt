@@ -1,11 +1,11 @@
 -- What a guard tells: it answers 200 exactly where the session of the request's cookie lives at that moment and no
 -- policy denies it the path; then it names that session's user and values. What it says depends on nothing but that
 -- row, and nothing is recorded.
-use Rattle.std.specs.Prelude.{◌≡◌, ◌⊎◌, ℕ, true, false, List, Contains, Option, None, Some, IfSome, Ok, IsTrue}
+use Rattle.std.specs.Prelude.{◌≡◌, ◌⊎◌, ℕ, true, false, List, Contains, Option, None, Some, IsTrue}
 use Rattle.access_policy.specs.declared.rule.Rule.{Rule}
 use Rattle.access_policy.specs.Decide as policies
 use Rattle.crash_disk.specs.Counts.{Rose}
-use Rattle.crash_disk.specs.Disk.{DiskState, image_of}
+use Rattle.crash_disk.specs.Disk.{DiskState}
 use Rattle.http_wire.specs.declared.answer.Answer.{Answer}
 use Rattle.http_wire.specs.declared.answer.Answer.TheVariants.{Fixed, Full}
 use Rattle.http_wire.specs.declared.method.Method.TheVariants.{Get}
@@ -17,8 +17,8 @@ use Rattle.http_wire.specs.Vouching.{IsReadAsVouched}
 use Rattle.ledger_records.specs.declared.sp_record.Opened.{Opened as OpenedRecord}
 use Rattle.ledger_records.specs.declared.sp_record.SpRecord.TheVariants as kinds
 use Rattle.provider_node.specs.declared.codes.TheConstants.{NO_MEMORY}
-use Rattle.request_ledger.specs.Ledger.{Held, ledger_in}
-use Rattle.record_ledger.specs.Ledger.{taken}
+use Rattle.provider_node.specs.Causes.{Finds}
+use Rattle.request_ledger.specs.Ledger.{Held}
 use Rattle.request_ledger.specs.RowsOf.{opened_row}
 use Rattle.request_rows.specs.declared.row.OpenedRow.{OpenedRow}
 use Rattle.sp_answers.specs.Answers.{denied_answer}
@@ -82,19 +82,13 @@ AGuardTellsExactly =
     → Serves request_rules Answers found request now (Rose faults later) answer old new
     → ((answer ≡ Fixed NO_MEMORY) ⊎ TellsExactly old.setup found request now answer) × IsWhole old new found
 
--- the ledger that a step finds: the provider's own, or, where that is broken, what its disk stands for
-abbrev pub Finds : Provider → Option DiskState → Held → Type 0
-Finds old disk found =
-    ((old.ledger.broken ≡ false) × (found ≡ old.ledger.held))
-    ⊎ ((old.ledger.broken ≡ true) × IfSome disk (λ d. taken (ledger_in (image_of d)) ≡ Ok found))
-
 -- And wherever a request at /auth is answered with 200, with whatever setup and ledger, there is a guard, and it is for
 -- a session that is let in over the ledger that the step finds.
 pub record IsVouchedAt (old : Provider) (disk : Option DiskState) (request : Request) (now : ℕ) (bytes : List ℕ) : Type
     0 where
   pub asks : AsksGuard old.setup request
   pub found : Held
-  pub finds : Finds old disk found
+  pub finds : Finds request_rules old disk found
   pub vouched : IsVouchedFor old.setup found request now bytes
 
 abbrev pub OnlyASessionIsVouchedFor : Type 0

@@ -1,4 +1,5 @@
 //! Laws of a service provider, each the contract of a function that does nothing.
+ghost use Rattle.provider_node.specs.Causes.{GivesNoOwnCode};
 ghost use Rattle.sp_server.specs.Guarding.{AGuardTellsExactly, EqualRowsAreVouchedForAlike, OnlyASessionIsVouchedFor};
 ghost use Rattle.sp_server.specs.Histories.{WhatIsAcknowledgedIsKeptOnce};
 ghost use Rattle.sp_server.specs.Logouts.{OnlyWhereAUserLeaves, OnlyWhereSessionsEnd, NothingElseCloses, WhereverAUserLeaves, WhereverSessionsEnd, AClosedSessionStaysClosed, SessionsStayClosedInAService};
@@ -144,3 +145,8 @@ pub fn sessions_stay_over_starts()
     request_ledger::laws::images_hold_records();
     request_ledger::laws::sessions_stay();
 }
+
+/// No answer where nothing fails is one of the codes that a provider answers for itself: 50 to 53.
+pub fn no_definition_gives_an_own_code()
+    ensures { GivesNoOwnCode Answers }
+{}

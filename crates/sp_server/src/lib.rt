@@ -58,6 +58,7 @@
 //! until it is closed or ends, the row of its own record is what its token finds; and a request stays spent while it
 //! could be answered (`what_was_opened_is_as_left`, `sessions_stay_in_a_service`, `sessions_stay_over_starts`); at 52
 //! all that may be asked of the rows is answered as before, where the ledger was not broken (`what_is_visible_stays`).
+//! Where nothing fails none of the codes 50 to 53 is answered (`no_definition_gives_an_own_code`).
 #![tactic(auto)]
 
 mod app;

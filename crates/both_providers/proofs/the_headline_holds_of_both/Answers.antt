@@ -1,4 +1,9 @@
 use Rattle.sp_rules.specs.Keys.{usable}
+use Rattle.idp_ledger.specs.Record.{idp_rules}
+use Rattle.idp_rows.specs.RowsOf.{ends}
+use Rattle.idp_server.specs.Histories.{IsDead, IsEnded}
+use Rattle.idp_server.specs.Step as idp_steps
+use Rattle.both_providers.proofs.Over.{over_behind}
 use Rattle.both_providers.proofs.Together.{counts}
 use Rattle.both_providers.proofs.the_headline_holds_of_both.Goals as goal
 
@@ -17,4 +22,9 @@ returns c = λ start sp_starts idp_start idp_starts records sp idp. record {
       (counts (usable config asked.now) b.carried.tree brings.covered.first.parts b.key brings.covered.first.tagged) in
       record { is = is; recorded = signed.recorded _ is.known };
   once = c.what_is_acknowledged_is_kept_once_over_starts.ensures start sp_starts records sp;
+  closed = c.sessions_stay_closed_over_starts.ensures start sp_starts records sp;
+  ended = over_behind idp_rules idp_steps.Answers c.images_hold_records.ensures IsEnded ends IsDead
+      c.sessions_stay_ended_over_starts.ensures idp_start idp_starts idp;
+  opened_stay = λ moments at. c.sessions_stay_over_starts.ensures moments start sp_starts at;
+  begun_stay = λ moments at. c.sessions_stay_over_starts-2.ensures moments idp_start idp_starts at;
 }

@@ -4,6 +4,7 @@ use Rattle.hub_runs.proofs.laws.a_run_carries_the_headline.Goals as goal
 pub returns : goal.returns
 returns g c = λ disk.
     let each : Laws = record {
+      none_own = c.no_definition_gives_an_own_code.ensures;
       only = c.a_login_is_passed_on_exactly.ensures.only;
       wherever = c.a_login_is_passed_on_exactly.ensures.wherever;
       back = c.each_login_goes_back_to_its_request.ensures.goes;

@@ -4,6 +4,7 @@ use Rattle.idp_runs.proofs.laws.a_run_carries_the_headline.Goals as goal
 pub returns : goal.returns
 returns g c = λ disk.
     headline (record {
+      none_own = c.no_definition_gives_an_own_code.ensures;
       users = c.each_issue_has_a_password_or_a_session.ensures.answers;
       askers = c.each_question_has_an_asker.ensures.questions;
       refusals = c.each_question_has_an_asker.ensures.refusals;

@@ -26,10 +26,11 @@ pub returns-in-Ok-clause-usable : goal.returns-in-Ok-clause-usable
 returns-in-Ok-clause-usable g c =
     let held = g.F.Files.holds c.read_file.new.files in
     let lines = config_view c.in-Ok.lines in
-    let (entity, base, listen) = c.in-Ok.ensures.texts in
+    let said = c.in-Ok.ensures in
+    let (entity, base, listen) = said.texts in
+    let law = c.a_spelled_tree_is_writable.ensures in
     if_ok_map ((set_up_by c.args.file.now lines).gives held) IsUsable c.set_up_by.result
-    (λ config h. usable held c.deref.result.now c.args.file.now lines config c.a_spelled_tree_is_writable.ensures c.in-Ok.ensures.value h entity base
-    c.in-Ok.ensures.skew)
+    (λ config h. usable held c.args.file.now lines config law h entity base said.skew said.few)
     c.set_up_by.ensures.ok
 
 pub returns-in-Ok-clause-err : goal.returns-in-Ok-clause-err

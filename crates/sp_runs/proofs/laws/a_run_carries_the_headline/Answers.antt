@@ -4,6 +4,7 @@ use Rattle.sp_runs.proofs.laws.a_run_carries_the_headline.Goals as goal
 pub returns : goal.returns
 returns g c = λ disk.
     headline (record {
+      none_own = c.no_definition_gives_an_own_code.ensures;
       opens_only = c.a_session_opens_exactly.ensures.only;
       opens_wherever = c.a_session_opens_exactly.ensures.wherever;
       signed = c.each_session_was_signed.ensures;

@@ -1,5 +1,5 @@
 use Rattle.std.specs.Prelude.{None}
-use Rattle.std.proofs.Common.{refl, subst}
+use Rattle.std.proofs.Common.{refl, subst, sym}
 use Rattle.std.proofs.lemmas.Result.{err_from_is_err_and}
 use Rattle.gate_journal.specs.declared.header.Header.{Header}
 use Rattle.http_wire.specs.declared.answer.Answer.TheVariants.{Fixed}
@@ -8,6 +8,7 @@ use Rattle.hub_ledger.specs.RowsOf.{rows_of}
 use Rattle.sp_rules.specs.Verdict.{IsRefused}
 use Rattle.verdict_codes.specs.Codes.{number_of}
 use Rattle.verdict_codes.specs.declared.codes.Verdict.{Verdict}
+use Rattle.sp_answers.proofs.Alike.{same_alike}
 use Rattle.provider_node.proofs.Judged.{judged_for}
 use Rattle.identity_hub.specs.declared.config.HubConfig.{HubConfig}
 use Rattle.identity_hub.specs.Step.{Answers, ByVerdict, rows_seen}
@@ -30,9 +31,9 @@ returns-in_err-accepted c =
     (subst (λ (h : Header). IsRefused config.upstream (rows_seen (rows_of held.records)) h.horizon c.args.now
     request.body
     verdict) c.header-horizon.ensures
-    (c.like_rows_are_judged_alike.ensures.refuses config.upstream rows (rows_seen (rows_of held.records)) horizon
-    c.args.now
-    request.body verdict c.rows.ensures.asked c.rows.ensures.opened refused)) in
+    (c.like_rows_are_judged_alike.ensures.refuses config.upstream c.args.now (rows_seen (rows_of held.records)) horizon
+    rows horizon request.body verdict (same_alike c.args.now horizon (rows_seen (rows_of held.records)) rows
+    (sym c.rows.ensures.asked) (sym c.rows.ensures.opened)) refused)) in
     rw (p.1, p.2)
     (judged_for (IsRefused config.upstream rows horizon c.args.now request.body)
     (λ verdict. Answers c.args.self.now held request c.args.now (Fixed (number_of verdict)) None)

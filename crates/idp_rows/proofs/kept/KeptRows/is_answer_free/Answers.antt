@@ -17,23 +17,25 @@ decided c found is =
 pub returns-in-Some-next : goal.returns-in-Some-next
 returns-in-Some-next c =
     c.is_turn_left.ensures
-    ∙ sym (decided (goal.at.returns-in-Some-next c).After-waiting (Some c.in-Some.row.now) c.in-Some.ensures
+    ∙ sym (decided (goal.at.returns-in-Some-next c).After-waiting (Some c.in-Some.row.now) c.in-Some.ensures.round
     ∙ ap (has_its_next (Rattle.round_rows.specs.Rounds.is_turn_left c.in-Some.row.now) c.args.r.now.first) c.in-Some-next.is)
 
 pub returns-then-not-is_turn_left : goal.returns-then-not-is_turn_left
 returns-then-not-is_turn_left c =
     let left = Rattle.round_rows.specs.Rounds.is_turn_left c.in-Some.row.now in
-    sym (decided (goal.at.returns-then-not-is_turn_left c).After-waiting (Some c.in-Some.row.now) c.in-Some.ensures
+    let at = (goal.at.returns-then-not-is_turn_left c).After-waiting in
+    sym (decided at (Some c.in-Some.row.now) c.in-Some.ensures.round
     ∙ ap (has_its_next left c.args.r.now.first) c.in-None-next.is
     ∙ ap (λ b. not b && nat_eq c.args.r.now.first 0) (sym c.if-not-is_turn_left.ensures))
 
 pub returns-else-not-is_turn_left : goal.returns-else-not-is_turn_left
 returns-else-not-is_turn_left c =
     let left = Rattle.round_rows.specs.Rounds.is_turn_left c.in-Some.row.now in
+    let at = (goal.at.returns-else-not-is_turn_left c).After-waiting in
     ap not c.if-not-is_turn_left.false
-    ∙ sym (decided (goal.at.returns-else-not-is_turn_left c).After-waiting (Some c.in-Some.row.now) c.in-Some.ensures
+    ∙ sym (decided at (Some c.in-Some.row.now) c.in-Some.ensures.round
     ∙ ap (has_its_next left c.args.r.now.first) c.in-None-next.is
     ∙ ap (λ b. not b && nat_eq c.args.r.now.first 0) (sym c.if-not-is_turn_left.ensures))
 
 pub returns-in-None : goal.returns-in-None
-returns-in-None c = sym (decided (goal.at.returns-in-None c).After-waiting None c.in-None.ensures)
+returns-in-None c = sym (decided (goal.at.returns-in-None c).After-waiting None c.in-None.ensures.round)

@@ -80,3 +80,9 @@ returns-in-None-clause-rows c =
     ∙ answered_at c.args.self.now.rows c.args.request.now c.in-Some.place c.in-Some.ensures.some c.index_mut-row.result.now c.take_answer-in-None.new.self (read at) c.requires.waits c.args.confirmed
     None c.take_answer-in-None.ensures
     ∙ ap (λ next. answered c.args.request.now c.args.confirmed (id_of next) c.args.self.now.rows) (sym c.in-None.is)
+
+pub returns-in-Ok-clause-only : goal.returns-in-Ok-clause-only
+returns-in-Ok-clause-only c = (c.in-Some.place, c.in-Some.ensures.some)
+
+pub returns-in-None-clause-only : goal.returns-in-None-clause-only
+returns-in-None-clause-only c = (c.in-Some.place, c.in-Some.ensures.some)

@@ -8,6 +8,7 @@ use Rattle.request_ledger.specs.RowsOf.{SpRows, rows_of}
 use Rattle.sp_rules.specs.Verdict.{IsRefused}
 use Rattle.verdict_codes.specs.Codes.{number_of}
 use Rattle.verdict_codes.specs.declared.codes.Verdict.{Verdict}
+use Rattle.sp_answers.proofs.Alike.{same_alike}
 use Rattle.provider_node.proofs.Judged.{judged_for}
 use Rattle.sp_server.specs.Step.{Answers, Setup, ByVerdict, rows_seen}
 use Rattle.sp_server.proofs.role.SpRole.reply_form.Goals as goal
@@ -30,8 +31,9 @@ returns-in_err-accepted c =
     (subst (λ (h : Header). IsRefused config (rows_seen (rows_of held.records)) h.horizon c.args.now request.body
     verdict)
     c.header-horizon.ensures
-    (c.like_rows_are_judged_alike.ensures.refuses config rows (rows_seen (rows_of held.records)) horizon c.args.now
-    request.body verdict (ap (λ (r : SpRows). r.asked) c.rows.ensures) (ap (λ (r : SpRows). r.opened) c.rows.ensures)
+    (c.like_rows_are_judged_alike.ensures.refuses config c.args.now (rows_seen (rows_of held.records)) horizon rows
+    horizon request.body verdict (same_alike c.args.now horizon (rows_seen (rows_of held.records)) rows
+    (ap (λ (r : SpRows). r.asked) (sym c.rows.ensures)) (ap (λ (r : SpRows). r.opened) (sym c.rows.ensures)))
     refused)) in
     rw (p.1, p.2)
     (judged_for (IsRefused config rows horizon c.args.now request.body)
