@@ -1,4 +1,4 @@
--- Worked examples of the login of a content: one with everything in it, and one for each condition that fails.
+-- Worked examples of the login of a content: one with everything in it, and some in which a condition fails.
 use Rattle.std.proofs.Common.{◌≡◌, ℕ, List, [], ◌∷◌, codes, Some, None, refl}
 use Rattle.xml_spec.specs.Tree.{Nodes}
 use Rattle.xml_spec.specs.Content.{ContentAttribute, Contents, NoContents, ElementContent, TextContent}

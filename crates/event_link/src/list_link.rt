@@ -40,7 +40,14 @@ impl ListLink {
     /// Nothing is to come, nothing was sent or closed, it listens nowhere, no call is to fail, and none did. It takes no
     /// memory.
     pub fn new(alloc: Global) -> ListLink
-        ensures { result ≡ record { coming = []; sent = []; address = None; closings = record { count = 0; last = 0; behind = 0 }; nexts = record { chosen = 0; count = 0 }; sends = record { chosen = 0; count = 0 } } }
+        ensures { result ≡ record {
+          coming = [];
+          sent = [];
+          address = None;
+          closings = record { count = 0; last = 0; behind = 0 };
+          nexts = record { chosen = 0; count = 0 };
+          sends = record { chosen = 0; count = 0 };
+        } }
     {
         ListLink {
             alloc,

@@ -1,3 +1,4 @@
 pub mod Faults
 pub mod Settled
 pub mod Stages
+pub mod Codes

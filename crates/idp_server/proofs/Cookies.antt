@@ -12,7 +12,7 @@ use Rattle.ledger_records.specs.declared.idp_record.IdpRecord.{IdpRecord}
 use Rattle.ledger_records.specs.declared.idp_record.IdpRecord.TheVariants as kinds
 use Rattle.ledger_rules.specs.Numbers.{NUMBER_END, has_number}
 use Rattle.record_ledger.specs.Ledger.{empty_ledger, ledger_in, migrated, taken}
-use Rattle.record_ledger.proofs.Numbers.{one_number}
+use Rattle.record_ledger.proofs.Numbers.{IsNumbered, numbered_above, one_number}
 use Rattle.record_ledger.proofs.Words.{other_way, same_text, text_itself}
 use Rattle.idp_rows.specs.declared.row.SessionRow.{SessionRow}
 use Rattle.idp_rows.specs.Finding.{session_found, visible}
@@ -25,28 +25,14 @@ use Rattle.idp_ledger.proofs.RowLaws.{is_record-is, next_of-push}
 
 -- ---- the numbers of cookies
 
--- a cookie begins with a number that is this one or greater
-record IsNumbered (least : ℕ) (cookie : List ℕ) : Type 0 where
-  number : ℕ
-  greater : least ≤ number
-  small : number < NUMBER_END
-  begins : has_number number cookie ≡ true
-
+-- each cookie begins with a number that is this one or greater
 abbrev AreNumbered : (least : ℕ) → List SessionRow → Type 0
 AreNumbered least rows = AllByRecursion (λ (row : SessionRow). IsNumbered least row.cookie) rows
 
 lower : (least less : ℕ) (rows : List SessionRow) → less ≤ least → AreNumbered least rows → AreNumbered less rows
 lower least less [] le all = tt
 lower least less (row ∷ rows) le all =
-    let own = all.0 in (
-      record {
-        number = own.number;
-        greater = omega (arith, own.greater, le);
-        small = own.small;
-        begins = own.begins;
-      },
-      lower least less rows le all.1,
-    )
+    (numbered_above least less row.cookie le all.0, lower least less rows le all.1)
 
 -- the cookie that a record draws
 drawn_cookie : (before : List IdpRecord) (r : Issued) (pending : List ℕ) → r.pending ≡ Some pending

@@ -3,6 +3,7 @@ ghost use Rattle.std.specs.Prelude.{◌≡◌};
 ghost use Rattle.idp_server.specs.Routes as spec;
 
 use http_wire::Method;
+use service_routes::common_at;
 
 /// A service of an identity provider.
 #[derive(Clone, Copy, Debug, PartialEq, Eq)]
@@ -27,13 +28,12 @@ pub(crate) fn service_at(path: &str) -> Option<(Method, Service)>
         Some((Method::Post, Service::SignOn))
     } else if path == "/login" {
         Some((Method::Post, Service::Login))
-    } else if path == "/metadata" {
-        Some((Method::Get, Service::Metadata))
-    } else if path == "/logout" {
-        Some((Method::Post, Service::Logout))
-    } else if path == "/slo" {
-        Some((Method::Post, Service::SingleLogout))
     } else {
-        None
+        common_at(
+            path,
+            Service::Metadata,
+            Service::Logout,
+            Service::SingleLogout,
+        )
     }
 }

@@ -6,3 +6,4 @@ pub mod Settled
 pub mod Signable
 pub mod Texts
 pub mod Obeyed
+pub mod Codes

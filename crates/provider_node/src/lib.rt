@@ -54,9 +54,9 @@
 //! (`specs/Starts.antt`), and that runs which a crash cut join into one service, with the moments of their requests
 //! (`specs/Joining.antt`). A compaction in a history is bound to a moment of the run. A page is made before its record
 //! is written, and a second try comes only behind a compaction that ended; `start`, `restart` and `compact` give what
-//! the disk stands for, or a fault by its cause. The disk's count of faults rises in a request that is answered by 50,
-//! and in no other (`CountsAnswer`). The laws of each provider say these of its own answers; `code_of`
-//! gives the code of a fault. Where no answer of a role is one of the codes that a provider answers for itself, 50 is
+//! the disk stands for, or a fault by its cause. In a request that is not answered by 50 the disk's count of faults
+//! stays as it was (`CountsAnswer`). The laws of each provider say these of its own answers; `code_of` gives the code
+//! of a fault. Where no answer of a role is one of the codes that a provider answers for itself, 50 is
 //! answered only where the disk's count of faults rose, 51 only where there was no place for a record, at once and
 //! behind one compaction, and 53 only where the ledger was broken and, as far as the disk tells, this stands for none
 //! (`laws::each_code_has_its_cause`).

@@ -35,6 +35,17 @@ one_number m n id small small_too is is_too =
     let bytes = encoded_once (to_be_bytes w64 m) (to_be_bytes w64 n) (number_bytes m) (number_bytes n) digits in
     sym (from_be_bytes-to_be_bytes_8 m (omega arith)) ∙ ap (from_be_bytes w64) bytes ∙ from_be_bytes-to_be_bytes_8 n (omega arith)
 
+-- a text begins with a number that is this one or greater
+pub record IsNumbered (least : ℕ) (text : List ℕ) : Type 0 where
+  pub number : ℕ
+  pub greater : least ≤ number
+  pub small : number < NUMBER_END
+  pub begins : has_number number text ≡ true
+
+pub numbered_above : (least lower : ℕ) (text : List ℕ) → lower ≤ least → IsNumbered least text → IsNumbered lower text
+numbered_above least lower text low is =
+    record { number = is.number; greater = omega (arith, is.greater, low); small = is.small; begins = is.begins }
+
 -- a drawn ID that is fresh
 pub record IsFresh (least : ℕ) (d : Drawn) : Type 0 where
   pub greater : least ≤ d.number

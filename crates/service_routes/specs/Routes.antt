@@ -1,5 +1,6 @@
 -- Where a request goes, and what is answered where it goes nowhere.
-use Rattle.std.specs.Prelude.{ℕ, Bool, true, false, List, Option, None, Some, IsTrue, if◌then◌else◌}
+use Rattle.std.specs.Prelude.{ℕ, Bool, true, false, List, codes, Option, None, Some, IsTrue, if◌then◌else◌}
+use Rattle.std.specs.Str.{bytes_eq}
 use Rattle.http_wire.specs.declared.method.Method.{Method}
 use Rattle.http_wire.specs.declared.method.Method.TheVariants.{Get, Post, Other}
 use Rattle.http_wire.specs.Answers.{is_fixed}
@@ -7,6 +8,15 @@ use Rattle.http_wire.specs.Cookies.{is_form_type}
 use Rattle.http_wire.specs.Requests.{Request}
 use Rattle.service_routes.specs.declared.route.Route.{Route}
 use Rattle.service_routes.specs.declared.route.Route.TheVariants.{To, Refused}
+
+-- The service at a path that both providers have, and the method that it takes: the metadata, where a user leaves, and
+-- where the messages of a logout are posted.
+abbrev pub common_at : {S : Type 0} → S → S → S → List ℕ → Option (Method × S)
+common_at metadata logout single_logout path =
+    if bytes_eq path (codes "/metadata") then Some (Get, metadata)
+    else if bytes_eq path (codes "/logout") then Some (Post, logout)
+    else if bytes_eq path (codes "/slo") then Some (Post, single_logout)
+    else None
 
 -- whether a request has the method that a service takes; a service takes GET or POST
 abbrev pub is_method : Method → Method → Bool

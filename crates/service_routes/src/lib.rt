@@ -11,6 +11,7 @@
 //!
 //! # What is proved
 //!
+//! `common_at`: the services that both providers have at one path each (`common_at` of `Routes.antt`).
 //! `route_to`: 404 exactly where there is no service, 405 where the request has another method than the service takes,
 //! 415 where the service takes a form and something else is posted, else the service (`routed`: `checked` of
 //! `Routes.antt`). Each of the three has an answer that stands alone (`answered`).
@@ -18,4 +19,4 @@
 
 mod route;
 
-pub use route::{Route, route_to};
+pub use route::{Route, common_at, route_to};

@@ -16,6 +16,28 @@ pub enum Route<S> {
     Refused(u16),
 }
 
+/// The service at a path that both providers have, and the method that it takes: the metadata (SAML Metadata, 4.1.1), where
+/// a user leaves (SAML Profiles, 4.4.3.1), and the address to which messages of a logout are posted (SAML Metadata, 2.4.2,
+/// SingleLogoutService).
+pub fn common_at<S: Copy>(
+    path: &str,
+    metadata: S,
+    logout: S,
+    single_logout: S,
+) -> Option<(Method, S)>
+    ensures { result ≡ spec.common_at metadata logout single_logout path.now }
+{
+    if path == "/metadata" {
+        Some((Method::Get, metadata))
+    } else if path == "/logout" {
+        Some((Method::Post, logout))
+    } else if path == "/slo" {
+        Some((Method::Post, single_logout))
+    } else {
+        None
+    }
+}
+
 /// Whether a request has the method that a service takes.
 fn is_method(takes: Method, method: Method) -> bool
     ensures { result ≡ spec.is_method takes method }

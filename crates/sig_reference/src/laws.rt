@@ -8,14 +8,16 @@ ghost use Rattle.xml_spec.specs.Content.{content};
 ghost use Rattle.saml_names.specs.Names.{ds};
 ghost use Rattle.tree_read.specs.Children.{children};
 ghost use Rattle.element_make.specs.Made.{Made, IsMade, tree_of, written};
-ghost use Rattle.sig_reference.specs.Form.{Parts, HasForm};
+ghost use Rattle.sig_reference.specs.Form.{Parts, HasForm, HasFirstForm};
 ghost use Rattle.sig_reference.specs.Placing.{Around, filled, place_in};
 ghost use Rattle.sig_reference.specs.Signature.{Vouches};
 ghost use Rattle.sig_reference.specs.Signing.{CanBeSigned, CanBeChecked, signed, has_no_signature};
 
-/// An element has one signature at most: no two readings of its form differ in any part.
+/// An element has one signature at most, whether it is asked for behind the Issuer or as the first child: no two readings
+/// of its form differ in any part.
 pub fn a_signature_is_one()
-    ensures { (tree : Nodes) (e : ℕ) (p q : Parts) → HasForm tree e p → HasForm tree e q → p ≡ q }
+    ensures behind_issuer { (tree : Nodes) (e : ℕ) (p q : Parts) → HasForm tree e p → HasForm tree e q → p ≡ q }
+    ensures in_front { (tree : Nodes) (e : ℕ) (p q : Parts) → HasFirstForm tree e p → HasFirstForm tree e q → p ≡ q }
 {}
 
 /// What is signed has a signature of the form that is asked for, wherever its written form is read, also where it was

@@ -10,3 +10,4 @@ pub mod Refusals
 pub mod Settled
 pub mod Showing
 pub mod Verifying
+pub mod Codes

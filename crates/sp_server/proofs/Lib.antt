@@ -20,4 +20,4 @@ mod Starving
 mod Told
 mod Staying
 mod Tokens
-mod Codes
+pub mod Codes

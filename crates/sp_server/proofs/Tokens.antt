@@ -9,10 +9,10 @@ use Rattle.gate_journal.specs.Format.{Fault}
 use Rattle.ledger_records.specs.declared.sp_record.Opened.{Opened as OpenedRecord}
 use Rattle.ledger_records.specs.declared.sp_record.SpRecord.{SpRecord}
 use Rattle.ledger_records.specs.declared.sp_record.SpRecord.TheVariants as kinds
-use Rattle.ledger_rules.specs.Numbers.{NUMBER_END, has_number}
+use Rattle.ledger_rules.specs.Numbers.{has_number}
 use Rattle.crash_disk.specs.Torn.{other_file}
 use Rattle.record_ledger.specs.Ledger.{empty_ledger, migrated, taken}
-use Rattle.record_ledger.proofs.Numbers.{all_fresh, one_number}
+use Rattle.record_ledger.proofs.Numbers.{IsNumbered, all_fresh, numbered_above, one_number}
 use Rattle.record_ledger.proofs.Words.{same_text, text_itself}
 use Rattle.request_ledger.specs.Ledger.{Held}
 use Rattle.request_ledger.specs.Record.{AreRecords, AreRecordsAfter, drawn, next_of}
@@ -24,33 +24,25 @@ use Rattle.request_rows.specs.Rows.{session_row, visible}
 
 -- ---- numbers
 
--- a number from this one on, with which a text begins
-record HasNumber (least : ℕ) (text : List ℕ) : Type 0 where
-  number : ℕ
-  greater : least ≤ number
-  small : number < NUMBER_END
-  begins : has_number number text ≡ true
-
 -- what was drawn behind one record more was drawn behind those before it
-behind_more : (before : List SpRecord) (r : SpRecord) (text : List ℕ) → HasNumber (next_of (before ++ r ∷ [])) text
-    → HasNumber (next_of before) text
-behind_more before r text has =
-    let grown = next_push before r in
-    record { number = has.number; greater = omega (arith, grown, has.greater); small = has.small; begins = has.begins }
+behind_more : (before : List SpRecord) (r : SpRecord) (text : List ℕ) → IsNumbered (next_of (before ++ r ∷ [])) text
+    → IsNumbered (next_of before) text
+behind_more before r text =
+    numbered_above (next_of (before ++ r ∷ [])) (next_of before) text (omega (arith, next_push before r))
 
 own_number : (before : List SpRecord) (x : OpenedRecord) (later : List SpRecord)
-    → AreRecordsAfter before (kinds.Opened x ∷ later) → HasNumber (next_of before) x.token
+    → AreRecordsAfter before (kinds.Opened x ∷ later) → IsNumbered (next_of before) x.token
 own_number before x later are =
     let fresh = (all_fresh (next_of before) (drawn (kinds.Opened x)) (parts before (kinds.Opened x) are.0).fresh).0 in
     record { number = x.first; greater = fresh.greater; small = fresh.small; begins = fresh.begins }
 
 -- the token of each row was drawn behind the records before it
 row_number : (before later : List SpRecord) → AreRecordsAfter before later → (place : ℕ) (row : OpenedRow)
-    → slice_get (opened_rows later) place ≡ Some row → HasNumber (next_of before) row.token
+    → slice_get (opened_rows later) place ≡ Some row → IsNumbered (next_of before) row.token
 row_number before [] are place row is = absurd (cc)
 row_number before (kinds.Opened x ∷ later) are zero row is =
     let its : opened_row (list_any (closes x.token) later) x ≡ row = cc in
-    subst (λ (o : OpenedRow). HasNumber (next_of before) o.token) its (own_number before x later are)
+    subst (λ (o : OpenedRow). IsNumbered (next_of before) o.token) its (own_number before x later are)
 row_number before (kinds.Opened x ∷ later) are (suc place) row is =
     behind_more before (kinds.Opened x) row.token
     (row_number (before ++ kinds.Opened x ∷ []) later are.1 place row is)
@@ -59,7 +51,7 @@ row_number before (other ∷ later) are place row is =
 
 -- the token of a record is that of no row behind it
 other_token : (before : List SpRecord) (x : OpenedRecord) (later : List SpRecord) (token : List ℕ)
-    → AreRecordsAfter before (kinds.Opened x ∷ later) → HasNumber (next_of (before ++ kinds.Opened x ∷ [])) token
+    → AreRecordsAfter before (kinds.Opened x ∷ later) → IsNumbered (next_of (before ++ kinds.Opened x ∷ [])) token
     → x.token ≡ token → ⊥
 other_token before x later token are has same =
     let fresh = (all_fresh (next_of before) (drawn (kinds.Opened x)) (parts before (kinds.Opened x) are.0).fresh).0 in

@@ -1,5 +1,5 @@
 -- Which requests a service provider serves.
-use Rattle.std.specs.Prelude.{ℕ, nat_eq, nat_le, Bool, ◌&&◌, List, codes, length, Option, None, Some, if◌then◌else◌}
+use Rattle.std.specs.Prelude.{ℕ, nat_eq, nat_le, Bool, ◌&&◌, List, codes, length, Option, Some, if◌then◌else◌}
 use Rattle.std.specs.List.{list_all, starts_with}
 use Rattle.std.specs.Str.{bytes_eq}
 use Rattle.http_wire.specs.declared.method.Method.{Method}
@@ -7,7 +7,7 @@ use Rattle.http_wire.specs.declared.method.Method.TheVariants.{Get, Post}
 use Rattle.http_wire.specs.Requests.{Request}
 use Rattle.service_routes.specs.declared.route.Route.{Route}
 use Rattle.service_routes.specs.declared.route.Route.TheVariants.{To, Refused}
-use Rattle.service_routes.specs.Routes.{checked}
+use Rattle.service_routes.specs.Routes.{checked, common_at}
 use Rattle.sp_server.specs.declared.route.Service.{Service}
 use Rattle.sp_server.specs.declared.route.Service.TheVariants.{App, Consumer, Metadata, Logout, SingleLogout, Guard}
 use Rattle.access_policy.specs.Line.{is_app, is_path_byte}
@@ -25,10 +25,7 @@ abbrev pub service_at : List ℕ → Option (Method × Service)
 service_at path =
     if is_app path then Some (Get, App)
     else if bytes_eq path (codes "/acs") then Some (Post, Consumer)
-    else if bytes_eq path (codes "/metadata") then Some (Get, Metadata)
-    else if bytes_eq path (codes "/logout") then Some (Post, Logout)
-    else if bytes_eq path (codes "/slo") then Some (Post, SingleLogout)
-    else None
+    else common_at Metadata Logout SingleLogout path
 
 -- 404 for a path of the application to which no user can be sent back
 abbrev pub at_target : List ℕ → Route Service → Route Service

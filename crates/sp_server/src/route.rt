@@ -5,7 +5,7 @@ ghost use Rattle.sp_server.specs.Routes as spec;
 
 use access_policy::{are_path_bytes, is_app};
 use http_wire::{HttpRequest, Method};
-use service_routes::{Route, route_to};
+use service_routes::{Route, common_at, route_to};
 
 /// A service of a service provider.
 #[derive(Clone, Copy, Debug, PartialEq, Eq)]
@@ -49,14 +49,13 @@ fn service_at(path: &str) -> Option<(Method, Service)>
         Some((Method::Get, Service::App))
     } else if path == "/acs" {
         Some((Method::Post, Service::Consumer))
-    } else if path == "/metadata" {
-        Some((Method::Get, Service::Metadata))
-    } else if path == "/logout" {
-        Some((Method::Post, Service::Logout))
-    } else if path == "/slo" {
-        Some((Method::Post, Service::SingleLogout))
     } else {
-        None
+        common_at(
+            path,
+            Service::Metadata,
+            Service::Logout,
+            Service::SingleLogout,
+        )
     }
 }
 
