@@ -20,9 +20,9 @@
 //!
 //! # What is proved
 //!
-//! `read_policy`: the rules of a file exactly where it keeps the grammar, else the number of the first line that does
-//! not. `Policy::decide`: the first rule whose path matches and whose conditions all hold decides; without one,
-//! `default` denies. `denied_page` is the text of its definition.
+//! `read_policy`: unless memory ran out, the rules of a file exactly where it keeps the grammar, else the number of the
+//! first line that does not. `Policy::decide`: the first rule whose path matches and whose conditions all hold decides;
+//! without one, `default` denies. `denied_page` is the text of its definition.
 #![tactic(auto)]
 
 mod conditions;

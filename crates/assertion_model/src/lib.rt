@@ -4,7 +4,7 @@
 //! A contract sees a `Login` as its texts, moments and lists. `make_assertion` gives the element that `assertion` of
 //! `Assertion.antt` says, with moments that are written in full. `read_login` gives the login that `login` of `Login.antt`
 //! says of the content of the element without its own Signature, and `read_places` the numbers of the elements in which its name
-//! and the values of its attributes stand (`Places.antt`). `laws` says that a made assertion is read as it was made, and
+//! and the values of its attributes stand (`Places.antt`). `laws` says which made assertions are read as they were made, and
 //! where the places of a login lie.
 //!
 //! # What is proved

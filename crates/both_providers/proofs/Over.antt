@@ -1,31 +1,13 @@
 -- Sessions that were closed are over behind starts, also where nothing is said of the records at first: what is opened
 -- holds records of a ledger.
-use Rattle.std.specs.Prelude.{Contains, Option, None, Some, Result, Ok, Err}
-use Rattle.std.proofs.Common.{◌≡◌, ℕ, ◌==◌, Bool, List, [], ◌∷◌, sym, subst, refl, arith}
-use Rattle.crash_disk.specs.Disk.{Image}
+use Rattle.std.proofs.Common.{ℕ, Bool, List, [], ◌∷◌, refl, arith}
 use Rattle.record_ledger.specs.Laws.{ImagesHoldRecords}
-use Rattle.record_ledger.specs.Ledger.{Held, empty_ledger, ledger_in, migrated, taken}
+use Rattle.record_ledger.specs.Ledger.{Held}
 use Rattle.record_ledger.specs.Rules.{AreRecords, RecordRules}
 use Rattle.provider_node.specs.Starts.{AreOverBehind, AreStarts, Start, StayClosedOverStarts, told_before}
 use Rattle.provider_node.specs.Step.{AnswersBy, Provider}
-use Rattle.provider_node.proofs.Added.{migrated_records}
 use Rattle.provider_node.proofs.Histories.{an_image}
-
-module _ {R : Type 0} (rules : RecordRules R) (hold : ImagesHoldRecords rules) where
-  -- what is opened holds records of a ledger
-  found_records : (image : Image) (found : Result (Option (Held R)) _) (held : Held R)
-      → ledger_in rules image ≡ found → taken found ≡ Ok held → AreRecords rules held.records
-  found_records image (Ok None) held is opens =
-      let same : empty_ledger ≡ held = cc in subst (λ (h : Held R). AreRecords rules h.records) same tt
-  found_records image (Ok (Some before)) held is opens =
-      let same : migrated before ≡ held = cc in
-      subst (λ (h : Held R). AreRecords rules h.records) same
-      (subst (AreRecords rules) (sym (migrated_records before (before.version == 1))) (hold image before is))
-  found_records image (Err fault) held is opens = absurd (cc)
-
-  opened_records : (image : Image) (held : Held R) → taken (ledger_in rules image) ≡ Ok held
-      → AreRecords rules held.records
-  opened_records image held opens = found_records image (ledger_in rules image) held refl opens
+use Rattle.provider_node.proofs.Opened.{opened_records}
 
 module _ {Setup R : Type 0} (rules : RecordRules R) (Answers : AnswersBy Setup R) (hold : ImagesHoldRecords rules) where
   -- the ledger from which the first of some starts began

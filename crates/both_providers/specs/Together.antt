@@ -25,7 +25,7 @@ use Rattle.request_ledger.specs.Record.{AreRecords, request_rules}
 use Rattle.request_ledger.specs.RowsOf.{closes}
 use Rattle.sp_server.specs.Logouts.{IsClosed, IsOver}
 use Rattle.sp_server.specs.Sessions.{GivesSession, HasRoom, IsOpened, OpensOver}
-use Rattle.sp_server.specs.Starts.{AreKeptOnceOver}
+use Rattle.sp_server.specs.Starts.{AreKeptOnceOver, AreKeptOnceOverAt}
 use Rattle.sp_server.specs.Staying as opened
 use Rattle.sp_server.specs.Step.{Answers}
 use Rattle.sp_server.specs.Step as sp
@@ -103,6 +103,10 @@ pub record Headline (start : Held) (sp_starts : List (Start sp.Provider)) (idp_s
       → IsOfARecordedLogin setup idp_start idp_starts added asked.node.setup.config asked.now
       (session_of asked.node.setup.config asked.now gives.brought.key.number gives.brought.login)
   pub once : AreKeptOnceOver start sp_starts
+  -- where each request of the starts was asked at one of these moments, each compaction in such a history was at one of
+  -- them
+  pub once_at : (moments : List ℕ) → AreStartsAt request_rules Answers (Contains moments) start sp_starts
+      → AreKeptOnceOverAt (Contains moments) start sp_starts
   pub closed : AreOverBehind request_rules Answers IsClosed closes IsOver start sp_starts
   pub ended : AreOverBehind idp_rules idp.Answers IsEnded ends IsDead idp_start idp_starts
   pub opened_stay : (moments : List ℕ) → AreStartsAt request_rules Answers (Contains moments) start sp_starts

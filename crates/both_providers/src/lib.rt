@@ -1,18 +1,18 @@
 //! A service provider and an identity provider in one world, each over all its starts, wherever crashes stop them: no
-//! request opens two sessions, where only the identity provider makes HMACs that match each session is one that it
-//! recorded, and none lives again that was closed or ended.
+//! request opens two sessions; where only the identity provider makes HMACs that match and no hash collides, each
+//! session is one that it recorded; and none lives again that was closed or ended.
 //!
-//! The world is two lists of starts (`specs/Together.antt`): each start opens what a crash of the one before it may have left, and then
-//! serves any list of connections, pieces, moments and faults. A run of either program is such a start
-//! (`sp_runs::laws::a_run_is_a_start`, `idp_runs::laws::a_run_is_a_start`), and from each image that it may leave a later one goes on
-//! (`each_image_of_a_run_goes_on` of both). What passes between the two is not asked for: whatever a form holds that comes to the
-//! service provider, and whoever brings it.
+//! The world is two lists of starts (`specs/Together.antt`): each start opens what a crash of the one before it may
+//! have left, and then serves any list of connections, pieces, moments and faults. A run of either program is such a
+//! start (`sp_runs::laws::a_run_is_a_start`, `idp_runs::laws::a_run_is_a_start`), and from each image that it may leave
+//! a later one goes on (`each_image_of_a_run_goes_on` of both). What passes between the two is not asked for: whatever
+//! a form holds that comes to the service provider, and whoever brings it.
 //!
 //! # What is proved
 //!
 //! One law over all starts of a service provider and of an identity provider, wherever crashes stop them
-//! (`the_headline_holds_of_both`): a session is opened exactly where a posted form opens one, also where a crash cut the
-//! request; each that is given, with whatever answer, is of a login that the identity provider recorded, for this
+//! (`the_headline_holds_of_both`): a session is opened exactly where a posted form opens one, also where a crash cut
+//! the request; each that is given, with whatever answer, is of a login that the identity provider recorded, for this
 //! provider, to its address and in its time, in these starts or before, where nobody else makes HMACs that match and no
 //! hash collides; what the service provider acknowledged is kept, once, and no request opens two; a session of the
 //! service provider that was closed, and one of the identity provider that was ended, at first or by what an answer of

@@ -3,11 +3,11 @@
 //!
 //! # What is proved
 //!
-//! What canonical forms say: the canonical form of an element spells a tree (`a_canonical_form_spells_its_tree`) that
-//! has the element's content (`a_canonical_tree_keeps_the_content`) and good names (`a_canonical_tree_is_named`). So
-//! two elements of documents with equal canonical forms have equal contents, whatever prefixes they are written with,
-//! whatever element below them is left out and whatever prefix lists are given (`equal_forms_have_equal_contents`). A
-//! tree that bytes spell can be written (`a_spelled_tree_is_writable`).
+//! What canonical forms say: the canonical form of an element of a document spells a tree
+//! (`a_canonical_form_spells_its_tree`) that has the element's content (`a_canonical_tree_keeps_the_content`) and good
+//! names (`a_canonical_tree_is_named`). So two elements of documents with equal canonical forms have equal contents,
+//! whatever prefixes they are written with, whatever element below them is left out and whatever prefix lists are given
+//! (`equal_forms_have_equal_contents`). A tree that bytes spell can be written (`a_spelled_tree_is_writable`).
 #![tactic(auto)]
 
 ghost use Rattle.std.specs.Prelude.{◌≡◌, ℕ, ◌<◌, List, Option, None, IsTrue, IfSome};

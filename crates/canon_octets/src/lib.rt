@@ -10,10 +10,11 @@
 //! let digest = hash.finish();
 //! ```
 //!
-//! No call takes memory but a `put` into a [`ByteList`] or a `Vec`, and no piece is longer than what it comes from. Contracts see
-//! which bytes were appended from one state of a place to the next: all that a call says, or, where the place refuses a
-//! piece, a part of them from the first on. The places that keep a hash take so many bytes and no more: a piece that
-//! passes the limit is counted and refused, and not hashed; then [`HashOctets::finish`] gives nothing.
+//! No call takes memory but a `put` into a [`ByteList`] or a `Vec`, and no piece is longer than 64 bytes or than what
+//! it comes from. Contracts see which bytes were appended from one state of a place to the next: all that a call says,
+//! or, where the place refuses a piece, a part of them from the first on. The places that keep a hash take so many
+//! bytes and no more: a piece that passes the limit is counted and refused, and not hashed; then [`HashOctets::finish`]
+//! gives nothing.
 //!
 //! # What is proved
 //!

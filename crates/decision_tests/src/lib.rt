@@ -1,4 +1,4 @@
-//! What the clauses of the decisions do not say: that each call succeeds with ample memory, and that memory is all it asks for.
+//! What the clauses of the decisions do not say: that calls succeed with ample memory, and that memory is all they ask for.
 #![tactic(auto)]
 
 #[cfg(test)]

@@ -12,8 +12,8 @@
 //! # What is proved
 //!
 //! `canon_into` appends the exclusive canonical form of an element of a document that was read, without the element
-//! that is left out and with a prefix list, to any place that takes bytes, piece by piece; where memory runs out, a
-//! part of it from its first byte on. `laws` offers that equal forms have equal contents.
+//! that is left out and with a prefix list, to any place that takes bytes, piece by piece; where memory runs out, or
+//! the place refuses a piece, a part of it from its first byte on. `laws` offers that equal forms have equal contents.
 #![tactic(auto)]
 
 mod laws;

@@ -1,4 +1,4 @@
-//! What the clauses of the foundations do not say: the examples of the standards, and that each call succeeds with ample memory.
+//! What the clauses of the foundations do not say: the examples of the standards, and that calls succeed with ample memory.
 #![tactic(auto)]
 
 #[cfg(test)]

@@ -7,7 +7,7 @@ ghost use Rattle.gate_journal.specs.Calls.{appending};
 ghost use Rattle.gate_journal.specs.Format.{end_of, gate_place, sizes, LONGEST_PAYLOAD};
 ghost use Rattle.gate_journal.specs.Journal.{Fits, FitsVersion, IsOwn, IsBeforeOrAfter, kept_with, room_of};
 
-use crate::reading::{Bodies, Stored};
+use crate::reading::{Bodies, LONGEST_FILE, Stored};
 use crate::writing::write_record;
 use crate::{Disk, Failed, FileNo, Header, Record};
 use owned_values::NoMemory;
@@ -21,10 +21,7 @@ pub(crate) const FIRST_BODY: u64 = 72;
 const FIRST_GATE: u64 = 70;
 
 /// What a body has besides its payload: its length and the next gate.
-pub(crate) const AROUND: u64 = 5;
-
-/// The greatest length of a file.
-const LONGEST_FILE: u64 = 134_217_728;
+pub const AROUND: u64 = 5;
 
 /// Where the gate of the next record stands.
 fn gate_before(end: u64, records: &[Record]) -> u64
@@ -184,7 +181,7 @@ impl Journal {
     pub fn room(&self) -> u64
         ensures { result ≡ room_of self.now.kept }
     {
-        LONGEST_FILE.saturating_sub(self.end)
+        (LONGEST_FILE as u64).saturating_sub(self.end)
     }
 
     /// Adds a record. It takes no memory. At `Failed` the journal is broken, and has to be opened again; the disk then

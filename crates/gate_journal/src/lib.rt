@@ -19,24 +19,25 @@
 //! writes nothing but the first journal where there is none.
 //!
 //! [`Failed`] and [`OpenFault::DiskFault`] come only where the disk's count of faults rose. After [`Failed`] the journal
-//! is broken, and is opened again by `reopen`. [`OpenFault::Foreign`] comes exactly where the files stand for no list
-//! of records, and [`OpenFault::NoMemory`] may come from each call that allocates: `append` does not.
+//! is broken, and is opened again by `reopen`. [`OpenFault::Foreign`] comes exactly where the files hold a fault, unless
+//! the disk fails or memory runs out; want of memory may come from each call that allocates: `append` does not.
 //!
 //! # What is proved
 //!
 //! What two files stand for is a function of their bytes (`journal`). `read_text` and `newer` give it of two texts that
 //! lie in memory, with payloads that are slices of them, and make no call of a disk. `open_journal` and `reopen` give
-//! that, or Foreign with the file and place of the fault exactly where they stand for no journal; `append` adds its
-//! payload and takes no memory; `compact` and `migrate` leave the kept payloads in the other file, one generation on,
-//! with the new horizon and next number, or with the old ones; `reserve`, `room` and the calls that show the journal
-//! are exact. At every moment during and after a call each image that a crash may leave stands for the list before or
-//! with the new record (`append`), for the old journal or the new one (`compact`, `migrate`), or for what an image at
-//! the start stood for, or the first journal where that was none (`open_journal`, `reopen`). Each of these calls
-//! makes the changing calls of the disk that its plan names, in their order and no other: all of them where it
-//! answers Ok, and else a beginning; an opening writes nothing but the first journal where there is none (`calls`:
-//! `Follows` of crash_disk, over the plans of `specs/Calls.antt`). The disk's count of faults rises where a call
-//! answers Failed or DiskFault, which breaks the journal, and in no other; want of memory leaves journal and disk as
-//! they were in `compact`, `migrate` and `reserve`, and breaks the journal in `reopen`.
+//! that, the first journal where there is none yet, or Foreign with the file and place of the fault exactly where they
+//! hold one, unless the disk fails or memory runs out; `append` adds its payload and takes no memory; `compact` and
+//! `migrate` leave the kept payloads in the other file, one generation on, with the new horizon and next number, or
+//! with the old ones; `reserve`, `room` and the calls that show the journal are exact. At every moment during and after
+//! a call each image that a crash may leave stands for the list before or with the new record (`append`), for the old
+//! journal or the new one (`compact`, `migrate`), or for what an image at the start stood for, or the first journal
+//! where that was none (`open_journal`, `reopen`). Each of these calls makes the changing calls of the disk that its
+//! plan names, in their order and no other: all of them where it answers Ok, and else a beginning; an opening writes
+//! nothing but the first journal where there is none (`calls`: `Follows` of crash_disk, over the plans of
+//! `specs/Calls.antt`). The disk's count of faults rises where a call answers Failed or DiskFault, which breaks the
+//! journal, and in no other; want of memory leaves journal and disk as they were in `compact`, `migrate` and `reserve`,
+//! and breaks the journal in `reopen`.
 #![tactic(auto)]
 
 mod compacting;
@@ -54,7 +55,8 @@ mod writing;
 pub use crash_disk::{Disk, Failed, FileNo};
 pub use fault::OpenFault;
 pub use header::Header;
-pub use journal::Journal;
+pub use journal::{AROUND, Journal};
 pub use opening::open_journal;
+pub use reading::{LONGEST_FILE, LONGEST_PAYLOAD};
 pub use record::Record;
 pub use texts::{FilePayloads, FileText, newer, read_text};

@@ -21,11 +21,13 @@ pub(crate) const GATE: usize = 70;
 
 pub(crate) const OPEN: u8 = 1;
 
-pub(crate) const LONGEST_FILE: usize = 134_217_728;
+/// The greatest length of a file, in bytes.
+pub const LONGEST_FILE: usize = 134_217_728;
 
 pub(crate) const LONGEST_FILE_ONE: usize = 67_108_864;
 
-pub(crate) const LONGEST_PAYLOAD: usize = 1_048_576;
+/// The greatest length of a payload, in bytes.
+pub const LONGEST_PAYLOAD: usize = 1_048_576;
 
 pub(crate) const LONGEST_PAYLOAD_ONE: usize = 524_288;
 

@@ -28,10 +28,11 @@
 //! does [`Awaited::request`].
 //!
 //! [`cookie_of`] and [`is_form_type`] read two of the fields. [`full_answer`] makes an answer around a body, and
-//! [`put_fixed`] writes the one that names a verdict or a status; both write the text that `answer` says, which a client reads
-//! as the same status, fields and body ([`laws::an_answer_is_read_again`]). [`vouched_answer`] tells a proxy who a request comes
-//! from, in two lines that hold no byte outside 0x20 to 0x7E ([`laws::a_vouched_answer_is_read_again`]). These two take memory;
-//! there `NoMemory` may come in place of the answer.
+//! [`put_fixed`] writes the one that names a verdict or a status; both write the text that `answer` says, which a
+//! client reads as the same status, fields and body ([`laws::an_answer_is_read_again`]). [`vouched_answer`] tells a
+//! proxy who a request comes from, in two lines that hold no byte outside 0x20 to 0x7E
+//! ([`laws::a_vouched_answer_is_read_again`]). `full_answer` and `vouched_answer` take memory; there `NoMemory` may
+//! come in place of the answer.
 //!
 //! # What is proved
 //!

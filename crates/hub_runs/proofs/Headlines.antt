@@ -1,5 +1,6 @@
 -- The headline follows from how a run goes.
-use Rattle.std.proofs.Common.{ℕ}
+use Rattle.std.specs.Prelude.{Contains}
+use Rattle.std.proofs.Common.{ℕ, List}
 use Rattle.crash_disk.specs.Disk.{Image}
 use Rattle.http_wire.specs.declared.answer.Answer.TheVariants as answers
 use Rattle.serve_loop.specs.Turns.{Asked, Asks, asked_in}
@@ -13,7 +14,7 @@ use Rattle.hub_ledger.specs.Laws.{AnswerAlike, ImagesHoldRecords}
 use Rattle.hub_ledger.specs.Record.{hub_rules}
 use Rattle.identity_hub.specs.Histories.{WhatIsAcknowledgedIsKeptOnce, WhatIsAcknowledgedIsKeptOnceOverStarts}
 use Rattle.provider_node.specs.Causes.{GivesNoOwnCode}
-use Rattle.provider_node.specs.Histories.{IsProviders}
+use Rattle.provider_node.specs.Histories.{AnyMoment, IsProviders}
 use Rattle.identity_hub.specs.Passing.{EachRefusalIsOfOneBelow, EachRequestUpwardsIsOfOneBelow, NothingIsAskedOfAUserWhoMayNotBeAsked, OnlyWhereALoginIsBrought, WhereverALoginIsBrought}
 use Rattle.identity_hub.specs.Recorded.{IsPosted}
 use Rattle.provider_node.specs.Recorded.{WhatIsAnsweredIsRecorded}
@@ -100,10 +101,12 @@ headline laws left =
       below = laws.below run.provider.ledger.held.records (asked_in turns);
     })
 
-pub over_starts : Laws → WhatIsAcknowledgedIsKeptOnceOverStarts → EachSessionBelowIsOfALoginAbove
+pub over_starts : Laws → WhatIsAcknowledgedIsKeptOnceOverStarts AnyMoment
+    → ((moments : List ℕ) → WhatIsAcknowledgedIsKeptOnceOverStarts (Contains moments)) → EachSessionBelowIsOfALoginAbove
     → TheHeadlineHoldsOverStarts
-over_starts laws once below start starts are begun = record {
+over_starts laws once once_at below start starts are begun = record {
   goes = λ asked there. goes_exactly laws asked;
   once = once start starts are begun;
+  once_at = λ moments at. once_at moments start starts are at;
   below = below start.records (asked_over starts);
 }

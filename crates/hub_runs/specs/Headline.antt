@@ -33,10 +33,10 @@ use Rattle.passed_logins.specs.Passed.{IsOfARecordedLogin}
 use Rattle.provider_node.specs.declared.codes.TheConstants.{NO_MEMORY}
 use Rattle.provider_node.specs.Added.{IsAddedBy}
 use Rattle.provider_node.specs.Lasting.{AreKeptSince}
-use Rattle.provider_node.specs.Starts.{AreStarts, Start, asked_over}
+use Rattle.provider_node.specs.Starts.{AreStarts, AreStartsAt, Start, asked_over}
 use Rattle.provider_run.specs.Headlines.{AddsOnlyItsOwn, AnswersForACause, AnswersOnceRecorded, EachGoes, GoesOnDisk, HeadlineBy, HeadlineOf, KeepsWhatIsVisible, ServedOver, ServedRun, WhereAsked}
 use Rattle.provider_run.specs.Runs.{Outside, world_of}
-use Rattle.identity_hub.specs.Histories.{AreKeptOnce, AreKeptOnceOver}
+use Rattle.identity_hub.specs.Histories.{AreKeptOnce, AreKeptOnceOver, AreKeptOnceOverAt}
 use Rattle.identity_hub.specs.Passing.{CanPassOn, HasRoom, IsOfBelow, IsOfPassive, IsPassedOn, IsSpoken, PassesLogin}
 use Rattle.identity_hub.specs.Recorded.{IsPosted}
 use Rattle.identity_hub.specs.Signed.{Carries, IsMetadata}
@@ -164,6 +164,10 @@ Headline = HeadlineBy IsSetUp address key hub_rules Answers Says
 pub record HeadlineOver (start : Held) (starts : List (Start Provider)) : Type 0 where
   pub goes : (asked : Asked Provider) → Contains (asked_over starts) asked → GoesExactly asked
   pub once : AreKeptOnceOver start starts
+  -- where each request of the starts was asked at one of these moments, each compaction in such a history was at one of
+  -- them
+  pub once_at : (moments : List ℕ) → AreStartsAt hub_rules Answers (Contains moments) start starts
+      → AreKeptOnceOverAt (Contains moments) start starts
   pub below : SessionsBelowAreOfLoginsAbove start.records (asked_over starts)
 
 abbrev pub TheHeadlineHoldsOverStarts : Type 0

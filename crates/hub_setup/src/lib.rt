@@ -16,9 +16,10 @@
 //!
 //! # What is proved
 //!
-//! `set_up`: a hub exactly as its config and the files that it names say (`ok`), or the first file that can't be used and
-//! its line, or the line of the first peer whose name stands before it (`err`); a hub can be started with what is set up
-//! (`usable`). A config has one outcome (`laws::a_config_has_one_outcome`).
+//! `set_up`: a hub exactly as its config and the files that it names say (`ok`), or the first file that can't be used
+//! and its line, or the line of the first peer whose name stands before it, unless a reading failed or memory ran out
+//! (`err`); a hub can be started with what is set up (`usable`). A config has one outcome
+//! (`laws::a_config_has_one_outcome`).
 #![tactic(auto)]
 
 pub mod laws;

@@ -5,9 +5,10 @@ use Rattle.http_wire.specs.declared.answer.Answer.{Answer}
 use Rattle.http_wire.specs.Requests.{Request}
 use Rattle.ledger_records.specs.declared.hub_record.HubRecord.{HubRecord}
 use Rattle.provider_node.specs.Histories.{moments_of}
-use Rattle.provider_node.proofs.Histories.{DrawsAbove, IsAbove, above_of_each, came_so, kept_so, some_left}
+use Rattle.provider_node.specs.Added.{DrawsAbove, IsAbove}
+use Rattle.provider_node.proofs.Histories.{above_of_each, came_so, kept_so, some_left}
 use Rattle.provider_node.proofs.Histories.{what_is_kept}
-use Rattle.provider_node.proofs.Starts.{kept_over, kept_over_so}
+use Rattle.provider_node.proofs.Starts.{kept_over_at, kept_over_so}
 use Rattle.hub_ledger.specs.Laws.{ImagesHoldRecords, NoRequestBacksTwiceInARun}
 use Rattle.hub_ledger.specs.Ledger.{Held}
 use Rattle.hub_ledger.specs.Record.{hub_rules}
@@ -54,12 +55,13 @@ kept_once law never_twice first last turns kept at tells run =
           (never_twice start found came.events at.records came.leads);
     }
 
-pub kept_once_over : ImagesHoldRecords → NoRequestBacksTwiceInARun → WhatIsAcknowledgedIsKeptOnceOverStarts
-kept_once_over law never_twice start starts are begun =
-    let is = kept_over hub_rules Answers law draws_above start starts begun in
+pub kept_once_over : ImagesHoldRecords → NoRequestBacksTwiceInARun → (IsMoment : ℕ → Type 0)
+    → WhatIsAcknowledgedIsKeptOnceOverStarts IsMoment
+kept_once_over law never_twice IsMoment start starts are begun =
+    let is = kept_over_at hub_rules Answers law draws_above IsMoment start starts begun in
     let (found, came) = is.history in
     record {
-      all = kept_over_so hub_rules Answers PassOnce start starts
+      all = kept_over_so hub_rules Answers PassOnce IsMoment start starts
           (λ held events leads. never_twice start held events are leads) is;
       once = still_differ came.events is.records (requests_backed start.records) came.includes
           (never_twice start found came.events are came.leads);

@@ -11,13 +11,11 @@ use hub_ledger::{BelowRow, backed, first_id, second_id};
 use idp_answers::{Statement, issued_answer, no_passive_answer, stated_login, text_of};
 use ledger_records::HubRecord;
 use ledger_records::hub_record::Backed;
+use ledger_rules::ASSERTION_LIFE;
 use owned_values::{Blob, NoMemory};
 use provider_config::SignMode;
 use saml_time::LAST;
 use sp_answers::ask_answer;
-
-/// How long an Assertion may be presented, in milliseconds.
-const ASSERTION_LIFE: u64 = 300_000;
 
 /// What the hub states by a login that it passes on.
 fn statement_of(passed: &Backed) -> Statement<'_>

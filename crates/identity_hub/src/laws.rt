@@ -1,5 +1,7 @@
 //! Laws of a hub, each the contract of a function that does nothing.
+ghost use Rattle.std.specs.Prelude.{ℕ, List, Contains};
 ghost use Rattle.provider_node.specs.Causes.{GivesNoOwnCode};
+ghost use Rattle.provider_node.specs.Histories.{AnyMoment};
 ghost use Rattle.identity_hub.specs.Histories.{WhatIsAcknowledgedIsKeptOnce, WhatIsAcknowledgedIsKeptOnceOverStarts};
 ghost use Rattle.identity_hub.specs.Passing.{EachRefusalIsOfOneBelow, EachRequestUpwardsIsOfOneBelow, NothingIsAskedOfAUserWhoMayNotBeAsked, OnlyWhereALoginIsBrought, WhereverALoginIsBrought};
 ghost use Rattle.identity_hub.specs.Recorded.{IsPosted};
@@ -66,9 +68,12 @@ pub fn what_is_acknowledged_is_kept_once()
     hub_ledger::laws::no_request_backs_twice_in_a_run();
 }
 
-/// And over each list of starts, of which each opens what a crash of the one before it may have left.
+/// And over each list of starts, of which each opens what a crash of the one before it may have left: at whatever
+/// moments their requests were asked; and where each was asked at one of these moments, each compaction in such a
+/// history was at one of them.
 pub fn what_is_acknowledged_is_kept_once_over_starts()
-    ensures { WhatIsAcknowledgedIsKeptOnceOverStarts }
+    ensures any { WhatIsAcknowledgedIsKeptOnceOverStarts AnyMoment }
+    ensures at { (moments : List ℕ) → WhatIsAcknowledgedIsKeptOnceOverStarts (Contains moments) }
 {
     hub_ledger::laws::images_hold_records();
     hub_ledger::laws::no_request_backs_twice_in_a_run();

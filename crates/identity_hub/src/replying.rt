@@ -71,4 +71,6 @@ impl Role for HubRole {
         each_login_has_an_answer();
         like_rows_are_judged_alike();
     }
+
+    fn numbers_are_new() {}
 }

@@ -2,6 +2,7 @@
 use Rattle.std.specs.Prelude.{◌≡◌, ◌≢◌, ℕ, ◌+◌, ◌≤◌, min, true, List, [], ◌∷◌, Option, Some}
 use Rattle.std.specs.List.{AllByRecursion, flat_map, list_all}
 use Rattle.xml_spec.specs.Characters.{IsText}
+use Rattle.ledger_rules.specs.Moments.{ASSERTION_LIFE}
 use Rattle.ledger_rules.specs.Numbers.{is_xml_text}
 use Rattle.ledger_rules.specs.Texts.{of_attribute}
 use Rattle.owned_values.specs.declared.attributes.Attribute.{Attribute}
@@ -60,10 +61,7 @@ stated_login issuer s = record {
   attributes = s.attributes;
 }
 
--- How long an Assertion may be presented, in milliseconds: five minutes, and to the end of the year 9999 at most.
-abbrev pub ASSERTION_LIFE : ℕ
-ASSERTION_LIFE = 300000
-
+-- until when an Assertion may be presented: five minutes, and to the end of the year 9999 at most
 abbrev pub presented_until : ℕ → ℕ
 presented_until now = min LAST (now + ASSERTION_LIFE)
 

@@ -25,12 +25,9 @@ use Rattle.idp_rows.specs.Finding.{session_found}
 use Rattle.idp_ledger.specs.Record.{idp_rules}
 use Rattle.idp_rows.specs.Record.{LAST, of_attribute, of_asker, of_turn}
 use Rattle.idp_ledger.specs.Ledger.{Held, OpenedLedger}
-pub use Rattle.ledger_rules.specs.Moments.{LIFE}
+pub use Rattle.ledger_rules.specs.Moments.{ASSERTION_LIFE, LIFE}
 
--- how long an assertion is accepted, and how long a session lives
-abbrev pub ASSERTION_LIFE : ℕ
-ASSERTION_LIFE = 300000
-
+-- how long a session lives
 abbrev pub SESSION_LIFE : ℕ
 SESSION_LIFE = 28800000
 

@@ -63,7 +63,7 @@ pub use gate_journal::{Disk, Failed, FileNo, Header, OpenFault};
 pub use idp_rows::{IdpKey, IssuedRow, LeftRow, Noted, PendingRow, SessionRow};
 pub use ledger::{IdpLedger, pending, rows, session};
 pub use ledger_rules::DraftFault;
-pub use logins::{draft_issue, draft_login};
+pub use logins::{SESSION_LIFE, draft_issue, draft_login};
 pub use record_ledger::MOST_ROWS;
 pub use round_rows::RoundRow;
 pub use rounds::{draft_round, draft_told, parts, turn};

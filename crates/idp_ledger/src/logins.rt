@@ -16,15 +16,12 @@ use crate::ledger::{IdpLedger, session};
 use idp_rows::{PendingRow, SessionRow};
 use ledger_records::IdpRecord;
 use ledger_records::idp_record::Issued;
-use ledger_rules::{DraftFault, LAST};
+use ledger_rules::{ASSERTION_LIFE, DraftFault, LAST};
 use owned_values::{Attributes, NoMemory, Text};
 use std::alloc::Global;
 
-/// How long an assertion is accepted, in milliseconds.
-const ASSERTION_LIFE: u64 = 300_000;
-
 /// How long a session lives, in milliseconds.
-const SESSION_LIFE: u64 = 28_800_000;
+pub const SESSION_LIFE: u64 = 28_800_000;
 
 /// The record of an assertion for a pending login.
 fn login_record(

@@ -11,7 +11,7 @@ use Rattle.std.proofs.lemmas.List.FromFn.{length-range_with_len, get_or-range_wi
 use Rattle.std.proofs.lemmas.List.Sorted.{IsPermutation-refl}
 use Rattle.ledger_rules.specs.Numbers.{has_number, AreBelow}
 use Rattle.ledger_rules.proofs.Rising.{lesser_id}
-use Rattle.request_rows.specs.Order.{one_text, key_at, key_order, place_order, IsOrder}
+use Rattle.ledger_rules.specs.Order.{one_text, key_at, key_order, place_order, IsOrder}
 use Rattle.idp_rows.specs.Kept.{HaveNumbers, ComeInOrder, id_at}
 
 -- one row more, whose number is greater than those of the others

@@ -1,6 +1,6 @@
 -- The keys by which the rows of a list are sorted.
 use Rattle.std.specs.Prelude.{List, map}
-use Rattle.request_rows.specs.Order.{KeyTexts, one_text}
+use Rattle.ledger_rules.specs.Order.{KeyTexts, one_text}
 use Rattle.idp_rows.specs.declared.key.IdpKey.{IdpKey}
 use Rattle.idp_rows.specs.declared.key.IdpKey.TheVariants.{PendingId, SessionCookie}
 use Rattle.idp_rows.specs.RowsOf.{IdpRows}

@@ -8,7 +8,7 @@ ghost use Rattle.idp_rows.specs.RowsOf.{rows_of_kind};
 ghost use Rattle.idp_rows.specs.Finding.{pending_found, session_found, is_waiting_now, last_peer, has_issued};
 ghost use Rattle.round_rows.specs.Kept.{IsRoundOf};
 ghost use Rattle.idp_rows.specs.Record.{is_answer_free, is_free, is_issue_free, is_next};
-ghost use Rattle.request_rows.specs.Order.{IsOrder};
+ghost use Rattle.ledger_rules.specs.Order.{IsOrder};
 ghost use Rattle.idp_rows.specs.Order.{keys_of};
 ghost use Rattle.idp_rows.specs.Kept.{HasRoom, KeepsRoom, AreFew, IsAfter, session_begun};
 

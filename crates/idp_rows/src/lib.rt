@@ -21,12 +21,12 @@
 //!
 //! # What is proved
 //!
-//! The rows of an identity provider: `comes_next` says exactly which record may come behind those that stand here (`is_next`):
-//! the rows that it names are there and free, its numbers are greater than all before, a document may hold its texts
-//! but a relay state, and it is dated; `put_entry` makes of the rows what they are after that record (`rows_after`).
-//! `pending`, `session`, `is_waiting`, `waiting_round`, `last_peer` and `has_issued` give what their definitions give
-//! over the lists; `order` is each place once, by key and place. `Noted::new` and `make_room` may want memory, and
-//! change nothing else; the other calls can't fail.
+//! The rows of an identity provider: `comes_next` says exactly which record may come behind those that stand here
+//! (`is_next`): the rows that it names are there and free, its IDs begin with its numbers, which are greater than all
+//! before and below 2^63, a document may hold its texts but a relay state, and it is dated; `put_entry` makes of the
+//! rows what they are after that record (`rows_after`). `pending`, `session`, `is_waiting`, `waiting_round`,
+//! `last_peer` and `has_issued` give what their definitions give over the lists; `order` is each place once, by key and
+//! place. `Noted::new` and `make_room` may want memory, and change nothing else; the other calls can't fail.
 #![tactic(auto)]
 
 mod checks;

@@ -8,7 +8,7 @@ ghost use Rattle.idp_rows.specs.RowsOf.{used_where};
 ghost use Rattle.idp_rows.specs.Finding.{pending_found};
 ghost use Rattle.idp_rows.specs.Record.{is_unused};
 ghost use Rattle.idp_rows.specs.Kept.{IsRowAt};
-ghost use Rattle.request_rows.specs.Order.{one_text, IsOrder};
+ghost use Rattle.ledger_rules.specs.Order.{one_text, IsOrder};
 
 use crate::row::PendingRow;
 use ledger_rules::{Numbers, RowPlaces};

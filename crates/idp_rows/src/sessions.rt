@@ -7,7 +7,7 @@ ghost use Rattle.idp_rows.specs.RowsOf.{ended_where, is_among};
 ghost use Rattle.idp_rows.specs.Finding.{session_found, has_issued, last_peer};
 ghost use Rattle.idp_rows.specs.Record.{is_unended};
 ghost use Rattle.idp_rows.specs.Kept.{IsRowAt};
-ghost use Rattle.request_rows.specs.Order.{one_text, IsOrder};
+ghost use Rattle.ledger_rules.specs.Order.{one_text, IsOrder};
 ghost use Rattle.idp_rows.specs.declared.row.SessionRow.{SessionRow};
 
 use crate::issues::Issues;

@@ -19,9 +19,9 @@
 //! address, which wants its Response where the peer's metadata has it and for which its Signature vouches where it has
 //! one (`accepted`: `IsAsked`); else the verdict of the first condition that fails (`refused`: `IsRefused`). A form
 //! asks for one thing alone, and has one verdict (`laws::a_request_has_one_verdict`), and it can't be that it is
-//! neither accepted nor refused (`laws::each_request_is_judged`); the request's texts are texts that a document may
-//! hold (`laws::the_texts_of_a_request_are_texts`). What an identity provider is set up with, and when it can be
-//! started (`IsUsable`).
+//! neither accepted nor refused (`laws::each_request_is_judged`); the ID of a request and the address of its Response
+//! are texts that a document may hold, where those of the peers are (`laws::the_texts_of_a_request_are_texts`). What an
+//! identity provider is set up with, and when it can be started (`IsUsable`).
 #![tactic(auto)]
 
 mod asked;

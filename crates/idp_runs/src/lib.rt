@@ -12,7 +12,8 @@
 //! with the provider's own setup, ledger and steps. It carries the headline ([`laws`]): each Assertion is issued to a
 //! user with a password or a session, each signed element is one of a record, and no form is sent before its record is
 //! durable. A session is ended exactly where its user leaves it or a peer asks for it, and never lives again. A crash
-//! at any moment of a run leaves what one inside the opening may leave, or what one inside an answer may.
+//! at any moment of a run leaves of a disk that tells what one inside the opening may leave, or what one inside an
+//! answer may.
 //!
 //! # What is proved
 //!
@@ -25,12 +26,13 @@
 //! exactly where their users leave them or a peer ends them, where there is room, at once or behind one compaction, the
 //! disk does not fail and memory is found; and where the disk tells, what was acknowledged is kept, and a session that
 //! was ended is live at no later request and behind the run; a logout that asks all others asks each in its turn and
-//! once, and says Success exactly where each confirmed (`AsksInTurn`); and each image that a crash might leave since a
-//! point of the run, also inside later requests, has in its history the records for which the answers up to that point
-//! stand (`AreKeptSince`). A run that served is a start, over which the laws of starts go (`laws::a_run_is_a_start`),
-//! and from each image that a crash may leave a later start goes on (`laws::each_image_of_a_run_goes_on`). Each fault
-//! comes only where its count rose; where a provider can be run and nothing failed it served, or memory ran out
-//! (`complete`). 50, 51 and 53 are answered for their causes alone (`AnswersForACause`).
+//! once, and says Success exactly where each confirmed and none was skipped (`AsksInTurn`); and each image that a crash
+//! might leave since a point of the run, also inside later requests, has in its history the records for which the
+//! answers up to that point stand (`AreKeptSince`). A run that served is a start, over which the laws of starts go
+//! (`laws::a_run_is_a_start`), and from each image that a crash may leave a later start goes on
+//! (`laws::each_image_of_a_run_goes_on`). Each fault comes only where its count rose; where a provider can be run and
+//! nothing failed it served, or memory ran out (`complete`). 50, 51 and 53 are answered for their causes alone
+//! (`AnswersForACause`).
 #![tactic(auto)]
 
 pub mod laws;

@@ -1,26 +1,21 @@
 -- That no two sessions in the records of a ledger have one cookie, so that a session is found by its own.
-use Rattle.std.specs.Prelude.{Contains, Result, Err, Ok}
+use Rattle.std.specs.Prelude.{Contains}
 use Rattle.std.specs.List.{AllByRecursion, find, list_any}
 use Rattle.std.specs.Str.{bytes_eq}
-use Rattle.std.proofs.Common.{◌≡◌, ℕ, zero, suc, ◌+◌, ◌<◌, ◌≤◌, ◌==◌, max, Bool, true, false, cond, if◌then◌else◌, not, ◌&&◌, ◌||◌, List, [], ◌∷◌, ◌++◌}
+use Rattle.std.proofs.Common.{◌≡◌, ℕ, zero, suc, ◌+◌, ◌<◌, ◌≤◌, max, Bool, true, false, cond, not, ◌&&◌, ◌||◌, List, [], ◌∷◌, ◌++◌}
 use Rattle.std.proofs.Common.{Option, None, Some, refl, sym, ap, ◌∙◌, subst, arith}
 use Rattle.std.proofs.lemmas.Bool.{and_parts, lt-ltb, or_left, or_right, true≢false}
-use Rattle.crash_disk.specs.Disk.{Image}
-use Rattle.crash_disk.specs.Torn.{other_file}
 use Rattle.ledger_records.specs.declared.idp_record.Issued.{Issued}
 use Rattle.ledger_records.specs.declared.idp_record.IdpRecord.{IdpRecord}
 use Rattle.ledger_records.specs.declared.idp_record.IdpRecord.TheVariants as kinds
 use Rattle.ledger_rules.specs.Numbers.{NUMBER_END, has_number}
-use Rattle.record_ledger.specs.Ledger.{empty_ledger, ledger_in, migrated, taken}
 use Rattle.record_ledger.proofs.Numbers.{IsNumbered, numbered_above, one_number}
 use Rattle.record_ledger.proofs.Words.{other_way, same_text, text_itself}
 use Rattle.idp_rows.specs.declared.row.SessionRow.{SessionRow}
 use Rattle.idp_rows.specs.Finding.{session_found, visible}
 use Rattle.idp_rows.specs.RowsOf.{ends, if_pending, rows_of, session_row, session_rows}
 use Rattle.idp_rows.proofs.StandingRows.{above_some, fresh_cookie}
-use Rattle.idp_ledger.specs.Laws.{ImagesHoldRecords}
-use Rattle.idp_ledger.specs.Ledger.{Held}
-use Rattle.idp_ledger.specs.Record.{AreRecords, AreRecordsAfter, idp_rules, is_record, next_of}
+use Rattle.idp_ledger.specs.Record.{AreRecords, AreRecordsAfter, is_record, next_of}
 use Rattle.idp_ledger.proofs.RowLaws.{is_record-is, next_of-push}
 
 -- ---- the numbers of cookies
@@ -146,25 +141,3 @@ live_row records row now horizon are there unended less also =
     (λ other passes. (and_parts (bytes_eq other.cookie row.cookie) (not other.ended)
     (and_parts (bytes_eq other.cookie row.cookie && not other.ended) (visible other.until now horizon) passes).0).0)
     (apart_behind [] records are) there (λ i. text_itself row.cookie i && not (unended i) && later i)
-
--- ---- the records of a ledger that is opened
-
-migrated_records : (held : Held) (b : Bool) → (if b then record held
-    { file = other_file held.file; version = 2; header = record (held.header) { generation = held.header.generation + 1 } }
-    else held).records ≡ held.records
-migrated_records held true = refl
-migrated_records held false = refl
-
-pub opened_records : ImagesHoldRecords → (image : Image) (held : Held) → taken (ledger_in idp_rules image) ≡ Ok held
-    → AreRecords held.records
-opened_records law image held opens = by_found (ledger_in idp_rules image) refl opens
-  where
-    by_found : (found : Result (Option Held) _) → ledger_in idp_rules image ≡ found → taken found ≡ Ok held
-        → AreRecords held.records
-    by_found (Ok None) is opens =
-        let same : ◌≡◌ {A = Held} empty_ledger held = cc in subst (λ (h : Held). AreRecords h.records) same tt
-    by_found (Ok (Some before)) is opens =
-        let same : migrated before ≡ held = cc in
-        subst (λ (h : Held). AreRecords h.records) same
-        (subst AreRecords (sym (migrated_records before (before.version == 1))) (law image before is))
-    by_found (Err fault) is opens = absurd (cc)

@@ -8,7 +8,8 @@ use Rattle.idp_ledger.specs.Ledger.{Held, next_number}
 use Rattle.idp_ledger.specs.Record.{idp_rules}
 use Rattle.idp_rules.specs.declared.config.IdpConfig.{IdpConfig}
 use Rattle.provider_node.proofs.Histories as any
-use Rattle.provider_node.proofs.Histories.{DrawsAbove, IsAbove, above_of_each}
+use Rattle.provider_node.specs.Added.{DrawsAbove, IsAbove}
+use Rattle.provider_node.proofs.Histories.{above_of_each}
 use Rattle.round_rows.specs.declared.row.RoundRow.{RoundRow}
 use Rattle.round_rows.specs.Rounds.{is_turn_left}
 use Rattle.idp_server.specs.Rounds.{round_by}

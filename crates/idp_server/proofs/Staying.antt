@@ -16,12 +16,13 @@ use Rattle.idp_rows.specs.RowsOf.{IdpRows, begun, ended_if, ends, if_pending, se
 use Rattle.idp_ledger.proofs.RowLaws.{rows_of-push}
 use Rattle.provider_node.specs.Histories.{CameFrom}
 use Rattle.provider_node.proofs.Histories.{what_is_kept}
+use Rattle.provider_node.proofs.Opened.{opened_records}
 use Rattle.provider_node.proofs.Starts.{kept_over_at}
 use Rattle.provider_node.proofs.Staying.{Stood, stood}
 use Rattle.idp_server.specs.Staying.{Began, IsAsLeft}
 use Rattle.provider_node.specs.Staying.{SessionsStayInAService, SessionsStayOverStarts, WhatWasOpenedIsAsLeft}
 use Rattle.idp_server.specs.Step.{Answers}
-use Rattle.idp_server.proofs.Cookies.{live_row, opened_records}
+use Rattle.idp_server.proofs.Cookies.{live_row}
 use Rattle.idp_server.proofs.Histories.{draws_above}
 
 -- ---- rows
@@ -93,6 +94,6 @@ module _ (rows_stay : RowsStay) (law : ImagesHoldRecords) where
           opens.held,
           opens.opens,
           as_left rows_stay moments start opens.held is.records r opens.came began
-              (opened_records law image opens.held opens.opens),
+              (opened_records idp_rules law image opens.held opens.opens),
         );
       }

@@ -17,7 +17,7 @@ use Rattle.idp_rows.specs.RowsOf.{ends, rows_of}
 use Rattle.provider_node.specs.Histories as any
 use Rattle.provider_node.specs.Histories.{IsAtStart, IsProviders}
 use Rattle.provider_node.specs.Points.{AClosedSessionStaysClosed, Point, StayClosed, points}
-use Rattle.provider_node.specs.Starts.{AreKeptOver, AreStarts, Start, StayClosedOverStarts}
+use Rattle.provider_node.specs.Starts.{AreKeptOverAt, AreStartsAt, Start, StayClosedOverStarts}
 use Rattle.idp_server.specs.Step.{Provider, Answers}
 
 -- ENDED SESSIONS
@@ -74,12 +74,14 @@ SessionsStayEndedInAService =
 -- OVER STARTS
 
 -- Over several starts, of which each opens what a crash of the one before it may have left, too: what was acknowledged
--- is in the history of every ledger that may be opened behind them, and a session that was ended, at first or by what
--- was acknowledged, is live in none.
-abbrev pub WhatIsAcknowledgedIsKeptOverStarts : Type 0
-WhatIsAcknowledgedIsKeptOverStarts =
-    (start : Held) (starts : List (Start Provider)) → AreRecords start.records
-    → AreStarts idp_rules Answers start starts → AreKeptOver idp_rules Answers start starts
+-- is in the history of every ledger that may be opened behind them, and in this each compaction was at one of their
+-- moments, of which `IsMoment` says.
+module _ (IsMoment : ℕ → Type 0) where
+  abbrev pub WhatIsAcknowledgedIsKeptOverStarts : Type 0
+  WhatIsAcknowledgedIsKeptOverStarts = (start : Held) (starts : List (Start Provider)) → AreRecords start.records
+      → AreStartsAt idp_rules Answers IsMoment start starts → AreKeptOverAt idp_rules Answers IsMoment start starts
 
+-- And a session that was ended, at first or by what was acknowledged, is live in no ledger that may be opened behind
+-- them.
 abbrev pub SessionsStayEndedOverStarts : Type 0
 SessionsStayEndedOverStarts = StayClosedOverStarts idp_rules Answers IsEnded ends IsDead

@@ -1,5 +1,7 @@
 //! Laws of an identity provider, each the contract of a function that does nothing.
+ghost use Rattle.std.specs.Prelude.{ℕ, List, Contains};
 ghost use Rattle.provider_node.specs.Causes.{GivesNoOwnCode};
+ghost use Rattle.provider_node.specs.Histories.{AnyMoment};
 ghost use Rattle.idp_server.specs.Issues.{AnswersHaveAskers, AnswersHaveUsers, IsPosted, RefusalsHaveAskers, ServicesHaveUsers};
 ghost use Rattle.provider_node.specs.Recorded.{WhatIsAnsweredIsRecorded};
 ghost use Rattle.idp_server.specs.Histories.{AnEndedSessionStaysEnded, SessionsStayEndedInAService, SessionsStayEndedOverStarts, WhatIsAcknowledgedIsKept, WhatIsAcknowledgedIsKeptOverStarts};
@@ -76,9 +78,12 @@ pub fn sessions_stay_ended_in_a_service()
 }
 
 /// Over each list of starts of a provider, each of which opens what a crash of the one before it may have left: what an
-/// answer acknowledged is in the history of every ledger that may be opened behind them.
+/// answer acknowledged is in the history of every ledger that may be opened behind them. So it is at whatever moments
+/// their requests were asked; and where each was asked at one of these moments, each compaction in such a history was
+/// at one of them.
 pub fn what_is_acknowledged_is_kept_over_starts()
-    ensures { WhatIsAcknowledgedIsKeptOverStarts }
+    ensures any { WhatIsAcknowledgedIsKeptOverStarts AnyMoment }
+    ensures at { (moments : List ℕ) → WhatIsAcknowledgedIsKeptOverStarts (Contains moments) }
 {
     idp_ledger::laws::images_hold_records();
 }

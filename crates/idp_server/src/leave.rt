@@ -38,7 +38,7 @@ impl IdpRole {
         ensures refused { IfErr result (IsJudged (λ verdict. Answers self.now ledger.now.held (request_view request.now)
             now (Fixed (number_of verdict)) None)) }
     {
-        let _usable = &self.config;
+        self.has_usable_config();
         what_is_recorded_may_stand();
         each_moment_is_told();
         ledger.holds_records();

@@ -14,6 +14,9 @@
 //! | POST `/slo` | the verdict on the posted form; to a LogoutRequest a form with a LogoutResponse, where there are sessions to end, else code 33; to a LogoutResponse the page at the end of the logout that it replies to, else code 34 |
 //! | GET `/metadata` | the metadata of the provider |
 //!
+//! Where the provider that a message of a logout goes to is no peer any more, or has no address for logout, the page at
+//! the end of a logout stands in place of the form.
+//!
 //! Where the config has `fanout`, a logout asks each other provider to which an Assertion was issued in the sessions
 //! that it ends, one after the other: the answer to POST `/logout` and to a LogoutRequest is then a form with a
 //! LogoutRequest to the first of them, and to the LogoutResponse of each the form to the next one; behind the last
@@ -39,11 +42,11 @@
 //! without one where the user may not be asked, the page where a user logs in, and behind it 1, 45, 46 or an Assertion
 //! with the cookie of a new session; of a logout as at the service provider, with PartialLogout where an ended session
 //! had issued to another peer, or, where the config has `fanout`, with each other provider asked in its turn and
-//! Success exactly where each confirmed. Records, codes 50 to 53, crashes, `start`, `restart` and `compact` as at the
-//! service provider. Laws: each Assertion is issued to a user whose password was posted for a login that was pending
-//! and unused, or in the user's live session, to the peer that asked by a form, at its address and with its relay
-//! state, and not where the user is to be authenticated anew (`each_issue_has_a_password_or_a_session`); a login is
-//! pending, and a Response without an Assertion is recorded, only where a peer asked for it by a form
+//! Success exactly where each confirmed and none was skipped. Records, codes 50 to 53, crashes, `start`, `restart` and
+//! `compact` as at the service provider. Laws: each Assertion is issued to a user whose password was posted for a login
+//! that was pending and unused, or in the user's live session, to the peer that asked by a form, at its address and
+//! with its relay state, and not where the user is to be authenticated anew (`each_issue_has_a_password_or_a_session`);
+//! a login is pending, and a Response without an Assertion is recorded, only where a peer asked for it by a form
 //! (`each_question_has_an_asker`); each form and page that is answered to a POST stands for a record that is in every
 //! image that a crash may leave behind the step (`what_is_answered_is_recorded`); each signed element in an answer,
 //! those of a logout too, is one that its record stands for, and the answer is of the record's kind, at its address and

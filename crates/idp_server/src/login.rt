@@ -18,15 +18,12 @@ use crate::role::IdpRole;
 use fault_verdicts::Judged;
 use http_wire::HttpRequest;
 use idp_answers::laws::{each_moment_is_told, what_is_recorded_may_stand};
-use idp_ledger::IdpLedger;
+use idp_ledger::{IdpLedger, SESSION_LIFE};
 use owned_values::{NoMemory, Text, Texts};
 use post_binding::read_fields;
 use saml_time::LAST;
 use std::alloc::Global;
 use verdict_codes::Verdict;
-
-/// How long a session lives, in milliseconds.
-const SESSION_LIFE: u64 = 28_800_000;
 
 /// The names of the fields of the page.
 fn field_names(alloc: Global) -> Result<Texts, NoMemory>

@@ -84,8 +84,10 @@ impl Role for IdpRole {
     }
 
     fn laws_hold(&self, now: u64) {
-        let _usable = &self.config;
+        self.has_usable_config();
         compactions_change_no_answer();
         each_login_has_an_answer();
     }
+
+    fn numbers_are_new() {}
 }

@@ -33,6 +33,13 @@ impl IdpRole {
         IdpRole { config, alloc }
     }
 
+    /// The config is a usable one.
+    pub(crate) fn has_usable_config(&self)
+        ensures { IsUsable self.now }
+    {
+        let _config = &self.config;
+    }
+
     /// The config.
     pub fn config(&self) -> &IdpConfig
         ensures { result.now ≡ self.now }

@@ -24,16 +24,13 @@ pub enum Service {
 pub(crate) fn service_at(path: &str) -> Option<(Method, Service)>
     ensures { result ≡ spec.service_at path.now }
 {
+    use Service::{Login, Logout, Metadata, SignOn, SingleLogout};
+
     if path == "/sso" {
-        Some((Method::Post, Service::SignOn))
-    } else if path == "/login" {
-        Some((Method::Post, Service::Login))
-    } else {
-        common_at(
-            path,
-            Service::Metadata,
-            Service::Logout,
-            Service::SingleLogout,
-        )
+        return Some((Method::Post, SignOn));
     }
+    if path == "/login" {
+        return Some((Method::Post, Login));
+    }
+    common_at(path, Metadata, Logout, SingleLogout)
 }

@@ -86,7 +86,7 @@ impl IdpRole {
         requires known { asked.peer < length self.now.peers }
         ensures { IfOk result (Wants self.now ledger.now.held (request_view request.now) now) }
     {
-        let _usable = &self.config;
+        self.has_usable_config();
         the_texts_of_a_request_are_texts();
         ledger.holds_records();
         what_is_recorded_may_stand();

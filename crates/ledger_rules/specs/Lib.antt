@@ -3,4 +3,5 @@ pub mod Kept
 pub mod RowPlaces
 pub mod Texts
 pub mod Moments
+pub mod Order
 pub mod Examples

@@ -8,3 +8,7 @@ LAST = 253402300799999
 -- how long a request for a login or a logout may be answered
 abbrev pub LIFE : ℕ
 LIFE = 600000
+
+-- how long an Assertion may be presented
+abbrev pub ASSERTION_LIFE : ℕ
+ASSERTION_LIFE = 300000

@@ -13,6 +13,9 @@ pub const LAST: u64 = 253_402_300_799_999;
 /// How long a request for a login or a logout may be answered, in milliseconds.
 pub const LIFE: u64 = 600_000;
 
+/// How long an Assertion may be presented, in milliseconds.
+pub const ASSERTION_LIFE: u64 = 300_000;
+
 /// Numbers end below this one.
 pub const END_OF_NUMBERS: u64 = 1 << 63;
 

@@ -39,7 +39,8 @@ mod row_places;
 mod text_set;
 
 pub use checks::{
-    END_OF_NUMBERS, LAST, LIFE, are_allowed, are_allowed_attributes, is_allowed, is_fresh,
+    ASSERTION_LIFE, END_OF_NUMBERS, LAST, LIFE, are_allowed, are_allowed_attributes, is_allowed,
+    is_fresh,
 };
 pub use fault::DraftFault;
 pub use kept::keep;

@@ -1,6 +1,7 @@
 //! Where a login comes from. If only the identity provider makes HMACs that match, and no other text has the hash of one that
 //! it signed, each login that opens a session is one that the identity provider signed (SAML Core, 5.4; SAML Profiles,
-//! 4.1.4.5). What lies outside the signed element changes nothing.
+//! 4.1.4.5). What lies outside the signed elements changes nothing but the key, of one config, at one moment and over the same
+//! rows.
 //!
 //! The premises are `Unforged` and `NoCollision` of `Premises.antt`. They speak of the signed elements of one posted form, and
 //! of a list of all elements that the identity provider signed. That HMAC and SHA-256 are strong is not said.

@@ -15,7 +15,7 @@
 //! `specs/Plan.antt`, and what follows an answer `specs/Round.antt`. That a round ends with Success exactly where each provider
 //! confirmed and none was skipped is the law [`laws::a_round_succeeds_where_each_confirms`].
 //!
-//! [`make_plan`] answers `NoMemory` alone, and takes time n log n for n parts and few peers. [`Round`] takes no memory.
+//! [`make_plan`] refuses with `NoMemory` alone, and takes time n log n for n parts and few peers. [`Round`] takes no memory.
 //!
 //! # What is proved
 //!

@@ -16,7 +16,7 @@
 //! ([`laws::a_logout_form_has_one_verdict`]).
 //!
 //! What is made is signed with the peer's key as `Making.antt` says, and the peer's key vouches for it where it is read
-//! ([`laws::what_is_made_is_vouched_for`]). Want of memory may come in place of any other answer.
+//! with an ID ([`laws::what_is_made_is_vouched_for`]). Want of memory may come in place of any other answer.
 //!
 //! # What is proved
 //!

@@ -8,7 +8,8 @@ ghost use Rattle.metadata.specs.declared.fault.MetaFault.{MetaFault};
 ghost use Rattle.metadata.specs.Metadata.{peer_of};
 ghost use Rattle.metadata.specs.Making.{metadata, plain, service_path};
 
-/// Metadata that is written and read again describes the provider in its role, with its addresses, and in no other role.
+/// Metadata that is written for a provider with a name and read again describes it in its role, with its addresses. What
+/// `put_metadata` writes describes nobody in the other role.
 pub fn written_metadata_is_read()
     ensures same { (role : Role) (entity base : List ℕ) (tree : Nodes) → entity ≢ [] → IsMade (metadata role entity base) →
         Spells (written (metadata role entity base)) tree →

@@ -7,7 +7,7 @@
 //!
 //! A contract sees what an element says of a provider as a function of the tree and the number of the element
 //! (`Metadata.antt`), and what is written as the bytes of a made element (`Making.antt`). What is written for a role is
-//! read as the provider in that role (`laws`). Want of memory may come in place of any other answer.
+//! read as the provider in that role, where its name is not empty (`laws`). Want of memory may come in place of any other answer.
 //!
 //! # What is proved
 //!

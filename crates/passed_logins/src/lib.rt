@@ -1,6 +1,7 @@
-//! Where the logins come from that a hub passes on. If only the provider above makes HMACs that match for what it signed, and
-//! only the hub for what it signs, and no hash collides, each session that a provider below opens has the name and the
-//! attributes of a login that the provider above recorded for the hub (SAML Core, 3.4.1.5; SAML Profiles, 4.1.4.5).
+//! Where the logins come from that a hub passes on. If only the provider above makes HMACs that match for what it
+//! signed, and only the hub for what it signs, and no hash collides, each session that a provider below opens has the
+//! name and the attributes of a login that the provider above recorded for the hub, or of a record that the hub had at
+//! the start (SAML Core, 3.4.1.5; SAML Profiles, 4.1.4.5).
 //!
 //! To those below a hub is an identity provider, and what it signs for a record is what an identity provider signs for an issued
 //! one: so what `recorded_logins` says of these holds here. Each function does nothing: what it ensures is a law of the

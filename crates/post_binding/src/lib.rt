@@ -8,11 +8,11 @@
 //!
 //! [`read_form`] gives what the definition `form` gives over the pairs of `form_urlencoded`: the field, the message and the
 //! relay, or the first fault of [`FormFault`]. Names are decoded before they are compared. What [`post_body`] makes is read
-//! as what it was made of ([`laws::what_is_posted_is_read`]).
+//! as what it was made of, within the limits that are named below ([`laws::what_is_posted_is_read`]).
 //!
 //! A page is the program's own markup around texts that are escaped ([`Page`]). So no text that a user or a peer gives
-//! ends the element or the attribute that it stands in ([`laws::pages_have_their_own_markup`]), and it is read there as
-//! itself ([`laws::an_escaped_text_is_read_again`]).
+//! ends the element or the attribute that it stands in ([`laws::pages_have_their_own_markup`]), and the references in it
+//! are read again as the text ([`laws::an_escaped_text_is_read_again`]); a browser besides changes CR, LF and NUL.
 //!
 //! Contracts see a body and a page as their bytes. `NoMemory` may come in place of any other answer, and then what a call
 //! was lent is as before.

@@ -78,9 +78,13 @@ logout_request id issuer destination name indexes issued until =
     ∷ attribute (codes "NotOnOrAfter") until ∷ attribute (codes "Version") (codes "2.0") ∷ [])
     (joined (issuer_made issuer) (joined (with_text Saml (codes "NameID") name) (session_indexes indexes)))
 
--- a LogoutRequest ends 300 seconds after its issue, or with the last moment that has a written form (profile)
+-- how long a LogoutRequest may be answered, in milliseconds
+abbrev pub REQUEST_LIFE : ℕ
+REQUEST_LIFE = 300000
+
+-- a LogoutRequest ends so long after its issue, or with the last moment that has a written form (profile)
 abbrev pub request_end : ℕ → ℕ
-request_end issued = min (issued + 300000) LAST
+request_end issued = min (issued + REQUEST_LIFE) LAST
 
 -- 3.7.2: LogoutResponse
 abbrev pub logged_out : List ℕ → List ℕ → List ℕ → List ℕ → MadeNodes → List ℕ → Made

@@ -13,7 +13,7 @@ ghost use Rattle.protocol_messages.specs.declared.logout.Outcome.{Outcome};
 ghost use Rattle.protocol_messages.specs.Messages.{IsAuthnRequest, IsResponse, IsLogoutRequest, IsLogoutResponse};
 ghost use Rattle.protocol_messages.specs.Making.{IsMadeAt, IsMadeFrom, authn_request, response, assertion_made, logout_request, request_end, logged_out, succeeded, failed};
 
-/// An element is one message at most: no two readings of it differ in any field.
+/// An element is one message of each kind at most: no two readings of it differ in any field.
 pub fn an_element_is_one_message()
     ensures authn { (tree : Nodes) (k : ℕ) (m n : AuthnRequest) → IsAuthnRequest tree k m → IsAuthnRequest tree k n → m ≡ n }
     ensures response { (tree : Nodes) (k : ℕ) (m n : ResponseHead) → IsResponse tree k m → IsResponse tree k n → m ≡ n }
@@ -21,8 +21,8 @@ pub fn an_element_is_one_message()
     ensures logged_out { (tree : Nodes) (k : ℕ) (m n : LogoutResponse) → IsLogoutResponse tree k m → IsLogoutResponse tree k n → m ≡ n }
 {}
 
-/// The AuthnRequest that is made, written and read again, is the one that was made. White space around the name of the
-/// provider is lost.
+/// The AuthnRequest that is made with an ID of 1 to 256 bytes, written and read again, is the one that was made. White space
+/// around the name of the provider is lost.
 pub fn a_made_authn_request_is_read()
     ensures { (id issuer destination consumer : List ℕ) (issued : ℕ) (made : Made) (tree : Nodes) → 1 ≤ length id → length id ≤ 256 →
         IsMadeAt issued (authn_request id issuer destination consumer) made → IsMade made → Spells (written made) tree →
@@ -41,8 +41,9 @@ pub fn a_made_authn_request_is_read()
     xml_spec::no_bytes_spell_two_trees();
 }
 
-/// The Response that is made, written and read again, is the one that was made: with an Assertion it is a success with
-/// this one Assertion, without one it is none.
+/// The Response that is made with an ID of 1 to 256 bytes, written and read again, is the one that was made: with an
+/// Assertion it is a success with this one Assertion, without one it is none. White space around the name of the provider is
+/// lost.
 pub fn a_made_response_is_read()
     ensures answered { (id issuer destination request : List ℕ) (attributes : List Attribute) (kids : MadeNodes) (issued : ℕ) (made : Made) (tree : Nodes) →
         1 ≤ length id → length id ≤ 256 →
@@ -72,7 +73,8 @@ pub fn a_made_response_is_read()
     xml_spec::no_bytes_spell_two_trees();
 }
 
-/// The LogoutRequest that is made, written and read again, is the one that was made, with each SessionIndex.
+/// The LogoutRequest that is made with an ID of 1 to 256 bytes, written and read again, is the one that was made, with each
+/// SessionIndex. White space around the name of the provider is lost.
 pub fn a_made_logout_request_is_read()
     ensures { (id issuer destination name : List ℕ) (indexes : List (List ℕ)) (issued : ℕ) (made : Made) (tree : Nodes) → 1 ≤ length id → length id ≤ 256 →
         IsMadeFrom issued (request_end issued) (logout_request id issuer destination name indexes) made → IsMade made → Spells (written made) tree →
@@ -89,7 +91,8 @@ pub fn a_made_logout_request_is_read()
     xml_spec::no_bytes_spell_two_trees();
 }
 
-/// The LogoutResponse that is made, written and read again, is the one that was made.
+/// The LogoutResponse that is made with an ID of 1 to 256 bytes, written and read again, is the one that was made. White
+/// space around the name of the provider is lost.
 pub fn a_made_logout_response_is_read()
     ensures { (id issuer destination request : List ℕ) (partial : Bool) (issued : ℕ) (made : Made) (tree : Nodes) → 1 ≤ length id → length id ≤ 256 →
         IsMadeAt issued (logged_out id issuer destination request (if partial then failed partial_logout else succeeded)) made → IsMade made →

@@ -14,6 +14,9 @@ use saml_names::{NO_PASSIVE, PARTIAL_LOGOUT, POST, RESPONDER, SUCCESS};
 use saml_time::{LAST, put_instant};
 use std::alloc::Global;
 
+/// How long a LogoutRequest may be answered, in milliseconds.
+const REQUEST_LIFE: u64 = 300_000;
+
 /// The written form of a moment (SAML Core, 1.3.3).
 fn instant(alloc: Global, moment: u64) -> Result<Text, NoMemory>
     requires { moment ≤ LAST }
@@ -202,7 +205,7 @@ pub fn make_logout_request(
     ensures { IfOk result (λ made. IsMadeFrom issued (request_end issued) (logout_request id.now issuer.now destination.now name.now indexes.now) made) }
 {
     let issue = instant(alloc, issued)?;
-    let until = instant(alloc, (issued + 300_000).min(LAST))?;
+    let until = instant(alloc, (issued + REQUEST_LIFE).min(LAST))?;
     let mut made = Made::new(alloc, Ns::Samlp, "LogoutRequest");
     made.attr("Destination", destination)?;
     made.attr("ID", id)?;

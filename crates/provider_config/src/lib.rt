@@ -10,9 +10,9 @@
 //! }
 //! ```
 //!
-//! A config is a text of lines ([`text_lines`]). Each key stands once, in any order; words are separated by one space. A
-//! service provider has its identity provider either from metadata (`idp`) or from a registry of metadata (`registry`),
-//! and may have a policy.
+//! A config is a text of lines ([`text_lines`]). A key stands at most once, but for `peer`, `asked` and `opened`, and
+//! the keys stand in any order; words are separated by one space. A service provider has its identity provider either
+//! from metadata (`idp`) or from a registry of metadata (`registry`), and may have a policy.
 //! [`read_sp_config`] gives what the definition `sp_config` gives, [`read_idp_config`] what `idp_config` gives, and
 //! [`read_hub_config`] what `hub_config` gives: the values of the keys and the named files in the order of their lines, or
 //! the number of the first line that is bad ([`ConfigFault`]). All are linear in the text. What the named files hold is not
@@ -24,11 +24,11 @@
 //!
 //! # What is proved
 //!
-//! `read_sp_config`: the config that a file's lines say, exactly, or the number of the first line that is bad, or 0
-//! where a key is missing (`value`); what it gives is within the bounds that callers need (`skew`, `times`, `files`). A
-//! service provider's config has metadata or a registry, and no two of its files have one role
-//! (`laws::no_role_is_named_twice`). `read_idp_config` the same for an identity provider, and `read_hub_config` for a
-//! hub: the peers of either are at most [`MAX_PEERS`] (`few`).
+//! `read_sp_config`: unless memory ran out, the config that a file's lines say, exactly, or the number of the first
+//! line that is bad, or 0 where a key is missing (`value`); what it gives is within the bounds that callers need
+//! (`skew`, `times`, `texts`, `files`). A service provider's config has metadata or a registry, and no two of its files
+//! have one role (`laws::no_role_is_named_twice`). `read_idp_config` the same for an identity provider, and
+//! `read_hub_config` for a hub: the peers of either are at most [`MAX_PEERS`] (`few`).
 #![tactic(auto)]
 
 mod config;

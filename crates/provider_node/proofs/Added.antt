@@ -1,19 +1,20 @@
 -- That what stands anew in a ledger is of the request.
-use Rattle.std.specs.Prelude.{Contains, IfSome, IsSome, Option, None, Some, Result, Ok, if◌then◌else◌, ◌==◌}
-use Rattle.std.proofs.Common.{◌≡◌, ◌⊎◌, ⊎_elim, inl, inr, ℕ, zero, suc, ◌+◌, Bool, true, false, List, [], ◌∷◌, sym}
+use Rattle.std.specs.Prelude.{Contains, IfSome, IsSome, Option, None, Some, Result, Ok, ◌==◌}
+use Rattle.std.proofs.Common.{◌≡◌, ◌⊎◌, ⊎_elim, inl, inr, ℕ, zero, suc, Bool, true, false, List, [], ◌∷◌, sym}
 use Rattle.std.proofs.Common.{subst, refl, ap, ◌∙◌, arith}
 use Rattle.std.proofs.lemmas.List.Elements.{Contains-append_cases}
 use Rattle.crash_disk.specs.Disk.{Image, DiskState, MayLeave, image_of}
-use Rattle.crash_disk.specs.Torn.{other_file}
 use Rattle.gate_journal.specs.Format.{Fault}
 use Rattle.http_wire.specs.Requests.{Request}
 use Rattle.ledger_rules.specs.Kept.{selected}
 use Rattle.record_ledger.specs.Rules.{RecordRules}
 use Rattle.record_ledger.specs.Ledger.{Held, IsWithOrWithout, LeftByOpening, held_with, ledger_in, migrated, taken}
 use Rattle.record_ledger.specs.Compacting.{Compacts}
-use Rattle.provider_node.specs.Added.{IsAddedBy, IsNew, WhatIsNewIsOfTheRequest}
+use Rattle.provider_node.specs.Added.{IsNew, WhatIsNewIsOfTheRequest}
+use Rattle.provider_node.specs.Causes.{Finds, IsAddedOver}
 use Rattle.provider_node.specs.Step.{Adding, AnswersBy, AtFirst, InCommit, InCompaction, InLedger, InOpened, InOpening}
 use Rattle.provider_node.specs.Step.{Provider, ServingLeaves}
+use Rattle.provider_node.proofs.Opened.{migrated_records}
 
 -- ---- what is kept stood there
 
@@ -34,15 +35,6 @@ among_compacted rules now old new r (inl (last, same)) there = subst (λ (h : He
 among_compacted rules now old new r (inr (less, made)) there =
     among_selected made.records.flags old.records r (subst (λ (l : List _). Contains l r) made.records.are there)
 
--- a migration leaves the records
-pub migrated_records : {R : Type 0} (held : Held R) (b : Bool) → (if b then record held {
-  file = other_file held.file;
-  version = 2;
-  header = record (held.header) { generation = held.header.generation + 1 };
-} else held).records ≡ held.records
-migrated_records held true = refl
-migrated_records held false = refl
-
 -- what stands in the one ledger that is found stands in the other
 in_found : {R : Type 0} (found : Result (Option (Held R)) Fault) (held other : Held R) (r : R)
     → found ≡ Ok (Some held) → found ≡ Ok (Some other) → Contains held.records r → Contains other.records r
@@ -51,20 +43,20 @@ in_found found held other r is also there =
 
 -- ---- a record that stands there
 
-module _ {Setup R : Type 0}
-    (rules : RecordRules R) (Answers : AnswersBy Setup R) (setup : Setup) (request : Request) (now : ℕ) (r : R) where
+module _ {Setup R : Type 0} (rules : RecordRules R) (Answers : AnswersBy Setup R) (old : Provider Setup R)
+    (disk : Option DiskState) (request : Request) (now : ℕ) (r : R) where
   abbrev Is : Type 0
-  Is = IsAddedBy Answers setup request now r
+  Is = IsAddedOver rules Answers old disk request now r
 
   -- of a request that is served over a ledger
-  module _ (found : Held R) (told : Option DiskState) (image : Image)
+  module _ (found : Held R) (finds : Finds rules old disk found) (told : Option DiskState) (image : Image)
       (held : Held R) (is : ledger_in rules image ≡ Ok (Some held)) (there : Contains held.records r) where
-    in_over : (one : Adding rules Answers setup found request now told)
+    in_over : (one : Adding rules Answers old.setup found request now told)
         → Contains one.held.records r → Contains found.records r
     in_over one stands = ⊎_elim (λ (same, disk). subst (λ (h : Held R). Contains h.records r) same stands)
         (λ (room, calls). among_compacted rules now found one.held r room.made stands) one.over
 
-    in_commit : (one : Adding rules Answers setup found request now told)
+    in_commit : (one : Adding rules Answers old.setup found request now told)
         → IsWithOrWithout rules one.r one.held image → Contains found.records r ⊎ Is
     in_commit one (inl same) = inl (in_over one (in_found (ledger_in rules image) held one.held r is same there))
     in_commit one (inr with) = of_case (Contains-append_cases one.held.records
@@ -76,11 +68,12 @@ module _ {Setup R : Type 0}
             inr (record {
               held = one.held;
               answer = one.answer;
-              adds = subst (λ (x : R). Answers setup one.held request now one.answer (Some x)) same one.adds;
+              adds = subst (λ (x : R). Answers old.setup one.held request now one.answer (Some x)) same one.adds;
+              over = (found, finds, ⊎_elim (λ both. inl both.0) (λ both. inr both.0) one.over);
             })
         of_case (inr (suc k, less, same)) = absurd (omega (arith, less))
 
-    in_serving : ServingLeaves rules Answers setup found request now told image → Contains found.records r ⊎ Is
+    in_serving : ServingLeaves rules Answers old.setup found request now told image → Contains found.records r ⊎ Is
     in_serving (AtFirst same may) = inl (in_found (ledger_in rules image) held found r is same there)
     in_serving (InCompaction room left) = ⊎_elim
         (λ same. inl (in_found (ledger_in rules image) held found r is same there)) (λ (made, compacts, same). inl
@@ -109,10 +102,12 @@ module _ {Setup R : Type 0} (rules : RecordRules R) (Answers : AnswersBy Setup R
   pub new_is_of_the_request : WhatIsNewIsOfTheRequest rules Answers
   new_is_of_the_request old disk request now image held r tells reads (InLedger whole left) is there new =
       ⊎_elim (λ stood. absurd (new.in_ledger whole stood))
-      (λ is. is) (in_serving rules Answers old.setup request now r old.ledger.held disk image held is there left)
+      (λ is. is) (in_serving rules Answers old disk request now r old.ledger.held (inl (whole, refl)) disk image held is
+      there left)
   new_is_of_the_request old disk request now image held r tells reads
       (InOpened found opened broken stands made left) is there new =
       ⊎_elim (λ stood. absurd (on_told old disk found r tells reads broken stands new stood))
-      (λ is. is) (in_serving rules Answers old.setup request now r found opened image held is there left)
+      (λ is. is) (in_serving rules Answers old disk request now r found (inr (broken, stands)) opened image held is there
+      left)
   new_is_of_the_request old disk request now image held r tells reads (InOpening broken left) is there new =
       absurd (in_opening old disk image held r tells broken is left.stands there new)

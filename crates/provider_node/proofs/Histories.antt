@@ -1,6 +1,6 @@
 -- The histories of what a provider's disk may hold, from turn to turn.
 use Rattle.std.specs.Prelude.{Contains, map, IfSome, IsSome, Option, None, Some, Ok}
-use Rattle.std.proofs.Common.{◌≡◌, ◌⊎◌, ⊎_elim, inl, inr, ℕ, zero, suc, ◌≤◌, List, [], ◌∷◌, ◌++◌, All, sym, subst, refl, ap}
+use Rattle.std.proofs.Common.{◌≡◌, ◌⊎◌, ⊎_elim, inl, inr, ℕ, zero, suc, ◌≤◌, List, [], ◌∷◌, ◌++◌, sym, subst, refl, ap}
 use Rattle.std.proofs.Common.{◌∙◌, true, false, append_assoc, arith}
 use Rattle.std.proofs.lemmas.List.{append-nil}
 use Rattle.std.proofs.lemmas.List.Elements.{All-from_recursion, Contains-append_left, Contains-append_right}
@@ -9,7 +9,6 @@ use Rattle.crash_disk.specs.Disk.{Image, DiskState, MayLeave, image_of}
 use Rattle.crash_disk.specs.Counts.{Rose}
 use Rattle.crash_disk.specs.Moments.{Leaves}
 use Rattle.conn_table.specs.Table.{Table}
-use Rattle.http_wire.specs.declared.answer.Answer.{Answer}
 use Rattle.http_wire.specs.Requests.{Request}
 use Rattle.ledger_rules.specs.Numbers.{Drawn}
 use Rattle.serve_loop.specs.Worlds.{World}
@@ -25,6 +24,7 @@ use Rattle.record_ledger.proofs.Records.{record_there}
 use Rattle.provider_node.specs.declared.codes.TheConstants.{DISK_FAULT, FOREIGN, FULL, NO_MEMORY}
 use Rattle.serve_loop.proofs.Telling.{goes_on_reading, goes_on_telling}
 use Rattle.provider_node.specs.Node.{provider_rules}
+use Rattle.provider_node.specs.Added.{DrawsAbove, IsAbove}
 use Rattle.provider_node.specs.Histories.{Another, AreAcknowledged, AreBehind, AreKept, AreKeptSo, CameFrom}
 use Rattle.provider_node.specs.Histories.{CompactsWhere, Includes, moments_of, ForCode, ForNone, ForRecord}
 use Rattle.provider_node.specs.Histories.{HoldsWhatCame, HoldsWhatCameSo, IsAtStart, IsProviders, Nothing, Stands}
@@ -39,10 +39,6 @@ use Rattle.provider_node.proofs.Serving.{settled}
 use Rattle.std.specs.Option.{option_to_list}
 
 -- ---- what came of a ledger
-
--- the numbers of a record were not drawn before
-abbrev pub IsAbove : {R : Type 0} → RecordRules R → Held R → R → Type 0
-IsAbove rules held r = All (λ (d : Drawn). next_number rules held ≤ d.number) (rules.drawn r)
 
 pub above_of_each : {R : Type 0} (rules : RecordRules R) (held : Held R) (made r : R) → made ≡ r
     → AllByRecursion (λ (d : Drawn). next_number rules held ≤ d.number) (rules.drawn made) → IsAbove rules held r
@@ -129,11 +125,6 @@ moment_at {N} IsMoment (x ∷ xs) one all (zero, less, is) = subst (λ (a : Aske
 moment_at IsMoment (x ∷ xs) one all (suc k, less, is) = moment_at IsMoment xs one all.1 (k, omega (arith, less), is)
 
 -- ---- what is known of a provider, its disk and the records that were acknowledged
-
--- the numbers of a record that is added were not drawn before
-abbrev pub DrawsAbove : {Setup R : Type 0} → RecordRules R → AnswersBy Setup R → Type 0
-DrawsAbove {Setup} {R} rules Answers = (setup : Setup) (held : Held R) (request : Request)
-    (now : ℕ) (answer : Answer) (r : R) → Answers setup held request now answer (Some r) → IsAbove rules held r
 
 pub record Holds {Setup R : Type 0} (rules : RecordRules R)
     (IsMoment : ℕ → Type 0) (start : Held R) (w : World (Provider Setup R)) (records : List R) : Type 0 where

@@ -21,7 +21,7 @@ use Rattle.provider_node.specs.Starts.{told_before}
 use Rattle.provider_node.proofs.Histories.{AreMoments, moment_at, moments_are}
 
 -- a disk that was synced as an image
-settled_reads : (image : Image) → MayLeave (settled_image image) image
+pub settled_reads : (image : Image) → MayLeave (settled_image image) image
 settled_reads image = record {
   zero = record { no_shorter = omega arith; no_longer = omega arith; elsewhere = λ i below outside. refl };
   one = record { no_shorter = omega arith; no_longer = omega arith; elsewhere = λ i below outside. refl };

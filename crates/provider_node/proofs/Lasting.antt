@@ -13,11 +13,12 @@ use Rattle.record_ledger.specs.Rules.{RecordRules}
 use Rattle.record_ledger.specs.Ledger.{Held}
 use Rattle.record_ledger.specs.Laws.{ImagesHoldRecords}
 use Rattle.record_ledger.specs.Runs.{Event}
+use Rattle.provider_node.specs.Added.{DrawsAbove}
 use Rattle.provider_node.specs.Step.{AnswersBy, Provider, StepLeaves}
 use Rattle.provider_node.specs.Histories.{AreBehind, Another, CameFrom, HoldsWhatCame, Includes, IsAtStart, IsProviders}
 use Rattle.provider_node.specs.Histories.{This, moments_of}
 use Rattle.provider_node.specs.Lasting.{AreInEachSince, AreKeptSince, StayIn}
-use Rattle.provider_node.proofs.Histories.{AreMoments, DrawsAbove, Holds, all_told, asked_goes, begins, moment_at}
+use Rattle.provider_node.proofs.Histories.{AreMoments, Holds, all_told, asked_goes, begins, moment_at}
 use Rattle.provider_node.proofs.Histories.{holds_same, moments_are, step_left}
 use Rattle.std.specs.Option.{option_to_list}
 

@@ -7,6 +7,7 @@ pub mod Histories
 pub mod Points
 pub mod Runs
 pub mod Starts
+pub mod Opened
 pub mod Added
 pub mod Alike
 pub mod Starving

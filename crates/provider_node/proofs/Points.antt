@@ -11,12 +11,13 @@ use Rattle.serve_loop.proofs.Quiet.{Asking, Goes, IsButTheLink, Quiet, goes}
 use Rattle.record_ledger.specs.Rules.{RecordRules, AreRecords}
 use Rattle.record_ledger.specs.Ledger.{Held}
 use Rattle.record_ledger.specs.Laws.{ImagesHoldRecords}
+use Rattle.provider_node.specs.Added.{DrawsAbove}
 use Rattle.provider_node.specs.Step.{AnswersBy, Ledger, Owns, OwnsDisk, Provider}
 use Rattle.provider_node.specs.Histories.{AnyMoment, IsAtStart, IsProviders}
 use Rattle.provider_node.specs.Points.{AClosedSessionStaysClosed, IsClosedAt, IsOverAt, Point, StayClosed, point}
 use Rattle.provider_node.specs.Points.{point_in, point_of, points, points_asked}
 use Rattle.provider_node.proofs.Serving.{settled}
-use Rattle.provider_node.proofs.Histories.{DrawsAbove, Holds, asked_goes, came_itself, found_whole, holds_same}
+use Rattle.provider_node.proofs.Histories.{Holds, asked_goes, came_itself, found_whole, holds_same}
 
 each_of : {X : Type 0} (P Q : X → Type 0) (xs : List X)
     → ((x : X) → P x → Q x) → AllByRecursion P xs → AllByRecursion Q xs

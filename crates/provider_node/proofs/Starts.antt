@@ -10,16 +10,18 @@ use Rattle.record_ledger.specs.Laws.{ImagesHoldRecords}
 use Rattle.record_ledger.specs.Runs as events
 use Rattle.record_ledger.specs.Runs.{Event, Adds, Opens, Leads}
 use Rattle.serve_loop.proofs.Telling.{goes_on_reading}
+use Rattle.provider_node.specs.Added.{DrawsAbove}
 use Rattle.provider_node.specs.Step.{AnswersBy, Provider, OwnsDisk}
 use Rattle.provider_node.specs.Node.{provider_rules}
 use Rattle.provider_node.specs.Histories.{AnyMoment, Another, CameFrom, CompactsWhere, HoldsWhatCame, Includes, Nothing}
 use Rattle.provider_node.specs.Histories.{This}
 use Rattle.provider_node.specs.Points.{AClosedSessionStaysClosed}
-use Rattle.provider_node.specs.Starts.{AreKeptOver, AreKeptOverAt, AreKeptOverSo, LeftBehind, OpensWhatCameSo}
+use Rattle.provider_node.specs.Starts.{AreKeptOver, AreKeptOverAt, AreKeptOverSo, LeftBehind, LeftBehindAt}
+use Rattle.provider_node.specs.Starts.{OpensWhatCameSo}
 use Rattle.provider_node.specs.Starts.{AreStarts, AreStartsAt, Behind, Cut, InAnswer, InCompaction, IsNextAt}
 use Rattle.provider_node.specs.Starts.{LeftFromAt, OpensWhatCame, Served, StandsAsOpened, Start, StayClosedOverStarts}
 use Rattle.provider_node.specs.Starts.{Unopened}
-use Rattle.provider_node.proofs.Histories.{DrawsAbove, Holds, all_told, an_image, begins, came_itself, compaction_left}
+use Rattle.provider_node.proofs.Histories.{Holds, all_told, an_image, begins, came_itself, compaction_left}
 use Rattle.provider_node.proofs.Histories.{known, known_behind, moments_are, step_left}
 
 -- ---- one history behind another
@@ -222,10 +224,12 @@ module _ {Setup R : Type 0} (rules : RecordRules R) (Answers : AnswersBy Setup R
 
 -- what else holds of the histories of what is kept, where it holds of each
 abbrev pub kept_over_so : {Setup R : Type 0} (rules : RecordRules R) (Answers : AnswersBy Setup R) (IsSo : Held R → List
-    (Event R) → Type 0) (start : Held R) (starts : List (Start (Provider Setup R))) → ((held : Held R) (events : List
-    (Event R)) → Leads rules start events held → IsSo start events) → AreKeptOver rules Answers start starts
-    → AreKeptOverSo Answers (LeftBehind rules Answers start starts) (OpensWhatCameSo rules IsSo AnyMoment start) starts
-kept_over_so rules Answers IsSo start starts so kept = record {
+    (Event R) → Type 0) (IsMoment : ℕ → Type 0) (start : Held R) (starts : List (Start (Provider Setup R)))
+    → ((held : Held R) (events : List (Event R)) → Leads rules start events held → IsSo start events)
+    → AreKeptOverAt rules Answers IsMoment start starts
+    → AreKeptOverSo Answers (LeftBehindAt rules Answers IsMoment start starts)
+    (OpensWhatCameSo rules IsSo IsMoment start) starts
+kept_over_so rules Answers IsSo IsMoment start starts so kept = record {
   records = kept.records;
   are = kept.are;
   kept =

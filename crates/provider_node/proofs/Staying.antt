@@ -12,11 +12,12 @@ use Rattle.record_ledger.specs.Laws.{ImagesHoldRecords}
 use Rattle.record_ledger.proofs.Staying.{visible_records_stay}
 use Rattle.record_ledger.specs.Runs as events
 use Rattle.record_ledger.specs.Runs.{CompactsAt, EndsBehind, Event, Adds, Opens, Leads}
+use Rattle.provider_node.specs.Added.{DrawsAbove}
 use Rattle.provider_node.specs.Histories.{Another, CameFrom, CompactsWhere, Includes, This}
 use Rattle.provider_node.specs.Staying.{RowIsAsLeft, SessionsStayInAService, SessionsStayOverStarts, WasAdded}
 use Rattle.provider_node.specs.Staying.{WhatWasOpenedIsAsLeft}
 use Rattle.provider_node.specs.Step.{AnswersBy}
-use Rattle.provider_node.proofs.Histories.{DrawsAbove, what_is_kept}
+use Rattle.provider_node.proofs.Histories.{what_is_kept}
 use Rattle.provider_node.proofs.Starts.{kept_over_at, last_event}
 
 module _ {R : Type 0} (rules : RecordRules R) where

@@ -1,4 +1,5 @@
--- The codes that a provider answers for itself, where it can't go on, and what each stands for.
+-- The ledger that a step finds, the record that it adds over this, and the codes that a provider answers for itself,
+-- where it can't go on, with what each stands for.
 use Rattle.std.specs.Prelude.{◌≡◌, ◌≢◌, ◌⊎◌, ℕ, true, false, Option, Some, IfSome, Err}
 use Rattle.crash_disk.specs.Counts.{Rose}
 use Rattle.crash_disk.specs.Disk.{DiskState, image_of}
@@ -30,6 +31,15 @@ Finds rules old disk found = ((old.ledger.broken ≡ false) × (found ≡ old.le
 
 module _ {Setup R : Type 0} (rules : RecordRules R) (Answers : AnswersBy Setup R)
     (old : Provider Setup R) (disk : Option DiskState) (request : Request) (now : ℕ) where
+  -- A request adds this record with some answer, be it one that was never sent: over the ledger that the step finds, or
+  -- over what the one compaction makes of this.
+  pub record IsAddedOver (r : R) : Type 0 where
+    pub held : Held R
+    pub answer : Answer
+    pub adds : Answers old.setup held request now answer (Some r)
+    pub over : (found : Held R) × Finds rules old disk found
+        × ((held ≡ found) ⊎ MakesRoom rules Answers old.setup found request now held)
+
   -- A record was to be added to the ledger that the step found, and there was no place for it; nor was there one for
   -- the record that was to be added to what one compaction made of this ledger.
   pub record HasNoRoom : Type 0 where

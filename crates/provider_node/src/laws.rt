@@ -3,7 +3,8 @@ ghost use Rattle.std.specs.Prelude.{Contains};
 ghost use Rattle.provider_node.specs.Added.{WhatIsNewIsOfTheRequest};
 ghost use Rattle.provider_node.specs.Causes.{EachCodeHasItsCause};
 ghost use Rattle.provider_node.specs.Starving.{WhatIsVisibleStays};
-ghost use Rattle.provider_node.specs.Staying.{RowIsAsLeft, WhatWasOpenedIsAsLeft};
+ghost use Rattle.provider_node.specs.Staying.{RowIsAsLeft, SessionsStayInAService, SessionsStayOverStarts};
+ghost use Rattle.provider_node.specs.Staying.{WhatWasOpenedIsAsLeft};
 
 use crate::role::Role;
 
@@ -14,11 +15,23 @@ pub fn what_is_new_is_of_the_request<R: Role>()
 {}
 
 /// Each row for whose record an answer went out is as it was left in each image that has in its history what was
-/// acknowledged, over requests, compactions and starts: where it is visible at each of their moments its record stands
-/// there, and those that name it are those that were added since.
+/// acknowledged, with compactions at these moments: where it is visible at each of them its record stands there, and
+/// those that name it are those that were added since.
 pub fn each_row_stays<R: Role>()
     ensures { WhatWasOpenedIsAsLeft R.Rows.rules (λ records r. Contains records r) (RowIsAsLeft R.Rows.rules) }
 {}
+
+/// Each row for whose record an answer went out is as it was left in every image that a crash may leave behind a
+/// service, and in every ledger that may be opened behind several starts, each request of which was asked at one of
+/// these moments.
+pub fn each_row_stays_over_starts<R: Role>()
+    ensures service { SessionsStayInAService R.Rows.rules
+        (λ records r. Contains records r) (RowIsAsLeft R.Rows.rules) R.answers }
+    ensures starts { SessionsStayOverStarts R.Rows.rules
+        (λ records r. Contains records r) (RowIsAsLeft R.Rows.rules) R.answers }
+{
+    R::numbers_are_new();
+}
 
 /// Where there was no memory for an answer and the ledger was not broken, each row that was visible at the moment of
 /// the request is visible behind it.

@@ -3,6 +3,7 @@ ghost use Rattle.std.specs.Prelude.{◌≡◌, ◌≤◌, ℕ, List, IfOk, None}
 ghost use Rattle.http_wire.specs.Requests.{Request};
 ghost use Rattle.http_wire.specs.Views.{request_view};
 ghost use Rattle.record_ledger.specs.Ledger.{CanCommit};
+ghost use Rattle.provider_node.specs.Added.{DrawsAbove};
 ghost use Rattle.provider_node.specs.Step.{AnswersBy, seen};
 ghost use Rattle.provider_node.specs.Replies.{AreReplies, IsDrafted, IsWanted, Replies, ReplyRules};
 
@@ -89,4 +90,8 @@ pub trait Role: Drop {
     fn laws_hold(&self, now: u64)
         requires { now ≤ LAST }
         ensures { AreReplies replies Self.Rows.rules answers self.now now };
+
+    /// That the numbers of each record that is added with an answer were not drawn before. It does nothing.
+    fn numbers_are_new()
+        ensures { DrawsAbove Self.Rows.rules answers };
 }

@@ -24,7 +24,7 @@ use Rattle.provider_node.specs.Step.{AnswersBy, Provider, Steps, StepsOnDisk}
 use Rattle.provider_node.specs.Causes.{GivesNoOwnCode}
 use Rattle.provider_node.proofs.Added.{new_is_of_the_request}
 use Rattle.provider_node.proofs.Causes.{each_has_its_cause}
-use Rattle.provider_node.proofs.Histories.{DrawsAbove}
+use Rattle.provider_node.specs.Added.{DrawsAbove}
 use Rattle.provider_run.specs.Headlines.{AddsOnlyItsOwn, AnswersForACause, AnswersOnceRecorded, EachGoes, EachRunCarries, EachRunIsAStart, HeadlineBy}
 use Rattle.provider_run.specs.Headlines.{KeepsWhatIsVisible, ServedRun}
 use Rattle.provider_run.specs.Providers.{BadSetUpBy, SetUpBy}

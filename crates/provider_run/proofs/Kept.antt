@@ -1,47 +1,37 @@
 -- What a run of a provider acknowledged is kept.
-use Rattle.std.specs.Prelude.{IfSome, IsSome, Option, None, Some, Result, Ok, Err}
-use Rattle.std.proofs.Common.{◌≡◌, ℕ, ◌==◌, List, [], ◌∷◌, sym, subst, refl, ap, ◌∙◌}
+use Rattle.std.specs.Prelude.{IfSome, IsSome, Option, None, Some, Result, Ok}
+use Rattle.std.proofs.Common.{◌≡◌, ℕ, List, [], ◌∷◌, sym, subst, ap, ◌∙◌}
 use Rattle.std.specs.List.{AllByRecursion}
 use Rattle.saml_outside.specs.Files.{File}
 use Rattle.conn_table.specs.Table.{Table}
 use Rattle.crash_disk.specs.Disk.{Image, DiskState, image_of}
-use Rattle.gate_journal.specs.Format.{Fault}
 use Rattle.serve_loop.specs.declared.served.Served.{Served}
 use Rattle.serve_loop.specs.declared.served.ServeFault.{ServeFault}
 use Rattle.serve_loop.specs.Serving.{Serves}
 use Rattle.serve_loop.specs.Turns.{Asked, Run, Turn, asked_by}
 use Rattle.serve_loop.specs.Worlds.{World}
 use Rattle.record_ledger.specs.Rules.{RecordRules, AreRecords}
-use Rattle.record_ledger.specs.Ledger.{Held, empty_ledger, ledger_in, migrated, taken}
+use Rattle.record_ledger.specs.Ledger.{Held, ledger_in, taken}
 use Rattle.record_ledger.specs.Laws.{ImagesHoldRecords}
 use Rattle.provider_node.specs.Histories.{IsAtStart, IsProviders}
 use Rattle.provider_node.specs.Lasting.{AreKeptSince}
 use Rattle.provider_node.specs.Points.{Point, point, point_in, points, points_asked}
 use Rattle.provider_node.specs.Starts.{IsServed}
 use Rattle.provider_node.specs.Step.{AnswersBy, Provider, StepLeaves}
-use Rattle.provider_node.proofs.Added.{migrated_records}
-use Rattle.provider_node.proofs.Histories.{DrawsAbove}
+use Rattle.provider_node.specs.Added.{DrawsAbove}
 use Rattle.provider_node.proofs.Lasting.{kept_since}
+use Rattle.provider_node.proofs.Opened.{opened_records}
 use Rattle.provider_run.specs.Runs.{Outside, world_of}
 use Rattle.provider_run.specs.Providers.{Begins, SetUpBy}
 
 -- ---- at the start
 
--- what is opened holds records of a ledger
+-- what a disk that tells is opened to holds records of a ledger
 module _ {R : Type 0} (rules : RecordRules R) (hold : ImagesHoldRecords rules) where
-  opened_records : (image : Image) (found : Result (Option (Held R)) Fault) (held : Held R)
-      → ledger_in rules image ≡ found → taken found ≡ Ok held → AreRecords rules held.records
-  opened_records image (Ok None) held is opens =
-      let same : empty_ledger ≡ held = cc in subst (λ (h : Held R). AreRecords rules h.records) same tt
-  opened_records image (Ok (Some before)) held is opens = let same : migrated before ≡ held = cc in
-      subst (λ (h : Held R). AreRecords rules h.records) same
-      (subst (AreRecords rules) (sym (migrated_records before (before.version == 1))) (hold image before is))
-  opened_records image (Err fault) held is opens = absurd (cc)
-
   told_records : (told : Option DiskState) (held : Held R)
       → IsSome told → IfSome told (λ d. taken (ledger_in rules (image_of d)) ≡ Ok held) → AreRecords rules held.records
   told_records None held tells holds = cc
-  told_records (Some d) held tells holds = opened_records (image_of d) (ledger_in rules (image_of d)) held refl holds
+  told_records (Some d) held tells holds = opened_records rules hold (image_of d) held holds
 
 -- ---- a provider that was started on a disk that tells
 

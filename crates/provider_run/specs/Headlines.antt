@@ -15,8 +15,8 @@ use Rattle.serve_loop.specs.Worlds.{World}
 use Rattle.record_ledger.specs.Rules.{AreRecords, RecordRules}
 use Rattle.record_ledger.specs.Ledger.{Held, ledger_in}
 use Rattle.provider_node.specs.declared.codes.TheConstants.{NO_MEMORY}
-use Rattle.provider_node.specs.Added.{IsAddedBy, IsNew}
-use Rattle.provider_node.specs.Causes.{HasItsCause}
+use Rattle.provider_node.specs.Added.{IsNew}
+use Rattle.provider_node.specs.Causes.{HasItsCause, IsAddedOver}
 use Rattle.provider_node.specs.Histories.{IsProviders}
 use Rattle.provider_node.specs.Recorded.{IsRecorded}
 use Rattle.provider_node.specs.Starts.{IsServed}
@@ -45,13 +45,13 @@ module _ {Setup R : Type 0} (rules : RecordRules R) (Answers : AnswersBy Setup R
       → Asks (IsProviders rules Answers) asked before after → Goes before after
 
   -- Each record that stands in an image which a crash inside the answer may leave, or one behind it, be it behind page
-  -- 50, and stood nowhere before is one that the request adds over some ledger with some answer, so that it is of it
-  -- what is said of these.
+  -- 50, and stood nowhere before is one that the request adds, with some answer, over the ledger that it finds or what
+  -- the one compaction makes of this, so that it is of it what is said of these.
   abbrev pub AddsOnlyItsOwn : Asked (Provider Setup R) → Type 0
   AddsOnlyItsOwn asked = (image : Image) (held : Held R) (r : R) → IsSome asked.disk
       → StepLeaves rules Answers asked.node asked.disk asked.request asked.now image
       → ledger_in rules image ≡ Ok (Some held) → Contains held.records r → IsNew rules asked.node asked.disk r
-      → IsAddedBy Answers asked.node.setup asked.request asked.now r
+      → IsAddedOver rules Answers asked.node asked.disk asked.request asked.now r
 
   -- Each of the codes that a provider answers for itself has its cause.
   abbrev pub AnswersForACause : Asked (Provider Setup R) → (before after : World (Provider Setup R)) → Type 0

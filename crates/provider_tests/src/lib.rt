@@ -1,4 +1,4 @@
-//! What the clauses of the providers do not say: that each call succeeds with ample memory.
+//! What the clauses of the providers do not say: that calls succeed with ample memory.
 #![tactic(auto)]
 
 #[cfg(test)]

@@ -5,17 +5,13 @@ ghost use Rattle.record_ledger.specs.Drafts.{capped, is_full, IsCause, Drafts, I
 
 use crate::ledger::RecordLedger;
 use crate::standing::Standing;
+use gate_journal::{AROUND, LONGEST_PAYLOAD};
 use ledger_rules::DraftFault;
 use owned_values::{Blob, NoMemory};
 use std::marker::Model;
 
 /// How many rows of one kind may be kept.
 pub const MOST_ROWS: usize = 65_536;
-
-/// The greatest length of a payload, and what a body has beside it.
-const LONGEST_PAYLOAD: u64 = 1_048_576;
-
-const AROUND: u64 = 5;
 
 /// A record that was drafted, and its payload. Contracts see it as the record.
 #[derive(Drop)]
@@ -64,7 +60,9 @@ impl<S: Standing> RecordLedger<S> {
         requires { len ≡ capped (length (S.rules.bytes 2 entry.now)) }
         ensures { IsTrue result ↔ IsFitting S.rules self.now.held entry.now }
     {
-        len <= LONGEST_PAYLOAD && len + AROUND <= self.journal.room() && S::are_before_end(entry)
+        len <= LONGEST_PAYLOAD as u64
+            && len + AROUND <= self.journal.room()
+            && S::are_before_end(entry)
     }
 
     /// Why a record is not drafted, beside want of memory; none where it can be.

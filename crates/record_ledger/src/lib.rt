@@ -26,16 +26,16 @@
 //! have and which rows they name is given by a type that implements `Standing`, in three values (`RecordRules`,
 //! `RowRules`, `LinkRules`) and the laws that hold of them (`Standing::laws_hold`). Over each such type:
 //! `RecordLedger::start` and `reopen` give what the two files stand for, made anew in version 2 where they have version
-//! 1, or Foreign with file and place exactly where they stand for no ledger; `draft` takes all memory, and refuses
-//! exactly where there are as many rows as may be or the record does not fit; `commit` takes none; `compact` leaves
-//! exactly the records with a visible row and those that are linked to them, at the last generation all; at every
-//! moment of a call each image that a crash may leave stands for the records before or after it; where a call failed
-//! each image still holds a ledger, or no journal yet (`own`). A record that was added is in each history from there
-//! on (`specs/Runs.antt`). The ledgers of all roles are this one, each with its own records and rows. Which changing
-//! calls of the disk `start`, `reopen`, `commit` and `compact` make is said as at the journal (`calls`; a compaction
-//! makes those of one ledger made anew, and at the last generation none). A record that is visible at each moment at
-//! which a run compacts the ledger stays in it to the end of the run, with the records that name it
-//! (`laws::visible_records_stay`).
+//! 1, the first ledger where there is none yet, or Foreign with file and place exactly where they hold a fault, unless
+//! the disk fails or memory runs out; `draft` takes all memory, and refuses exactly where there are as many rows as may
+//! be or the record does not fit; `commit` takes none; `compact` leaves exactly the records with a visible row and
+//! those that are linked to them, at the last generation all; at every moment of a call each image that a crash may
+//! leave stands for the records before or after it; where a call failed each image still holds a ledger, or no journal
+//! yet (`own`). A record that was added is in each history from there on (`specs/Runs.antt`). The ledgers of all roles
+//! are this one, each with its own records and rows. Which changing calls of the disk `start`, `reopen`, `commit` and
+//! `compact` make is said as at the journal (`calls`; a compaction makes those of one ledger made anew, and at the last
+//! generation none). A record that is visible at each moment at which a run compacts the ledger stays in it to the end
+//! of the run, with the records that name it (`laws::visible_records_stay`).
 #![tactic(auto)]
 
 mod compacting;

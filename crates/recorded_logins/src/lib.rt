@@ -1,7 +1,8 @@
-//! What the identity provider signs is what a service provider's origin asks for. The elements that its records stand
+//! What the identity provider signs is what `login_origin` asks of signed elements. The elements that its records stand
 //! for, each as a document of its own, are a list of signed elements as `login_origin` speaks of it, and a login of
-//! that list is the login of an issued record. So where only the identity provider makes HMACs that match, each login
-//! that opens a session is one that it recorded (SAML Core, 5.4; SAML Profiles, 4.1.4.2 and 4.1.4.5).
+//! that list is the login of an issued record. So where only the identity provider makes HMACs that match and no hash
+//! collides, each login that opens a session is one that it recorded (SAML Core, 5.4; SAML Profiles, 4.1.4.2 and
+//! 4.1.4.5).
 //!
 //! Each function does nothing: what it ensures is a law of the definitions in `specs/`. The laws hold of each list of
 //! what was signed for the records. Where it is not all that was sent, `Unforged` may fail of an honest form. Which key

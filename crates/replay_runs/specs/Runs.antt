@@ -21,7 +21,7 @@ use Rattle.serve_loop.specs.Worlds.{NodeRules}
 use Rattle.schedule_replay.specs.Hosts.{Host, told}
 use Rattle.schedule_replay.specs.Runs.{Ends, Ran, alone, beginning}
 use Rattle.provider_node.specs.Node.{provider_rules}
-use Rattle.replay_starts.specs.Replayed.{AreStartsOf}
+use Rattle.replay_starts.specs.Replayed.{AreStartsOf, moments_in_run}
 use Rattle.both_providers.specs.Together.{Headline}
 use Rattle.replay_runs.specs.Deployed.{service_provider, IsIdpConfig}
 
@@ -53,15 +53,18 @@ pub record IsBeginning (first : Deployment sp.Provider idp.Provider) : Type 0 wh
 
 -- How a run of these steps goes, by what was taken of its output before and after: there was no memory to start it, and
 -- nothing was printed; or both providers were started, and it is a run of theirs that ends so. These are the starts of either
--- provider in it, with the requests that it was asked by the bytes of the schedule's agents.
+-- provider in it, with the requests that it was asked by the bytes of the schedule's agents, each at a moment of the
+-- schedule's clock.
 pub data Goes (steps : List Step) (quiet : Bool) (sp_starts : List (Start sp.Provider)) (idp_starts : List (Start idp.Provider))
     (result : Result Tally ReplayFault) (before after : Option (List ℕ)) : Type 0 where
   NotBegun : result ≡ Err NoMemory → sp_starts ≡ [] → idp_starts ≡ [] → after ≡ before
       → Goes steps quiet sp_starts idp_starts result before after
   Begun : (first : Deployment sp.Provider idp.Provider) → IsBeginning first
       → (ran : Ran sp_rules idp_rules_of steps first) → Ends sp_rules idp_rules_of ran quiet result before after
-      → AreStartsOf request_rules sp.Answers first.sp ran.last.sp (asked_in_run sp_rules idp_rules_of ran).sp sp_starts
-      → AreStartsOf idp_rules idp.Answers first.idp ran.last.idp (asked_in_run sp_rules idp_rules_of ran).idp idp_starts
+      → AreStartsOf request_rules sp.Answers first.sp ran.last.sp (asked_in_run sp_rules idp_rules_of ran).sp
+      (moments_in_run sp_rules idp_rules_of ran) sp_starts
+      → AreStartsOf idp_rules idp.Answers first.idp ran.last.idp (asked_in_run sp_rules idp_rules_of ran).idp
+      (moments_in_run sp_rules idp_rules_of ran) idp_starts
       → Goes steps quiet sp_starts idp_starts result before after
 
 -- What is carried over a run with these starts, which begin with no record: the whole sentence. The service provider opened

@@ -7,7 +7,7 @@
 //!
 //! What the providers are set up with is a definition, `specs/Deployed.antt`; a run of theirs is one of `schedule_replay`
 //! by the definitions of their own steps (`Goes` of `specs/Runs.antt`). No call of their disks fails, and none stops, but
-//! by the schedule.
+//! by the schedule or for want of memory, which ends the run.
 //!
 //! # What is proved
 //!

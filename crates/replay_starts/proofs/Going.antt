@@ -1,6 +1,6 @@
 -- The starts of a provider in a replay, as far as it has come.
-use Rattle.std.specs.Prelude.{IfSome, IsSome, Option, None, Some, Result, Ok, Err, map}
-use Rattle.std.specs.List.{list_any}
+use Rattle.std.specs.Prelude.{Contains, IfSome, IsSome, Option, None, Some, Result, Ok, Err, map, min}
+use Rattle.std.specs.List.{AllByRecursion, list_any}
 use Rattle.std.specs.FinMap as finite
 use Rattle.std.specs.Ordering.{eq_by_cmp, nat_cmp}
 use Rattle.std.specs.Cmp.{nat_cmp_total}
@@ -19,12 +19,16 @@ use Rattle.serve_loop.specs.Worlds.{World}
 use Rattle.record_ledger.specs.Laws.{ImagesHoldRecords}
 use Rattle.record_ledger.specs.Ledger.{Held, ledger_in, taken}
 use Rattle.record_ledger.specs.Rules.{RecordRules}
-use Rattle.provider_node.specs.Histories.{IsProviders}
-use Rattle.provider_node.specs.Starts.{AreStarts, Behind, Cut, InCompaction, LeftBehind, Served, StandsAsOpened, Start, Unopened, asked_over}
+use Rattle.saml_time.specs.declared.TheConstants.{LAST}
+use Rattle.provider_node.specs.Histories.{IsProviders, moments_of}
+use Rattle.provider_node.specs.Starts.{AreStartsAt, Behind, Cut, InCompaction, LeftBehindAt, Served, StandsAsOpened}
+use Rattle.provider_node.specs.Starts.{Start, Unopened, asked_over}
 use Rattle.provider_node.specs.Step.{AnswersBy, OwnsDisk, Provider}
 use Rattle.provider_node.specs.Node.{CompactionLeaves}
+use Rattle.provider_node.proofs.Joining.{settled_reads}
 use Rattle.provider_node.proofs.Serving.{settled}
-use Rattle.schedule_replay.specs.Hosts.{Compacts, Host, Known, Outcome, Recovers, Restarts, Serves, Takes, resumed, told}
+use Rattle.schedule_replay.specs.Hosts.{Compacts, Host, Known, Outcome, Recovers, Restarts, Serves, Takes, resumed}
+use Rattle.schedule_replay.specs.Hosts.{told, world_of}
 use Rattle.provider_node.specs.Node.{provider_rules}
 use Rattle.replay_starts.specs.Providers.{IsStartedFrom}
 use Rattle.replay_starts.proofs.Standing.{compaction_stands, opened_stays, opening_stands, step_stands, whole_stands}
@@ -38,14 +42,15 @@ EndsAt (Cut before ∷ earlier) w kept = ⊥
 EndsAt (Served before first turns table last ∷ earlier) w kept = (last ≡ w) × (table ≡ kept)
 EndsAt (Unopened first turns table last ∷ earlier) w kept = (last ≡ w) × (table ≡ kept)
 
-module _ {Setup R : Type 0} (rules : RecordRules R) (Answers : AnswersBy Setup R) (start : Held R) where
+module _ {Setup R : Type 0} (rules : RecordRules R) (Answers : AnswersBy Setup R)
+    (IsMoment : ℕ → Type 0) (start : Held R) where
   abbrev P : Type 0
   P = Provider Setup R
 
   -- There are starts up to here, in which these requests were asked.
   pub record SoFar (w : World P) (kept : Table) (asked : List (Asked P)) : Type 0 where
     pub starts : List (Start P)
-    pub are : AreStarts rules Answers start starts
+    pub are : AreStartsAt rules Answers IsMoment start starts
     pub requests : asked_over starts ≡ asked
     pub ends : EndsAt starts w kept
     pub own : OwnsDisk rules w.node w.disk
@@ -59,7 +64,7 @@ module _ {Setup R : Type 0} (rules : RecordRules R) (Answers : AnswersBy Setup R
 
   -- what is left of the disk is left behind the starts
   behind_ends : (starts : List (Start P)) (w : World P) (kept : Table) → EndsAt starts w kept → (image : Image)
-      → Leaves w.disk image → LeftBehind rules Answers start starts image
+      → Leaves w.disk image → LeftBehindAt rules Answers IsMoment start starts image
   behind_ends [] w kept ends image left = absurd ends
   behind_ends (Cut before ∷ earlier) w kept ends image left = absurd ends
   behind_ends (Served before first turns table last ∷ earlier) w kept ends image left =
@@ -68,19 +73,20 @@ module _ {Setup R : Type 0} (rules : RecordRules R) (Answers : AnswersBy Setup R
       Behind (subst (λ (x : World P). Leaves x.disk image) (sym ends.0) left)
 
   pub left_behind : (w : World P) (kept : Table) (asked : List (Asked P)) (s : SoFar w kept asked) (image : Image)
-      → Leaves w.disk image → LeftBehind rules Answers start s.starts image
+      → Leaves w.disk image → LeftBehindAt rules Answers IsMoment start s.starts image
   left_behind w kept asked s image left = behind_ends s.starts w kept s.ends image left
 
   -- and so is what a compaction may leave
   behind_compaction : (starts : List (Start P)) (w : World P) (kept : Table) → EndsAt starts w kept → (now : ℕ)
-      (image : Image) → CompactionLeaves rules w.node w.disk now image → LeftBehind rules Answers start starts image
-  behind_compaction [] w kept ends now image left = absurd ends
-  behind_compaction (Cut before ∷ earlier) w kept ends now image left = absurd ends
-  behind_compaction (Served before first turns table last ∷ earlier) w kept ends now image left =
-      InCompaction now tt
+      → IsMoment now → (image : Image) → CompactionLeaves rules w.node w.disk now image
+      → LeftBehindAt rules Answers IsMoment start starts image
+  behind_compaction [] w kept ends now moment image left = absurd ends
+  behind_compaction (Cut before ∷ earlier) w kept ends now moment image left = absurd ends
+  behind_compaction (Served before first turns table last ∷ earlier) w kept ends now moment image left =
+      InCompaction now moment
       (subst (λ (x : World P). CompactionLeaves rules x.node x.disk now image) (sym ends.0) left)
-  behind_compaction (Unopened first turns table last ∷ earlier) w kept ends now image left =
-      InCompaction now tt
+  behind_compaction (Unopened first turns table last ∷ earlier) w kept ends now moment image left =
+      InCompaction now moment
       (subst (λ (x : World P). CompactionLeaves rules x.node x.disk now image) (sym ends.0) left)
 
   -- ---- one turn more
@@ -105,17 +111,33 @@ module _ {Setup R : Type 0} (rules : RecordRules R) (Answers : AnswersBy Setup R
 
   record More (w : World P) (kept : Table) (asked : List (Asked P)) : Type 0 where
     starts : List (Start P)
-    are : AreStarts rules Answers start starts
+    are : AreStartsAt rules Answers IsMoment start starts
     requests : asked_over starts ≡ asked
     ends : EndsAt starts w kept
 
+  -- the moments of one turn more
+  more_moments : (turn : Turn P) (turns : List (Turn P)) → ((now : ℕ) → Contains (moments_of turns) now → IsMoment now)
+      → AllByRecursion (λ (one : Asked P). IsMoment one.now) (asked_by turn) → (now : ℕ)
+      → Contains (moments_of (turn ∷ turns)) now → IsMoment now
+  more_moments (Taken conn) turns each at now there = each now there
+  more_moments (Full conn) turns each at now there = each now there
+  more_moments (StarvedStart conn) turns each at now there = each now there
+  more_moments (Over conn) turns each at now there = each now there
+  more_moments (Unknown conn piece) turns each at now there = each now there
+  more_moments (Waiting conn piece) turns each at now there = each now there
+  more_moments (Answered piece asked) turns each at now (zero, less, is) = subst IsMoment is at.0
+  more_moments (Answered piece asked) turns each at now (suc k, less, is) = each now (k, omega (arith, less), is)
+  more_moments (Refused conn piece status) turns each at now there = each now there
+  more_moments (StarvedPiece conn piece) turns each at now there = each now there
+
   one_turn : (starts : List (Start P)) (w later : World P) (kept new : Table) (turn : Turn P)
-      → AreStarts rules Answers start starts → EndsAt starts w kept → w.link ≡ None
+      → AreStartsAt rules Answers IsMoment start starts → EndsAt starts w kept → w.link ≡ None
+      → AllByRecursion (λ (one : Asked P). IsMoment one.now) (asked_by turn)
       → Does (IsProviders rules Answers) kept w turn new later
       → More later new (asked_over starts ++ asked_by turn)
-  one_turn [] w later kept new turn are ends deaf does = absurd ends
-  one_turn (Cut before ∷ earlier) w later kept new turn are ends deaf does = absurd ends
-  one_turn (Served before first turns table last ∷ earlier) w later kept new turn (next, were) (at, is) deaf does =
+  one_turn [] w later kept new turn are ends deaf each does = absurd ends
+  one_turn (Cut before ∷ earlier) w later kept new turn are ends deaf each does = absurd ends
+  one_turn (Served before first turns table last ∷ earlier) w later kept new turn (next, were) (at, is) deaf each does =
       let served = next.goes.0 in
       record {
         starts = Served before first (turn ∷ turns) new later ∷ earlier;
@@ -131,7 +153,7 @@ module _ {Setup R : Type 0} (rules : RecordRules R) (Answers : AnswersBy Setup R
                 tells = served.tells;
                 run = run_on first last w later turns table kept new turn served.run at is deaf does;
               },
-              λ now there. tt,
+              more_moments turn turns next.goes.1 each,
             );
           },
           were,
@@ -139,7 +161,7 @@ module _ {Setup R : Type 0} (rules : RecordRules R) (Answers : AnswersBy Setup R
         requests = sym (append_assoc (asked_over earlier) (asked_in turns) (asked_by turn));
         ends = (refl, refl);
       }
-  one_turn (Unopened first turns table last ∷ earlier) w later kept new turn (next, were) (at, is) deaf does =
+  one_turn (Unopened first turns table last ∷ earlier) w later kept new turn (next, were) (at, is) deaf each does =
       let goes = next.goes.0 in
       record {
         starts = Unopened first (turn ∷ turns) new later ∷ earlier;
@@ -155,7 +177,7 @@ module _ {Setup R : Type 0} (rules : RecordRules R) (Answers : AnswersBy Setup R
                 holds = goes.holds;
                 run = run_on first last w later turns table kept new turn goes.run at is deaf does;
               },
-              λ now there. tt,
+              more_moments turn turns next.goes.1 each,
             );
           },
           were,
@@ -165,11 +187,12 @@ module _ {Setup R : Type 0} (rules : RecordRules R) (Answers : AnswersBy Setup R
       }
 
   turned : (w later : World P) (kept new : Table) (asked : List (Asked P)) (turn : Turn P) → w.link ≡ None
+      → AllByRecursion (λ (one : Asked P). IsMoment one.now) (asked_by turn)
       → Does (IsProviders rules Answers) kept w turn new later → OwnsDisk rules later.node later.disk
       → StandsAsOpened rules later.disk → IsSome later.disk → IfSome later.disk (λ d. MayLeave d (image_of d))
       → SoFar w kept asked → SoFar later new (asked ++ asked_by turn)
-  turned w later kept new asked turn deaf does own stands tells reads s =
-      let more = one_turn s.starts w later kept new turn s.are s.ends deaf does in
+  turned w later kept new asked turn deaf each does own stands tells reads s =
+      let more = one_turn s.starts w later kept new turn s.are s.ends deaf each does in
       record {
         starts = more.starts;
         are = more.are;
@@ -222,14 +245,30 @@ module _ {Setup R : Type 0} (rules : RecordRules R) (Answers : AnswersBy Setup R
   by_turn old new w later (StarvedPiece conn piece) (between, takes, lets) tells reads has =
       same_at w later (ap (λ (x : World P). x.node) lets.sends.same) (ap (λ (x : World P). x.disk) lets.sends.same) has
 
-  pub served : (now : ℕ) (turn : Turn P) (before after : Host P) (asked : List (Asked P))
+  -- the moment of a turn's request is that at which the clock stands
+  at_clock : (now : ℕ) (turn : Turn P) (old new : Table) (before after : Host P) → IsMoment (min now LAST)
+      → Does (IsProviders rules Answers) old (world_of now before) turn new (world_of now after)
+      → AllByRecursion (λ (one : Asked P). IsMoment one.now) (asked_by turn)
+  at_clock now (Taken conn) old new before after at does = tt
+  at_clock now (Full conn) old new before after at does = tt
+  at_clock now (StarvedStart conn) old new before after at does = tt
+  at_clock now (Over conn) old new before after at does = tt
+  at_clock now (Unknown conn piece) old new before after at does = tt
+  at_clock now (Waiting conn piece) old new before after at does = tt
+  at_clock now (Answered piece asked) old new before after at (between, takes, answers) =
+      (subst IsMoment (sym answers.asks.moment.moment) at, tt)
+  at_clock now (Refused conn piece status) old new before after at does = tt
+  at_clock now (StarvedPiece conn piece) old new before after at does = tt
+
+  pub served : (now : ℕ) (turn : Turn P) (before after : Host P) (asked : List (Asked P)) → IsMoment (min now LAST)
       → Serves (provider_rules rules Answers) now turn before after → SoFar (still before) before.kept asked
       → SoFar (still after) after.kept (asked ++ asked_by turn)
-  served now turn before after asked serves s =
+  served now turn before after asked at serves s =
       let does = does_unclocked (IsProviders rules Answers) before.kept after.kept _ _ turn serves.does in
       let has = by_turn before.kept after.kept (still before) (still after) turn does refl (reads_an_image before.disk)
       (s.own, s.stands) in
-      turned (still before) (still after) before.kept after.kept asked turn refl does has.0 has.1 refl
+      turned (still before) (still after) before.kept after.kept asked turn refl
+      (at_clock now turn before.kept after.kept before after at serves.does) does has.0 has.1 refl
       (reads_an_image after.disk) s
 
   -- ---- connections end
@@ -259,7 +298,8 @@ module _ {Setup R : Type 0} (rules : RecordRules R) (Answers : AnswersBy Setup R
       let less : finite.len (finite.remove kept k) ≡ n =
       finite.len-remove nat_cmp_total kept k
       ∙ ap (λ (b : Bool). cond b (finite.len kept - 1) (finite.len kept)) has ∙ omega (arith, long) in
-      let over = turned w w kept (finite.remove kept k) asked (Over k) deaf (refl, refl) s.own s.stands s.tells s.reads s
+      let over = turned w w kept (finite.remove kept k) asked (Over k) deaf tt (refl, refl) s.own s.stands s.tells
+      s.reads s
       in
       unconnected_in n w (finite.remove kept k) asked deaf less
       (asked_as w (finite.remove kept k) (asked ++ []) asked (append-nil asked) over)
@@ -273,9 +313,9 @@ module _ {Setup R : Type 0} (rules : RecordRules R) (Answers : AnswersBy Setup R
   module _ (hold : ImagesHoldRecords rules) where
     -- one start more, of a node that is whole, which opened what this disk told
     opens_next : (starts : List (Start P)) (asked : List (Asked P)) (before : Option DiskState) (host : Host P)
-        → AreStarts rules Answers start starts → asked_over starts ≡ asked → IsSome before
+        → AreStartsAt rules Answers IsMoment start starts → asked_over starts ≡ asked → IsSome before
         → IfSome before (λ d. MayLeave d (image_of d))
-        → ((image : Image) → Leaves before image → LeftBehind rules Answers start starts image)
+        → ((image : Image) → Leaves before image → LeftBehindAt rules Answers IsMoment start starts image)
         → IfSome before (λ d. taken (ledger_in rules (image_of d)) ≡ Ok host.node.ledger.held)
         → host.node.ledger.broken ≡ false → OwnsDisk rules host.node (told host) → StandsAsOpened rules (told host)
         → SoFar (still host) finite.empty asked
@@ -301,7 +341,7 @@ module _ {Setup R : Type 0} (rules : RecordRules R) (Answers : AnswersBy Setup R
                   tells = refl;
                   run = (refl, refl);
                 },
-                λ now there. tt,
+                λ now there. absurd (omega (arith, there.1)),
               );
             },
             are,
@@ -316,8 +356,8 @@ module _ {Setup R : Type 0} (rules : RecordRules R) (Answers : AnswersBy Setup R
 
     -- and of one that is not
     goes_unopened : (starts : List (Start P)) (asked : List (Asked P)) (host : Host P)
-        → AreStarts rules Answers start starts → asked_over starts ≡ asked
-        → ((image : Image) → Leaves (told host) image → LeftBehind rules Answers start starts image)
+        → AreStartsAt rules Answers IsMoment start starts → asked_over starts ≡ asked
+        → ((image : Image) → Leaves (told host) image → LeftBehindAt rules Answers IsMoment start starts image)
         → host.node.ledger.broken ≡ true → OwnsDisk rules host.node (told host) → StandsAsOpened rules (told host)
         → SoFar (still host) finite.empty asked
     goes_unopened starts asked host are same left broken own stands = record {
@@ -329,7 +369,7 @@ module _ {Setup R : Type 0} (rules : RecordRules R) (Answers : AnswersBy Setup R
           left = left;
           goes = (
             record { is_broken = broken; own = own; holds = stands; run = (refl, refl) },
-            λ now there. tt,
+            λ now there. absurd (omega (arith, there.1)),
           );
         },
         are,
@@ -367,15 +407,16 @@ module _ {Setup R : Type 0} (rules : RecordRules R) (Answers : AnswersBy Setup R
         (λ image left. opening_stands rules (told before) s.stands image refl (opening image left))
 
     pub compacted : (now : ℕ) (before after : Host P) (result : Result (Unit {0}) OpenFault) (kept : Table)
-        (asked : List (Asked P)) → Compacts (provider_rules rules Answers) now before result after
+        (asked : List (Asked P)) → IsMoment now → Compacts (provider_rules rules Answers) now before result after
         → SoFar (still before) kept asked → SoFar (still after) finite.empty asked
-    compacted now before after result kept asked r s = of_flag after.node.ledger.broken refl
+    compacted now before after result kept asked moment r s = of_flag after.node.ledger.broken refl
       where
         inside : (image : Image) → Leaves (told after) image → CompactionLeaves rules before.node (told before) now image
         inside image left = r.leaves.each image (left_since_now after.disk _ image r.leaves.later left)
 
-        left_now : (image : Image) → Leaves (told after) image → LeftBehind rules Answers start s.starts image
-        left_now image left = behind_compaction s.starts (still before) kept s.ends now image (inside image left)
+        left_now : (image : Image) → Leaves (told after) image
+            → LeftBehindAt rules Answers IsMoment start s.starts image
+        left_now image left = behind_compaction s.starts (still before) kept s.ends now moment image (inside image left)
 
         stands_now : StandsAsOpened rules (told after)
         stands_now image left =
@@ -409,9 +450,12 @@ module _ {Setup R : Type 0} (rules : RecordRules R) (Answers : AnswersBy Setup R
 
     -- a piece came
     pub taken_so : (clock conn : ℕ) (piece : List ℕ) (before after : Host P) (outcome : Outcome) (asked : List (Asked P))
-        → (takes : Takes (provider_rules rules Answers) clock conn piece before outcome after) → Kept before asked
+        → IsMoment (min clock LAST)
+        → (takes : Takes (provider_rules rules Answers) clock conn piece before outcome after)
+        → Kept before asked
         → Kept after (asked ++ asked_by takes.turn)
-    taken_so clock conn piece before after outcome asked takes s = served clock takes.turn before after asked takes.serves s
+    taken_so clock conn piece before after outcome asked at takes s =
+        served clock takes.turn before after asked at takes.serves s
 
     -- and the disk stopped
     pub stopped_so : (behind after : Host P) (asked : List (Asked P)) → Recovers (provider_rules rules Answers) behind after
@@ -435,17 +479,11 @@ module _ {Setup R : Type 0} (rules : RecordRules R) (Answers : AnswersBy Setup R
 
 -- ---- at first
 
-settled_reads : (image : Image) → MayLeave (settled_image image) image
-settled_reads image = record {
-  zero = record { no_shorter = omega arith; no_longer = omega arith; elsewhere = λ i below outside. refl };
-  one = record { no_shorter = omega arith; no_longer = omega arith; elsewhere = λ i below outside. refl };
-}
-
-module _ {Setup R : Type 0} (rules : RecordRules R) (Answers : AnswersBy Setup R) where
+module _ {Setup R : Type 0} (rules : RecordRules R) (Answers : AnswersBy Setup R) (IsMoment : ℕ → Type 0) where
   pub begun : ImagesHoldRecords rules → (image : Image) (host : Host (Provider Setup R))
-      → IsStartedFrom rules image host → SoFar rules Answers host.node.ledger.held (still host) finite.empty []
+      → IsStartedFrom rules image host → SoFar rules Answers IsMoment host.node.ledger.held (still host) finite.empty []
   begun hold image host started =
-      opens_next rules Answers host.node.ledger.held hold [] [] (Some (settled_image image)) host tt refl refl
+      opens_next rules Answers IsMoment host.node.ledger.held hold [] [] (Some (settled_image image)) host tt refl refl
       (settled_reads image)
       (λ other may. subst (λ (i : Image). taken (ledger_in rules i) ≡ Ok host.node.ledger.held)
       (sym (only-settled_image image other may)) started.opened)

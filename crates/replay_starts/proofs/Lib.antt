@@ -2,3 +2,4 @@ mod Worlds
 mod Standing
 mod Going
 mod Replaying
+mod Anywhen

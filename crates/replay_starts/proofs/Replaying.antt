@@ -1,7 +1,7 @@
 -- The starts of two providers in a replay, step by step.
-use Rattle.std.specs.Prelude.{ℕ, ◌*◌, zero, suc, codes, Option, None, Some, Result}
+use Rattle.std.specs.Prelude.{ℕ, ◌*◌, zero, suc, codes, Contains, Option, None, Some, Result, min}
 use Rattle.std.specs.FinMap as finite
-use Rattle.std.proofs.Common.{◌≡◌, List, [], ◌∷◌, ◌++◌, refl, sym, ap, subst, ◌∙◌, append_assoc}
+use Rattle.std.proofs.Common.{◌≡◌, List, [], ◌∷◌, ◌++◌, refl, sym, ap, subst, ◌∙◌, append_assoc, arith}
 use Rattle.std.proofs.lemmas.List.{append-nil}
 use Rattle.crash_disk.specs.Memory.{DiskInMemory}
 use Rattle.gate_journal.specs.declared.fault.OpenFault.{OpenFault}
@@ -13,6 +13,7 @@ use Rattle.record_ledger.specs.Laws.{ImagesHoldRecords}
 use Rattle.record_ledger.specs.Ledger.{Held}
 use Rattle.record_ledger.specs.Rules.{RecordRules}
 use Rattle.provider_node.specs.Step.{AnswersBy, Provider}
+use Rattle.saml_time.specs.declared.TheConstants.{LAST}
 use Rattle.schedules.specs.declared.step.Step.{Step}
 use Rattle.schedules.specs.declared.step.Step.TheVariants as steps
 use Rattle.schedule_replay.specs.declared.sending.Sending.{Sending}
@@ -23,7 +24,8 @@ use Rattle.serve_loop.specs.Worlds.{NodeRules}
 use Rattle.schedule_replay.specs.Hosts.{Brings, Compacts, Host, Known, Outcome, Restarts, Sent, Serves, Silent}
 use Rattle.schedule_replay.specs.Steps.{Does, Replays, Requests, RequestsTwo, armed, saying_none}
 use Rattle.provider_node.specs.Node.{provider_rules}
-use Rattle.replay_starts.specs.Replayed.{AReplayIsStarts}
+use Rattle.replay_starts.specs.Replayed.{AReplayIsStarts, moments_in_run, moments_replaying}
+use Rattle.replay_starts.proofs.Anywhen.{at_any, left_at_any}
 use Rattle.replay_starts.proofs.Going.{LetsGo, SoFar, asked_as, begun, compacted, known_so, left_behind, restarted, served, stopped_so, taken_so, unconnected_at}
 use Rattle.replay_starts.proofs.Worlds.{still}
 
@@ -39,19 +41,37 @@ module _ {S P : Type 0} where
 -- ---- parts of a deployment that stay
 
 module _ {S P : Type 0} where
+  -- the nodes and the clock are as they were
+  record AreSame (before after : Deployment S P) : Type 0 where
+    clock : after.clock ≡ before.clock
+    sp : after.sp ≡ before.sp
+    idp : after.idp ≡ before.idp
+
+  all_same : (world : Deployment S P) → AreSame world world
+  all_same world = record { clock = refl; sp = refl; idp = refl }
+
   silent_none : (number : ℕ) (request : Option Sending) (world : Deployment S P)
-      → ((saying_none number request world).sp ≡ world.sp) × ((saying_none number request world).idp ≡ world.idp)
-  silent_none number None world = (refl, refl)
-  silent_none number (Some request) world = (refl, refl)
+      → AreSame world (saying_none number request world)
+  silent_none number None world = record { clock = refl; sp = refl; idp = refl }
+  silent_none number (Some request) world = all_same world
 
   heard : (number : ℕ) (sending : Sending) (known : Option Outcome) (before after : Deployment S P)
-      → Hears number sending known before after → (after.sp ≡ before.sp) × (after.idp ≡ before.idp)
-  heard number sending None before after same =
-      (ap (λ (w : Deployment S P). w.sp) same, ap (λ (w : Deployment S P). w.idp) same)
-  heard number sending (Some Silent) before after same =
-      (ap (λ (w : Deployment S P). w.sp) same, ap (λ (w : Deployment S P). w.idp) same)
-  heard number sending (Some (Sent path bytes)) before after (seen, comes, same) =
-      (ap (λ (w : Deployment S P). w.sp) same, ap (λ (w : Deployment S P). w.idp) same)
+      → Hears number sending known before after → AreSame before after
+  heard number sending None before after same = record {
+    clock = ap (λ (w : Deployment S P). w.clock) same;
+    sp = ap (λ (w : Deployment S P). w.sp) same;
+    idp = ap (λ (w : Deployment S P). w.idp) same;
+  }
+  heard number sending (Some Silent) before after same = record {
+    clock = ap (λ (w : Deployment S P). w.clock) same;
+    sp = ap (λ (w : Deployment S P). w.sp) same;
+    idp = ap (λ (w : Deployment S P). w.idp) same;
+  }
+  heard number sending (Some (Sent path bytes)) before after (seen, comes, same) = record {
+    clock = ap (λ (w : Deployment S P). w.clock) same;
+    sp = ap (λ (w : Deployment S P). w.sp) same;
+    idp = ap (λ (w : Deployment S P). w.idp) same;
+  }
 
   shown_same : (number : ℕ) (site : Site) (words : Option (List ℕ)) (world : Deployment S P)
       → ((shows number site words world).sp ≡ world.sp) × ((shows number site words world).idp ≡ world.idp)
@@ -60,7 +80,7 @@ module _ {S P : Type 0} where
 
 module _ {S A P B : Type 0} (sp_rules : RecordRules A) (SpAnswers : AnswersBy S A) (idp_rules : RecordRules B)
     (IdpAnswers : AnswersBy P B) (sp_hold : ImagesHoldRecords sp_rules) (idp_hold : ImagesHoldRecords idp_rules)
-    (sp_start : Held A) (idp_start : Held B) where
+    (IsMoment : ℕ → Type 0) (sp_start : Held A) (idp_start : Held B) where
   abbrev World : Type 0
   World = Deployment (Provider S A) (Provider P B)
 
@@ -74,15 +94,21 @@ module _ {S A P B : Type 0} (sp_rules : RecordRules A) (SpAnswers : AnswersBy S 
   idp = provider_rules idp_rules IdpAnswers
 
   abbrev SpSoFar : Host (Provider S A) → Table → List (Asked (Provider S A)) → Type 0
-  SpSoFar host kept asked = SoFar sp_rules SpAnswers sp_start (still host) kept asked
+  SpSoFar host kept asked = SoFar sp_rules SpAnswers IsMoment sp_start (still host) kept asked
 
   abbrev IdpSoFar : Host (Provider P B) → Table → List (Asked (Provider P B)) → Type 0
-  IdpSoFar host kept asked = SoFar idp_rules IdpAnswers idp_start (still host) kept asked
+  IdpSoFar host kept asked = SoFar idp_rules IdpAnswers IsMoment idp_start (still host) kept asked
 
   -- starts of both up to here, with the connections that are kept, or with others, which are let go
   record Connected (world : World) (asked : Requested) : Type 0 where
+    moment : IsMoment (min world.clock LAST)
     at_sp : SpSoFar world.sp world.sp.kept asked.sp
     at_idp : IdpSoFar world.idp world.idp.kept asked.idp
+
+  -- the clock stands at a moment, as before
+  clocked : (before after : World) → after.clock ≡ before.clock → IsMoment (min before.clock LAST)
+      → IsMoment (min after.clock LAST)
+  clocked before after same moment = subst (λ (n : ℕ). IsMoment (min n LAST)) (sym same) moment
 
   record Loose (world : World) (asked : Requested) : Type 0 where
     sp_kept : Table
@@ -94,11 +120,12 @@ module _ {S A P B : Type 0} (sp_rules : RecordRules A) (SpAnswers : AnswersBy S 
   loosened world asked c =
       record { sp_kept = world.sp.kept; idp_kept = world.idp.kept; at_sp = c.at_sp; at_idp = c.at_idp }
 
-  moved : (before after : World) (asked : Requested) → (after.sp ≡ before.sp) × (after.idp ≡ before.idp)
+  moved : (before after : World) (asked : Requested) → AreSame before after
       → Connected before asked → Connected after asked
   moved before after asked same c = record {
-    at_sp = subst (λ (h : Host (Provider S A)). SpSoFar h h.kept asked.sp) (sym same.0) c.at_sp;
-    at_idp = subst (λ (h : Host (Provider P B)). IdpSoFar h h.kept asked.idp) (sym same.1) c.at_idp;
+    moment = clocked before after same.clock c.moment;
+    at_sp = subst (λ (h : Host (Provider S A)). SpSoFar h h.kept asked.sp) (sym same.sp) c.at_sp;
+    at_idp = subst (λ (h : Host (Provider P B)). IdpSoFar h h.kept asked.idp) (sym same.idp) c.at_idp;
   }
 
   slid : (before after : World) (asked : Requested) → (after.sp ≡ before.sp) × (after.idp ≡ before.idp)
@@ -121,47 +148,52 @@ module _ {S A P B : Type 0} (sp_rules : RecordRules A) (SpAnswers : AnswersBy S 
       → SpSoFar after.sp after.sp.kept (asked.sp ++ [])
   sp_same before after asked same s =
       subst (λ (h : Host (Provider S A)). SpSoFar h h.kept (asked.sp ++ [])) (sym same)
-      (asked_as sp_rules SpAnswers sp_start (still before.sp) before.sp.kept asked.sp (asked.sp ++ [])
+      (asked_as sp_rules SpAnswers IsMoment sp_start (still before.sp) before.sp.kept asked.sp (asked.sp ++ [])
       (sym (append-nil asked.sp)) s)
 
   idp_same : (before after : World) (asked : Requested) → after.idp ≡ before.idp
       → IdpSoFar before.idp before.idp.kept asked.idp → IdpSoFar after.idp after.idp.kept (asked.idp ++ [])
   idp_same before after asked same s =
       subst (λ (h : Host (Provider P B)). IdpSoFar h h.kept (asked.idp ++ [])) (sym same)
-      (asked_as idp_rules IdpAnswers idp_start (still before.idp) before.idp.kept asked.idp (asked.idp ++ [])
+      (asked_as idp_rules IdpAnswers IsMoment idp_start (still before.idp) before.idp.kept asked.idp (asked.idp ++ [])
       (sym (append-nil asked.idp)) s)
 
-  brought_on : (site : Site) (clock conn : ℕ) (piece : List ℕ) (known : Option Outcome) (before after : World)
+  brought_on : (site : Site) (conn : ℕ) (piece : List ℕ) (known : Option Outcome) (before after : World)
       (asked : Requested)
-      → (brings : OnSite sp idp site (λ _ node. Brings node clock conn piece known) before after)
+      → (brings : OnSite sp idp site (λ _ node. Brings node before.clock conn piece known) before after)
       → Connected before asked
-      → Connected after (then_asked asked (asked_on sp idp site clock conn piece known before after brings))
-  brought_on Sp clock conn piece (Some outcome) before after asked brings c = record {
+      → Connected after (then_asked asked (asked_on sp idp site before.clock conn piece known before after brings))
+  brought_on Sp conn piece (Some outcome) before after asked brings c = record {
+    moment = clocked before after (ap (λ (w : World). w.clock) brings.1) c.moment;
     at_sp =
-        taken_so sp_rules SpAnswers sp_start sp_hold clock conn piece before.sp after.sp outcome asked.sp brings.0.0
-        c.at_sp;
+        taken_so sp_rules SpAnswers IsMoment sp_start sp_hold before.clock conn piece before.sp after.sp outcome
+        asked.sp c.moment brings.0.0 c.at_sp;
     at_idp = idp_same before after asked (ap (λ (w : World). w.idp) brings.1) c.at_idp;
   }
-  brought_on Sp clock conn piece None before after asked brings c = record {
+  brought_on Sp conn piece None before after asked brings c = record {
+    moment = clocked before after (ap (λ (w : World). w.clock) brings.1) c.moment;
     at_sp =
-        stopped_so sp_rules SpAnswers sp_start sp_hold brings.0.1 after.sp (asked.sp ++ asked_by brings.0.2.turn) brings.0.4
-        (taken_so sp_rules SpAnswers sp_start sp_hold clock conn piece before.sp brings.0.1 brings.0.0 asked.sp brings.0.2
-        c.at_sp);
+        stopped_so sp_rules SpAnswers IsMoment sp_start sp_hold brings.0.1 after.sp
+        (asked.sp ++ asked_by brings.0.2.turn) brings.0.4
+        (taken_so sp_rules SpAnswers IsMoment sp_start sp_hold before.clock conn piece before.sp brings.0.1
+        brings.0.0 asked.sp c.moment brings.0.2 c.at_sp);
     at_idp = idp_same before after asked (ap (λ (w : World). w.idp) brings.1) c.at_idp;
   }
-  brought_on Idp clock conn piece (Some outcome) before after asked brings c = record {
+  brought_on Idp conn piece (Some outcome) before after asked brings c = record {
+    moment = clocked before after (ap (λ (w : World). w.clock) brings.1) c.moment;
     at_sp = sp_same before after asked (ap (λ (w : World). w.sp) brings.1) c.at_sp;
     at_idp =
-        taken_so idp_rules IdpAnswers idp_start idp_hold clock conn piece before.idp after.idp outcome asked.idp
-        brings.0.0 c.at_idp;
+        taken_so idp_rules IdpAnswers IsMoment idp_start idp_hold before.clock conn piece before.idp after.idp outcome
+        asked.idp c.moment brings.0.0 c.at_idp;
   }
-  brought_on Idp clock conn piece None before after asked brings c = record {
+  brought_on Idp conn piece None before after asked brings c = record {
+    moment = clocked before after (ap (λ (w : World). w.clock) brings.1) c.moment;
     at_sp = sp_same before after asked (ap (λ (w : World). w.sp) brings.1) c.at_sp;
     at_idp =
-        stopped_so idp_rules IdpAnswers idp_start idp_hold brings.0.1 after.idp (asked.idp ++ asked_by brings.0.2.turn)
-        brings.0.4
-        (taken_so idp_rules IdpAnswers idp_start idp_hold clock conn piece before.idp brings.0.1 brings.0.0 asked.idp
-        brings.0.2 c.at_idp);
+        stopped_so idp_rules IdpAnswers IsMoment idp_start idp_hold brings.0.1 after.idp
+        (asked.idp ++ asked_by brings.0.2.turn) brings.0.4
+        (taken_so idp_rules IdpAnswers IsMoment idp_start idp_hold before.clock conn piece before.idp brings.0.1
+        brings.0.0 asked.idp c.moment brings.0.2 c.at_idp);
   }
 
   arrived : (number : ℕ) (sending : Sending) (piece : List ℕ) (before after : World) (asked : Requested)
@@ -171,7 +203,7 @@ module _ {S A P B : Type 0} (sp_rules : RecordRules A) (SpAnswers : AnswersBy S 
       (asked_on sp idp sending.request.site before.clock sending.conn piece arrives.known before arrives.behind arrives.brings))
   arrived number sending piece before after asked arrives c =
       moved arrives.behind after _ (heard number sending arrives.known arrives.behind after arrives.hears)
-      (brought_on sending.request.site before.clock sending.conn piece arrives.known before arrives.behind asked
+      (brought_on sending.request.site sending.conn piece arrives.known before arrives.behind asked
       arrives.brings c)
 
   still_same : (before after : World) (asked : Requested) → after ≡ before → Connected before asked
@@ -208,69 +240,79 @@ module _ {S A P B : Type 0} (sp_rules : RecordRules A) (SpAnswers : AnswersBy S 
       (rounds_went number size first second rounds before old asked earlier c)) in
       subst (Connected after) (joined (then_asked asked were) by_one by_other ∙ joined asked were _) now
 
-  started_on : (site : Site) (conn clock : ℕ) (before after : World) (asked : Requested)
-      → OnSite sp idp site (λ _ node. Serves node clock (Taken conn)) before after
+  started_on : (site : Site) (conn : ℕ) (before after : World) (asked : Requested)
+      → OnSite sp idp site (λ _ node. Serves node before.clock (Taken conn)) before after
       → Connected before asked → Connected after asked
-  started_on Sp conn clock before after asked serves c = record {
+  started_on Sp conn before after asked serves c = record {
+    moment = clocked before after (ap (λ (w : World). w.clock) serves.1) c.moment;
     at_sp =
-        asked_as sp_rules SpAnswers sp_start (still after.sp) after.sp.kept (asked.sp ++ []) asked.sp
+        asked_as sp_rules SpAnswers IsMoment sp_start (still after.sp) after.sp.kept (asked.sp ++ []) asked.sp
         (append-nil asked.sp)
-        (served sp_rules SpAnswers sp_start clock (Taken conn) before.sp after.sp asked.sp serves.0 c.at_sp);
+        (served sp_rules SpAnswers IsMoment sp_start before.clock (Taken conn) before.sp after.sp asked.sp c.moment
+        serves.0 c.at_sp);
     at_idp =
         subst (λ (h : Host (Provider P B)). IdpSoFar h h.kept asked.idp) (sym (ap (λ (w : World). w.idp) serves.1))
         c.at_idp;
   }
-  started_on Idp conn clock before after asked serves c = record {
+  started_on Idp conn before after asked serves c = record {
+    moment = clocked before after (ap (λ (w : World). w.clock) serves.1) c.moment;
     at_sp =
         subst (λ (h : Host (Provider S A)). SpSoFar h h.kept asked.sp) (sym (ap (λ (w : World). w.sp) serves.1))
         c.at_sp;
     at_idp =
-        asked_as idp_rules IdpAnswers idp_start (still after.idp) after.idp.kept (asked.idp ++ []) asked.idp
+        asked_as idp_rules IdpAnswers IsMoment idp_start (still after.idp) after.idp.kept (asked.idp ++ []) asked.idp
         (append-nil asked.idp)
-        (served idp_rules IdpAnswers idp_start clock (Taken conn) before.idp after.idp asked.idp serves.0 c.at_idp);
+        (served idp_rules IdpAnswers IsMoment idp_start before.clock (Taken conn) before.idp after.idp asked.idp
+        c.moment serves.0 c.at_idp);
   }
 
   started : (sending : Option Sending) (before after : World) (asked : Requested)
       → Starts sp idp sending before after → Connected before asked → Connected after asked
   started None before after asked same c = subst (λ (w : World). Connected w asked) (sym same) c
   started (Some sending) before after asked starts c =
-      started_on sending.request.site sending.conn before.clock before after asked starts c
+      started_on sending.request.site sending.conn before after asked starts c
 
   exchanged : (number size : ℕ) (first second : Option Sending) (before after : World) (asked : Requested)
-      → (exchanges : Exchanges sp idp number size first second before after) → Loose before asked
+      → (exchanges : Exchanges sp idp number size first second before after) → IsMoment (min before.clock LAST)
+      → Loose before asked
       → Loose after (then_asked asked (asked_exchanging sp idp number size first second before after exchanges))
-  exchanged number size first second before after asked e c =
+  exchanged number size first second before after asked e moment c =
       let fresh : Connected (unconnected before) asked = record {
-        at_sp = unconnected_at sp_rules SpAnswers sp_start before.sp c.sp_kept asked.sp c.at_sp;
-        at_idp = unconnected_at idp_rules IdpAnswers idp_start before.idp c.idp_kept asked.idp c.at_idp;
+        moment = moment;
+        at_sp = unconnected_at sp_rules SpAnswers IsMoment sp_start before.sp c.sp_kept asked.sp c.at_sp;
+        at_idp = unconnected_at idp_rules IdpAnswers IsMoment idp_start before.idp c.idp_kept asked.idp c.at_idp;
       } in
       let one = started first (unconnected before) e.one asked e.starts fresh in
       let both = started second e.one e.both asked e.starts_other one in
       loosened after _ (rounds_went number size first second e.rounds e.both after asked e.arrive both)
 
   requested : (number : ℕ) (request : Option Sending) (before after : World) (asked : Requested)
-      → (requests : Requests sp idp number request before after) → Loose before asked
-      → Loose after (then_asked asked (asked_exchanging sp idp number _ _ _ _ after requests))
-  requested number request before after asked requests c =
-      exchanged number _ request None (saying_none number request before) after asked requests
-      (slid before (saying_none number request before) asked (silent_none number request before) c)
+      → (requests : Requests sp idp number request before after) → IsMoment (min before.clock LAST)
+      → Loose before asked → Loose after (then_asked asked (asked_exchanging sp idp number _ _ _ _ after requests))
+  requested number request before after asked requests moment c =
+      let none = saying_none number request before in
+      let same = silent_none number request before in
+      exchanged number _ request None none after asked requests (clocked before none same.clock moment)
+      (slid before none asked (same.sp, same.idp) c)
 
   requested_two : (number size : ℕ) (first second : Option Sending) (before after : World) (asked : Requested)
-      → (requests : RequestsTwo sp idp number size first second before after) → Loose before asked
-      → Loose after (then_asked asked (asked_exchanging sp idp number _ _ _ _ after requests))
-  requested_two number size first second before after asked requests c =
+      → (requests : RequestsTwo sp idp number size first second before after) → IsMoment (min before.clock LAST)
+      → Loose before asked → Loose after (then_asked asked (asked_exchanging sp idp number _ _ _ _ after requests))
+  requested_two number size first second before after asked requests moment c =
       let one = saying_none number first before in
       let both = saying_none number second one in
+      let same = silent_none number first before in
+      let same_too = silent_none number second one in
       exchanged number _ first second both after asked requests
-      (slid one both asked (silent_none number second one)
-      (slid before one asked (silent_none number first before) c))
+      (clocked one both same_too.clock (clocked before one same.clock moment))
+      (slid one both asked (same_too.sp, same_too.idp) (slid before one asked (same.sp, same.idp) c))
 
   -- ---- restarts and compactions
 
   obeyed : (number : ℕ) (site : Site) (word : List ℕ)
       (call : (N : Type 0) → NodeRules N → Host N → Result (Unit {0}) OpenFault → Host N → Type 0) (before after : World)
-      (asked : Requested) → LetsGo sp_rules SpAnswers sp_start sp_hold (call (Provider S A) sp)
-      → LetsGo idp_rules IdpAnswers idp_start idp_hold (call (Provider P B) idp)
+      (asked : Requested) → LetsGo sp_rules SpAnswers IsMoment sp_start sp_hold (call (Provider S A) sp)
+      → LetsGo idp_rules IdpAnswers IsMoment idp_start idp_hold (call (Provider P B) idp)
       → Obeys sp idp number site word call before after → Loose before asked → Loose after asked
   obeyed number site word call before after asked sp_goes idp_goes o c =
       subst (λ (w : World). Loose w asked) (sym o.shown)
@@ -282,8 +324,8 @@ module _ {S A P B : Type 0} (sp_rules : RecordRules A) (SpAnswers : AnswersBy S 
         sp_kept = finite.empty;
         idp_kept = c.idp_kept;
         at_sp =
-            known_so sp_rules SpAnswers sp_start sp_hold (call (Provider S A) sp) sp_goes before.sp behind.sp known c.sp_kept
-            asked.sp ends.0 c.at_sp;
+            known_so sp_rules SpAnswers IsMoment sp_start sp_hold (call (Provider S A) sp) sp_goes before.sp
+            behind.sp known c.sp_kept asked.sp ends.0 c.at_sp;
         at_idp =
             subst (λ (h : Host (Provider P B)). IdpSoFar h c.idp_kept asked.idp)
             (sym (ap (λ (w : World). w.idp) ends.1)) c.at_idp;
@@ -295,16 +337,19 @@ module _ {S A P B : Type 0} (sp_rules : RecordRules A) (SpAnswers : AnswersBy S 
             subst (λ (h : Host (Provider S A)). SpSoFar h c.sp_kept asked.sp) (sym (ap (λ (w : World). w.sp) ends.1))
             c.at_sp;
         at_idp =
-            known_so idp_rules IdpAnswers idp_start idp_hold (call (Provider P B) idp) idp_goes before.idp behind.idp known
-            c.idp_kept asked.idp ends.0 c.at_idp;
+            known_so idp_rules IdpAnswers IsMoment idp_start idp_hold (call (Provider P B) idp) idp_goes before.idp
+            behind.idp known c.idp_kept asked.idp ends.0 c.at_idp;
       }
 
-  compacted_at : (number : ℕ) (site : Site) (now : ℕ) (before after : World) (asked : Requested)
+  compacted_at : (number : ℕ) (site : Site) (now : ℕ) (before after : World) (asked : Requested) → IsMoment now
       → Obeys sp idp number site (codes "compact") (λ _ node. Compacts node now) before after
       → Loose before asked → Loose after asked
-  compacted_at number site now before after asked o c =
+  compacted_at number site now before after asked moment o c =
       obeyed number site (codes "compact") (λ _ node. Compacts node now) before after asked
-      (compacted sp_rules SpAnswers sp_start sp_hold now) (compacted idp_rules IdpAnswers idp_start idp_hold now) o c
+      (λ old new result kept already.
+      compacted sp_rules SpAnswers IsMoment sp_start sp_hold now old new result kept already moment)
+      (λ old new result kept already.
+      compacted idp_rules IdpAnswers IsMoment idp_start idp_hold now old new result kept already moment) o c
 
   -- a disk that is to fail or to stop is as it was
   armed_at : (number : ℕ) (site : Site) (set : DiskInMemory → DiskInMemory) (before : World) (asked : Requested)
@@ -314,14 +359,14 @@ module _ {S A P B : Type 0} (sp_rules : RecordRules A) (SpAnswers : AnswersBy S 
   armed_at number Sp set before asked same_sp same_idp c = record {
     sp_kept = c.sp_kept;
     idp_kept = c.idp_kept;
-    at_sp = subst (λ w. SoFar sp_rules SpAnswers sp_start w c.sp_kept asked.sp) (sym same_sp) c.at_sp;
+    at_sp = subst (λ w. SoFar sp_rules SpAnswers IsMoment sp_start w c.sp_kept asked.sp) (sym same_sp) c.at_sp;
     at_idp = c.at_idp;
   }
   armed_at number Idp set before asked same_sp same_idp c = record {
     sp_kept = c.sp_kept;
     idp_kept = c.idp_kept;
     at_sp = c.at_sp;
-    at_idp = subst (λ w. SoFar idp_rules IdpAnswers idp_start w c.idp_kept asked.idp) (sym same_idp) c.at_idp;
+    at_idp = subst (λ w. SoFar idp_rules IdpAnswers IsMoment idp_start w c.idp_kept asked.idp) (sym same_idp) c.at_idp;
   }
 
   -- ---- steps
@@ -334,47 +379,56 @@ module _ {S A P B : Type 0} (sp_rules : RecordRules A) (SpAnswers : AnswersBy S 
       (subst (λ (w : World). Loose w asked) (sym same) (slid before middle asked nodes c))
 
   step_done : (number : ℕ) (step : Step) (before after : World) (asked : Requested)
-      → (does : Does sp idp number step before after) → Loose before asked
+      → (does : Does sp idp number step before after) → IsMoment (min before.clock LAST) → Loose before asked
       → Loose after (then_asked asked (asked_doing sp idp number step before after does))
-  step_done number (steps.Now moment) before after asked does c =
+  step_done number (steps.Now moment) before after asked does at c =
       same_nodes before after _ asked does (refl, refl) c
-  step_done number (steps.Visit agent path) before after asked does c =
-      requested number _ before after asked does c
-  step_done number (steps.Submit agent) before after asked does c = requested number _ before after asked does c
-  step_done number (steps.Lose agent) before after asked does c = requested number _ before after asked does c
-  step_done number (steps.Login agent user password) before after asked does c =
-      requested number _ before after asked does c
-  step_done number (steps.Follow agent) before after asked does c = requested number _ before after asked does c
-  step_done number (steps.Leave agent site) before after asked does c = requested number _ before after asked does c
-  step_done number (steps.Pair first second size) before after asked does c =
-      requested_two number size _ _ before after asked does c
-  step_done number (steps.Fresh agent) before after asked does c =
+  step_done number (steps.Visit agent path) before after asked does moment c =
+      requested number _ before after asked does moment c
+  step_done number (steps.Submit agent) before after asked does moment c =
+      requested number _ before after asked does moment c
+  step_done number (steps.Lose agent) before after asked does moment c =
+      requested number _ before after asked does moment c
+  step_done number (steps.Login agent user password) before after asked does moment c =
+      requested number _ before after asked does moment c
+  step_done number (steps.Follow agent) before after asked does moment c =
+      requested number _ before after asked does moment c
+  step_done number (steps.Leave agent site) before after asked does moment c =
+      requested number _ before after asked does moment c
+  step_done number (steps.Pair first second size) before after asked does moment c =
+      requested_two number size _ _ before after asked does moment c
+  step_done number (steps.Fresh agent) before after asked does moment c =
       same_nodes before after _ asked does.1 (refl, refl) c
-  step_done number (steps.Restart site) before after asked does c =
+  step_done number (steps.Restart site) before after asked does moment c =
       let counted = record before { tally = count before.tally } in
       unasked after asked
       (obeyed number site (codes "restart") (λ _ node. Restarts node) counted after asked
-      (restarted sp_rules SpAnswers sp_start sp_hold) (restarted idp_rules IdpAnswers idp_start idp_hold) does
+      (restarted sp_rules SpAnswers IsMoment sp_start sp_hold)
+      (restarted idp_rules IdpAnswers IsMoment idp_start idp_hold) does
       (slid before counted asked (refl, refl) c))
-  step_done number (steps.Crash site call pick) before after asked does c =
+  step_done number (steps.Crash site call pick) before after asked does moment c =
       unasked after asked
       (subst (λ (w : World). Loose w asked) (sym does) (armed_at number site _ before asked refl refl c))
-  step_done number (steps.Fail site call) before after asked does c =
+  step_done number (steps.Fail site call) before after asked does moment c =
       unasked after asked
       (subst (λ (w : World). Loose w asked) (sym does) (armed_at number site _ before asked refl refl c))
-  step_done number (steps.Compact site) before after asked does c =
-      unasked after asked (compacted_at number site _ before after asked does c)
+  step_done number (steps.Compact site) before after asked does moment c =
+      unasked after asked (compacted_at number site _ before after asked moment does c)
 
   replayed : (done : ℕ) (all : List Step) (first : World) (text : List ℕ) (now : World)
-      → (replays : Replays sp idp done all first text now) → Loose first none_asked
+      → (replays : Replays sp idp done all first text now)
+      → ((m : ℕ) → Contains (moments_replaying sp idp done all first text now replays) m → IsMoment m)
+      → Loose first none_asked
       → Loose now (asked_replaying sp idp done all first text now replays)
-  replayed zero all first text now none c = subst (λ (w : World). Loose w none_asked) (sym none.1) c
-  replayed (suc done) all first text now (step, before, after, earlier, were, is, did, fed, same, printed) c =
+  replayed zero all first text now none within c = subst (λ (w : World). Loose w none_asked) (sym none.1) c
+  replayed (suc done) all first text now (step, before, after, earlier, were, is, did, fed, same, printed) within c =
       let asked = asked_replaying sp idp done all first earlier before were in
       let then = then_asked asked (asked_doing sp idp (suc done) step before after did) in
       subst (λ (w : World). Loose w then) (sym same)
       (slid after (record after { lines = [] }) then (refl, refl)
-      (step_done (suc done) step before after asked did (replayed done all first earlier before were c)))
+      (step_done (suc done) step before after asked did (within _ (zero, omega arith, refl))
+      (replayed done all first earlier before were
+      (λ m there. within m (suc there.0, omega (arith, there.1), there.2)) c)))
 
 -- ---- the law
 
@@ -384,24 +438,35 @@ module _ {S A P B : Type 0} (sp_rules : RecordRules A) (SpAnswers : AnswersBy S 
   a_replay_is_starts sp_hold idp_hold steps first sp_image idp_image sp_started idp_started ran =
       let sp_start = first.sp.node.ledger.held in
       let idp_start = first.idp.node.ledger.held in
-      let done = replayed sp_rules SpAnswers idp_rules IdpAnswers sp_hold idp_hold sp_start idp_start ran.done steps
-      first ran.text ran.last ran.replays
+      let moments = moments_in_run (provider_rules sp_rules SpAnswers) (provider_rules idp_rules IdpAnswers) ran in
+      let IsMoment : ℕ → Type 0 = Contains moments in
+      let done = replayed sp_rules SpAnswers idp_rules IdpAnswers sp_hold idp_hold IsMoment sp_start idp_start ran.done
+      steps first ran.text ran.last ran.replays (λ m there. there)
       (record {
         sp_kept = finite.empty;
         idp_kept = finite.empty;
-        at_sp = begun sp_rules SpAnswers sp_hold sp_image first.sp sp_started;
-        at_idp = begun idp_rules IdpAnswers idp_hold idp_image first.idp idp_started;
-      }) in (
+        at_sp = begun sp_rules SpAnswers IsMoment sp_hold sp_image first.sp sp_started;
+        at_idp = begun idp_rules IdpAnswers IsMoment idp_hold idp_image first.idp idp_started;
+      }) in
+      let sp_left = left_behind sp_rules SpAnswers IsMoment sp_start (still ran.last.sp) done.sp_kept _ done.at_sp in
+      let idp_left = left_behind idp_rules IdpAnswers IsMoment idp_start (still ran.last.idp) done.idp_kept _
+      done.at_idp in (
         done.at_sp.starts,
         done.at_idp.starts,
         record {
-          are = done.at_sp.are;
+          are = at_any sp_rules SpAnswers IsMoment sp_start done.at_sp.starts done.at_sp.are;
           requests = done.at_sp.requests;
-          left = left_behind sp_rules SpAnswers sp_start (still ran.last.sp) done.sp_kept _ done.at_sp;
+          left = λ image is.
+              left_at_any sp_rules SpAnswers IsMoment sp_start done.at_sp.starts image (sp_left image is);
+          are_at = done.at_sp.are;
+          left_at = sp_left;
         },
         record {
-          are = done.at_idp.are;
+          are = at_any idp_rules IdpAnswers IsMoment idp_start done.at_idp.starts done.at_idp.are;
           requests = done.at_idp.requests;
-          left = left_behind idp_rules IdpAnswers idp_start (still ran.last.idp) done.idp_kept _ done.at_idp;
+          left = λ image is.
+              left_at_any idp_rules IdpAnswers IsMoment idp_start done.at_idp.starts image (idp_left image is);
+          are_at = done.at_idp.are;
+          left_at = idp_left;
         },
       )

@@ -13,6 +13,8 @@
 //! ones before it: by a request that was cut or answered, by a restart that failed, inside a compaction or behind it.
 //! In them each provider was asked the requests that the agents' bytes completed, in order, each at its moment and in
 //! its state, with its answer, and no other; and the disks that the run leaves hold nothing but what is left behind them.
+//! Each request was asked, and each compaction was begun, at one of the moments at which the clock stood in the steps
+//! that were done (`moments_in_run`).
 #![tactic(auto)]
 
 pub mod laws;

@@ -9,7 +9,7 @@ use Rattle.std.proofs.lemmas.Bool.{cases_lt}
 use Rattle.std.proofs.lemmas.List.{get_or_append_left, get_or_push, length-map, map-append}
 use Rattle.std.proofs.lemmas.List.Edits.{length-insert, get_or-insert_at, get_or-insert_below, get_or-insert_above}
 use Rattle.std.proofs.lemmas.List.Sorted.{IsPermutation-to_front, IsPermutation-cons, IsPermutation-insert, IsPermutation-trans}
-use Rattle.request_rows.specs.Order.{KeyTexts, key_order, key_at, place_order, one_text, IsOrder}
+use Rattle.ledger_rules.specs.Order.{KeyTexts, key_order, key_at, place_order, one_text, IsOrder}
 use Rattle.request_rows.specs.Indexed.{entry_order, IsRank}
 use Rattle.request_rows.proofs.Orders.{key_total, place_below}
 use Rattle.request_rows.proofs.Places.{number_less}

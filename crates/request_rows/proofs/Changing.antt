@@ -2,7 +2,7 @@
 use Rattle.std.proofs.Common.{◌≡◌, ℕ, zero, suc, ◌<◌, true, List, [], ◌∷◌, map, length, get_or, set, sym, ap, subst, ◌∙◌, arith}
 use Rattle.std.proofs.Math.Seq.{map-set_same}
 use Rattle.request_rows.specs.Rows.{closed_at, confirmed_at}
-use Rattle.request_rows.specs.Order.{KeyTexts, IsOrder}
+use Rattle.ledger_rules.specs.Order.{KeyTexts, IsOrder}
 use Rattle.request_rows.specs.declared.row.OpenedRow.{OpenedRow}
 use Rattle.request_rows.specs.declared.row.LeftRow.{LeftRow}
 

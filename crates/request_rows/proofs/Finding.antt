@@ -12,7 +12,7 @@ use Rattle.std.proofs.lemmas.List.Recursion.{found_at, found_nowhere}
 use Rattle.request_rows.specs.Rows.{visible}
 use Rattle.request_rows.specs.declared.row.AskedRow.{AskedRow}
 use Rattle.request_rows.specs.declared.row.OpenedRow.{OpenedRow}
-use Rattle.request_rows.specs.Order.{KeyTexts, key_at, one_text}
+use Rattle.ledger_rules.specs.Order.{KeyTexts, key_at, one_text}
 use Rattle.request_rows.specs.Indexed.{ArePlacesOf}
 
 -- a test that passes just the rows of a key that are shown

@@ -6,7 +6,7 @@ use Rattle.std.proofs.lemmas.Bool.{cases_lt}
 use Rattle.std.proofs.lemmas.Cmp.{tied_itself}
 use Rattle.std.proofs.lemmas.Grind.{get_or_default_zero}
 use Rattle.std.proofs.lemmas.List.{same_lists}
-use Rattle.request_rows.specs.Order.{KeyTexts, key_at, place_order, IsOrder}
+use Rattle.ledger_rules.specs.Order.{KeyTexts, key_at, place_order, IsOrder}
 use Rattle.request_rows.proofs.Orders.{both_total, length_order, place_below, place_there, ascends_far}
 
 -- nothing is less than itself

@@ -11,7 +11,7 @@ use Rattle.std.proofs.lemmas.Grind.{get_or_default_zero}
 use Rattle.std.proofs.lemmas.List.Elements.{All-from_get_or}
 use Rattle.std.proofs.lemmas.List.Sorted.{All-permutation, Contains-permutation, length_permutation}
 use Rattle.std.proofs.lemmas.List.FromFn.{length-range_with_len, get_or-range_with_len}
-use Rattle.request_rows.specs.Order.{KeyTexts, key_order, key_at, place_order, IsOrder}
+use Rattle.ledger_rules.specs.Order.{KeyTexts, key_order, key_at, place_order, IsOrder}
 use Rattle.request_rows.specs.Indexed.{entry_order}
 
 -- a key and a place are ordered by the key, and then by the place

@@ -11,7 +11,7 @@ use Rattle.std.proofs.lemmas.Bool.{cases_lt}
 use Rattle.std.proofs.lemmas.Grind.{get_or_default_zero}
 use Rattle.std.proofs.lemmas.List.{get_or-take, get_or-drop, length-take-le}
 use Rattle.std.proofs.lemmas.List.Elements.{All-from_get_or}
-use Rattle.request_rows.specs.Order.{KeyTexts, key_order, key_at, place_order, IsOrder}
+use Rattle.ledger_rules.specs.Order.{KeyTexts, key_order, key_at, place_order, IsOrder}
 use Rattle.request_rows.specs.Indexed.{entry_order, IsRank, ArePlacesOf}
 use Rattle.request_rows.proofs.Orders.{key_total, length_order, place_below, place_there}
 

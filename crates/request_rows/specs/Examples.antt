@@ -7,7 +7,8 @@ use Rattle.request_rows.specs.declared.row.AskedRow.{AskedRow}
 use Rattle.request_rows.specs.declared.row.OpenedRow.{OpenedRow}
 use Rattle.request_rows.specs.declared.key.RowKey.TheVariants.{OpenedRequest}
 use Rattle.request_rows.specs.Rows.{visible, asked_row, is_spent, is_seen, session_row, closed_at}
-use Rattle.request_rows.specs.Order.{KeyTexts, keys_of, place_order, IsOrder}
+use Rattle.ledger_rules.specs.Order.{KeyTexts, place_order, IsOrder}
+use Rattle.request_rows.specs.Order.{keys_of}
 
 -- a request with this relay state, asked until this moment
 asked_until : List ℕ → ℕ → AskedRow

@@ -4,7 +4,7 @@ use Rattle.std.specs.List.Sorted.{IsStrictlyIncreasing}
 use Rattle.std.specs.Ordering.{nat_cmp, ordering_then, is_lt}
 use Rattle.std.specs.declared.cmp.Ordering.{Ordering}
 use Rattle.std.specs.declared.cmp.Ordering.TheVariants.{Less}
-use Rattle.request_rows.specs.Order.{KeyTexts, key_order, key_at}
+use Rattle.ledger_rules.specs.Order.{KeyTexts, key_order, key_at}
 use Rattle.request_rows.specs.declared.key.Key.{Key}
 
 -- the texts of a key

@@ -1,7 +1,8 @@
 //! The lists that have indexes, and an index: the places of a list's rows, sorted by a key of theirs.
 ghost use Rattle.std.specs.Prelude.{◌≡◌, ◌+◌, ◌<◌, ◌≤◌, ◌^◌, [], length, insert, IfOk, OnOk, OnErr};
 ghost use Rattle.std.specs.List.{range_with_len};
-ghost use Rattle.request_rows.specs.Order.{keys_of, key_at, place_order, IsOrder};
+ghost use Rattle.ledger_rules.specs.Order.{key_at, place_order, IsOrder};
+ghost use Rattle.request_rows.specs.Order.{keys_of};
 ghost use Rattle.request_rows.specs.Indexed.{key_texts, IsRank, ArePlacesOf, room};
 
 use crate::key::{Key, RowKey};

@@ -1,6 +1,6 @@
 //! The keys by which rows are found.
 ghost use Rattle.std.specs.Prelude.{◌≡◌};
-ghost use Rattle.request_rows.specs.Order.{key_order, one_text};
+ghost use Rattle.ledger_rules.specs.Order.{key_order, one_text};
 ghost use Rattle.request_rows.specs.Indexed.{key_texts};
 
 use std::cmp::Ordering;

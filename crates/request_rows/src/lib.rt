@@ -7,8 +7,8 @@
 //! let spent = rows.is_spent("_r1");
 //! ```
 //!
-//! Contracts see [`Rows`] as the lists of its rows, in the order in which they came, and as the number of rows that more
-//! fit in each without memory. A look-up gives what its definition gives over the lists: the first row that is asked for,
+//! Contracts see [`Rows`] as the lists of its rows, in the order in which they came, and as how many more rows fit in each
+//! without memory. A look-up gives what its definition gives over the lists: the first row that is asked for,
 //! and only one that is still visible, where that is said. It finds it by halving a sorted list of places
 //! ([`Rows::order`]), and takes no memory. The rows determine each such list ([`laws::keys_have_one_order`]).
 //!

@@ -1,7 +1,8 @@
 //! The rows, with their indexes.
 ghost use Rattle.std.specs.Prelude.{◌≡◌, ◌<◌, ◌≤◌, ◌+◌, ◌&&◌, not, [], ◌∷◌, ◌++◌, length, IfOk, OnOk, OnErr, option_copied};
 ghost use Rattle.request_rows.specs.Rows.{visible, asked_row, is_spent, is_seen, session_row, closed_at, confirmed_at};
-ghost use Rattle.request_rows.specs.Order.{keys_of, IsOrder};
+ghost use Rattle.ledger_rules.specs.Order.{IsOrder};
+ghost use Rattle.request_rows.specs.Order.{keys_of};
 ghost use Rattle.request_rows.specs.Indexed.{room};
 
 use crate::index::{Index, Lists};
@@ -29,7 +30,8 @@ pub struct Rows {
 impl Model for Rows {
     ghost use Rattle.std.specs.Prelude.{◌≤◌, min, length};
     ghost use Rattle.request_rows.specs.Rows.{RowsView};
-    ghost use Rattle.request_rows.specs.Order.{keys_of, IsOrder};
+    ghost use Rattle.ledger_rules.specs.Order.{IsOrder};
+    ghost use Rattle.request_rows.specs.Order.{keys_of};
     ghost use Rattle.request_rows.specs.Indexed.{room};
     ghost use Rattle.request_rows.specs.declared.key.RowKey.TheVariants.{AskedRequest, OpenedRequest, OpenedAssertion, OpenedToken};
 

@@ -12,8 +12,9 @@
 //!
 //! Any two nodes are run ([`serve_loop::Node`]), each over a disk in memory. An agent's request comes to its node on a
 //! connection of its own, whole or, in a `pair`, in pieces that alternate with those of another agent; the node answers
-//! it at the moment of the clock, and the agent receives what it sends. Where a disk stops in a request, a restart or a
-//! compaction, nothing of it is known but that the node stopped, and the node starts from what the disk holds.
+//! it at the moment of the clock, and the agent receives what it sends, or it is lost. Where a disk stops in a request,
+//! a restart or a compaction, nothing of it is known but that the node stopped, and the node starts from what the disk
+//! holds.
 //!
 //! A contract sees a deployment (`specs/Deployments.antt`): the clock, each node with its disk and its connections
 //! (`specs/Hosts.antt`), what each agent keeps, and what was counted. `Does` of `specs/Steps.antt` says what each step of
@@ -31,17 +32,18 @@
 //! `replay`: a schedule over any two nodes (`serve_loop::Node`), each over a disk in memory. `Does` of
 //! `specs/Steps.antt` says what each step of the grammar does and prints, in the words of the nodes' own contracts: an
 //! agent's request comes to its node whole or in pieces that alternate with another's, at the moment of the clock; the
-//! node serves it as serve_loop says, and found memory; the agent receives what comes back, or it is lost. Where a disk
-//! stops, in a request, a restart or a compaction, nothing of it is known but that the node stopped, and it is started
-//! again from what the disk holds. `Ends` says how the run ended and what was printed: all steps, or some of them, in
-//! order; and, but where memory ran out, what it leaves of both nodes and their disks (`AreLeft`). WriteFault comes
-//! only where the sink's count rose. `laws::disks_fail_and_stop_where_a_schedule_says`, over all steps of a run: a disk
-//! that stopped was started again; the stops that it took and the one to come are at most those at first and those that
-//! steps set; the restarts that are counted are at most those that steps ask for and those of stops; and the calls that
-//! failed and the failure to come are at most those at first and the failures that steps set, and, where stops were
-//! set, those of the steps in which the disk stopped (`specs/Faults.antt`). `laws::each_fault_is_answered`: a call of a
-//! disk fails only in a step in which an answer of its node is the page of 50, or a restart or a compaction of it ends
-//! with DiskFault; where none does in all steps, the disk's count of faults is as it was at first.
+//! node serves it as serve_loop says, with memory for each piece; the agent receives what comes back, or it is lost.
+//! Where a disk stops, in a request, a restart or a compaction, nothing of it is known but that the node stopped, and
+//! it is started again from what the disk holds. `Ends` says how the run ended and what was printed: all steps, or some
+//! of them, in order; and, but where memory ran out, what it leaves of both nodes and their disks (`AreLeft`).
+//! WriteFault comes only where the sink's count rose. `laws::disks_fail_and_stop_where_a_schedule_says`, over all steps
+//! of a run with disks that run at first: a disk that stopped was started again; the stops that it took and the one to
+//! come are at most those at first and those that steps set; the restarts that are counted are at most those that steps
+//! ask for and those of stops; and the calls that failed and the failure to come are at most those at first and the
+//! failures that steps set, and, where stops were set or one was to come, those of the steps in which the disk stopped
+//! (`specs/Faults.antt`). `laws::each_fault_is_answered`: a call of a disk fails only in a step in which an answer of
+//! its node is the page of 50, or a restart or a compaction of it ends with DiskFault; where none does in all steps,
+//! the disk's count of faults is as it was at first.
 #![tactic(auto)]
 
 mod agents;

@@ -23,7 +23,7 @@
 //!
 //! # What is proved
 //!
-//! The steps that a text spells, or the first line outside the grammar (`read_schedule`); the schedule of so many
+//! The steps that a text spells, or the number of the first line that is bad (`read_schedule`); the schedule of so many
 //! logins, by its recurrence (`make_schedule`).
 #![tactic(auto)]
 

@@ -1,4 +1,4 @@
-//! What the clauses of serving do not say: heads that others write, and that each call succeeds with ample memory.
+//! What the clauses of serving do not say: heads that others write, and that calls succeed with ample memory.
 #![tactic(auto)]
 
 #[cfg(test)]

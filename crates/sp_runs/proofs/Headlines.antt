@@ -26,8 +26,8 @@ use Rattle.request_ledger.specs.Laws.{AnswerAlike, ImagesHoldRecords}
 use Rattle.request_ledger.specs.Ledger.{Held}
 use Rattle.request_ledger.specs.Record.{request_rules}
 use Rattle.sp_runs.specs.Headline.{Headline, ClosesExactly, GoesExactly, GuardsExactly, IsRecordedFirst, KeepsToItsConfig, OpensExactly, Says}
-use Rattle.sp_runs.specs.Laws.{AnEndedRegistryAsksNothing, AnEndedRegistryRecordsNothing, ARunUsesWhatItsRegistryLists, ASessionIsShownByItsRow, EachRequestIsServedByTheSameSetup, EachSessionWasSigned, SessionsStayClosedInARun, WhatARunAcknowledgedIsKeptOnce, WithoutARegistryNothingIsExpired}
-use Rattle.sp_runs.specs.Runs.{Begins, IsBadFile, IsServedBy, address, key}
+use Rattle.sp_runs.specs.Laws.{AnEndedRegistryAddsNothing, AnEndedRegistryAsksNothing, AnEndedRegistryRecordsNothing, ARunUsesWhatItsRegistryLists, ASessionIsShownByItsRow, EachRequestIsServedByTheSameSetup, EachSessionWasSigned, SessionsStayClosedInARun, WhatARunAcknowledgedIsKeptOnce, WithoutARegistryNothingIsExpired}
+use Rattle.sp_runs.specs.Runs.{Begins, IsBadFile, IsServedBy, address, key, served_by}
 use Rattle.sp_server.specs.Staying.{IsAsLeft, WasOpened}
 use Rattle.provider_node.specs.Staying.{SessionsStayInAService, WhatWasOpenedIsAsLeft}
 use Rattle.provider_node.specs.Starving.{RowsAnswerAsBefore}
@@ -57,6 +57,7 @@ pub record Laws : Type 0 where
   pub tells : ARunUsesWhatItsRegistryLists
   pub same : EachRequestIsServedByTheSameSetup
   pub ends : AnEndedRegistryRecordsNothing
+  pub adds_none : AnEndedRegistryAddsNothing
   pub asks : AnEndedRegistryAsksNothing
   pub without : WithoutARegistryNothingIsExpired
   pub shown : ASessionIsShownByItsRow
@@ -136,6 +137,9 @@ module _ (laws : Laws) where
     ends =
         λ asked until r expires there late. laws.ends told file before opened provider turns kept behind asked until r
         begins run expires there late;
+    adds_none = λ request until now r expires late added.
+        laws.adds_none (served_by begins.set_up.setup) until added.held request now added.answer r expires late
+        added.adds;
     asks =
         λ asked until expires there late. laws.asks told file before opened provider turns kept behind asked until
         begins run expires there late;

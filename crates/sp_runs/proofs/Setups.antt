@@ -19,7 +19,7 @@ use Rattle.sp_server.specs.Step.{Setup, Provider, Answers, is_expired, session_f
 use Rattle.provider_node.specs.Step.{Steps}
 use Rattle.provider_node.specs.Histories.{ForRecord, ForNone, ForCode, IsProviders, Stands}
 use Rattle.sp_setup.specs.Laws.{ARegistryTellsTheProvider, WithoutARegistryNothingEnds}
-use Rattle.sp_runs.specs.Laws.{ARunUsesWhatItsRegistryLists, EachRequestIsServedByTheSameSetup, AnEndedRegistryRecordsNothing, AnEndedRegistryAsksNothing, AsksAndOpensNothing, WithoutARegistryNothingIsExpired}
+use Rattle.sp_runs.specs.Laws.{ARunUsesWhatItsRegistryLists, EachRequestIsServedByTheSameSetup, AnEndedRegistryAddsNothing, AnEndedRegistryRecordsNothing, AnEndedRegistryAsksNothing, AsksAndOpensNothing, WithoutARegistryNothingIsExpired}
 use Rattle.sp_setup.specs.Setup as setups
 use Rattle.provider_run.proofs.Setups.{asked_same}
 use Rattle.provider_run.specs.Runs.{world_of}
@@ -88,6 +88,11 @@ pub ended : AnEndedRegistryRecordsNothing
 ended told file before opened provider turns kept behind asked until r begins run ends there late stands =
     let by = served_by_one told file before opened provider turns kept behind asked begins run there in
     stands_for_none asked (Some r) r (is_over asked until begins.set_up.setup by ends late) refl stands
+
+pub adds_none : AnEndedRegistryAddsNothing
+adds_none setup until held request now answer r ends late answers =
+    let over = ap (λ (e : Option ℕ). is_expired e now) ends ∙ at_or_after until now late in
+    let none = (nothing_asked setup held request now answer (Some r) over answers).0 in cc
 
 -- what is answered then by a step
 step_without : (old : Provider) (disk : Option DiskState) (request : Request) (now : ℕ) (Risen : Type 0)

@@ -11,6 +11,7 @@ use Rattle.http_wire.specs.declared.answer.Answer.{Answer}
 use Rattle.http_wire.specs.declared.answer.Answer.TheVariants.{Fixed, Full}
 use Rattle.http_wire.specs.Statuses.{HasStatus}
 use Rattle.http_wire.specs.Views.{answer_bytes}
+use Rattle.http_wire.specs.Requests.{Request}
 use Rattle.ledger_records.specs.declared.sp_record.Ended.{Ended as EndedRecord}
 use Rattle.ledger_records.specs.declared.sp_record.Left.{Left as LeftRecord}
 use Rattle.ledger_records.specs.declared.sp_record.Opened.{Opened as OpenedRecord}
@@ -45,6 +46,7 @@ use Rattle.sp_server.specs.Staying.{WasOpened, IsAsLeft}
 use Rattle.provider_node.specs.Staying.{SessionsStay, WhatWasOpenedIsAsLeft}
 use Rattle.sp_server.specs.Sessions.{GivesSession, HasRoom, IsOpened, OpensOver}
 use Rattle.provider_node.specs.declared.codes.TheConstants.{NO_MEMORY}
+use Rattle.provider_node.specs.Added.{IsAddedBy}
 use Rattle.provider_node.specs.Lasting.{AreKeptSince}
 use Rattle.provider_node.specs.Points.{points}
 use Rattle.provider_node.specs.Room as room
@@ -165,8 +167,8 @@ pub record GoesExactly (asked : Asked Provider) : Type 0 where
 
 -- A run keeps to what its config says: where this has a registry, the identity provider is the one that the registry
 -- lists; each request is served by what the run was set up with; from the moment on at which the registry ends nothing
--- is recorded, no login is asked for, no session is opened and no logout is served; and without a registry it is never
--- answered that one has ended.
+-- is recorded, no request adds a record, whatever is answered to it and also where a crash cuts it, no login is asked
+-- for, no session is opened and no logout is served; and without a registry it is never answered that one has ended.
 pub record KeepsToItsConfig (told : Option (List File)) (file : List ℕ) (before : Outside) (provider : Provider)
     (opened : Outside) (begins : Begins IsServedBy address key request_rules told file before provider opened)
     (turns : List (Turn Provider)) : Type 0 where
@@ -176,6 +178,8 @@ pub record KeepsToItsConfig (told : Option (List File)) (file : List ℕ) (befor
       → asked.node.setup ≡ served_by begins.set_up.setup
   pub ends : (asked : Asked Provider) (until : ℕ) (r : SpRecord) → begins.set_up.setup.expiry ≡ Some until
       → Contains (asked_in turns) asked → until ≤ asked.now → ¬ (Stands Answers asked (Some r))
+  pub adds_none : (request : Request) (until now : ℕ) (r : SpRecord) → begins.set_up.setup.expiry ≡ Some until
+      → until ≤ now → ¬ (IsAddedBy Answers (served_by begins.set_up.setup) request now r)
   pub asks : (asked : Asked Provider) (until : ℕ) → begins.set_up.setup.expiry ≡ Some until
       → Contains (asked_in turns) asked → until ≤ asked.now
       → AsksAndOpensNothing (served_by begins.set_up.setup) asked.request asked.answer

@@ -108,6 +108,13 @@ AnEndedRegistryRecordsNothing =
     → begins.set_up.setup.expiry ≡ Some until → Contains (asked_in turns) asked → until ≤ asked.now
     → ¬ (Stands Answers asked (Some r))
 
+-- From the moment on at which a registry ends no request adds a record, whatever is answered: no answer by the
+-- definition, over whatever ledger, stands for one, be it one that was never sent.
+abbrev pub AnEndedRegistryAddsNothing : Type 0
+AnEndedRegistryAddsNothing =
+    (setup : Setup) (until : ℕ) (held : Held) (request : Request) (now : ℕ) (answer : Answer) (r : SpRecord)
+    → setup.expiry ≡ Some until → until ≤ now → ¬ (Answers setup held request now answer (Some r))
+
 -- an answer that is no form which asks for a login, and gives no session: a code, the metadata, the page of a session
 -- that lives, or what a guard says of one
 abbrev pub AsksAndOpensNothing : Setup → Request → Answer → Type 0
@@ -117,7 +124,7 @@ AsksAndOpensNothing setup request answer =
     ⊎ ((setup.guard ≡ true) × ((row : OpenedRow) × (answer ≡ Full
     (vouched_to setup.policy (path_asked request.path) row))))))
 
--- And each is such an answer.
+-- And each answer of a run is such a one from then on.
 abbrev pub AnEndedRegistryAsksNothing : Type 0
 AnEndedRegistryAsksNothing =
     (told : Option (List File)) (file : List ℕ) (before opened : Outside) (provider : Provider)

@@ -7,7 +7,7 @@ ghost use Rattle.provider_run.specs.Joining.{EachImageOfARunGoesOn};
 ghost use Rattle.sp_server.specs.Step.{Answers};
 ghost use Rattle.request_ledger.specs.Record.{request_rules};
 ghost use Rattle.sp_runs.specs.Runs.{IsBadFile, IsServedBy, address, key};
-ghost use Rattle.sp_runs.specs.Laws.{AnEndedRegistryAsksNothing, AnEndedRegistryRecordsNothing, ARunUsesWhatItsRegistryLists, ASessionIsShownByItsRow, EachRequestIsServedByTheSameSetup, EachSessionWasSigned, EqualRowsAreShownAlike, NoImageHasARequestTwice, SessionsStayClosedInARun, WhatARunAcknowledgedIsKeptOnce, WithoutARegistryNothingIsExpired};
+ghost use Rattle.sp_runs.specs.Laws.{AnEndedRegistryAddsNothing, AnEndedRegistryAsksNothing, AnEndedRegistryRecordsNothing, ARunUsesWhatItsRegistryLists, ASessionIsShownByItsRow, EachRequestIsServedByTheSameSetup, EachSessionWasSigned, EqualRowsAreShownAlike, NoImageHasARequestTwice, SessionsStayClosedInARun, WhatARunAcknowledgedIsKeptOnce, WithoutARegistryNothingIsExpired};
 
 use request_ledger::Disk;
 use request_ledger::laws::{images_hold_records, no_request_opens_twice};
@@ -57,12 +57,13 @@ pub fn each_session_was_signed()
 
 /// A run whose config has a registry has its identity provider from the one descriptor of that name that the registry
 /// lists, inside the element that the signature covers, at each of its requests; and from the moment on at which the
-/// registry ends it asks for no login, opens no session and serves no logout: nothing is recorded. A run whose config
-/// has none never answers that one has ended.
+/// registry ends it asks for no login, opens no session and serves no logout: nothing is recorded, and no request adds
+/// a record, whatever is answered. A run whose config has none never answers that one has ended.
 pub fn a_registry_tells_and_ends()
     ensures tells { ARunUsesWhatItsRegistryLists }
     ensures same { EachRequestIsServedByTheSameSetup }
     ensures ends { AnEndedRegistryRecordsNothing }
+    ensures adds_none { AnEndedRegistryAddsNothing }
     ensures asks { AnEndedRegistryAsksNothing }
     ensures without { WithoutARegistryNothingIsExpired }
 {

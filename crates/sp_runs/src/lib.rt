@@ -12,8 +12,8 @@
 //! can't be used; the provider was not set up; its ledger was not opened; the link did not listen; it served. Of
 //! serving it says what `serve_loop` says of a list of turns, with the provider's own steps.
 //!
-//! A crash at any moment of a run leaves what one inside the opening may leave, or what one inside an answer may. No
-//! image has two sessions of one request ([`laws`]).
+//! A crash at any moment of a run leaves of a disk that tells what one inside the opening may leave, or what one inside
+//! an answer may. No image that stands for a ledger has two sessions of one request ([`laws`]).
 //!
 //! # What is proved
 //!

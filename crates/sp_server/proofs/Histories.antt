@@ -1,7 +1,8 @@
 -- The numbers that a record draws which is added with an answer.
 use Rattle.std.specs.Prelude.{Some}
 use Rattle.std.proofs.Common.{arith}
-use Rattle.provider_node.proofs.Histories.{DrawsAbove, above_of_each}
+use Rattle.provider_node.specs.Added.{DrawsAbove}
+use Rattle.provider_node.proofs.Histories.{above_of_each}
 use Rattle.request_ledger.specs.Drafts.{asked, opened, confirmed}
 use Rattle.request_ledger.specs.Ledger.{next_number}
 use Rattle.request_ledger.specs.Record.{request_rules}

@@ -15,19 +15,20 @@ use Rattle.request_rows.specs.Rows.{is_spent, session_row}
 use Rattle.record_ledger.specs.Runs.{EndsBehind, IsVisibleThroughout, added}
 use Rattle.record_ledger.proofs.Staying.{any_joined, visible_records_stay}
 use Rattle.request_ledger.specs.Laws.{ImagesHoldRecords, SessionsStay as RowsStay}
-use Rattle.request_ledger.specs.Ledger.{Held, ledger_in}
+use Rattle.request_ledger.specs.Ledger.{Held}
 use Rattle.record_ledger.specs.Ledger.{held_with}
 use Rattle.request_ledger.specs.Naming.{names}
 use Rattle.request_ledger.specs.Record.{AreRecords, request_rules}
 use Rattle.request_ledger.specs.RowsOf.{SpRows, closed_if, closes, opened_row, opened_rows}
 use Rattle.request_ledger.proofs.RowLaws.{rows_of-push}
 use Rattle.provider_node.specs.Histories.{CameFrom}
+use Rattle.provider_node.proofs.Opened.{opened_records}
 use Rattle.provider_node.proofs.Staying.{Stood, found_as_left, stay_in_a_service, stay_over_starts, stood}
 use Rattle.sp_server.specs.Staying.{IsAsLeft, WasOpened}
 use Rattle.provider_node.specs.Staying.{SessionsStayInAService, SessionsStayOverStarts, WhatWasOpenedIsAsLeft}
 use Rattle.sp_server.specs.Step.{Answers}
 use Rattle.sp_server.proofs.Histories.{draws_above}
-use Rattle.sp_server.proofs.Tokens.{found_by_token, opened_records}
+use Rattle.sp_server.proofs.Tokens.{found_by_token}
 
 -- ---- rows
 
@@ -160,5 +161,5 @@ module _ (rows_stay : RowsStay) (law : ImagesHoldRecords) where
         are = stays.are;
         stay = λ r image opened left.
             let (held, is, as_it_was) = stays.stay r image opened left in
-            (held, is, as_it_was (opened_records (ledger_in image) held is (law image)));
+            (held, is, as_it_was (opened_records request_rules law image held is));
       }

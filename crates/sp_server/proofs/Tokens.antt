@@ -1,20 +1,16 @@
 -- That no two sessions of a ledger have one token: what is found by a token is the row of the record that drew it.
-use Rattle.std.specs.Prelude.{Contains, ◌+◌, ◌==◌, if◌then◌else◌, Option, None, Some, Result, Ok, Err, slice_get}
+use Rattle.std.specs.Prelude.{Contains, Some, slice_get}
 use Rattle.std.specs.List.{find, list_any}
-use Rattle.std.proofs.Common.{◌≡◌, ℕ, zero, suc, ◌<◌, ◌≤◌, max, Bool, true, false, cond, ◌&&◌, not, List, [], ◌∷◌, ◌++◌}
+use Rattle.std.proofs.Common.{◌≡◌, ℕ, zero, suc, ◌<◌, max, Bool, true, false, cond, ◌&&◌, not, List, [], ◌∷◌, ◌++◌}
 use Rattle.std.proofs.Common.{bytes_eq, length, refl, sym, subst, ap, ◌∙◌, arith}
 use Rattle.std.proofs.lemmas.Bool.{and_parts, false_from_ne_true, lt-ltb}
 use Rattle.std.proofs.lemmas.Option.{slice_get_read}
-use Rattle.gate_journal.specs.Format.{Fault}
 use Rattle.ledger_records.specs.declared.sp_record.Opened.{Opened as OpenedRecord}
 use Rattle.ledger_records.specs.declared.sp_record.SpRecord.{SpRecord}
 use Rattle.ledger_records.specs.declared.sp_record.SpRecord.TheVariants as kinds
 use Rattle.ledger_rules.specs.Numbers.{has_number}
-use Rattle.crash_disk.specs.Torn.{other_file}
-use Rattle.record_ledger.specs.Ledger.{empty_ledger, migrated, taken}
 use Rattle.record_ledger.proofs.Numbers.{IsNumbered, all_fresh, numbered_above, one_number}
 use Rattle.record_ledger.proofs.Words.{same_text, text_itself}
-use Rattle.request_ledger.specs.Ledger.{Held}
 use Rattle.request_ledger.specs.Record.{AreRecords, AreRecordsAfter, drawn, next_of}
 use Rattle.request_ledger.specs.RowsOf.{closes, opened_row, opened_rows}
 use Rattle.request_ledger.proofs.LawNumbers.{next_push}
@@ -97,21 +93,3 @@ found_by_token records r now horizon are there less also =
     let second = and_parts (bytes_eq other.token r.token) (not other.closed) first.0 in
     same_text other.token r.token second.0)
     [] records are there.0 at
-
--- ---- what is opened holds records
-
-by_version : (held : Held) (old : Bool) → AreRecords held.records
-    → AreRecords (if old then record held
-    { file = other_file held.file; version = 2; header = record (held.header) { generation = held.header.generation + 1 } }
-    else held).records
-by_version held true are = are
-by_version held false are = are
-
-pub opened_records : (found : Result (Option Held) Fault) (held : Held) → taken found ≡ Ok held
-    → ((other : Held) → found ≡ Ok (Some other) → AreRecords other.records) → AreRecords held.records
-opened_records (Ok None) held is are =
-    let its : empty_ledger ≡ held = cc in subst (λ (h : Held). AreRecords h.records) its tt
-opened_records (Ok (Some other)) held is are =
-    let its : migrated other ≡ held = cc in
-    subst (λ (h : Held). AreRecords h.records) its (by_version other (other.version == 1) (are other refl))
-opened_records (Err fault) held is are = absurd (cc)

@@ -1,5 +1,7 @@
 //! Laws of a service provider, each the contract of a function that does nothing.
+ghost use Rattle.std.specs.Prelude.{ℕ, List, Contains};
 ghost use Rattle.provider_node.specs.Causes.{GivesNoOwnCode};
+ghost use Rattle.provider_node.specs.Histories.{AnyMoment};
 ghost use Rattle.sp_server.specs.Guarding.{AGuardTellsExactly, EqualRowsAreVouchedForAlike, OnlyASessionIsVouchedFor};
 ghost use Rattle.sp_server.specs.Histories.{WhatIsAcknowledgedIsKeptOnce};
 ghost use Rattle.sp_server.specs.Logouts.{OnlyWhereAUserLeaves, OnlyWhereSessionsEnd, NothingElseCloses, WhereverAUserLeaves, WhereverSessionsEnd, AClosedSessionStaysClosed, SessionsStayClosedInAService};
@@ -26,9 +28,11 @@ pub fn what_is_acknowledged_is_kept_once()
 
 /// Over each list of starts of a provider, each of which opens what a crash of the one before it may have left: what an
 /// answer acknowledged is in the history of every ledger that may be opened behind them, and no two sessions are of one
-/// request.
+/// request. So it is at whatever moments their requests were asked; and where each was asked at one of these moments,
+/// each compaction in such a history was at one of them.
 pub fn what_is_acknowledged_is_kept_once_over_starts()
-    ensures { WhatIsAcknowledgedIsKeptOnceOverStarts }
+    ensures any { WhatIsAcknowledgedIsKeptOnceOverStarts AnyMoment }
+    ensures at { (moments : List ℕ) → WhatIsAcknowledgedIsKeptOnceOverStarts (Contains moments) }
 {
     request_ledger::laws::images_hold_records();
     request_ledger::laws::no_request_opens_twice_in_a_run();

@@ -12,10 +12,12 @@
 //! | GET `/app` and below, without one | a form that asks the identity provider for a login; the request is recorded |
 //! | POST `/acs` | the verdict on the posted form; where it opens a session this is recorded, and the user is sent to where the login began |
 //! | POST `/logout`, with the cookie of a live session | a form that asks the identity provider to end its session, too; that the user left is recorded |
-//! | POST `/slo`, a LogoutRequest of the identity provider | the sessions that it lists end, which is recorded, and a form tells it so |
+//! | POST `/slo`, a LogoutRequest of the identity provider | its user's sessions that it lists end, or all where it lists none, which is recorded, and a form tells it so; code 33 where there is none |
 //! | POST `/slo`, its LogoutResponse to a logout that began here | how the logout ended; that it was confirmed is recorded |
 //! | GET `/metadata` | the metadata of the provider |
 //! | GET `/auth` and a path behind it, with a guard | a proxy is told who a live session is of, where no policy denies it that path; nothing is recorded |
+//!
+//! Where the identity provider has no address for logout, the page at the end of a logout stands in place of a form.
 //!
 //! What one request does is one definition, `Steps` of `specs/Step.antt`, by named cases: nothing is recorded; a
 //! record is added; it is added after one compaction that made room; there is no room (code 51); the disk failed
@@ -53,12 +55,13 @@
 //! POST, and each form that asks for a login, stands for a record that is in every image that a crash may leave behind
 //! the step, as far as the disk tells (`what_is_answered_is_recorded`); a guard answers 200 exactly where the cookie's
 //! session lives and there is no policy, or one that allows the path, which is plain then, names that session's user
-//! and values, depends on nothing but that row, and leaves the ledger as it was (`a_guard_tells_exactly`). A session
-//! whose answer went out is found as it was left in each image that a crash may leave, in a service and over starts:
-//! until it is closed or ends, the row of its own record is what its token finds; and a request stays spent while it
-//! could be answered (`what_was_opened_is_as_left`, `sessions_stay_in_a_service`, `sessions_stay_over_starts`); at 52
-//! all that may be asked of the rows is answered as before, where the ledger was not broken (`what_is_visible_stays`).
-//! Where nothing fails none of the codes 50 to 53 is answered (`no_definition_gives_an_own_code`).
+//! and values, depends on nothing but that row, the policy and the path, and leaves the ledger as it was
+//! (`a_guard_tells_exactly`). A session whose answer went out is found as it was left in each image that a crash may
+//! leave, in a service and over starts: until it is closed or ends, the row of its own record is what its token finds;
+//! and a request stays spent while it could be answered (`what_was_opened_is_as_left`, `sessions_stay_in_a_service`,
+//! `sessions_stay_over_starts`); at 52 all that may be asked of the rows is answered as before, where the ledger was
+//! not broken (`what_is_visible_stays`). Where nothing fails none of the codes 50 to 53 is answered
+//! (`no_definition_gives_an_own_code`).
 #![tactic(auto)]
 
 mod app;

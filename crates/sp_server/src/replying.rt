@@ -64,10 +64,10 @@ impl Role for SpRole {
     // A login is always asked for, and a session that a form opens always opened: for these it is never asked.
     fn refusal(&self, reply: &Reply) -> Verdict {
         match reply {
-            Reply::Confirm { .. } => Verdict::UnknownLogout,
             Reply::Ask { .. } | Reply::Open { .. } | Reply::Leave { .. } | Reply::End { .. } => {
                 Verdict::NoSuchSession
             }
+            Reply::Confirm { .. } => Verdict::UnknownLogout,
         }
     }
 
@@ -77,4 +77,6 @@ impl Role for SpRole {
         each_logout_has_an_answer();
         each_moment_is_told();
     }
+
+    fn numbers_are_new() {}
 }

@@ -16,10 +16,10 @@
 //! # What is proved
 //!
 //! `set_up`: a service provider exactly as its config and the files that it names say, with its policy and the end of
-//! its registry (`ok`), or the first file that can't be used and its line (`err`); within the bounds that judging asks
-//! for (`bounds`), and with names and addresses that a document may hold (`texts`). A config has one outcome
-//! (`laws::a_config_has_one_outcome`); with a registry the identity provider is what the covered aggregate lists
-//! (`laws::a_registry_tells_the_provider`).
+//! its registry (`ok`), or the first file that can't be used and its line, unless a reading failed or memory ran out
+//! (`err`); within the bounds that judging asks for (`bounds`), and with names and addresses that a document may hold
+//! (`texts`). A config has one outcome (`laws::a_config_has_one_outcome`); with a registry the identity provider is
+//! what the covered aggregate lists (`laws::a_registry_tells_the_provider`).
 #![tactic(auto)]
 
 mod fault;

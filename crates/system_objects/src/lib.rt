@@ -24,11 +24,12 @@
 //!
 //! # What is proved
 //!
-//! `SystemClock`, `FsDisk` and `TcpLink` meet their traits: each fault is counted once, and a call answers Failed only
-//! where the count rose. `FsFiles::read_all` meets its trait and counts each failed reading once; what a reader gives
-//! is what is kept, up to the limit (`read_to_end`). `StdoutSink::put` meets its trait; after a failure the writer took
-//! the first `sent` bytes (`send`). They tell nothing, so nothing is claimed of what real files, sockets and clocks
-//! hold ("What is trusted" says what this leaves).
+//! `SystemClock`, `FsDisk` and `TcpLink` meet their traits: a call of a disk or a link answers Failed only where its
+//! count of faults rose, and the count rises in no other; each fault is counted once (`counted`). `FsFiles::read_all`
+//! meets its trait and counts each failed reading once; what a reader gives, where it knows that, is what is kept, up
+//! to the limit (`read_to_end`). `StdoutSink::put` meets its trait and counts each failed piece once; after a failure
+//! the writer took the first `sent` bytes, where it knows what it holds (`send`). They tell nothing, so nothing is
+//! claimed of what real files, sockets and clocks hold ("What is trusted" says what this leaves).
 #![tactic(auto)]
 
 mod faults;

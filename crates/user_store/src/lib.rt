@@ -21,8 +21,8 @@
 //! # What is proved
 //!
 //! `read_users`: the users of a file exactly where it keeps the grammar, else the number of the first line that does
-//! not (`Gives`). `Users::check`: the user of that name whose PBKDF2 value is that of the password, none exactly where
-//! there is none; no memory.
+//! not (`Gives`), unless memory ran out. `Users::check`: the user of that name whose PBKDF2 value is that of the
+//! password, none exactly where there is none; no memory.
 #![tactic(auto)]
 
 mod fault;

@@ -21,7 +21,9 @@ returns c = λ start sp_starts idp_start idp_starts records sp idp. record {
       let is = c.a_recorded_login_has_a_recorded_session.ensures setup added config asked.now b.carried.head b.key b.login login gives.opens.opens.meant
       (counts (usable config asked.now) b.carried.tree brings.covered.first.parts b.key brings.covered.first.tagged) in
       record { is = is; recorded = signed.recorded _ is.known };
-  once = c.what_is_acknowledged_is_kept_once_over_starts.ensures start sp_starts records sp;
+  once = c.what_is_acknowledged_is_kept_once_over_starts.ensures.any start sp_starts records sp;
+  once_at = λ moments at.
+      c.what_is_acknowledged_is_kept_once_over_starts.ensures.at moments start sp_starts records at;
   closed = c.sessions_stay_closed_over_starts.ensures start sp_starts records sp;
   ended = over_behind idp_rules idp_steps.Answers c.images_hold_records.ensures IsEnded ends IsDead
       c.sessions_stay_ended_over_starts.ensures idp_start idp_starts idp;

@@ -17,4 +17,5 @@ returns c =
       above_signed = c.each_login_is_of_one_above.ensures.signed;
       above_recorded = c.each_login_is_of_one_above.ensures.recorded;
       starved = c.what_is_visible_stays.ensures;
-    }) c.what_is_acknowledged_is_kept_once_over_starts.ensures c.each_session_below_is_of_a_login_above.ensures
+    }) c.what_is_acknowledged_is_kept_once_over_starts.ensures.any
+    c.what_is_acknowledged_is_kept_once_over_starts.ensures.at c.each_session_below_is_of_a_login_above.ensures

@@ -26,6 +26,7 @@ returns g c = λ disk.
       tells = c.a_registry_tells_and_ends.ensures.tells;
       same = c.a_registry_tells_and_ends.ensures.same;
       ends = c.a_registry_tells_and_ends.ensures.ends;
+      adds_none = c.a_registry_tells_and_ends.ensures.adds_none;
       asks = c.a_registry_tells_and_ends.ensures.asks;
       without = c.a_registry_tells_and_ends.ensures.without;
       shown = c.a_session_is_shown_by_its_row.ensures.shown;

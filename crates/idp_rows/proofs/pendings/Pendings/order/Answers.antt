@@ -1,6 +1,6 @@
 use Rattle.std.proofs.Common.{ℕ, List, map, ap, subst}
 use Rattle.idp_rows.specs.declared.row.PendingRow.{PendingRow}
-use Rattle.request_rows.specs.Order.{one_text, IsOrder}
+use Rattle.ledger_rules.specs.Order.{one_text, IsOrder}
 use Rattle.idp_rows.proofs.RowOrders.{order_is}
 use Rattle.idp_rows.proofs.pendings.Pendings.order.Goals as goal
 

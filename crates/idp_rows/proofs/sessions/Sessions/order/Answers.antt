@@ -1,6 +1,6 @@
 use Rattle.std.proofs.Common.{ℕ, List, map, ap, subst}
 use Rattle.idp_rows.specs.declared.row.SessionRow.{SessionRow}
-use Rattle.request_rows.specs.Order.{one_text, IsOrder}
+use Rattle.ledger_rules.specs.Order.{one_text, IsOrder}
 use Rattle.idp_rows.proofs.RowOrders.{order_is}
 use Rattle.idp_rows.proofs.sessions.Sessions.order.Goals as goal
 

@@ -1,6 +1,5 @@
-use Rattle.std.proofs.Common.{◌∙◌, ℕ, List, [], ◌∷◌, None, false, inl, refl, sym, subst, ap}
+use Rattle.std.proofs.Common.{◌∙◌, ℕ, List, [], ◌∷◌, None, false, inl, refl, sym, ap}
 use Rattle.http_wire.specs.Views.{request_view}
-use Rattle.idp_rules.specs.Config.{IsUsable}
 use Rattle.idp_server.specs.Rounds.{asks_others}
 use Rattle.idp_server.proofs.Asking.{one_live}
 use Rattle.idp_server.proofs.MayStand.{session_stands}
@@ -13,7 +12,7 @@ returns-in-Some-2-clause-reply c =
     let held = c.args.ledger.now.held in
     let request = request_view c.args.request.now in
     let row = c.in-Some.row.now in
-    let usable = subst IsUsable c.self.view_is c.self.invariant in
+    let usable = c.has_usable_config.ensures in
     let used = used_session held false request c.args.now row c.holds_records.ensures c.in-Some.ensures in
     asks_by c.args.self.now held request c.args.now None (row.cookie ∷ []) c.in-Some-2.reply
     (inl (record {
@@ -32,7 +31,7 @@ pub returns-clause-reply : goal.returns-clause-reply
 returns-clause-reply c =
     let old = c.args.self.now in
     let held = c.args.ledger.now.held in
-    let usable = subst IsUsable c.self.view_is c.self.invariant in
+    let usable = c.has_usable_config.ensures in
     let none = rw c.in_default-2.is at c.in_ok-reply.ensures in
     let row = c.in-Some.row.now in
     let used =

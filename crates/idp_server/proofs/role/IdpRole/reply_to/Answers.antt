@@ -3,7 +3,6 @@ use Rattle.std.proofs.Common.{◌≡◌, List, ℕ, refl, sym, subst}
 use Rattle.http_wire.specs.Views.{request_view}
 use Rattle.idp_rows.specs.Finding.{session_found}
 use Rattle.idp_rows.specs.RowsOf.{rows_of}
-use Rattle.idp_rules.specs.Config.{IsUsable}
 use Rattle.idp_server.proofs.MayStand.{session_stands}
 use Rattle.idp_server.proofs.Sessions.{asks_for, used_session}
 use Rattle.idp_server.proofs.role.IdpRole.reply_to.Goals as goal
@@ -15,7 +14,7 @@ returns-in-Some c =
     let request = request_view c.args.request.now in
     let used = used_session c.args.ledger.now.held c.args.asked.force request c.args.now row
     c.holds_records.ensures c.in-Some.ensures in
-    let usable = subst IsUsable c.self.view_is c.self.invariant in
+    let usable = c.has_usable_config.ensures in
     let asks =
     asks_for old request c.in_ok-ask.ask c.args.asked c.the_texts_of_a_request_are_texts.ensures usable.peers
     c.requires.route c.requires.asked c.in_ok-ask.ensures in
@@ -39,7 +38,7 @@ returns-in-Some c =
 pub returns-then-passive : goal.returns-then-passive
 returns-then-passive c =
     let old = c.args.self.now in
-    let usable = subst IsUsable c.self.view_is c.self.invariant in
+    let usable = c.has_usable_config.ensures in
     let asks =
     asks_for old (request_view c.args.request.now) c.in_ok-ask.ask c.args.asked
     c.the_texts_of_a_request_are_texts.ensures usable.peers c.requires.route c.requires.asked
@@ -57,7 +56,7 @@ returns-then-passive c =
 pub returns-else-passive : goal.returns-else-passive
 returns-else-passive c =
     let old = c.args.self.now in
-    let usable = subst IsUsable c.self.view_is c.self.invariant in
+    let usable = c.has_usable_config.ensures in
     let asks =
     asks_for old (request_view c.args.request.now) c.in_ok-ask.ask c.args.asked
     c.the_texts_of_a_request_are_texts.ensures usable.peers c.requires.route c.requires.asked

@@ -4,7 +4,8 @@ use Rattle.std.specs.List.{range_with_len}
 use Rattle.std.specs.List.Sorted.{IsPermutation}
 use Rattle.std.proofs.lemmas.Fn.{always_returns_same}
 use Rattle.std.proofs.lemmas.List.Sorted.{ranks_by}
-use Rattle.request_rows.specs.Order.{keys_of, key_at, place_order}
+use Rattle.ledger_rules.specs.Order.{key_at, place_order}
+use Rattle.request_rows.specs.Order.{keys_of}
 use Rattle.request_rows.proofs.Orders.{both_total}
 use Rattle.request_rows.proofs.Sorting.{sorted_order}
 use Rattle.request_rows.proofs.index.Index.of.Goals as goal

@@ -1,6 +1,6 @@
 use Rattle.std.proofs.Common.{◌∙◌, map, sym, ap, subst}
 use Rattle.request_rows.specs.Rows.{visible, asked_row}
-use Rattle.request_rows.specs.Order.{one_text}
+use Rattle.ledger_rules.specs.Order.{one_text}
 use Rattle.request_rows.specs.Indexed.{ArePlacesOf}
 use Rattle.request_rows.proofs.Finding.{is_found, is_nowhere, none_more, asked_tests}
 use Rattle.request_rows.proofs.rows.Rows.asked_row.Goals as goal

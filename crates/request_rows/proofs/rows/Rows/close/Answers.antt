@@ -1,6 +1,6 @@
 use Rattle.std.proofs.Common.{◌∙◌, ◌<◌, true, ap, refl, length, arith}
 use Rattle.request_rows.specs.Rows.{closed_at}
-use Rattle.request_rows.specs.Order.{KeyTexts, one_text}
+use Rattle.ledger_rules.specs.Order.{KeyTexts, one_text}
 use Rattle.request_rows.specs.declared.row.OpenedRow.{OpenedRow}
 use Rattle.request_rows.proofs.Changing.{order_stays, closed_is}
 use Rattle.request_rows.proofs.rows.Rows.close.Goals as goal

@@ -1,6 +1,6 @@
 use Rattle.std.proofs.Common.{◌∙◌, sym, ap}
 use Rattle.request_rows.specs.Rows.{visible, is_seen}
-use Rattle.request_rows.specs.Order.{KeyTexts}
+use Rattle.ledger_rules.specs.Order.{KeyTexts}
 use Rattle.request_rows.specs.declared.row.OpenedRow.{OpenedRow}
 use Rattle.request_rows.proofs.Finding.{is_any, is_none, none_more, seen_tests}
 use Rattle.request_rows.proofs.rows.Rows.is_seen.Goals as goal

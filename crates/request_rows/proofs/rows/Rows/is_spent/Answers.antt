@@ -2,7 +2,7 @@ use Rattle.std.proofs.Common.{◌≡◌, ◌∙◌, map, sym, ap, subst, length,
 use Rattle.std.proofs.lemmas.Bool.{ne_eqb}
 use Rattle.std.proofs.lemmas.List.{get_or_default, length-map}
 use Rattle.request_rows.specs.Rows.{is_spent}
-use Rattle.request_rows.specs.Order.{one_text}
+use Rattle.ledger_rules.specs.Order.{one_text}
 use Rattle.request_rows.specs.Indexed.{ArePlacesOf}
 use Rattle.request_rows.specs.declared.row.OpenedRow.{OpenedRow}
 use Rattle.request_rows.proofs.Finding.{is_any, is_none, spent_tests}

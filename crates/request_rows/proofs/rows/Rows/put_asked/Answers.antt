@@ -1,5 +1,5 @@
 use Rattle.std.proofs.Common.{◌∙◌, ◌++◌, ◌∷◌, [], ap, min, arith}
-use Rattle.request_rows.specs.Order.{one_text}
+use Rattle.ledger_rules.specs.Order.{one_text}
 use Rattle.request_rows.specs.Indexed.{room}
 use Rattle.request_rows.proofs.Adding.{added}
 use Rattle.request_rows.proofs.rows.Rows.put_asked.Goals as goal

@@ -1,5 +1,5 @@
 use Rattle.std.proofs.Common.{◌∙◌, ◌++◌, ◌∷◌, [], ap, min, arith}
-use Rattle.request_rows.specs.Order.{KeyTexts, one_text}
+use Rattle.ledger_rules.specs.Order.{KeyTexts, one_text}
 use Rattle.request_rows.specs.Indexed.{room}
 use Rattle.request_rows.specs.declared.row.OpenedRow.{OpenedRow}
 use Rattle.request_rows.proofs.Adding.{added}

@@ -1,6 +1,6 @@
 use Rattle.std.proofs.Common.{not, ◌&&◌, ◌∙◌, map, sym, ap, subst}
 use Rattle.request_rows.specs.Rows.{visible, session_row}
-use Rattle.request_rows.specs.Order.{one_text}
+use Rattle.ledger_rules.specs.Order.{one_text}
 use Rattle.request_rows.specs.Indexed.{ArePlacesOf}
 use Rattle.request_rows.proofs.Finding.{is_found, is_nowhere, none_more, session_tests}
 use Rattle.request_rows.proofs.rows.Rows.session_row.Goals as goal
