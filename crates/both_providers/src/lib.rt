@@ -4,9 +4,9 @@
 //!
 //! The world is two lists of starts (`specs/Together.antt`): each start opens what a crash of the one before it may
 //! have left, and then serves any list of connections, pieces, moments and faults. A run of either program is such a
-//! start (`sp_runs::laws::a_run_is_a_start`, `idp_runs::laws::a_run_is_a_start`), and from each image that it may leave
-//! a later one goes on (`each_image_of_a_run_goes_on` of both). What passes between the two is not asked for: whatever
-//! a form holds that comes to the service provider, and whoever brings it.
+//! start (`sp_runs::laws::a_run_is_a_start`, `idp_runs::laws::a_run_is_a_start`), and from each disk that it leaves where
+//! it is stopped a later one goes on (`each_disk_of_a_run_goes_on` of both). What passes between the two is not asked
+//! for: whatever a form holds that comes to the service provider, and whoever brings it.
 //!
 //! # What is proved
 //!

@@ -7,7 +7,7 @@ use Rattle.request_rows.specs.declared.row.OpenedRow.{OpenedRow}
 use Rattle.hub_ledger.specs.RowsOf.{opened_rows}
 use Rattle.record_ledger.specs.Runs as any
 pub use Rattle.request_ledger.specs.Runs.{AreDifferent}
-use Rattle.record_ledger.specs.Runs.{Adds, Compacts, Opens}
+use Rattle.record_ledger.specs.Runs.{Adds}
 use Rattle.hub_ledger.specs.Record.{hub_rules}
 use Rattle.hub_ledger.specs.Ledger.{Held}
 

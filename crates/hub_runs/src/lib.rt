@@ -37,10 +37,10 @@
 //! nobody but the hub makes HMACs that match for those below, each session that a provider below opens is of such a
 //! login, or of a record that the hub had at the start (`SessionsBelowAreOfLoginsAbove`). Over all starts of a hub it
 //! holds of each request, of what is kept, once, and of the sessions below (`laws::the_headline_holds_over_starts`): a
-//! run that served is a start (`laws::a_run_is_a_start`), and from each image that a crash may leave a later start goes
-//! on (`laws::each_image_of_a_run_goes_on`). Each fault comes only where its count rose; where a hub can be run and
-//! nothing failed it served, or memory ran out (`complete`). 50, 51 and 53 are answered for their causes alone
-//! (`AnswersForACause`).
+//! run that served is a start (`laws::a_run_is_a_start`), and from each disk that a run leaves where a crash cuts it, or
+//! its process is killed, a later start goes on (`laws::each_disk_of_a_run_goes_on`). Each fault comes only where its
+//! count rose; where a hub can be run and nothing failed it served, or memory ran out (`complete`). 50, 51 and 53 are
+//! answered for their causes alone (`AnswersForACause`).
 #![tactic(auto)]
 
 pub mod laws;

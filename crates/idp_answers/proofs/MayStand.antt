@@ -1,14 +1,10 @@
 -- What passes the test of a record's texts may stand in a document, and each moment has a written form.
-use Rattle.std.specs.Char.{IsAsciiGraphic}
-use Rattle.std.proofs.Common.{◌≡◌, ℕ, ◌≤◌, true, ◌&&◌, List, [], ◌∷◌, All, ◌↔◌, IsTrue, ◌+◌, min, arith, sym, ◌∙◌}
-use Rattle.std.specs.List.{AllByRecursion, flat_map, list_all}
+use Rattle.std.proofs.Common.{ℕ, List, [], ◌∷◌, ◌↔◌, IsTrue, arith, sym, ◌∙◌}
+use Rattle.std.specs.List.{flat_map, list_all}
 use Rattle.std.proofs.lemmas.Bool.{and_parts}
 use Rattle.std.proofs.lemmas.List.Folds.{list_all-append}
 use Rattle.xml_spec.specs.Characters.{IsText}
-use Rattle.owned_values.specs.declared.attributes.Attribute.{Attribute}
-use Rattle.saml_time.specs.declared.TheConstants.{LAST}
 use Rattle.saml_time.specs.Instant.{EachIsTold}
-use Rattle.assertion_model.specs.Assertion.{IsStatable}
 use Rattle.assertion_model.proofs.Writable.{graphic_text}
 use Rattle.ledger_rules.specs.Numbers.{is_xml_text}
 use Rattle.ledger_rules.specs.Texts.{of_attribute}

@@ -1,5 +1,5 @@
 -- With a session all that was issued in it is kept.
-use Rattle.std.proofs.Common.{◌≡◌, ℕ, ◌+◌, ◌<◌, ◌≤◌, Bool, true, false, ◌||◌, ◌&&◌, List, [], ◌∷◌, ◌++◌, Option, None, Some, cond, find, reverse, slice_get, bytes_eq, refl, sym, ap, ◌∙◌, subst, inl, inr, arith, append_assoc, append-nil}
+use Rattle.std.proofs.Common.{◌≡◌, ℕ, ◌+◌, ◌<◌, ◌≤◌, Bool, true, false, ◌||◌, ◌&&◌, List, [], ◌∷◌, ◌++◌, Option, None, Some, cond, find, reverse, slice_get, bytes_eq, refl, sym, ap, ◌∙◌, subst, inl, inr, arith, append_assoc}
 use Rattle.std.specs.List.{list_any}
 use Rattle.std.proofs.lemmas.Bool.{false≢true, true≢false, and_parts, or_cases, or_left, or_parts, false_from_ne_true}
 use Rattle.std.specs.Option.{option_or}
@@ -12,7 +12,7 @@ use Rattle.ledger_rules.specs.Numbers.{has_number, NUMBER_END}
 use Rattle.idp_ledger.specs.Naming.{has_cookie, has_session, issue_names, names}
 use Rattle.record_ledger.specs.Marks.{all, kept, KeepsAll}
 use Rattle.record_ledger.proofs.Numbers.{one_number, IsFresh, all_fresh}
-use Rattle.record_ledger.proofs.Words.{each_weaker, each_push, same_text, text_itself}
+use Rattle.record_ledger.proofs.Words.{each_weaker, same_text, text_itself}
 use Rattle.record_ledger.proofs.KeptMarks.{all_push, any_same}
 use Rattle.idp_rows.specs.declared.row.SessionRow.{SessionRow}
 use Rattle.idp_rows.specs.declared.row.IssuedRow.{IssuedRow}

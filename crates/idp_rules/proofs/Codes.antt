@@ -1,5 +1,5 @@
 -- The verdict on a form that asks for a login has a code of 43 at most.
-use Rattle.std.specs.Prelude.{None, Some, Result, Ok, Err}
+use Rattle.std.specs.Prelude.{Some, Result, Ok, Err}
 use Rattle.std.proofs.Common.{◌≡◌, ℕ, List, sym, subst, arith}
 use Rattle.post_binding.specs.declared.fault.FormFault.{FormFault}
 use Rattle.post_binding.specs.declared.posted.Field.{Field}

@@ -21,11 +21,11 @@ none_own setup held request now answer adds (steps.ByVerdict verdict to refused 
     of_verdict answer 43 verdict (refused_ends setup.peers (sign_on setup) request.body verdict refused) (omega arith)
     is
 none_own setup held request now answer adds
-    (steps.ByIssuing asked peer row r bytes to is_asked there live drafted is page shown) = of_page answer bytes shown
+    (steps.ByIssuing asked peer row r bytes asks live drafted is page shown) = of_page answer bytes shown
 none_own setup held request now answer adds
-    (steps.ByPassive asked peer message bytes to is_asked there none passive is id page shown) =
+    (steps.ByPassive asked peer message bytes asks none passive is id page shown) =
     of_page answer bytes shown
-none_own setup held request now answer adds (steps.ByAsking asked peer id to is_asked there none active is has shown) =
+none_own setup held request now answer adds (steps.ByAsking asked peer id asks none active is has shown) =
     of_page answer _ shown
 none_own setup held request now answer adds (steps.ByFields to none is nothing) =
     of_code answer 1 (inl (omega arith)) is

@@ -32,15 +32,15 @@ told_above setup held now request confirms row false =
     above_of_each idp_rules held (told setup.id_key (next_number held) now request confirms false) _ refl tt
 
 pub draws_above : DrawsAbove idp_rules Answers
-draws_above setup held request now answer r (steps.ByIssuing asked peer row other bytes to is known used drafted adding
+draws_above setup held request now answer r (steps.ByIssuing asked peer row other bytes asks used drafted adding
     answers full) =
     above_of_each idp_rules held (issue setup.id_key (next_number held) now row (ask_of asked peer)) r (cc)
     (omega arith, (omega arith, tt))
-draws_above setup held request now answer r (steps.ByPassive asked peer message bytes to is known none passive adding
+draws_above setup held request now answer r (steps.ByPassive asked peer message bytes asks none passive adding
     named answers full) =
     above_of_each idp_rules held (spoke setup.id_key (next_number held) now (ask_of asked peer)) r (cc)
     (omega arith, tt)
-draws_above setup held request now answer r (steps.ByAsking asked peer id to is known none passive adding named full) =
+draws_above setup held request now answer r (steps.ByAsking asked peer id asks none passive adding named full) =
     above_of_each idp_rules held (pending setup.id_key (next_number held) now (ask_of asked peer)) r (cc)
     (omega arith, tt)
 draws_above setup held request now answer r (steps.ByLogin t row peer user other bytes to posted pends accepted drafted

@@ -13,11 +13,8 @@ use Rattle.ledger_records.specs.declared.idp_record.Pending.{Pending}
 use Rattle.ledger_records.specs.declared.idp_record.Spoke.{Spoke}
 use Rattle.ledger_records.specs.declared.idp_record.IdpRecord.{IdpRecord}
 use Rattle.ledger_records.specs.declared.idp_record.IdpRecord.TheVariants as kinds
-use Rattle.std.specs.Prelude.{slice_get}
 use Rattle.peer_keys.specs.declared.peers.LogoutPeer.{LogoutPeer}
 use Rattle.idp_rules.specs.declared.asked.Asked.{Asked}
-use Rattle.idp_rules.specs.Asking.{IsAsked}
-use Rattle.idp_rules.specs.Config.{sign_on}
 use Rattle.idp_rows.specs.declared.row.PendingRow.{PendingRow}
 use Rattle.idp_rows.specs.declared.row.SessionRow.{SessionRow}
 use Rattle.idp_rows.specs.RowsOf.{rows_of}
@@ -31,10 +28,10 @@ use Rattle.provider_node.proofs.Changes.{changes}
 use Rattle.provider_node.proofs.Sessions as any
 use Rattle.provider_node.proofs.Sessions.{found_at}
 use Rattle.service_routes.specs.declared.route.Route.TheVariants.{To}
-use Rattle.idp_server.specs.declared.route.Service.TheVariants.{Metadata, SignOn}
+use Rattle.idp_server.specs.declared.route.Service.TheVariants.{Metadata}
 use Rattle.idp_server.specs.Routes.{route}
 use Rattle.idp_server.specs.Step as steps
-use Rattle.idp_server.specs.Step.{Answers, ask_of, session_for, session_used}
+use Rattle.idp_server.specs.Step.{Answers, AsksFor, ask_of, session_for, session_used}
 use Rattle.idp_server.specs.Issues.{AnswersHaveAskers, AnswersHaveUsers, IsOfItsCause, IsOfSession, IsPosted}
 use Rattle.idp_server.specs.Issues.{RefusalsHaveAskers, ServicesHaveUsers}
 use Rattle.idp_server.specs.Signed.{NoOtherPageIsUnrecorded}
@@ -79,23 +76,19 @@ pub the_issued : (r : Issued) (x : IdpRecord) (made : Issued) → x ≡ kinds.Is
 the_issued r x made is has = let both : Some made ≡ Some r = sym has ∙ ap issued_in is in cc
 
 of_session : (setup : IdpConfig) (held : Held) (request : Request) (now : ℕ) (asked : Asked) (peer : LogoutPeer)
-    (row : SessionRow) (r : Issued) → route request ≡ To SignOn
-    → IsAsked setup.peers (sign_on setup) request.body asked → slice_get setup.peers asked.peer ≡ Some peer
-    → session_used asked (session_for held now request) ≡ Some row
+    (row : SessionRow) (r : Issued) → AsksFor setup request asked peer → session_used asked (session_for held now request) ≡ Some row
     → issue setup.id_key (next_number held) now row (ask_of asked peer) ≡ kinds.Issued r
     → IsOfSession setup held request now r
-of_session setup held request now asked peer row r to asks known used is =
+of_session setup held request now asked peer row r asks used is =
     let live = used_is asked.force (session_for held now request) row used in
     let same = the_issued r (issue setup.id_key (next_number held) now row (ask_of asked peer)) _ is refl in
     let found = any.found_itself begun_sessions (rows_of held.records).sessions now held.header.horizon _ row live in
     let drawn : row.cookie ≡ r.cookie = ap (λ (i : Issued). i.cookie) same in
     record {
-      to = to;
       asked = asked;
+      peer = peer;
       asks = asks;
       unforced = unforced asked.force (session_for held now request) row used;
-      peer = peer;
-      known = known;
       peer_is = sym (ap (λ (i : Issued). i.peer) same);
       request_is = sym (ap (λ (i : Issued). i.request) same);
       consumer_is = sym (ap (λ (i : Issued). i.consumer) same);
@@ -115,10 +108,10 @@ of_session setup held request now asked peer row r to asks known used is =
     }
 
 pub answers_have_users : AnswersHaveUsers
-answers_have_users setup held request now answer r (steps.ByIssuing asked peer row other bytes to is known used drafted
+answers_have_users setup held request now answer r (steps.ByIssuing asked peer row other bytes asks used drafted
     adding answers full) =
     let same : kinds.Issued other ≡ kinds.Issued r = cc in
-    inr (of_session setup held request now asked peer row r to is known used (drafted ∙ same))
+    inr (of_session setup held request now asked peer row r asks used (drafted ∙ same))
 answers_have_users setup held request now answer r (steps.ByLogin t row peer user other bytes to posted pending accepted
     drafted adding answers full) =
     let added : kinds.Issued other ≡ kinds.Issued r = cc in
@@ -172,16 +165,14 @@ the_spoke r x made is has = let both : Some made ≡ Some r = sym has ∙ ap spo
 
 pub answers_have_askers : AnswersHaveAskers
 answers_have_askers setup held request now answer r
-    (steps.ByAsking asked peer id to is known none askable adding named full) =
+    (steps.ByAsking asked peer id asks none askable adding named full) =
     let added : pending setup.id_key (next_number held) now (ask_of asked peer) ≡ kinds.Pending r = cc in
     let same = the_pending r (pending setup.id_key (next_number held) now (ask_of asked peer)) _ added refl in
     record {
-      to = to;
       asked = asked;
-      asks = is;
-      askable = askable;
       peer = peer;
-      known = known;
+      asks = asks;
+      askable = askable;
       peer_is = sym (ap (λ (p : Pending). p.peer) same);
       request_is = sym (ap (λ (p : Pending). p.request) same);
       consumer_is = sym (ap (λ (p : Pending). p.consumer) same);
@@ -192,16 +183,14 @@ answers_have_askers setup held request now answer r other =
 
 pub refusals_have_askers : RefusalsHaveAskers
 refusals_have_askers setup held request now answer r
-    (steps.ByPassive asked peer message bytes to is known none passive adding named answers full) =
+    (steps.ByPassive asked peer message bytes asks none passive adding named answers full) =
     let added : spoke setup.id_key (next_number held) now (ask_of asked peer) ≡ kinds.Spoke r = cc in
     let same = the_spoke r (spoke setup.id_key (next_number held) now (ask_of asked peer)) _ added refl in
     record {
-      to = to;
       asked = asked;
-      asks = is;
-      passive = passive;
       peer = peer;
-      known = known;
+      asks = asks;
+      passive = passive;
       peer_is = sym (ap (λ (s : Spoke). s.peer) same);
       request_is = sym (ap (λ (s : Spoke). s.request) same);
     }

@@ -109,15 +109,15 @@ of_user setup held request now row r to live alone drafted =
 ends_so : (setup : IdpConfig) (held : Held) (request : Request) (now : ℕ) (answer : Answer) (adds : Option IdpRecord)
     (r : IdpRecord) → adds ≡ Some r
     → Answers setup held request now answer adds → IsOfLogoutIfEnding setup held request now r
-ends_so setup held request now answer adds r some (steps.ByIssuing asked peer row other bytes to is known used drafted
+ends_so setup held request now answer adds r some (steps.ByIssuing asked peer row other bytes asks used drafted
     adding answers full) =
     let same : kinds.Issued other ≡ r = (let e = sym adding ∙ some in cc) in
     subst (IsOfLogoutIfEnding setup held request now) same tt
-ends_so setup held request now answer adds r some (steps.ByPassive asked peer message bytes to is known none passive
+ends_so setup held request now answer adds r some (steps.ByPassive asked peer message bytes asks none passive
     adding named answers full) =
     let same : spoke setup.id_key (next_number held) now (ask_of asked peer) ≡ r = (let e = sym adding ∙ some in cc) in
     subst (IsOfLogoutIfEnding setup held request now) same tt
-ends_so setup held request now answer adds r some (steps.ByAsking asked peer id to is known none passive adding named
+ends_so setup held request now answer adds r some (steps.ByAsking asked peer id asks none passive adding named
     full) =
     let same : pending setup.id_key (next_number held) now (ask_of asked peer) ≡ r =
     (let e = sym adding ∙ some in cc) in

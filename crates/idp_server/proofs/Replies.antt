@@ -233,7 +233,7 @@ pub placed_peer : (setup : IdpConfig) (held : Held) (request : Request) (now : �
     (peer : ℕ) → (w : AsksInSession setup held request now cookie ask peer)
     → slice_get setup.peers peer ≡ Some w.peer
 placed_peer setup held request now cookie ask peer w =
-    subst (λ (place : ℕ). slice_get setup.peers place ≡ Some w.peer) (sym w.placed) w.asks.known
+    subst (λ (place : ℕ). slice_get setup.peers place ≡ Some w.peer) (sym w.placed) w.asks.is.known
 
 pub has_refusal : (setup : IdpConfig) (held : Held) (request : Request) (now : ℕ) (key : List ℕ) (ask : Ask)
     (r : IdpRecord) → AsksAnew true setup held request now ask
@@ -323,7 +323,7 @@ page_answers setup held request now (replies.InSession cookie ask peer) r answer
     let same = session_record setup held request now setup.id_key cookie ask peer r w is in
     let who =
     same_peer setup.peers peer page.peer w.peer page.there (placed_peer setup held request now cookie ask peer w) in
-    ByIssuing w.asked w.peer w.row page.issued page.bytes w.asks.to w.asks.is w.asks.known w.used
+    ByIssuing w.asked w.peer w.row page.issued page.bytes w.asks.is w.used
     (ap (λ (a : Ask). issue setup.id_key (next_number held) now w.row a) (sym w.asks.says) ∙ same ∙ page.is)
     (ap Some page.is)
     (subst (λ (p : LogoutPeer). IsAnswerFor setup p page.issued None now page.bytes) who page.answers) page.full
@@ -332,7 +332,7 @@ page_answers setup held request now (replies.Passive ask) r answer w is page =
     the_one (spoke setup.id_key (next_number held) now ask) r (record_for setup.id_key held now (replies.Passive ask))
     refl is in
     let spoken = ap (λ (a : Ask). spoke setup.id_key (next_number held) now a) w.asks.says in
-    ByPassive w.asked w.peer page.message page.bytes w.asks.to w.asks.is w.asks.known w.none w.passive_is
+    ByPassive w.asked w.peer page.message page.bytes w.asks.is w.none w.passive_is
     (ap Some (sym same ∙ spoken))
     (ap first_id (sym spoken ∙ same) ∙ page.named)
     (subst (λ (a : Ask). IsNoPassiveAnswer setup.entity page.message a.request a.consumer a.relay now page.bytes)
@@ -342,7 +342,7 @@ page_answers setup held request now (replies.Question ask) r answer w is page =
     the_one (pending setup.id_key (next_number held) now ask) r
     (record_for setup.id_key held now (replies.Question ask)) refl is in
     let asked = ap (λ (a : Ask). pending setup.id_key (next_number held) now a) w.asks.says in
-    ByAsking w.asked w.peer page.id w.asks.to w.asks.is w.asks.known w.none w.passive_is (ap Some (sym same ∙ asked))
+    ByAsking w.asked w.peer page.id w.asks.is w.none w.passive_is (ap Some (sym same ∙ asked))
     (ap first_id (sym asked ∙ same) ∙ page.named) page.full
 page_answers setup held request now (replies.Login id user attributes peer) r answer w is page =
     let same = login_record setup held request now setup.id_key id user attributes peer r w is in

@@ -18,7 +18,7 @@ use Rattle.idp_rules.specs.Asking.{IsAsked}
 use Rattle.idp_rules.specs.Config.{IsTextPeer, IsTextUser, sign_on}
 use Rattle.idp_rules.specs.declared.asked.Asked.{Asked}
 use Rattle.idp_rules.specs.declared.config.IdpConfig.{IdpConfig}
-use Rattle.idp_server.specs.Replies.{AreTold, AsksFor, IsTextAsk, IsTextSession, Leaves}
+use Rattle.idp_server.specs.Replies.{AreTold, AsksWith, IsTextAsk, IsTextSession, Leaves}
 use Rattle.idp_server.specs.Rounds.{asks_others}
 use Rattle.service_routes.specs.declared.route.Route.TheVariants.{To}
 use Rattle.idp_server.specs.declared.route.Service.TheVariants.{Logout, SignOn}
@@ -66,7 +66,7 @@ pub asks_for : (setup : IdpConfig) (request : Request) (ask : Ask) (asked : Aske
     → AllByRecursion IsTextPeer setup.peers → route request ≡ To SignOn
     → IsAsked setup.peers (sign_on setup) request.body asked
     → ((peer : LogoutPeer) → slice_get setup.peers asked.peer ≡ Some peer → ask ≡ ask_of asked peer)
-    → (peer : LogoutPeer) × AsksFor setup request ask asked peer
+    → (peer : LogoutPeer) × AsksWith setup request ask asked peer
 asks_for setup request ask asked texts all to is says =
     let place : is.place ≡ asked.peer = sym (ap (λ (a : Asked). a.peer) is.is) in
     let known : slice_get setup.peers asked.peer ≡ Some is.peer =
@@ -76,9 +76,7 @@ asks_for setup request ask asked texts all to is says =
     let peer = all_at IsTextPeer setup.peers asked.peer is.peer all known in (
       is.peer,
       record {
-        to = to;
-        is = is;
-        known = known;
+        is = record { to = to; is = is; known = known };
         says = said;
         texts = subst IsTextAsk (sym said) (record { request = both.0; peer = peer.entity; consumer = both.1 });
       },

@@ -320,18 +320,18 @@ carried : IsAtItsPlace → (setup : IdpConfig) (held : Held) (request : Request)
     (bytes : List ℕ) (adds : Option IdpRecord) (r : IdpRecord) → answer ≡ Full bytes → adds ≡ Some r
     → Answers setup held request now answer adds → Carries setup held request bytes r
 carried law setup held request now answer bytes adds r shown some
-    (steps.ByIssuing asked peer row other sent to is known used drafted adding answers full) =
+    (steps.ByIssuing asked peer row other sent asks used drafted adding answers full) =
     let same : kinds.Issued other ≡ r = (let e = sym adding ∙ some in cc) in
     let spelled : sent ≡ bytes = (let e = sym full ∙ shown in cc) in
     let made = the_issued other (issue setup.id_key (next_number held) now row (ask_of asked peer)) _ drafted refl in
     let known_as =
     subst (λ (e : List ℕ). IsPeer setup e peer) (ap (λ (i : Issued). i.peer) made)
-    (known_peer setup _ request.body asked peer is known) in
+    (known_peer setup _ request.body asked peer asks.is asks.known) in
     carried_to setup held request (kinds.Issued other) r sent bytes same spelled
     (carries_issued setup held request peer other None now sent known_as (sym (ap (λ (i : Issued). i.moment) made))
     (ap (option_map (λ (p : List ℕ). session_cookie other.cookie)) (ap (λ (i : Issued). i.pending) made)) answers)
 carried law setup held request now answer bytes adds r shown some
-    (steps.ByPassive asked peer message sent to is known none passive adding named answers full) =
+    (steps.ByPassive asked peer message sent asks none passive adding named answers full) =
     let ask = ask_of asked peer in
     let same : spoke setup.id_key (next_number held) now ask ≡ r = (let e = sym adding ∙ some in cc) in
     let spelled : sent ≡ bytes = (let e = sym full ∙ shown in cc) in
@@ -340,17 +340,15 @@ carried law setup held request now answer bytes adds r shown some
     (sym first) answers in
     carried_to setup held request (spoke setup.id_key (next_number held) now ask) r sent bytes same spelled
     (ARefusal _ (record {
-      to = to;
       asked = asked;
-      asks = is;
-      passive = passive;
       peer = peer;
-      known = known;
+      asks = asks;
+      passive = passive;
       peer_is = refl;
       request_is = refl;
     }) page (refusal_unsigned _ _ _ _ _ now sent page))
 carried law setup held request now answer bytes adds r shown some
-    (steps.ByAsking asked peer id to is known none passive adding named full) =
+    (steps.ByAsking asked peer id asks none passive adding named full) =
     let ask = ask_of asked peer in
     let same : pending setup.id_key (next_number held) now ask ≡ r = (let e = sym adding ∙ some in cc) in
     let spelled : login_answer id ≡ bytes = (let e = sym full ∙ shown in cc) in

@@ -16,13 +16,13 @@ said setup held request now answer adds (steps.ByStatus status to is none) = non
 said setup held request now answer adds (steps.ByMetadata to is none) = none3 to is none
 said setup held request now answer adds (steps.ByVerdict verdict to refused is none) = none3 to is none
 said setup held request now answer adds
-    (steps.ByIssuing asked peer row r bytes to is known used drafted adding answers full) =
-    page3 to adding full
+    (steps.ByIssuing asked peer row r bytes asks used drafted adding answers full) =
+    page3 asks.to adding full
 said setup held request now answer adds
-    (steps.ByPassive asked peer message bytes to is known none passive adding named answers full) =
-    page3 to adding full
-said setup held request now answer adds (steps.ByAsking asked peer id to is known none passive adding named full) =
-    page3 to adding full
+    (steps.ByPassive asked peer message bytes asks none passive adding named answers full) =
+    page3 asks.to adding full
+said setup held request now answer adds (steps.ByAsking asked peer id asks none passive adding named full) =
+    page3 asks.to adding full
 said setup held request now answer adds (steps.ByFields to bad is none) = none3 to is none
 said setup held request now answer adds (steps.ByNoPending t to posted nothing is none) = none3 to is none
 said setup held request now answer adds (steps.ByPassword t row peer to posted pends refused is none) = none3 to is none

@@ -21,13 +21,11 @@ use Rattle.idp_ledger.specs.Record.{idp_rules}
 use Rattle.peer_keys.specs.declared.peers.LogoutPeer.{LogoutPeer}
 use Rattle.idp_rules.specs.declared.asked.Asked.{Asked}
 use Rattle.idp_rules.specs.declared.config.IdpConfig.{IdpConfig}
-use Rattle.idp_rules.specs.Asking.{IsAsked}
-use Rattle.idp_rules.specs.Config.{sign_on}
 use Rattle.provider_node.specs.Changes as any
 use Rattle.service_routes.specs.declared.route.Route.TheVariants.{To}
 use Rattle.idp_server.specs.declared.route.Service.TheVariants.{Login, SignOn}
 use Rattle.idp_server.specs.Routes.{route, IsOfALogout}
-use Rattle.idp_server.specs.Step.{Provider, Answers, Typed, typed}
+use Rattle.idp_server.specs.Step.{Provider, Answers, AsksFor, Typed, typed}
 use Rattle.provider_node.specs.Step.{Serves}
 
 -- WHY
@@ -59,12 +57,10 @@ pub record IsOfPassword (setup : IdpConfig) (held : Held) (request : Request) (n
 -- request has the cookie of a session that is in the ledger, was not ended and is visible; the record answers that peer
 -- at its address, with the relay state of its form, and has the session's user, attributes, index and end.
 pub record IsOfSession (setup : IdpConfig) (held : Held) (request : Request) (now : ℕ) (r : Issued) : Type 0 where
-  pub to : route request ≡ To SignOn
   pub asked : Asked
-  pub asks : IsAsked setup.peers (sign_on setup) request.body asked
-  pub unforced : asked.force ≡ false
   pub peer : LogoutPeer
-  pub known : slice_get setup.peers asked.peer ≡ Some peer
+  pub asks : AsksFor setup request asked peer
+  pub unforced : asked.force ≡ false
   pub peer_is : r.peer ≡ peer.peer.entity
   pub request_is : r.request ≡ asked.request
   pub consumer_is : r.consumer ≡ asked.consumer
@@ -90,12 +86,10 @@ IsOfUser setup held request now r = IsOfPassword setup held request now r ⊎ Is
 -- login that is pending has the peer, the ID of its request, the address to which the Response goes, and the relay
 -- state of the form (SAML Bindings, 3.5.3).
 pub record IsOfAsker (setup : IdpConfig) (request : Request) (r : Pending) : Type 0 where
-  pub to : route request ≡ To SignOn
   pub asked : Asked
-  pub asks : IsAsked setup.peers (sign_on setup) request.body asked
-  pub askable : asked.passive ≡ false
   pub peer : LogoutPeer
-  pub known : slice_get setup.peers asked.peer ≡ Some peer
+  pub asks : AsksFor setup request asked peer
+  pub askable : asked.passive ≡ false
   pub peer_is : r.peer ≡ peer.peer.entity
   pub request_is : r.request ≡ asked.request
   pub consumer_is : r.consumer ≡ asked.consumer
@@ -104,12 +98,10 @@ pub record IsOfAsker (setup : IdpConfig) (request : Request) (r : Pending) : Typ
 -- A peer asked by a form for a login, and its user may not be asked (SAML Core, 3.4.1, IsPassive): the record of the
 -- Response without an Assertion has the peer and the ID of its request.
 pub record IsOfPassive (setup : IdpConfig) (request : Request) (r : Spoke) : Type 0 where
-  pub to : route request ≡ To SignOn
   pub asked : Asked
-  pub asks : IsAsked setup.peers (sign_on setup) request.body asked
-  pub passive : asked.passive ≡ true
   pub peer : LogoutPeer
-  pub known : slice_get setup.peers asked.peer ≡ Some peer
+  pub asks : AsksFor setup request asked peer
+  pub passive : asked.passive ≡ true
   pub peer_is : r.peer ≡ peer.peer.entity
   pub request_is : r.request ≡ asked.request
 

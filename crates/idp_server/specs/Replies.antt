@@ -33,8 +33,7 @@ use Rattle.idp_rows.specs.Record.{LAST}
 use Rattle.idp_ledger.specs.Ledger.{Held, next_number}
 use Rattle.idp_ledger.specs.Draft.{first_id, second_id}
 use Rattle.idp_ledger.specs.Drafts.{SESSION_LIFE, AreLive, AreXmlAttributes, AreXmlTurns, IsXmlAsk, IsXmlAsker, confirmed, is_turn_left, issue, login, pending, round, spoke, told}
-use Rattle.idp_rules.specs.Asking.{IsAsked}
-use Rattle.idp_rules.specs.Config.{IsTextPeer, sign_on}
+use Rattle.idp_rules.specs.Config.{IsTextPeer}
 use Rattle.idp_rules.specs.declared.asked.Asked.{Asked}
 use Rattle.idp_rules.specs.declared.config.IdpConfig.{IdpConfig}
 use Rattle.idp_answers.specs.Answers.{IsNoPassiveAnswer, login_answer}
@@ -58,7 +57,7 @@ use Rattle.idp_server.specs.Routes.{route}
 use Rattle.idp_server.specs.Messages.{AsksFirst, IsRequestTo, IsRoundEnd}
 use Rattle.idp_server.specs.Rounds.{asks_others, follows_of, round_waiting, skips_for, turns_for}
 use Rattle.idp_server.specs.Step as step
-use Rattle.idp_server.specs.Step.{AsksToEnd, IsAnswerFor, IsEndingAnswer, IsLeavingAnswer, IsObeyed, Typed, asker_of, ask_of, ended_by, ending_by, is_awaited, left_by, session_for, session_used, typed}
+use Rattle.idp_server.specs.Step.{AsksFor, AsksToEnd, IsAnswerFor, IsEndingAnswer, IsLeavingAnswer, IsObeyed, Typed, asker_of, ask_of, ended_by, ending_by, is_awaited, left_by, session_for, session_used, typed}
 
 -- THE RECORD
 
@@ -341,12 +340,10 @@ pub record IsTextPending (row : PendingRow) : Type 0 where
   pub peer : IsText row.peer
   pub consumer : IsText row.consumer
 
--- a peer asks for a login
-pub record AsksFor (setup : IdpConfig) (request : Request) (ask : Ask) (asked : Asked) (peer : LogoutPeer) : Type 0
+-- a peer asks for a login, and this is what a record says of it
+pub record AsksWith (setup : IdpConfig) (request : Request) (ask : Ask) (asked : Asked) (peer : LogoutPeer) : Type 0
   where
-    pub to : route request ≡ To routes.SignOn
-    pub is : IsAsked setup.peers (sign_on setup) request.body asked
-    pub known : slice_get setup.peers asked.peer ≡ Some peer
+    pub is : AsksFor setup request asked peer
     pub says : ask ≡ ask_of asked peer
     pub texts : IsTextAsk ask
 
@@ -355,7 +352,7 @@ pub record AsksInSession (setup : IdpConfig) (held : Held) (request : Request) (
     (place : ℕ) : Type 0 where
   pub asked : Asked
   pub peer : LogoutPeer
-  pub asks : AsksFor setup request ask asked peer
+  pub asks : AsksWith setup request ask asked peer
   pub placed : place ≡ asked.peer
   pub row : SessionRow
   pub used : session_used asked (session_for held now request) ≡ Some row
@@ -368,7 +365,7 @@ pub record AsksAnew (passive : Bool) (setup : IdpConfig) (held : Held) (request 
     0 where
   pub asked : Asked
   pub peer : LogoutPeer
-  pub asks : AsksFor setup request ask asked peer
+  pub asks : AsksWith setup request ask asked peer
   pub none : session_used asked (session_for held now request) ≡ None
   pub passive_is : asked.passive ≡ passive
   pub told : IsTold now

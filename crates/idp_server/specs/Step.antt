@@ -99,6 +99,12 @@ IsObeyed setup now body message = logouts.IsAccepted setup.peers None (logout se
 abbrev pub IsNotObeyed : IdpConfig → ℕ → (body : List ℕ) → Verdict → Type 0
 IsNotObeyed setup now body verdict = logouts.IsRefused setup.peers None (logout setup) setup.skew now body verdict
 
+-- a posted form asks for a login of this peer
+pub record AsksFor (setup : IdpConfig) (request : Request) (asked : Asked) (peer : LogoutPeer) : Type 0 where
+  pub to : route request ≡ To SignOn
+  pub is : IsAsked setup.peers (sign_on setup) request.body asked
+  pub known : slice_get setup.peers asked.peer ≡ Some peer
+
 -- a peer asks by a posted form to end sessions, and the form had this relay
 pub record AsksToEnd (setup : IdpConfig) (request : Request) (now : ℕ) (asked : LogoutRequest) (peer : LogoutPeer)
     (relay : Option (List ℕ)) : Type 0 where
@@ -160,21 +166,18 @@ module _ (setup : IdpConfig) (held : Held) (request : Request) (now : ℕ) (answ
         → Answers
     -- a login is asked for, and the user has a live session: an Assertion is issued in it
     ByIssuing : (asked : Asked) (peer : LogoutPeer) (row : SessionRow) (r : Issued) (bytes : List ℕ)
-        → route request ≡ To SignOn → IsAsked setup.peers (sign_on setup) request.body asked
-        → slice_get setup.peers asked.peer ≡ Some peer → session_used asked (session_for held now request) ≡ Some row
+        → AsksFor setup request asked peer → session_used asked (session_for held now request) ≡ Some row
         → issue setup.id_key (next_number held) now row (ask_of asked peer) ≡ kinds.Issued r
         → adds ≡ Some (kinds.Issued r) → IsAnswerFor setup peer r None now bytes → answer ≡ Full bytes → Answers
     -- there is none, and the user may not be asked: SAML Core, 3.4.1, IsPassive
-    ByPassive : (asked : Asked) (peer : LogoutPeer) (message bytes : List ℕ) → route request ≡ To SignOn
-        → IsAsked setup.peers (sign_on setup) request.body asked → slice_get setup.peers asked.peer ≡ Some peer
+    ByPassive : (asked : Asked) (peer : LogoutPeer) (message bytes : List ℕ) → AsksFor setup request asked peer
         → session_used asked (session_for held now request) ≡ None → asked.passive ≡ true
         → adds ≡ Some (spoke setup.id_key (next_number held) now (ask_of asked peer))
         → first_id (spoke setup.id_key (next_number held) now (ask_of asked peer)) ≡ Some message
         → IsNoPassiveAnswer setup.entity message asked.request asked.consumer asked.relay now bytes
         → answer ≡ Full bytes → Answers
     -- there is none, and the user is asked for a password
-    ByAsking : (asked : Asked) (peer : LogoutPeer) (id : List ℕ) → route request ≡ To SignOn
-        → IsAsked setup.peers (sign_on setup) request.body asked → slice_get setup.peers asked.peer ≡ Some peer
+    ByAsking : (asked : Asked) (peer : LogoutPeer) (id : List ℕ) → AsksFor setup request asked peer
         → session_used asked (session_for held now request) ≡ None → asked.passive ≡ false
         → adds ≡ Some (pending setup.id_key (next_number held) now (ask_of asked peer))
         → first_id (pending setup.id_key (next_number held) now (ask_of asked peer)) ≡ Some id

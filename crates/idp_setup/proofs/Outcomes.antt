@@ -12,7 +12,7 @@ use Rattle.provider_config.specs.declared.idp_config.IdpFile.{IdpFile}
 use Rattle.provider_config.specs.declared.idp_config.IdpFile.TheVariants as named
 use Rattle.provider_config.specs.declared.idp_config.PeerFiles.{PeerFiles}
 use Rattle.peer_keys.specs.declared.peers.LogoutPeer.{LogoutPeer}
-use Rattle.sp_setup.specs.Files.{Reading, only, known, no_line, ◌>>=◌, in_order, text_of, key_file, id_key_file, metadata_file}
+use Rattle.sp_setup.specs.Files.{only, known, no_line, ◌>>=◌, in_order, text_of, key_file, id_key_file, metadata_file}
 use Rattle.sp_setup.proofs.Readings.{ComesToOne, one_known, one_no_line, one_then, one_made, one_in_order, one_text, one_key, one_id_key, one_metadata}
 use Rattle.idp_rules.specs.declared.config.IdpConfig.{IdpConfig}
 use Rattle.idp_setup.specs.declared.loaded.Loaded.{Loaded}

@@ -94,15 +94,4 @@ impl Turns {
         self.items.push(turn)?;
         Ok(())
     }
-
-    /// A list of the same turns.
-    pub fn copy(&self) -> Result<Turns, NoMemory>
-        ensures { IfOk result (λ turns. turns ≡ self.now) }
-    {
-        let mut items = Vec::new(*self.items.allocator());
-        for turn in &self.items {
-            items.push(turn.copy()?)?;
-        }
-        Ok(Turns { items })
-    }
 }

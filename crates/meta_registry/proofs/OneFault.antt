@@ -3,7 +3,6 @@ use Rattle.std.proofs.Common.{◌≡◌, ◌≢◌, ℕ, List, Option, Some, Non
 use Rattle.xml_spec.specs.Tree.{Nodes, IsWithinLimits}
 use Rattle.xml_spec.specs.Names.{HasNames}
 use Rattle.xml_spec.specs.Document.{Spells}
-use Rattle.saml_tree.specs.Documents.{IsSpelled}
 use Rattle.saml_tree.specs.Documents as trees
 use Rattle.saml_tree.specs.declared.node.TreeFault.{TreeFault}
 use Rattle.saml_tree.specs.declared.node.TreeFault.TheVariants as tree_faults

@@ -1,6 +1,7 @@
 -- What an element says as a message is determined by the element.
 use Rattle.std.proofs.Common.{◌≡◌, ℕ, List, Option, Some, None, refl, sym, ap, ◌∙◌}
 use Rattle.xml_spec.specs.Tree.{Nodes}
+use Rattle.xml_spec.specs.Names.{ExpandedName}
 use Rattle.saml_time.specs.Instant.{Tells, moment}
 use Rattle.saml_time.proofs.LawLemmas.{one_instant}
 use Rattle.protocol_messages.specs.declared.authn.AuthnRequest.{AuthnRequest}
@@ -22,6 +23,10 @@ one_told (Some text) (Some a) (Some b) p q = ap Some (one_moment text a b p q)
 
 same_some : {A : Type 0} (o : Option A) (a b : A) → o ≡ Some a → o ≡ Some b → a ≡ b
 same_some o a b p q = let both : Some a ≡ Some b = sym p ∙ q in cc
+
+pub one_kind : (tree : Nodes) (k : ℕ) (one other id another : List ℕ) (issued moment : ℕ) → IsMessage tree k one id issued
+    → IsMessage tree k other another moment → one ≡ other
+one_kind tree k one other id another issued moment p q = ap (λ (n : ExpandedName). n.local) (sym p.name ∙ q.name)
 
 one_id : (tree : Nodes) (k : ℕ) (local a b : List ℕ) (x y : ℕ) → IsMessage tree k local a x → IsMessage tree k local b y → a ≡ b
 one_id tree k local a b x y p q = same_some _ a b p.identified q.identified

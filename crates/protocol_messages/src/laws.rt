@@ -10,11 +10,14 @@ ghost use Rattle.protocol_messages.specs.declared.response.ResponseHead.{Respons
 ghost use Rattle.protocol_messages.specs.declared.logout.LogoutRequest.{LogoutRequest};
 ghost use Rattle.protocol_messages.specs.declared.logout.LogoutResponse.{LogoutResponse};
 ghost use Rattle.protocol_messages.specs.declared.logout.Outcome.{Outcome};
-ghost use Rattle.protocol_messages.specs.Messages.{IsAuthnRequest, IsResponse, IsLogoutRequest, IsLogoutResponse};
+ghost use Rattle.protocol_messages.specs.Messages.{IsMessage, IsAuthnRequest, IsResponse, IsLogoutRequest, IsLogoutResponse};
 ghost use Rattle.protocol_messages.specs.Making.{IsMadeAt, IsMadeFrom, authn_request, response, assertion_made, logout_request, request_end, logged_out, succeeded, failed};
 
-/// An element is one message of each kind at most: no two readings of it differ in any field.
+/// An element is one message at most: no two readings of it have different names, so it is of one kind; and of each kind no
+/// two readings differ in any field.
 pub fn an_element_is_one_message()
+    ensures kind { (tree : Nodes) (k : ℕ) (one other id another : List ℕ) (issued moment : ℕ) → IsMessage tree k one id issued →
+        IsMessage tree k other another moment → one ≡ other }
     ensures authn { (tree : Nodes) (k : ℕ) (m n : AuthnRequest) → IsAuthnRequest tree k m → IsAuthnRequest tree k n → m ≡ n }
     ensures response { (tree : Nodes) (k : ℕ) (m n : ResponseHead) → IsResponse tree k m → IsResponse tree k n → m ≡ n }
     ensures request { (tree : Nodes) (k : ℕ) (m n : LogoutRequest) → IsLogoutRequest tree k m → IsLogoutRequest tree k n → m ≡ n }

@@ -12,7 +12,7 @@
 //! # What is proved
 //!
 //! `read_authn`, `read_response`, `read_logout_request`, `read_logout_response`: the message exactly where the element
-//! has its shape, else WrongShape. An element is one message of a kind at most (`laws::an_element_is_one_message`).
+//! has its shape, else WrongShape. An element is one message of one kind at most (`laws::an_element_is_one_message`).
 //! `make_authn`, `make_response`, `make_logout_request`, `make_logout_response` give exactly the elements of the
 //! definitions, without a signature. What is made, written and read again is the message that was made, where its ID
 //! has 1 to 256 bytes and what a Response carries is an Assertion or nothing, and but for white space at the ends of

@@ -1,10 +1,10 @@
--- That runs, and runs that a crash cut, join into one service: from each image that a run may leave a later start goes
--- on, as behind a start of this run that was cut at that moment.
+-- That runs, and runs that were stopped, join into one service: from whatever a run leaves where it is stopped at a moment
+-- a later start goes on, as behind a start of this run that was cut at that moment. A crash of the machine leaves one
+-- image; a process that is killed leaves its disk, of which a crash may still leave several.
 use Rattle.std.specs.Prelude.{◌≡◌, ◌⊎◌, ℕ, List, [], ◌∷◌, ◌++◌, Contains, Option, Some}
-use Rattle.crash_disk.specs.Disk.{Image, DiskState, settled_image}
+use Rattle.crash_disk.specs.Disk.{Image, DiskState, MayLeave, image_of}
 use Rattle.conn_table.specs.Table.{Table}
-use Rattle.serve_loop.specs.Serving.{LeftInside}
-use Rattle.serve_loop.specs.Turns.{Run, Turn, asked_by, asked_in}
+use Rattle.serve_loop.specs.Turns.{Asked, Run, Turn, asked_by, asked_in}
 use Rattle.serve_loop.specs.Worlds.{World}
 use Rattle.record_ledger.specs.Rules.{RecordRules}
 use Rattle.record_ledger.specs.Ledger.{Held, LeftByOpening}
@@ -13,38 +13,49 @@ use Rattle.provider_node.specs.Histories.{IsProviders, moments_of}
 use Rattle.provider_node.specs.Starts.{AreStartsAt, Cut, GoesAt, IsNextAt, IsServed, LeftBehindAt, Served, Start}
 use Rattle.provider_node.specs.Starts.{told_before}
 
+-- each image that a crash may leave of this disk is such
+abbrev pub LeavesBut : DiskState → (Image → Type 0) → Type 0
+LeavesBut disk IsSuch = (image : Image) → MayLeave disk image → IsSuch image
+
+module _ {Setup R : Type 0} (rules : RecordRules R) (Answers : AnswersBy Setup R) where
+  -- all that a crash may leave of this disk, one inside the answer to one of these requests may leave
+  pub record IsInside (asked : List (Asked (Provider Setup R))) (disk : DiskState) : Type 0 where
+    pub one : Asked (Provider Setup R)
+    pub among : Contains asked one
+    pub left : LeavesBut disk (StepLeaves rules Answers one.node one.disk one.request one.now)
+
 -- `IsMoment` says of the moments of the starts before and of the run.
 module _ {Setup R : Type 0} (rules : RecordRules R) (Answers : AnswersBy Setup R) (IsMoment : ℕ → Type 0) where
-  -- A run on a disk that told this before, and that a crash cut where it may leave this image, as a start: it was cut
-  -- inside the opening of its ledger; or it was served from its first world on, and was cut inside the answer to the
-  -- request of one of its turns, behind those that were done before it, the latest first.
+  -- A run on a disk that told this before, and that was stopped where it left this disk, as a start: it was cut inside
+  -- the opening of its ledger; or it was served from its first world on, and was cut inside the answer to the request
+  -- of one of its turns, behind those that were done before it, the latest first.
   pub data IsCutOf (before : Option DiskState) (IsFirst : World (Provider Setup R) → Type 0)
-      (turns : List (Turn (Provider Setup R))) (image : Image) : Start (Provider Setup R) → Type 0 where
-    InOpening : LeftByOpening rules before image → IsCutOf before IsFirst turns image (Cut before)
+      (turns : List (Turn (Provider Setup R))) (disk : DiskState) : Start (Provider Setup R) → Type 0 where
+    InOpening : LeavesBut disk (LeftByOpening rules before) → IsCutOf before IsFirst turns disk (Cut before)
     InServing : (first : World (Provider Setup R)) (past later : List (Turn (Provider Setup R)))
         (turn : Turn (Provider Setup R)) (kept : Table) (last : World (Provider Setup R)) → IsFirst first
         → turns ≡ later ++ turn ∷ past → Run (IsProviders rules Answers) first past kept last
-        → LeftInside (StepLeaves rules Answers) (asked_by turn) image
-        → IsCutOf before IsFirst turns image (Served before first past kept last)
+        → IsInside rules Answers (asked_by turn) disk → IsCutOf before IsFirst turns disk (Served before first past kept last)
 
-  -- From this image a later start goes on, behind starts and one more, which is the run cut at a moment: each start on
-  -- a disk that reads as this image, and may leave nothing else, is the next.
+  -- From this disk a later start goes on, behind starts and one more, which is the run cut at a moment: each start on a
+  -- disk that tells just this is the next.
   pub record GoesOn (start : Held R) (earlier : List (Start (Provider Setup R))) (before : Option DiskState) (IsFirst :
-      World (Provider Setup R) → Type 0) (turns : List (Turn (Provider Setup R))) (image : Image) : Type 0 where
+      World (Provider Setup R) → Type 0) (turns : List (Turn (Provider Setup R))) (disk : DiskState) : Type 0 where
     pub one : Start (Provider Setup R)
-    pub cut : IsCutOf before IsFirst turns image one
+    pub cut : IsCutOf before IsFirst turns disk one
     pub starts : AreStartsAt rules Answers IsMoment start (one ∷ earlier)
-    pub left : LeftBehindAt rules Answers IsMoment start (one ∷ earlier) image
-    pub next : (later : Start (Provider Setup R)) → told_before later ≡ Some (settled_image image)
+    pub left : LeavesBut disk (LeftBehindAt rules Answers IsMoment start (one ∷ earlier))
+    pub next : (later : Start (Provider Setup R)) → told_before later ≡ Some disk
         → GoesAt rules Answers IsMoment later → IsNextAt rules Answers IsMoment start (one ∷ earlier) later
 
-  -- It is so of each image that a crash at a moment of a run may leave, where the run is next behind starts, and did
-  -- nothing or served.
-  abbrev pub EachImageGoesOn : (IsFirst : World (Provider Setup R) → Type 0) → Type 0
-  EachImageGoesOn IsFirst = (start : Held R) (earlier : List (Start (Provider Setup R))) (before : Option DiskState)
-      (turns : List (Turn (Provider Setup R))) (image : Image) → AreStartsAt rules Answers IsMoment start earlier
+  -- It is so of each disk that a run may leave where it is stopped at a moment, and that reads as a crash may leave it,
+  -- where the run is next behind starts, and did nothing or served.
+  abbrev pub EachDiskGoesOn : (IsFirst : World (Provider Setup R) → Type 0) → Type 0
+  EachDiskGoesOn IsFirst = (start : Held R) (earlier : List (Start (Provider Setup R))) (before : Option DiskState)
+      (turns : List (Turn (Provider Setup R))) (disk : DiskState) → AreStartsAt rules Answers IsMoment start earlier
       → IsNextAt rules Answers IsMoment start earlier (Cut before)
       → ((now : ℕ) → Contains (moments_of turns) now → IsMoment now)
       → (turns ≡ []) ⊎ ((first last : World (Provider Setup R)) × (kept : Table)
-      × IsFirst first × IsServed rules Answers before first turns kept last) → LeftByOpening rules before image
-      ⊎ LeftInside (StepLeaves rules Answers) (asked_in turns) image → GoesOn start earlier before IsFirst turns image
+      × IsFirst first × IsServed rules Answers before first turns kept last) → MayLeave disk (image_of disk)
+      → LeavesBut disk (LeftByOpening rules before) ⊎ IsInside rules Answers (asked_in turns) disk
+      → GoesOn start earlier before IsFirst turns disk

@@ -31,8 +31,8 @@
 //! `specs/Changes.antt` what a request may do to a ledger; `specs/Room.antt` where there is room for a record, at once
 //! or behind one compaction; `specs/Recorded.antt` that the record of an answer is kept; `specs/Starving.antt` that
 //! nothing visible is lost where there was no memory; `specs/Causes.antt` what the codes that a provider answers for
-//! itself stand for; and `specs/Joining.antt` that a later start goes on from whatever a crash left of a run, inside
-//! the answer that it cut. The laws of any role are in [`laws`].
+//! itself stand for; and `specs/Joining.antt` that a later start goes on from whatever a run left where a crash cut it,
+//! or its process was killed, inside the answer that was made then. The laws of any role are in [`laws`].
 //!
 //! # What is proved
 //!

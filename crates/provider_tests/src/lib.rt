@@ -12,6 +12,8 @@ mod idp_server_tests;
 #[cfg(test)]
 mod logout_answers_tests;
 #[cfg(test)]
+mod record_lines_tests;
+#[cfg(test)]
 mod replay_runs_tests;
 #[cfg(test)]
 mod sp_answers_tests;

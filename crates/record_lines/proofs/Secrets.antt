@@ -1,7 +1,6 @@
 -- A line is that of the record without its secrets.
-use Rattle.std.proofs.Common.{◌≡◌, ℕ, zero, suc, List, [], ◌∷◌, ◌++◌, take, Option, None, Some, refl, ap}
+use Rattle.std.proofs.Common.{◌≡◌, ℕ, zero, suc, List, [], ◌∷◌, take, Option, None, Some, refl, ap}
 use Rattle.std.specs.Prelude.{map, option_map}
-use Rattle.std.specs.List.{flat_map}
 use Rattle.logout_turns.specs.declared.part.Asker.{Asker}
 use Rattle.ledger_records.specs.declared.sp_record.SpRecord.{SpRecord}
 use Rattle.ledger_records.specs.declared.sp_record.SpRecord.TheVariants as sp

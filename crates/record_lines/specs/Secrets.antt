@@ -1,5 +1,5 @@
 -- What a line leaves out of a record: of a secret all behind its number, and relay states.
-use Rattle.std.specs.Prelude.{ℕ, List, [], map, take, Option, None, option_map}
+use Rattle.std.specs.Prelude.{ℕ, List, [], map, take, None, option_map}
 use Rattle.logout_turns.specs.declared.part.Asker.{Asker}
 use Rattle.ledger_records.specs.declared.sp_record.SpRecord.{SpRecord}
 use Rattle.ledger_records.specs.declared.sp_record.SpRecord.TheVariants as sp

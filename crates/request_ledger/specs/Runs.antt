@@ -6,7 +6,7 @@ use Rattle.ledger_records.specs.declared.sp_record.SpRecord.TheVariants as kinds
 use Rattle.request_rows.specs.declared.row.OpenedRow.{OpenedRow}
 use Rattle.request_ledger.specs.RowsOf.{opened_rows}
 use Rattle.record_ledger.specs.Runs as any
-use Rattle.record_ledger.specs.Runs.{Adds, Compacts, Opens}
+use Rattle.record_ledger.specs.Runs.{Adds}
 use Rattle.request_ledger.specs.Record.{request_rules}
 use Rattle.request_ledger.specs.Ledger.{Held}
 

@@ -1,6 +1,6 @@
 -- What `records` answers is determined by what the files tell.
 use Rattle.std.proofs.Common.{◌≡◌, ℕ, Bool, true, false, List, [], Option, Some, None, IsSomeAnd, Result, Ok, Err, inl, inr, refl, sym, ap, ◌∙◌, subst}
-use Rattle.saml_outside.specs.Files.{File, bytes_of, Reads}
+use Rattle.saml_outside.specs.Files.{File, bytes_of}
 use Rattle.gate_journal.specs.Format.{Committed, file_of}
 use Rattle.record_ledger.specs.Rules.{RecordRules}
 use Rattle.request_ledger.specs.Record.{request_rules}

@@ -1,5 +1,5 @@
 -- What a replay leaves, and how one ends.
-use Rattle.std.proofs.Common.{◌≡◌, ℕ, ◌⊎◌, List, [], Bool, true, false, Option, Result, Ok, Err, refl, sym, subst, inl, inr}
+use Rattle.std.proofs.Common.{◌≡◌, ℕ, List, Bool, true, false, Option, Ok, refl, sym, subst}
 use Rattle.saml_outside.specs.Files.{File, Reads}
 use Rattle.saml_outside.specs.declared.reading.FileRead.TheVariants as reads
 use Rattle.crash_disk.specs.Disk.{Image, DiskState}
@@ -9,12 +9,9 @@ use Rattle.schedules.specs.Made.{made}
 use Rattle.schedules.specs.Schedules.{schedule}
 use Rattle.schedules.specs.declared.read.TheConstants.{MAX_SCHEDULE_LENGTH}
 use Rattle.schedules.specs.declared.step.Step.{Step}
-use Rattle.saml_commands.specs.declared.status.Status.{Status}
-use Rattle.saml_commands.specs.Answers.{Answer}
-use Rattle.saml_commands.specs.Replay.{DidReplay, DidReplayFile, DidReplayText, OfSchedule}
-use Rattle.saml_commands.specs.Running.{Replay, Make, DoesCommand, CommandCarries, EndsAfter, OfCommand}
+use Rattle.saml_commands.specs.Replay.{DidReplay, DidReplayFile, DidReplayText}
+use Rattle.saml_commands.specs.Running.{Replay, Make, DoesCommand, CommandCarries}
 use Rattle.saml_commands.specs.Serving.{Ran, Unserved, RanProvider, RanReplay, RanLeaves}
-use Rattle.saml_commands.proofs.Answering.{read_whole, weaker}
 
 -- `replay` replayed the schedule of its file, or nothing
 pub does_replay : (left : ℕ → Image → Type 0) (told : Option (List File)) (file : List ℕ) (outside : Outside) (ran : Ran) → DidReplayFile told file ran →

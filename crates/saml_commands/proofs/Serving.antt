@@ -8,7 +8,7 @@ use Rattle.provider_run.specs.Runs.{Outside, IsServed}
 use Rattle.saml_commands.specs.declared.status.Status.{Status}
 use Rattle.saml_commands.specs.declared.status.Status.TheVariants as statuses
 use Rattle.saml_commands.specs.Answers.{Answer, Printed, Refused, BadFile, Foreign, Usage, status_of}
-use Rattle.saml_commands.specs.Running.{Command, Canon, Vouch, Check, Serve, Replay, Make, command_of, Does, DoesCommand, Carries, CommandCarries, OfCommand, Answers, Prints, EndsWith, EndsAfter, DoesServe, Accepts, AcceptsServing, IsRunnableBy, Records}
+use Rattle.saml_commands.specs.Running.{Command, Canon, Vouch, Check, Serve, Replay, Make, command_of, Does, DoesCommand, Carries, CommandCarries, OfCommand, Answers, Prints, EndsWith, EndsAfter, Accepts, AcceptsServing, IsRunnableBy, Records}
 use Rattle.saml_commands.specs.Serving.{Ran, Unserved, RanProvider, RanReplay, answer_of}
 use Rattle.saml_commands.proofs.Answering.{IsYes, weaker, answered, done_yes, settled}
 use Rattle.saml_commands.proofs.Completeness.{Laws, accepted_yes, never_yes}

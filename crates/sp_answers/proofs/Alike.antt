@@ -11,7 +11,7 @@ use Rattle.request_rows.specs.Rows.{RowsView, asked_row, is_seen, is_spent}
 use Rattle.sp_rules.specs.declared.config.SpConfig.{SpConfig}
 use Rattle.sp_rules.specs.Meant.{consumer, is_from, is_for, is_sent_to, is_in_time}
 use Rattle.sp_rules.specs.Outstanding.{asked_for, is_outstanding, is_relayed}
-use Rattle.sp_rules.specs.Verdict.{IsRefused, by_form, by_document, by_root, by_head, by_signature, by_assertion, by_login, first_failing, login_refusal}
+use Rattle.sp_rules.specs.Verdict.{by_form, by_document, by_root, by_head, by_signature, by_assertion, by_login, first_failing, login_refusal}
 use Rattle.sp_answers.specs.Judging.{LikeRowsAcceptAlike, LikeRowsOpenAlike, LikeRowsRefuseAlike, RowsAnswerAlike}
 
 pub open_alike : LikeRowsOpenAlike

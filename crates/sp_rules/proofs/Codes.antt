@@ -1,5 +1,5 @@
 -- The verdict on a posted form has a code of 23 at most.
-use Rattle.std.specs.Prelude.{Option, None, Some, Result, Ok, Err, if◌then◌else◌}
+use Rattle.std.specs.Prelude.{Some, Result, Ok, Err, if◌then◌else◌}
 use Rattle.std.specs.List.{AllByRecursion}
 use Rattle.std.proofs.Common.{◌≡◌, ℕ, Bool, true, false, List, [], ◌∷◌, sym, subst, arith}
 use Rattle.post_binding.specs.declared.fault.FormFault.{FormFault}

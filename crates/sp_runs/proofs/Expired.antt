@@ -1,5 +1,5 @@
 -- The code for an ended registry is that of no other refusal.
-use Rattle.std.specs.Prelude.{Option, None, Some}
+use Rattle.std.specs.Prelude.{Option, None}
 use Rattle.std.proofs.Common.{◌≡◌, ◌≢◌, ℕ, false, true, List, [], ◌∷◌, sym, subst, ap, ◌∙◌, arith}
 use Rattle.crash_disk.specs.Disk.{DiskState}
 use Rattle.http_wire.specs.declared.answer.Answer.{Answer}

@@ -3,7 +3,7 @@ ghost use Rattle.sp_runs.specs.Headline.{Headline};
 ghost use Rattle.provider_run.specs.Headlines.{EachRunCarries, EachRunIsAStart};
 ghost use Rattle.std.specs.Prelude.{ℕ, List, Contains};
 ghost use Rattle.provider_node.specs.Histories.{AnyMoment};
-ghost use Rattle.provider_run.specs.Joining.{EachImageOfARunGoesOn};
+ghost use Rattle.provider_run.specs.Joining.{EachDiskOfARunGoesOn};
 ghost use Rattle.sp_server.specs.Step.{Answers};
 ghost use Rattle.request_ledger.specs.Record.{request_rules};
 ghost use Rattle.sp_runs.specs.Runs.{IsBadFile, IsServedBy, address, key};
@@ -104,14 +104,15 @@ pub fn a_run_carries_the_headline<D: Disk>()
     a_session_is_shown_by_its_row();
 }
 
-/// Where a run is next behind starts of its provider, on a disk that tells, each image that a crash at one of its
-/// moments may leave is one from which a later start goes on, as behind a start of this run that was cut at that
-/// moment, inside the answer to the request that was asked then: so runs that a crash cut join into one service, of
-/// which the laws of starts speak, with the moments of all its requests, those that a crash cut too.
-pub fn each_image_of_a_run_goes_on<D: Disk>()
-    ensures any { (disk : D) → EachImageOfARunGoesOn IsServedBy IsBadFile address key request_rules Answers
+/// Where a run is next behind starts of its provider, on a disk that tells, each disk that it leaves where it is stopped
+/// at one of its moments is one from which a later start goes on, as behind a start of this run that was cut at that
+/// moment, inside the answer to the request that was asked then: one that a crash left, which holds an image, and one of
+/// a process that was killed, of which a crash may still leave several. So runs that were stopped join into one service,
+/// of which the laws of starts speak, with the moments of all its requests, those in which it was stopped too.
+pub fn each_disk_of_a_run_goes_on<D: Disk>()
+    ensures any { (disk : D) → EachDiskOfARunGoesOn IsServedBy IsBadFile address key request_rules Answers
         (D.shows disk).left_since AnyMoment }
-    ensures at { (disk : D) (moments : List ℕ) → EachImageOfARunGoesOn IsServedBy IsBadFile address key request_rules Answers
+    ensures at { (disk : D) (moments : List ℕ) → EachDiskOfARunGoesOn IsServedBy IsBadFile address key request_rules Answers
         (D.shows disk).left_since (Contains moments) }
 {
     images_hold_records();

@@ -36,10 +36,10 @@
 //! is given is that of a login which it signed (`each_session_was_signed`); a registry tells the provider at each
 //! request, and from its end on nothing is asked or recorded (`a_registry_tells_and_ends`); a session that lives over
 //! the ledger that a step found is shown by the policy, the path and its own row alone
-//! (`a_session_is_shown_by_its_row`); from each image that a crash at a moment of a run may leave a later start goes
-//! on, as behind that run cut there, inside the answer that was made then (`each_image_of_a_run_goes_on`). What the
-//! laws say of policies, registries and guards is part of the headline, and so is that a session is found as it was
-//! left. 50, 51 and 53 are answered for their causes alone (`AnswersForACause`).
+//! (`a_session_is_shown_by_its_row`); from each disk that a run leaves where a crash cuts it, or its process is killed,
+//! a later start goes on, as behind that run cut there, inside the answer that was made then
+//! (`each_disk_of_a_run_goes_on`). What the laws say of policies, registries and guards is part of the headline, and so
+//! is that a session is found as it was left. 50, 51 and 53 are answered for their causes alone (`AnswersForACause`).
 #![tactic(auto)]
 
 pub mod laws;

@@ -1,8 +1,7 @@
 -- No answer where nothing fails is one of the codes that a provider answers for itself.
 use Rattle.std.specs.Prelude.{Option, None, Some, if◌then◌else◌}
-use Rattle.std.proofs.Common.{◌≡◌, inl, inr, ℕ, Bool, true, false, List, [], ◌∷◌, sym, subst, refl, arith}
+use Rattle.std.proofs.Common.{inl, inr, ℕ, Bool, true, false, List, [], ◌∷◌, sym, subst, refl, arith}
 use Rattle.access_policy.specs.declared.rule.Rule.{Rule}
-use Rattle.http_wire.specs.declared.answer.Answer.{Answer}
 use Rattle.http_wire.specs.declared.answer.Answer.TheVariants.{Fixed, Full}
 use Rattle.http_wire.specs.declared.method.Method.TheVariants.{Get}
 use Rattle.http_wire.specs.Requests.{Request}

@@ -1,5 +1,5 @@
 -- What the bytes of a file add, and what they can't be used for.
-use Rattle.std.proofs.Common.{◌≡◌, ℕ, ◌<◌, ◌≤◌, List, length, Option, inl, inr, refl, arith}
+use Rattle.std.proofs.Common.{ℕ, ◌<◌, ◌≤◌, List, length, Option, inl, inr, refl, arith}
 use Rattle.saml_outside.specs.Files.{File}
 use Rattle.provider_config.specs.declared.config.FileRole.{FileRole}
 use Rattle.provider_config.specs.declared.config.FileRole.TheVariants as roles

@@ -1,4 +1,4 @@
-use Rattle.std.proofs.Common.{◌≡◌, ◌∙◌, ◌<◌, ◌≤◌, ℕ, List, Bool, true, false, cond, ◌&&◌, max, nat_lt, Option, None, Some, sym, ap, subst}
+use Rattle.std.proofs.Common.{◌≡◌, ◌∙◌, ◌<◌, ◌≤◌, Bool, true, false, cond, ◌&&◌, max, nat_lt, Option, None, Some, sym, ap, subst}
 use Rattle.std.proofs.lemmas.Bool.{lt-ltb, le-ltb}
 use Rattle.gate_journal.specs.declared.header.Header.{Header}
 use Rattle.record_ledger.proofs.Draftable.{both}

@@ -1,4 +1,4 @@
-use Rattle.std.proofs.Common.{◌≡◌, ◌≤◌, inl, inr, refl, arith}
+use Rattle.std.proofs.Common.{◌≤◌, inl, inr, refl, arith}
 use Rattle.metadata.specs.declared.peer.Role.TheVariants.{Sp}
 use Rattle.sp_setup.specs.Faults.{IsFaultOf}
 use Rattle.sp_setup.specs.Files.{key_file, metadata_file}

@@ -1,4 +1,4 @@
-use Rattle.std.proofs.Common.{ℕ, ◌≤◌, ◌+◌, min, arith}
+use Rattle.std.proofs.Common.{ℕ, ◌≤◌, arith}
 use Rattle.saml_time.specs.declared.TheConstants.{LAST}
 use Rattle.saml_time.specs.Instant.{EachIsTold}
 use Rattle.protocol_messages.proofs.Texts.{text_of_graphic}

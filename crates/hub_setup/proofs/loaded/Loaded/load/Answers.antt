@@ -1,4 +1,4 @@
-use Rattle.std.proofs.Common.{◌≡◌, sym, subst}
+use Rattle.std.proofs.Common.{sym, subst}
 use Rattle.std.specs.Prelude.{IfErr}
 use Rattle.peer_keys.specs.declared.peers.LogoutPeer.{LogoutPeer}
 use Rattle.provider_config.specs.declared.hub_config.HubFile.{HubFile}

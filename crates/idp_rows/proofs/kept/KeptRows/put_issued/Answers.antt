@@ -6,7 +6,7 @@ use Rattle.idp_rows.specs.Kept.{StandingView}
 use Rattle.idp_rows.proofs.RowPlaces.{below_more, below_later}
 use Rattle.idp_rows.proofs.StandingRows.{IsFresh, fresh_assertion, fresh_message, fresh_cookie, fresh_index, begun_pending, none_begun, session_there, sessions_some, sessions_none, above_some, above_none}
 use Rattle.idp_rows.proofs.kept.KeptRows.put_issued.Goals as goal
-use Rattle.idp_rows.proofs.kept.KeptRows.put_issued.Goals.{In-Some, In-None}
+use Rattle.idp_rows.proofs.kept.KeptRows.put_issued.Goals.{In-Some}
 use Rattle.owned_values.specs.Options.{is_there}
 
 -- what an Issued of a pending login begins

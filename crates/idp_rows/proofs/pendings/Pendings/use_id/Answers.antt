@@ -1,6 +1,5 @@
-use Rattle.std.proofs.Common.{◌≡◌, ◌∙◌, ◌<◌, ◌&&◌, ◌||◌, not, true, false, Bool, ℕ, List, get_or, length, map, cond, None, Some, sym, ap, refl, subst, arith}
+use Rattle.std.proofs.Common.{◌≡◌, ◌∙◌, true, Bool, ℕ, List, get_or, sym, ap, subst}
 use Rattle.idp_rows.specs.declared.row.PendingRow.{PendingRow}
-use Rattle.std.specs.List.{list_any}
 use Rattle.std.proofs.Math.Seq.{map-set_same}
 use Rattle.idp_rows.specs.RowsOf.{used_if}
 use Rattle.idp_rows.specs.Kept.{HaveNumbers, ComeInOrder}

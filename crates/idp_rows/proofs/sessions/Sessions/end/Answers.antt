@@ -1,6 +1,5 @@
-use Rattle.std.proofs.Common.{◌≡◌, ◌∙◌, ◌<◌, ◌&&◌, ◌||◌, not, true, false, Bool, ℕ, List, get_or, length, map, cond, None, Some, sym, ap, refl, subst, arith}
+use Rattle.std.proofs.Common.{◌≡◌, ◌∙◌, true, Bool, ℕ, List, get_or, sym, ap, subst}
 use Rattle.idp_rows.specs.declared.row.SessionRow.{SessionRow}
-use Rattle.std.specs.List.{list_any}
 use Rattle.idp_rows.specs.RowsOf.{ended_if, ended_where}
 use Rattle.idp_rows.specs.Kept.{HaveNumbers, ComeInOrder, AreLast, SessionsView, cookies}
 use Rattle.idp_rows.proofs.RowPlaces.{marked_or, unmarked_or, same_so, differs_so, marked_at, marked_nowhere}
