@@ -3,6 +3,7 @@ import concurrent.futures
 import hashlib
 import os
 import re
+import time
 import xml.etree.ElementTree as trees
 
 from attacking import made
@@ -16,13 +17,13 @@ SECOND, SECOND_CONSUMER = "urn:example:sp2", "http://127.0.0.1:8082/acs"
 SP_KEY, SECOND_KEY, IDP_KEY, SECOND_IN = b"s" * 32, b"t" * 32, b"k" * 32, b"u" * 32
 
 
-def user(name, password):
-    value = hashlib.pbkdf2_hmac("sha256", password.encode(), b"salt", 1)
-    return f"user {name} 1 {b'salt'.hex()} {value.hex()}\n"
+def user(name, password, rounds):
+    value = hashlib.pbkdf2_hmac("sha256", password.encode(), b"salt", rounds)
+    return f"user {name} {rounds} {b'salt'.hex()} {value.hex()}\n"
 
 
-def issuer(program):
-    """An identity provider with two service providers."""
+def issuer(program, rounds=1):
+    """An identity provider with two service providers, and two users with as many rounds."""
     first = example("idp", "sp.xml")
     second = first.replace(made.SP.encode(), SECOND.encode()).replace(b"8081", b"8082")
     lines = (
@@ -30,7 +31,7 @@ def issuer(program):
         "peer sp2.xml sp2_in sp2_out",
     )
     files = {
-        "users": user("alice", "wonderland") + user("bob", "builder"), "id_key": os.urandom(32), "sp.xml": first, "sp2.xml": second, "sp_in": SP_KEY,
+        "users": user("alice", "wonderland", rounds) + user("bob", "builder", rounds), "id_key": os.urandom(32), "sp.xml": first, "sp2.xml": second, "sp_in": SP_KEY,
         "sp_out": IDP_KEY, "sp2_in": SECOND_KEY, "sp2_out": SECOND_IN,
     }
     return Node(program, "idp", lines, files)
@@ -233,6 +234,24 @@ def passed_on(node):
     yield "issuer-other", 41, asked(node, authn("urn:x")).told()
 
 
+def seconds(node, name):
+    """How long a login of that name takes to be refused, the least of seven."""
+    taken = []
+    for number in range(7):
+        fields = {"pending": asked(node).fields()["pending"], "user": name, "password": str(number)}
+        begun = time.perf_counter()
+        told = node.post("/login", fields).told()
+        taken.append(time.perf_counter() - begun if told == 46 else 0)
+    return min(taken)
+
+
+def by_time(program):
+    """Whether a name is one of the users', told by how long the answer takes: with rounds that take longer than all else."""
+    with issuer(program, rounds=100_000) as node:
+        first, other, nobody = (seconds(node, name) for name in ("alice", "bob", "nobody"))
+        yield "name-by-time", True, first > 0.01 and 0.5 < nobody / first < 2 and 0.5 < nobody / other < 2
+
+
 # ---- what is not stopped
 
 def not_stopped(program):
@@ -290,7 +309,8 @@ def not_stopped_elsewhere(program):
 
 def families(program):
     with issuer(program) as node:
-        yield "idp", [got for part in (requests, signed_requests, echoes, passwords, sessions, logouts) for got in part(node)]
+        got = [got for part in (requests, signed_requests, echoes, passwords, sessions, logouts) for got in part(node)]
+    yield "idp", [*got, *by_time(program)]
     with hub(program) as node:
         yield "hub", [*passed_on(node)]
     yield "not-stopped", [*not_stopped(program), *not_stopped_elsewhere(program)]

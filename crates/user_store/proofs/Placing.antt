@@ -1,5 +1,5 @@
 -- Where names stand among users.
-use Rattle.std.proofs.Common.{◌≡◌, ℕ, zero, suc, ◌<◌, ◌≤◌, Bool, true, false, cond, ◌&&◌, ◌||◌, not, nat_le, List, [], ◌∷◌, ◌++◌, length, get_or, Option, None, Some, is_some, String, find, refl, sym, ap, ◌∙◌, arith}
+use Rattle.std.proofs.Common.{◌≡◌, ℕ, suc, ◌<◌, ◌≤◌, Bool, true, false, cond, ◌&&◌, ◌||◌, not, nat_le, List, [], ◌∷◌, ◌++◌, length, get_or, Option, None, Some, is_some, unwrap_or, nat_lt, String, find, refl, sym, ap, ◌∙◌, arith}
 use Rattle.std.specs.List.{list_all, list_any}
 use Rattle.std.specs.Option.{option_map}
 use Rattle.std.specs.Str.{bytes_eq}
@@ -241,12 +241,17 @@ pub checked_nobody : (users : List User) (places : BTreeMap (String Global) ℕ)
 checked_nobody users places kept name password absent =
     nobody name password users (has_user-place name users ∙ ap is_some (sym (kept.leads name) ∙ absent))
 
--- each user has a round
-pub some_rounds_at : (users : List User) (n : ℕ) (d : User) → list_all (λ u. nat_le 1 u.rounds) users ≡ true → n < length users → 1 ≤ (get_or users n d).rounds
-some_rounds_at [] n d all within = absurd (omega arith)
-some_rounds_at (user ∷ users) zero d all within = one_round user.rounds (both_true (nat_le 1 user.rounds) (list_all (λ u. nat_le 1 u.rounds) users) all).0
+-- nobody is found where nobody is tried: the one at the place of the name, or the first where it has none
+pub nobody_tried : (users : List User) (places : BTreeMap (String Global) ℕ) → IsStore users places → (name password : List ℕ) (place : Option ℕ) →
+    get_by_text places name ≡ place → false ≡ nat_lt (unwrap_or place 0) (length users) → checked users name password ≡ None
+nobody_tried users places kept name password None at none = checked_nobody users places kept name password at
+nobody_tried users places kept name password (Some n) at none = absurd (outside n (length users) none (place_within users places kept name n at))
   where
-    one_round : (n : ℕ) → nat_le 1 n ≡ true → 1 ≤ n
-    one_round n h = grind (arith, nat_tests)
-some_rounds_at (user ∷ users) (suc n) d all within =
-    some_rounds_at users n d (both_true (nat_le 1 user.rounds) (list_all (λ u. nat_le 1 u.rounds) users) all).1 (omega arith)
+    outside : (n m : ℕ) → false ≡ nat_lt n m → n < m → ⊥
+    outside n m none within = grind (arith, nat_tests)
+
+-- nor where the password is not that of who is tried
+pub refused_tried : (users : List User) (places : BTreeMap (String Global) ℕ) → IsStore users places → (name password : List ℕ) (place : Option ℕ) (tried : User) →
+    get_by_text places name ≡ place → tried ≡ get_or users (unwrap_or place 0) tried → false ≡ is_password password tried → None ≡ checked users name password
+refused_tried users places kept name password None tried at same wrong = sym (checked_nobody users places kept name password at)
+refused_tried users places kept name password (Some n) tried at same wrong = found_user users places kept name password n tried at same false wrong

@@ -99,19 +99,19 @@ impl Users {
     }
 
     /// The user of this name, where the password has the user's PBKDF2 value; none exactly where no user of the name
-    /// has that value. It takes no memory. Its time is that of PBKDF2, and no more than a look-up where there is no
-    /// user of the name.
+    /// has that value. It takes no memory. Its time is that of PBKDF2 with the rounds of the user or, where no user has
+    /// the name, with those of the first: where all have as many rounds it doesn't tell which names there are.
     pub fn check(&self, user: &str, password: &[u8]) -> Option<&User>
         ensures { option_copied result ≡ spec.checked self.now user.now password.now }
     {
-        let Some(place) = self.places.get(user) else {
+        let place = self.places.get(user).copied();
+        let tried = self.items.get(place.unwrap_or(0))?;
+        if !tried.has_password(password) {
             return None;
-        };
-        let found = &self.items[*place];
-        if found.has_password(password) {
-            Some(found)
-        } else {
-            None
+        }
+        match place {
+            Some(_) => Some(tried),
+            None => None,
         }
     }
 }
