@@ -8,7 +8,7 @@ use Rattle.event_link.specs.declared.arrival.Arrival.{Arrival}
 use Rattle.event_link.specs.declared.arrival.Arrival.TheVariants.{Start, Bytes, End, Halt}
 use Rattle.event_link.specs.declared.link.LinkEvent.{LinkEvent}
 use Rattle.event_link.specs.declared.link.LinkEvent.TheVariants.{Started, Piece, Ended, Stop}
-use Rattle.event_link.specs.Links.{Given, LinkState, IsSent, in_front, next_of}
+use Rattle.event_link.specs.Links.{Given, IsPut, in_front, next_of}
 use Rattle.event_link.specs.InMemory.{GoesWith, HaveBytes, arrival_of}
 
 -- a piece that fits is given whole
@@ -68,17 +68,11 @@ cut_loses_nothing room conn bytes later long =
     (drop room bytes, ap (λ (g : Given). g.later) given, ap (λ (g : Given). g.bytes ++ drop room bytes) given ∙ take-append-drop room bytes)
 
 -- sendings on one connection add up
-pub two_sendings : (conn : ℕ) (a b : List ℕ) (first middle last : LinkState) → IsSent conn a first middle → IsSent conn b middle last → IsSent conn (a ++ b) first last
+pub two_sendings : (conn : ℕ) (a b : List ℕ) (first middle last : ℕ → List ℕ) → IsPut conn a first middle → IsPut conn b middle last → IsPut conn (a ++ b) first last
 two_sendings conn a b first middle last one two = record {
-  put = record {
-    on_it = two.put.on_it ∙ ap (λ sent. sent ++ b) one.put.on_it ∙ append_assoc (first.sent conn) a b;
-    on_others = λ other apart. two.put.on_others other apart ∙ one.put.on_others other apart;
-  };
-  same = two.same ∙ ap (λ (link : LinkState). record link { sent = last.sent }) one.same;
+  on_it = two.on_it ∙ ap (λ sent. sent ++ b) one.on_it ∙ append_assoc (first conn) a b;
+  on_others = λ other apart. two.on_others other apart ∙ one.on_others other apart;
 }
 
-pub no_sending : (conn : ℕ) (link : LinkState) → IsSent conn [] link link
-no_sending conn link = record {
-  put = record { on_it = sym (append-nil (link.sent conn)); on_others = λ other apart. refl };
-  same = refl;
-}
+pub no_sending : (conn : ℕ) (sent : ℕ → List ℕ) → IsPut conn [] sent sent
+no_sending conn sent = record { on_it = sym (append-nil (sent conn)); on_others = λ other apart. refl }

@@ -4,7 +4,7 @@ use Rattle.event_link.specs.declared.arrival.Arrival.{Arrival}
 use Rattle.event_link.specs.declared.arrival.Arrival.TheVariants.{Start, Bytes, End, Halt}
 use Rattle.event_link.specs.declared.link.LinkEvent.TheVariants.{Started, Piece, Ended, Stop}
 use Rattle.event_link.specs.Clocks.{now_of, later_of, moment_at}
-use Rattle.event_link.specs.Links.{LinkState, closed_on, in_front, listened, next_of}
+use Rattle.event_link.specs.Links.{Closed, Gave, LinkState, ListenFailed, Listened, NextFailed, after_next, closed_on, in_front, listened, next_of, noted}
 use Rattle.event_link.specs.InMemory.{ClockInMemory, after_now, moments_of, sent_on}
 
 -- a clock with the moments 5 and 3 to come gives 5, 3, 3, 3; one with none gives 0
@@ -50,13 +50,14 @@ places = (refl, refl)
 sent : (sent_on ((1, codes "hi") ∷ (4, codes "oh") ∷ []) 4 ≡ codes "oh") × (sent_on ((1, codes "hi") ∷ (4, codes "oh") ∷ []) 2 ≡ [])
 sent = (refl, refl)
 
--- a link that listens nowhere, on which hi was sent on connection 1
+-- a link that listens nowhere, on which hi was sent on connection 1, and which tells its calls from now on
 abbrev quiet : LinkState
 quiet = record {
   coming = [];
   sent = sent_on ((1, codes "hi") ∷ []);
   address = None;
   closings = record { count = 0; last = 0; behind = 0 };
+  calls = Some [];
 }
 
 -- it listens where it was told to last, and a `listen` that fails changes nothing
@@ -66,11 +67,20 @@ went_well = Ok tt
 abbrev failed : Result (Unit {0}) (Unit {0})
 failed = Err tt
 
-listens : (listened (codes "b") went_well (listened (codes "a") went_well (Some quiet)) ≡ Some (record quiet { address = Some (codes "b") }))
-    × (listened (codes "a") failed (Some quiet) ≡ Some quiet)
+listens : (listened (codes "b") went_well (listened (codes "a") went_well (Some quiet)) ≡ Some (record quiet { address = Some (codes "b"); calls = Some (Listened (codes "a") ∷ Listened (codes "b") ∷ []) }))
+    × (listened (codes "a") failed (Some quiet) ≡ Some (record quiet { calls = Some (ListenFailed (codes "a") ∷ []) }))
 listens = (refl, refl)
 
 -- connection 1 is closed behind two bytes, and then connection 4 behind none
 closes : ((closed_on 1 quiet).closings ≡ record { count = 1; last = 1; behind = 2 })
     × ((closed_on 4 (closed_on 1 quiet)).closings ≡ record { count = 2; last = 4; behind = 0 })
 closes = (refl, refl)
+
+-- it gives that connection 3 started, and then a `next` fails; last the connection is closed
+told : (noted NextFailed (after_next (next_of 2 (Start 3 ∷ [])) quiet) ≡ record quiet { calls = Some (Gave (Started 3) [] ∷ NextFailed ∷ []) })
+    × ((closed_on 1 (closed_on 3 quiet)).calls ≡ Some (Closed 3 ∷ Closed 1 ∷ []))
+told = (refl, refl)
+
+-- a link that does not tell its calls goes on not telling them
+untold : (closed_on 1 (record quiet { calls = None })).calls ≡ None
+untold = refl

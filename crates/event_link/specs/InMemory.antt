@@ -1,5 +1,5 @@
 -- Clocks and links in memory.
-use Rattle.std.specs.Prelude.{◌≡◌, ℕ, ◌-◌, ◌≤◌, List, [], ◌∷◌, length, Option, Some}
+use Rattle.std.specs.Prelude.{◌≡◌, ℕ, ◌-◌, ◌≤◌, List, [], ◌∷◌, length, Option, None, Some}
 use Rattle.std.specs.Option.{unwrap_or}
 use Rattle.std.specs.Map.{lookup}
 use Rattle.std.specs.BTreeMap.{is_at}
@@ -75,13 +75,14 @@ pub record LinkInMemory : Type 0 where
 abbrev pub sent_on : List (ℕ × List ℕ) → ℕ → List ℕ
 sent_on sent conn = unwrap_or (lookup (is_at (nat_cmp conn)) sent) []
 
--- what a link in memory tells
+-- what a link in memory tells: all but its calls
 abbrev pub state_of : LinkInMemory → LinkState
 state_of link = record {
   coming = link.coming;
   sent = sent_on link.sent;
   address = link.address;
   closings = link.closings;
+  calls = None;
 }
 
 -- what a link in memory shows

@@ -3,7 +3,7 @@ ghost use Rattle.std.specs.Prelude.{◌≡◌, ◌+◌, ◌<◌, ℕ, List, [], 
 ghost use Rattle.event_link.specs.declared.arrival.Arrival.TheVariants.{Bytes};
 ghost use Rattle.event_link.specs.declared.link.LinkEvent.TheVariants.{Piece};
 ghost use Rattle.event_link.specs.Clocks.{now_of, later_of, moment_at};
-ghost use Rattle.event_link.specs.Links.{LinkState, IsSent, in_front, next_of};
+ghost use Rattle.event_link.specs.Links.{IsPut, in_front, next_of};
 
 use crate::Arrival;
 
@@ -30,6 +30,6 @@ pub fn a_cut_piece_loses_nothing()
 
 /// Two sendings on a connection are as one of all their bytes, and one of no bytes is as none.
 pub fn sendings_add_up()
-    ensures two { (conn : ℕ) (a b : List ℕ) (first middle last : LinkState) → IsSent conn a first middle → IsSent conn b middle last → IsSent conn (a ++ b) first last }
-    ensures none { (conn : ℕ) (link : LinkState) → IsSent conn [] link link }
+    ensures two { (conn : ℕ) (a b : List ℕ) (first middle last : ℕ → List ℕ) → IsPut conn a first middle → IsPut conn b middle last → IsPut conn (a ++ b) first last }
+    ensures none { (conn : ℕ) (sent : ℕ → List ℕ) → IsPut conn [] sent sent }
 {}

@@ -15,7 +15,8 @@
 //!
 //! A [`Clock`] and a [`Link`] are traits. Their ghost members say what is to come, what was sent, where a link listens
 //! and how connections were closed, where the object tells it: [`ListClock`] and [`ListLink`] do, those over a real
-//! clock or real sockets do not. No call changes whether an object tells.
+//! clock or real sockets do not. A link may also tell which calls it took, in their order, and how each ended
+//! (`LinkCall`); a [`ListLink`] does not. No call changes whether an object tells.
 //!
 //! A call of a link answers [`Failed`] only where the count of faults of its kind rose in it, and this rises in no
 //! other: one counts `listen` and `next`, the other `send`. After a `next` that failed what is to come is as before,
@@ -26,9 +27,10 @@
 //! The traits `Clock` and `Link` say which moments a clock gives, which event a link gives next with the bytes of a
 //! piece (`next`: a piece that is longer than the place for it comes in several, and loses nothing,
 //! `laws::a_cut_piece_loses_nothing`), which bytes went out on which connection (`send`), where it listens (`listen`),
-//! and which connection was closed, behind how many bytes, by how many closings (`close`); a count of faults rises where
-//! a call of its kind failed, and in no other. `ListClock` and `ListLink` keep this with an exact outcome for each call,
-//! also where one is told to fail.
+//! and which connection was closed, behind how many bytes, by how many closings (`close`); where a link tells its calls,
+//! each of these adds itself to them, and how it ended (`noted`). A count of faults rises where a call of its kind
+//! failed, and in no other. `ListClock` and `ListLink` keep this with an exact outcome for each call, also where one is
+//! told to fail; `ListLink` does not tell its calls.
 #![tactic(auto)]
 
 mod arrival;

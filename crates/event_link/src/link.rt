@@ -21,10 +21,11 @@ pub enum LinkEvent {
 
 /// Many connections, each with a number.
 pub trait Link {
-    /// What the link shows: what it tells, and its counts of faults.
+    /// What the link shows: what it tells, and its counts of faults. A link may tell which calls it took, and how each
+    /// ended.
     ghost shows: { Self → LinkShown };
 
-    /// Begins to take connections at an address, and at no other. After Failed all is as it was.
+    /// Begins to take connections at an address, and at no other. After Failed it listens where it did.
     fn listen(&mut self, address: &str) -> Result<(), Failed>
         ensures listens { (shows self.new).told ≡ listened address.now result (shows self.old).told }
         ensures faults { CountsFaults result (shows self.old).faults (shows self.new).faults }

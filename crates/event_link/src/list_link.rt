@@ -16,7 +16,7 @@ use std::alloc::Global;
 use std::marker::Model;
 
 /// A link that gives the events of a list and then Stop, and keeps what is sent, where it listens and what was closed
-/// last. One call of `next` and one of `send` may be chosen to fail.
+/// last. It does not tell its calls. One call of `next` and one of `send` may be chosen to fail.
 #[derive(Debug, Drop)]
 pub struct ListLink {
     alloc: Global,

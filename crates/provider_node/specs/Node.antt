@@ -58,8 +58,7 @@ module _ {Setup R : Type 0} (rules : RecordRules R) (old : Provider Setup R) (di
     -- What a crash inside a compaction may leave: the ledger that it finds, or that made anew, amid its calls; and
     -- while a broken one is opened again what a restart may leave.
     pub data CompactionLeaves : Type 0 where
-      InCompaction : old.ledger.broken ≡ false
-          → CompactingLeaves rules now old.ledger.held disk image → CompactionLeaves
+      InCompaction : old.ledger.broken ≡ false → CompactingLeaves rules now old.ledger.held disk image → CompactionLeaves
       InCompactionOfOpened : (found : Held R) (opened : Option DiskState)
           → old.ledger.broken ≡ true → IsFound rules disk found
           → Makes (opening rules) disk opened → CompactingLeaves rules now found opened image → CompactionLeaves

@@ -154,8 +154,7 @@ module _ {Setup R : Type 0} (rules : RecordRules R)
   module _ (Risen : Type 0) (answer : Answer) (new : Provider Setup R) where
     -- The step of a provider at one request. A ledger that is broken is opened again first.
     pub data Steps : Type 0 where
-      WithLedger : old.ledger.broken ≡ false
-          → Serves rules Answers old.ledger.held request now Risen answer old new → Steps
+      WithLedger : old.ledger.broken ≡ false → Serves rules Answers old.ledger.held request now Risen answer old new → Steps
       WithOpened : (found : Held R) → old.ledger.broken ≡ true
           → IsFound rules disk found → Serves rules Answers found request now Risen answer old new → Steps
       -- the disk failed, it stands for no ledger, or there was no memory: the ledger stays broken

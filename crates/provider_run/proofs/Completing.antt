@@ -14,7 +14,7 @@ use Rattle.provider_run.specs.declared.ended.Ended.TheVariants as ends
 use Rattle.provider_run.specs.declared.ended.RunFault.{RunFault}
 use Rattle.provider_run.specs.declared.ended.RunFault.TheVariants as faults
 use Rattle.provider_run.specs.Runs.{Outside, result_of, RunsBy, BadSetUp, NotSetUp, NotOpened, Deaf, Serving, IsServed}
-use Rattle.provider_run.specs.Providers.{BadSetUpBy, Begins, IsNotOpened, IsOpened, IsRunnable, OpeningFails, Runs, SetUpBy}
+use Rattle.provider_run.specs.Providers.{BadSetUpBy, Begins, IsDeaf, IsNotOpened, IsRunnable, OpeningFails, Runs, SetUpBy}
 use Rattle.provider_node.specs.Histories.{IsProviders}
 use Rattle.provider_node.specs.Step.{AnswersBy, Provider, StepLeaves}
 use Rattle.record_ledger.specs.Ledger.{Held, ledger_in, taken}
@@ -28,17 +28,17 @@ serving result unlinked (Err serve_faults.NoMemory) e = inr e
 
 -- no file is bad, the ledger is not opened for want of memory alone, and the link does not fail
 module _ {N : Type 0} (step : NodeStep N) (leaves : NodeLeaves N) (left : ℕ → Image → Type 0) (IsBadFile : List ℕ
-    → ℕ → Type 0) (IsNotOpened : Outside → Result Ended RunFault → Type 0) (IsOpened Begins : N → Outside → Type 0)
+    → ℕ → Type 0) (IsNotOpened : Outside → Result Ended RunFault → Type 0) (IsDeaf Begins : N → Outside → Type 0)
     (budget : ℕ) (before after : Outside) (turns : List (Turn N)) (result : Result Ended RunFault) (unread : result
     ≢ Err faults.ReadFault) (unlinked : result ≢ Err faults.LinkFault) (none : (bad : List ℕ) (line : ℕ) →
     ¬ (IsBadFile bad line)) (opens : IsNotOpened after result → IsServed result ⊎ (result ≡ Err faults.NoMemory)) where
-  complete_by : RunsBy step leaves left IsBadFile IsNotOpened IsOpened Begins budget before turns result after
+  complete_by : RunsBy step leaves left IsBadFile IsNotOpened IsDeaf Begins budget before turns result after
       → IsServed result ⊎ (result ≡ Err faults.NoMemory)
   complete_by (BadSetUp bad line is e bare same) = absurd (none bad line is)
   complete_by (NotSetUp (inl e) bare same) = absurd (unread e)
   complete_by (NotSetUp (inr e) bare same) = inr e
   complete_by (NotOpened why bare same) = opens why
-  complete_by (Deaf node opened begins e rose bare same) = absurd (unlinked e)
+  complete_by (Deaf node deaf e rose bare) = absurd (unlinked e)
   complete_by (Serving node last opened served begins serves e) = serving result unlinked served e
 
 -- ---- a provider
@@ -80,7 +80,7 @@ module _ {Setup R : Type 0} (SetsUp : SetUpBy Setup) (IsBad : BadSetUpBy) (addre
       rules Answers left told file budget before turns result after → IsServed result ⊎ (result ≡ Err faults.NoMemory)
   complete law left told file budget before after turns can runs =
       complete_by (IsProviders rules Answers) (StepLeaves rules Answers) left (IsBad told file) (IsNotOpened SetsUp
-      rules told file before) (IsOpened SetsUp address key rules told file before)
+      rules told file before) (IsDeaf SetsUp address key rules told file before)
       (Begins SetsUp address key rules told file before) budget before after turns result unread
       unlinked (λ bad line is. law can.files file can.setup bad line can.set_up (subst (λ (o : Option (List File)).
       IsBad o file bad line) can.tells is)) (λ not. not_opened before after result refl can.holds not.fails) runs

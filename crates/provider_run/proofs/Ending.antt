@@ -19,7 +19,8 @@ stopped {N} false more whole last now ends = alike now last ends.1
 
 pub at_end : {N : Type 0} (budget : ℕ) (turns : List (Turn N)) (last now : World N) (served : Result Served ServeFault)
     → Ends budget turns last served now → (now.node ≡ last.node) × (now.disk ≡ last.disk)
-at_end budget turns last now (Ok served) ends =
+at_end {N} budget turns last now (Ok served) ends =
     stopped served.stopped (length turns < budget) (length turns ≡ budget) last now ends.1
-at_end budget turns last now (Err LinkFault) ends = alike now last ends.1
-at_end budget turns last now (Err NoMemory) ends = alike now last ends.1
+at_end {N} budget turns last now (Err LinkFault) ends =
+    (ap (λ (w : World N). w.node) ends.1, ap (λ (w : World N). w.disk) ends.1)
+at_end {N} budget turns last now (Err NoMemory) ends = alike now last ends.1

@@ -4,7 +4,7 @@ use Rattle.std.specs.Option.{option_map}
 use Rattle.saml_outside.specs.Files.{File}
 use Rattle.crash_disk.specs.Counts.{Rose}
 use Rattle.crash_disk.specs.Disk.{Image, DiskState, MayLeave, image_of}
-use Rattle.event_link.specs.Links.{listening}
+use Rattle.event_link.specs.Links.{LinkState, ListenFailed, listening, noted}
 use Rattle.serve_loop.specs.Turns.{Turn}
 use Rattle.provider_run.specs.declared.ended.Ended.{Ended}
 use Rattle.provider_run.specs.declared.ended.Ended.TheVariants as ends
@@ -57,11 +57,19 @@ module _ {Setup R : Type 0} (SetsUp : SetUpBy Setup) (address key : Setup → Li
   abbrev pub IsOpened : Outside → Type 0
   IsOpened opened = IsReady SetsUp key rules told file before before provider opened
 
-  -- and so once it begins to serve: the link listens at its address, and else all but its count of faults is as it was
+  -- and so behind a call of `listen`: what the link tells is as this makes it, and else all but its count of faults is
+  -- as it was
+  abbrev pub IsHeard : (LinkState → LinkState) → Outside → Type 0
+  IsHeard made now = let link = option_map made before.link in
+      IsReady SetsUp key rules told file before (record before { link = link; link_faults = now.link_faults }) provider now
+
+  -- the link could not listen at its address
+  abbrev pub IsDeaf : Outside → Type 0
+  IsDeaf after = IsHeard (noted (ListenFailed (address provider.setup))) after
+
+  -- it begins to serve: the link listens at its address
   abbrev pub Begins : Outside → Type 0
-  Begins begun = let link = option_map (listening (address provider.setup)) before.link in
-      IsReady SetsUp key rules told file before (record before { link = link; link_faults = begun.link_faults })
-      provider begun
+  Begins begun = IsHeard (listening (address provider.setup)) begun
 
 -- Why no ledger was opened: what the disk holds is none, and this is the fault that it has, as far as the disk tells;
 -- the disk failed; there was no memory.
@@ -90,7 +98,7 @@ module _ {Setup R : Type 0} (SetsUp : SetUpBy Setup) (IsBad : BadSetUpBy) (addre
   -- comes to. `left` says of each moment, seen from the end of the run, what a crash since then might have left.
   abbrev pub Runs : Type 0
   Runs = RunsBy (IsProviders rules Answers) (StepLeaves rules Answers) left (IsBad told file)
-      (IsNotOpened SetsUp rules told file before) (IsOpened SetsUp address key rules told file before)
+      (IsNotOpened SetsUp rules told file before) (IsDeaf SetsUp address key rules told file before)
       (Begins SetsUp address key rules told file before) budget before turns result after
 
 module _ {Setup R : Type 0} (rules : RecordRules R) (Answers : AnswersBy Setup R) where

@@ -59,10 +59,11 @@ IsButTheDisk o n = n ≡ record o { disk = n.disk; disk_faults = n.disk_faults; 
 
 module _ {N : Type 0} (step : NodeStep N) (leaves : NodeLeaves N) (left : ℕ → Image → Type 0)
     (IsBadFile : List ℕ → ℕ → Type 0) (IsNotOpened : Outside → Result Ended RunFault → Type 0)
-    (IsOpened Begins : N → Outside → Type 0) (budget : ℕ) (before : Outside) (turns : List (Turn N))
+    (IsDeaf Begins : N → Outside → Type 0) (budget : ℕ) (before : Outside) (turns : List (Turn N))
     (result : Result Ended RunFault) (after : Outside) where
   -- How a run goes, with this budget of events: the turns of its node, and what the run comes to. It is said of it
-  -- which file and line can't be used, when its ledger was not opened, as what a node is opened, and as what it begins;
+  -- which file and line can't be used, when its ledger was not opened, what is left where the link did not listen, and
+  -- as what it begins;
   -- and of each moment, seen from the end of the run, what a crash since then might have left.
   pub data RunsBy : Type 0 where
     -- This is the first file, the config or one that it names, that can't be used, and its line.
@@ -72,10 +73,9 @@ module _ {N : Type 0} (step : NodeStep N) (leaves : NodeLeaves N) (left : ℕ �
     NotSetUp : (result ≡ Err faults.ReadFault) ⊎ (result ≡ Err faults.NoMemory) → turns ≡ [] → after ≡ before → RunsBy
     -- The node was set up, and its ledger was not opened.
     NotOpened : IsNotOpened after result → turns ≡ [] → IsButTheDisk before after → RunsBy
-    -- Its ledger was opened, and the link did not listen.
-    Deaf : (node : N) (opened : Outside) → IsOpened node opened → result ≡ Err faults.LinkFault
-        → Rose opened.link_faults after.link_faults → turns ≡ []
-        → after ≡ record opened { link_faults = after.link_faults } → RunsBy
+    -- Its ledger was opened, and the link did not listen at its address.
+    Deaf : (node : N) → IsDeaf node after → result ≡ Err faults.LinkFault
+        → Rose before.link_faults after.link_faults → turns ≡ [] → RunsBy
     -- Its ledger was opened, the link listened at its address, and it served.
     Serving : (node last : N) (begun : Outside) (served : Result Served ServeFault)
         → Begins node begun → Serves step leaves left budget turns (world_of node begun) served (world_of last after)

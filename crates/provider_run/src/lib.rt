@@ -20,8 +20,8 @@
 //! carries the headline, a crash at any moment leaves what one inside the opening or inside an answer may leave, each
 //! fault has its cause, and where the provider can be run and no fault keeps it from that it served, or there was no
 //! memory (`complete`). What the headlines of all roles have in common stands in `specs/Headlines.antt`. What a run
-//! comes to where serving ended (`ended_of`). Before the first event the link listens at the address of the role, and
-//! at no other (`Begins`).
+//! comes to where serving ended (`ended_of`). Before the first event the link is told once to listen, at the address of
+//! the role: it does, and at no other (`Begins`), or that call failed (`IsDeaf`).
 #![tactic(auto)]
 
 mod ended;

@@ -1,29 +1,12 @@
 -- What goes out on a link.
-use Rattle.std.specs.Option.{option_map}
-use Rattle.std.specs.Prelude.{◌≡◌, ℕ, List, ◌++◌, length, take, Option, None, Some, Result, Ok, Err}
+use Rattle.std.specs.Prelude.{◌≡◌, ℕ, List, ◌++◌, length, take, Option}
 use Rattle.std.proofs.Common.{sym, ap, ◌∙◌}
 use Rattle.std.proofs.lemmas.List.{take_at}
-use Rattle.crash_disk.specs.Counts.{CountsFaults}
 use Rattle.crash_disk.specs.Moments.{DiskShown}
-use Rattle.event_link.specs.Links.{LinkShown, LinkState, Sends, closed_on}
+use Rattle.event_link.specs.Links.{LinkShown}
 use Rattle.serve_loop.specs.declared.turns.Serving.{Serving}
-use Rattle.serve_loop.specs.Worlds.{world_at, GoesOut, Whole, Cut, OnlySends}
+use Rattle.serve_loop.specs.Worlds.{world_at, GoesOut, OnlySends}
 use Rattle.serve_loop.specs.Held.{OthersStay, world_in}
-
--- what a `send` and then a `close` did
-pub goes_out : {T E : Type 0} (conn : ℕ) (bytes : List ℕ) (before sent after : Option LinkState)
-    (faults now_faults : ℕ) (result : Result T E) → Sends conn bytes before result sent
-    → after ≡ option_map (closed_on conn) sent → CountsFaults result faults now_faults
-    → GoesOut conn bytes before after faults now_faults
-goes_out conn bytes None sent after faults now_faults (Ok x) sends closes counts =
-    Whole sent sends closes counts.never_falls
-goes_out conn bytes None sent after faults now_faults (Err e) sends closes counts =
-    Cut 0 sent sends closes counts.failed
-goes_out conn bytes (Some link) sent after faults now_faults (Ok x) sends closes counts =
-    Whole sent sends closes counts.never_falls
-goes_out conn bytes (Some link) None after faults now_faults (Err e) sends closes counts = absurd sends
-goes_out conn bytes (Some link) (Some then) after faults now_faults (Err e) sends closes counts =
-    Cut sends.0 (Some then) sends.1 closes counts.failed
 
 -- the front of a buffer
 pub front_of : (n : ℕ) (buffer page rest : List ℕ) → buffer ≡ page ++ rest → n ≡ length page → take n buffer ≡ page

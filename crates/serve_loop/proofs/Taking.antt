@@ -5,7 +5,7 @@ use Rattle.saml_time.specs.declared.TheConstants.{LAST}
 use Rattle.event_link.specs.declared.arrival.Arrival.{Arrival}
 use Rattle.event_link.specs.declared.link.LinkEvent.{LinkEvent}
 use Rattle.event_link.specs.Clocks.{now_of}
-use Rattle.event_link.specs.Links.{LinkState, in_front, next_of, Gives}
+use Rattle.event_link.specs.Links.{LinkState, after_next, in_front, next_of, Gives}
 use Rattle.conn_table.specs.Events.{Event}
 use Rattle.serve_loop.specs.declared.limits.TheConstants.{PIECE_ROOM}
 use Rattle.serve_loop.specs.Worlds.{World, event_of, Comes, IsNext}
@@ -23,7 +23,7 @@ pub next_comes : (E : Type 0) (told now : Option LinkState) (before after : List
 next_comes E None now before after event bytes long gives same = gives
 next_comes E (Some link) now before after event bytes long gives same = let given = next_of PIECE_ROOM link.coming in
     let at = subst (λ (room : ℕ). (event ≡ (next_of room link.coming).event) × (after ≡ in_front (next_of room
-    link.coming).bytes before) × (now ≡ Some (record link { coming = (next_of room link.coming).later }))) long gives in
+    link.coming).bytes before) × (now ≡ Some (after_next (next_of room link.coming) link))) long gives in
     (same link.coming (sym at.0) at.1 ∙ ap (λ (e : LinkEvent). event_of e given.bytes) at.0, at.2)
 
 -- the world once the event has come

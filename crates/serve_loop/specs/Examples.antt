@@ -1,14 +1,16 @@
 -- The definitions at worked examples.
-use Rattle.std.specs.Prelude.{◌≡◌, ℕ, List, [], ◌∷◌, codes, map, false, None, Some, Ok, refl}
+use Rattle.std.specs.Prelude.{◌≡◌, ℕ, List, [], ◌∷◌, codes, map, false, None, Some, Ok, Err, refl}
 use Rattle.std.proofs.Common.{lit≤, arith, inl, ⊎_elim}
 use Rattle.crash_disk.specs.Disk.{Image, MayLeave, settled_image}
 use Rattle.crash_disk.specs.Soundness.{sound-settled_image}
 use Rattle.event_link.specs.declared.arrival.Arrival.TheVariants as arrivals
-use Rattle.event_link.specs.Links.{LinkState}
+use Rattle.event_link.specs.declared.link.LinkEvent.TheVariants as link_events
+use Rattle.event_link.specs.Links.{Gave, LinkState, NextFailed}
 use Rattle.http_wire.specs.declared.answer.Answer.TheVariants as answers
 use Rattle.http_wire.specs.declared.method.Method.TheVariants.{Get}
 use Rattle.http_wire.specs.Requests.{Request, Whole, Refused as RefusedReading}
 use Rattle.conn_table.specs.Events.{Started, Piece, Ended}
+use Rattle.serve_loop.specs.declared.served.ServeFault.TheVariants as faults
 use Rattle.serve_loop.specs.Laws.{whole_requests}
 use Rattle.serve_loop.specs.Serving.{Ends, LeavesSince}
 use Rattle.serve_loop.specs.Turns.{Asked, Turn, Taken, Full, StarvedStart, Over, Unknown, Waiting, Answered}
@@ -54,15 +56,20 @@ link = record {
   sent = λ conn. [];
   address = None;
   closings = record { count = 0; last = 0; behind = 0 };
+  calls = Some [];
 }
 
 -- the piece comes first, then Stop, and connection 8 is still to come
 comes : Comes
-    (Some (Piece 7 (codes "ab"))) (Some link) (Some (record link { coming = arrivals.Halt ∷ arrivals.Start 8 ∷ [] }))
+    (Some (Piece 7 (codes "ab"))) (Some link) (Some (record link {
+      coming = arrivals.Halt ∷ arrivals.Start 8 ∷ [];
+      calls =
+          Some (Gave (link_events.Piece 7 2) (codes "ab") ∷ []);
+    }))
 comes = (refl, refl)
 
-stops : Comes None (Some (record link { coming = arrivals.Halt ∷ arrivals.Start 8 ∷ [] }))
-    (Some (record link { coming = arrivals.Start 8 ∷ [] }))
+stops : Comes None (Some (record link { coming = arrivals.Halt ∷ arrivals.Start 8 ∷ []; calls = None }))
+    (Some (record link { coming = arrivals.Start 8 ∷ []; calls = None }))
 stops = (refl, refl)
 
 -- a moment behind the year 9999 counts as its last one, and the clock goes on
@@ -75,6 +82,10 @@ here = world 0 None 0 0 (Some link) 0 None
 
 ends : Ends 1 (Over 7 ∷ []) here (Ok (record { events = 1; stopped = false })) here
 ends = (refl, (refl, refl))
+
+-- a budget of two was not, and a `next` failed
+faulty : Ends 2 (Over 7 ∷ []) here (Err faults.LinkFault) (record here { link = Some (record link { calls = Some (NextFailed ∷ []) }) })
+faulty = (lit≤ tt, refl)
 
 -- a disk that holds one byte at moment 5, before no request
 abbrev holding : List ℕ → Image

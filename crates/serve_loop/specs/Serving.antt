@@ -1,9 +1,11 @@
 -- A whole call that serves.
 use Rattle.std.specs.Prelude.{◌≡◌, ◌⊎◌, ℕ, ◌<◌, ◌≤◌, List, [], ◌∷◌, ◌++◌, length, Contains, Option, None, Result, Ok}
 use Rattle.std.specs.Prelude.{Err, IsErrOf, MatchBool}
+use Rattle.std.specs.Option.{option_map}
 use Rattle.crash_disk.specs.Counts.{Rose}
 use Rattle.crash_disk.specs.Disk.{Image, DiskState}
 use Rattle.crash_disk.specs.Moments.{Leaves}
+use Rattle.event_link.specs.Links.{NextFailed, noted}
 use Rattle.conn_table.specs.Table.{Table}
 use Rattle.serve_loop.specs.declared.served.Served.{Served}
 use Rattle.serve_loop.specs.declared.served.ServeFault.{ServeFault}
@@ -12,11 +14,12 @@ use Rattle.serve_loop.specs.Worlds.{NodeStep, NodeLeaves, World, IsNext}
 use Rattle.serve_loop.specs.Turns.{Asked, Turn, asked_by, asked_in, Run}
 
 -- Serving ended after these turns. Ok: the link gave Stop before the budget was used up, or as many events were taken
--- as the budget has. LinkFault: the link gave nothing more. NoMemory: nothing was begun.
+-- as the budget has. LinkFault: the link gave nothing more, since a `next` failed. NoMemory: nothing was begun.
 abbrev pub Ends : {N : Type 0} → ℕ → List (Turn N) → World N → Result Served ServeFault → World N → Type 0
 Ends budget turns last (Ok served) now = (served.events ≡ length turns)
     × MatchBool served.stopped ((length turns < budget) × IsNext None last now) ((length turns ≡ budget) × (now ≡ last))
-Ends budget turns last (Err LinkFault) now = (length turns < budget) × (now ≡ last)
+Ends budget turns last (Err LinkFault) now =
+    (length turns < budget) × (now ≡ record last { link = option_map (noted NextFailed) last.link })
 Ends budget turns last (Err NoMemory) now = (turns ≡ []) × (now ≡ last)
 
 -- A crash inside the answer to one of these requests may leave this image.

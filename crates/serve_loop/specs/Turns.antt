@@ -27,17 +27,13 @@ pub record Asked (N : Type 0) : Type 0 where
 
 -- What is done at an event.
 pub data Turn (N : Type 0) : Type 0 where
-  -- A connection started: it is kept; as many are kept as there may be; there was no memory.
-  Taken Full StarvedStart : ℕ → Turn N
-  -- A connection ended.
-  Over : ℕ → Turn N
-  -- A piece came: its connection is not kept; all its bytes are the beginning of a request, or a whole one, or are
-  -- refused with a status; there was no memory.
-  Unknown : ℕ → List ℕ → Turn N
-  Waiting : ℕ → List ℕ → Turn N
+  -- A connection started: it is kept; as many are kept as there may be; there was no memory. Or one ended.
+  Taken Full StarvedStart Over : ℕ → Turn N
+  -- A piece came: its connection is not kept; all its bytes are the beginning of a request; there was no memory. Or they
+  -- are a whole request, or are refused with a status.
+  Unknown Waiting StarvedPiece : ℕ → List ℕ → Turn N
   Answered : List ℕ → Asked N → Turn N
   Refused : ℕ → List ℕ → ℕ → Turn N
-  StarvedPiece : ℕ → List ℕ → Turn N
 
 -- the event at which it is done
 abbrev pub event_at : {N : Type 0} → Turn N → Event

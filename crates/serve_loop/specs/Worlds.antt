@@ -1,7 +1,8 @@
 -- What serving works on, and what its calls do to it.
-use Rattle.std.specs.Prelude.{◌≡◌, ◌≢◌, ℕ, ◌≤◌, min, List, take, Option, None, Some, is_some, IfSome, IsTrue, Result, Ok}
+use Rattle.std.specs.Prelude.{◌≡◌, ◌≢◌, ℕ, ◌≤◌, min, List, Option, None, Some, is_some, IfSome, IsTrue, Result, OnErr, OnOk}
 use Rattle.std.specs.Option.{option_map}
 use Rattle.saml_time.specs.declared.TheConstants.{LAST}
+use Rattle.crash_disk.specs.declared.file_no.Failed.{Failed}
 use Rattle.crash_disk.specs.Counts.{Rose}
 use Rattle.crash_disk.specs.Disk.{Image, DiskState, MayLeave, image_of}
 use Rattle.crash_disk.specs.Moments.{DiskShown, Leaves}
@@ -9,7 +10,7 @@ use Rattle.gate_journal.specs.declared.fault.OpenFault.{OpenFault}
 use Rattle.event_link.specs.declared.link.LinkEvent.{LinkEvent}
 use Rattle.event_link.specs.declared.link.LinkEvent.TheVariants as events
 use Rattle.event_link.specs.Clocks.{now_of, later_of}
-use Rattle.event_link.specs.Links.{LinkShown, LinkState, Sends, closed_on, next_of}
+use Rattle.event_link.specs.Links.{LinkShown, LinkState, Sends, after_next, closed_on, next_of}
 use Rattle.http_wire.specs.declared.answer.Answer.{Answer}
 use Rattle.http_wire.specs.declared.answer.Answer.TheVariants.{Fixed, Full}
 use Rattle.http_wire.specs.Answers.{is_fixed}
@@ -103,7 +104,7 @@ event_of events.Stop bytes = None
 abbrev pub Comes : Option Event → Option LinkState → Option LinkState → Type 0
 Comes event None after = after ≡ None
 Comes event (Some link) after = let given = next_of PIECE_ROOM link.coming in
-    (event ≡ event_of given.event given.bytes) × (after ≡ Some (record link { coming = given.later }))
+    (event ≡ event_of given.event given.bytes) × (after ≡ Some (after_next given link))
 
 -- A `next` gives that, and else all is as it was.
 pub record IsNext {N : Type 0} (event : Option Event) (before after : World N) : Type 0 where
@@ -117,13 +118,13 @@ pub record TakesMoment (before : Option (List ℕ)) (now : ℕ) (after : Option 
   pub later : after ≡ option_map later_of before
 
 module _ (conn : ℕ) (bytes : List ℕ) (before after : Option LinkState) (faults later : ℕ) where
-  -- An answer goes out on a connection, and nothing on others, as far as the link tells: all its bytes, or the `send`
-  -- failed, so that its count of faults rose, and the first of them did. Then this connection is closed, and no other.
-  pub data GoesOut : Type 0 where
-    Whole : (sent : Option LinkState) → Sends {E = Unit {0}} conn bytes before (Ok (tt {0})) sent
-        → after ≡ option_map (closed_on conn) sent → faults ≤ later → GoesOut
-    Cut : (n : ℕ) (sent : Option LinkState) → Sends {E = Unit {0}} conn (take n bytes) before (Ok (tt {0})) sent
-        → after ≡ option_map (closed_on conn) sent → Rose faults later → GoesOut
+  -- An answer goes out on a connection, by one `send` of its bytes: all of them, or the `send` failed, so that its count
+  -- of faults rose, and the first of them did. Then this connection is closed. No other call is made, as far as the link
+  -- tells.
+  abbrev pub GoesOut : Type 0
+  GoesOut = (result : Result (Unit {0}) Failed) × (sent : Option LinkState) × Sends conn bytes before result sent
+      × (after ≡ option_map (closed_on conn) sent) × (faults ≤ later) × OnErr result (Rose faults later)
+      × OnOk result (later ≡ faults)
 
 -- That answer goes out, and else all is as it was.
 pub record OnlySends {N : Type 0} (conn : ℕ) (bytes : List ℕ) (before after : World N) : Type 0 where

@@ -19,7 +19,8 @@
 //! | a connection ends | it is let go |
 //!
 //! The node answers at the clock's moment, or at [`LAST`](saml_time::LAST) where that is less. A connection on which
-//! something was sent is closed behind it, and no other. A `send` that fails ends its connection alone.
+//! something was sent is closed behind it, and no other. A `send` that fails ends its connection alone. No other call of
+//! the link is made, and none in another order: an event is taken once the answer to the one before is out.
 //!
 //! A contract sees a list of turns, one for each event (`specs/Turns.antt`). Each is a case with a name, and says what
 //! it does to the connections, the node, the disk, the link and the clock; of the node it cites the node's own `step`
@@ -37,17 +38,18 @@
 //! events that the link gave were taken one after the other, each by its case (`Serves`, `Run`, `Does`): a connection
 //! is taken, refused with 503, starved with 52 or ended; a piece is passed over, kept, refused with its status,
 //! starved, or completes a request, which the node answers at the lesser of the clock's moment and the last of the year
-//! 9999; what goes out on a connection is the answer's bytes, or the first of them where the send failed and its count
-//! rose, and behind them this connection is closed, and no other (`GoesOut`). It ends at Stop, or when the budget is
-//! used up (`ends`); LinkFault comes only where the link's count rose; at every moment a crash leaves what it may leave
-//! at the start, or inside one of the answers; there are moments of the disk, one for each point between two turns and
-//! in their order, since which a crash might have left all that it may leave of the disk at that point, and nothing
-//! else but what it may leave inside the answer to a later request (`LeavesInOrder`); and once a request is answered
-//! only what one inside that answer might leave (`IsAnswered`). Laws: the requests that the node was asked are the
-//! whole ones that the events complete (`requests_are_completions`), each at the next moment of the clock
-//! (`moments_come_in_order`); the disk's count of faults never falls from one to the next (`faults_never_fall`), and
-//! rises only at requests that are answered by 50 (`faults_are_answered`); a disk that tells goes on telling, and reads
-//! as one of its images (`a_disk_that_tells_goes_on_telling`, `a_disk_goes_on_reading_an_image`).
+//! 9999; what goes out on a connection is the answer's bytes, by one `send`, or the first of them where this `send`
+//! failed and its count rose, and behind them this connection is closed, and no other (`GoesOut`). So of a link that
+//! tells its calls these are all that were made, in the order of the turns. It ends at Stop, or when the budget is used
+//! up (`ends`); LinkFault comes only where a `next` failed and the link's count rose; at every moment a crash leaves
+//! what it may leave at the start, or inside one of the answers; there are moments of the disk, one for each point
+//! between two turns and in their order, since which a crash might have left all that it may leave of the disk at that
+//! point, and nothing else but what it may leave inside the answer to a later request (`LeavesInOrder`); and once a
+//! request is answered only what one inside that answer might leave (`IsAnswered`). Laws: the requests that the node
+//! was asked are the whole ones that the events complete (`requests_are_completions`), each at the next moment of the
+//! clock (`moments_come_in_order`); the disk's count of faults never falls from one to the next (`faults_never_fall`),
+//! and rises only at requests that are answered by 50 (`faults_are_answered`); a disk that tells goes on telling, and
+//! reads as one of its images (`a_disk_that_tells_goes_on_telling`, `a_disk_goes_on_reading_an_image`).
 #![tactic(auto)]
 
 mod codes;

@@ -2,6 +2,7 @@
 ghost use Rattle.std.specs.Prelude.{◌≡◌, ◌≢◌, ◌≤◌, List, ◌∷◌, [], IsSomeAnd, IsTrue, IfOk, IfSome, OnErr, MatchBool};
 ghost use Rattle.std.specs.Prelude.{None, Some, Err, length};
 ghost use Rattle.std.specs.FinMap as map;
+ghost use Rattle.std.specs.Option.{option_map};
 ghost use Rattle.crash_disk.specs.Counts.{CountsFaults};
 ghost use Rattle.crash_disk.specs.Moments.{LeavesOnly};
 ghost use Rattle.http_wire.specs.Answers.{is_fixed, fixed};
@@ -9,6 +10,7 @@ ghost use Rattle.http_wire.specs.Requests.{Whole, Reads};
 ghost use Rattle.http_wire.specs.Views.{answer_bytes};
 ghost use Rattle.conn_table.specs.Answers.{IsWholeRequest};
 ghost use Rattle.conn_table.specs.Events.{Started, Piece};
+ghost use Rattle.event_link.specs.Links.{NextFailed, noted};
 ghost use Rattle.serve_loop.specs.Worlds.{World, HasBytes, IsAnswered, GoesOut, IsNext};
 ghost use Rattle.serve_loop.specs.Turns.{Asked, Turn, event_at, LetsGo, Asks, Answers, Does};
 ghost use Rattle.serve_loop.specs.Serving.{Serves, MightLeave, CountsLinkFaults};
@@ -171,7 +173,8 @@ impl<N: Node, L: Link, D: Disk, C: Clock> Serving<'_, '_, '_, '_, '_, N, L, D, C
             (D.shows self.old.disk.now).told (turn ∷ []))) (IsNext None (world_in D.shows L.shows C.to_come self.old)
             (world_in D.shows L.shows C.to_come self.new) × (self.new.disk.now ≡ self.old.disk.now))) }
         ensures err { OnErr result ((world_in D.shows L.shows C.to_come
-            self.new ≡ world_in D.shows L.shows C.to_come self.old) × (self.new.disk.now ≡ self.old.disk.now)) }
+            self.new ≡ record (world_in D.shows L.shows C.to_come self.old)
+            { link = option_map (noted NextFailed) (L.shows self.old.link.now).told }) × (self.new.disk.now ≡ self.old.disk.now)) }
         ensures own { N.rules.own self.new.node.now (D.shows self.new.disk.now).told }
         ensures disk_faults { (D.shows self.old.disk.now).faults ≤ (D.shows self.new.disk.now).faults }
         ensures faults { CountsFaults result (L.shows self.old.link.now).faults (L.shows self.new.link.now).faults }

@@ -1,10 +1,9 @@
-use Rattle.std.proofs.Common.{refl, ℕ, List, sym, ap, ◌∙◌, subst, None, Some, arith}
+use Rattle.std.proofs.Common.{refl, ℕ, List, sym, ap, ◌∙◌, subst, None, Some, Ok, arith}
 use Rattle.std.specs.Prelude.{IfSome}
 use Rattle.std.specs.FinMap as map
 use Rattle.http_wire.specs.Requests.{Whole, Reads}
 use Rattle.http_wire.specs.Views.{answer_bytes}
 use Rattle.conn_table.specs.Table.{Table}
-use Rattle.serve_loop.specs.Worlds.{Whole as WentOut}
 use Rattle.schedule_replay.specs.Hosts.{Sent, world_of}
 use Rattle.schedule_replay.specs.Views.{host_in}
 use Rattle.schedule_replay.proofs.host.HeldHost.answer.Goals as goal
@@ -20,7 +19,7 @@ returns-clause-answers g c =
         request = subst (λ (n : ℕ). IfSome (map.get c.args.self.now.conns.now n) (λ bytes. Reads bytes (Whole a.0.request))) (sym a.1) a.4;
         told = world_of c.args.now (host_in c.ask.new.self);
         asks = a.5;
-        sends = record { out = WentOut None refl refl (omega arith); same = refl };
+        sends = record { out = (Ok tt, None, refl, refl, omega arith, tt, refl); same = refl };
         gone =
             c.gone.ensures ∙ ap (λ (t : Table). map.remove t c.args.conn) c.ask.ensures.conns
             ∙ ap (λ (n : ℕ). map.remove c.args.self.now.conns.now n) (sym a.1);
