@@ -2,18 +2,17 @@
 import html
 import os
 import re
-import shutil
-import signal
-import socket
 import subprocess
 import sys
 import tempfile
-import time
 import urllib.error
 import urllib.request
 
-ROOT = os.path.dirname(os.path.dirname(os.path.abspath(__file__)))
-SAMLD = os.path.join(ROOT, "bin", "samld")
+sys.dont_write_bytecode = True
+sys.path.insert(0, os.path.join(os.path.dirname(os.path.dirname(os.path.abspath(__file__))), "outside"))
+
+from program import PROGRAM, Running, built, example  # noqa: E402, F401
+
 PROTOCOL = "urn:oasis:names:tc:SAML:2.0:protocol"
 ASSERTION = "urn:oasis:names:tc:SAML:2.0:assertion"
 METADATA = "urn:oasis:names:tc:SAML:2.0:metadata"
@@ -28,37 +27,16 @@ def install(*packages):
         subprocess.run(["apt-get", "install", "-y", "-q", *missing], check=True, stdout=subprocess.DEVNULL)
 
 
-def build():
-    """Builds the program."""
-    if subprocess.run([SAMLD], stdout=subprocess.DEVNULL).returncode == 125:
-        sys.exit("the program was not built")
-
-
 def samld(*words, folder):
     """What the program prints with these words."""
-    return subprocess.run([SAMLD, *words], cwd=folder, capture_output=True, text=True).stdout
+    return subprocess.run([PROGRAM, *words], cwd=folder, capture_output=True, text=True).stdout
 
 
-class Provider:
+class Provider(Running):
     """The program as a provider in a folder, as long as the block lasts."""
 
     def __init__(self, role, folder, config, port, host="127.0.0.1"):
-        self.words = [SAMLD, role, config, "1000000"]
-        self.folder, self.address = folder, (host, port)
-
-    def __enter__(self):
-        self.process = subprocess.Popen(self.words, cwd=self.folder, stdout=subprocess.DEVNULL)
-        for _ in range(2_000):
-            try:
-                socket.create_connection(self.address).close()
-                return self
-            except OSError:
-                time.sleep(0.005)
-        sys.exit("the program does not listen")
-
-    def __exit__(self, *_):
-        self.process.send_signal(signal.SIGKILL)
-        self.process.wait()
+        super().__init__([PROGRAM, role, config, "1000000"], folder, port, host, stdout=subprocess.DEVNULL)
 
 
 class Answered:
@@ -111,14 +89,6 @@ class Told:
     def end(self):
         print(f"{self.passed} passed, {self.failed} failed")
         return self.failed != 0
-
-
-def example(folder, role="sp"):
-    """The files of an example in a folder."""
-    source = os.path.join(ROOT, "examples", role)
-    for name in os.listdir(source):
-        if os.path.isfile(os.path.join(source, name)):
-            shutil.copy(os.path.join(source, name), folder)
 
 
 def change(folder, name, changed, into=None):

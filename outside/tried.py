@@ -9,7 +9,7 @@ ROOT = os.path.dirname(os.path.dirname(os.path.abspath(__file__)))
 def copied(folder):
     """Makes a copy of the repository in the folder, without what was made, and returns its path."""
     copy = os.path.join(folder, "copy")
-    shutil.copytree(ROOT, copy, ignore=shutil.ignore_patterns("out", ".git"))
+    shutil.copytree(ROOT, copy, ignore=shutil.ignore_patterns("out", ".git", "journal.[01]"))
     subprocess.run(["git", "init", "-q", copy], check=True)
     return copy
 

@@ -3,17 +3,15 @@ import base64
 import html
 import os
 import re
-import shutil
-import signal
 import socket
 import subprocess
-import sys
 import tempfile
 import time
 import urllib.parse
 
 from attacking import made
 from attacking.told import example, put
+from program import Running
 
 FORM = "application/x-www-form-urlencoded"
 
@@ -60,38 +58,23 @@ def free_port():
         return it.getsockname()[1]
 
 
-class Node:
+class Node(Running):
     """A provider of a role in a folder of its own, for as long as the block lasts."""
 
     def __init__(self, program, role, lines, files):
         self.program, self.role, self.lines, self.files = program, role, lines, files
-        self.port = free_port()
+        self.port, self.place = free_port(), tempfile.TemporaryDirectory()
+        super().__init__([program, role, "config", "1000000000"], self.place.name, self.port, stdout=subprocess.DEVNULL)
 
     def __enter__(self):
-        self.folder = tempfile.mkdtemp()
         for name, data in self.files.items():
             put(self.folder, name, data)
         put(self.folder, "config", "".join(f"{line}\n" for line in (*self.lines, f"listen 127.0.0.1:{self.port}")))
-        self.start()
-        return self
+        return super().__enter__()
 
     def __exit__(self, *_):
-        self.kill()
-        shutil.rmtree(self.folder)
-
-    def start(self):
-        self.process = subprocess.Popen([self.program, self.role, "config", "1000000000"], cwd=self.folder, stdout=subprocess.DEVNULL)
-        for _ in range(2_000):
-            try:
-                return socket.create_connection(("127.0.0.1", self.port)).close()
-            except OSError:
-                time.sleep(0.01)
-        self.kill()
-        sys.exit(f"attacks: {self.role} does not listen")
-
-    def kill(self):
-        self.process.send_signal(signal.SIGKILL)
-        self.process.wait()
+        super().__exit__()
+        self.place.cleanup()
 
     def records(self):
         """The lines of its journal."""

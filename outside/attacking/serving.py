@@ -30,7 +30,7 @@ def logins(node):
     yield "assertion-without-response-request", 21, node.send("/acs", made.form(around, later.relay)).told()
     later.ident = asked.ident
     yield "assertion-id-again", 22, node.send("/acs", later.form()).told()
-    node.kill()
+    node.stop()
     node.start()
     yield "replay-behind-a-crash", 21, node.send("/acs", form).told()
     yield "session-behind-a-crash", True, is_shown(node, first.cookie())
