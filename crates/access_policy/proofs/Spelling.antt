@@ -9,7 +9,7 @@ use Rattle.std.proofs.lemmas.List.Folds.{list_any-append}
 use Rattle.std.proofs.lemmas.Slice.Eq.{bytes_eq-Decides}
 use Rattle.access_policy.specs.declared.rule.Rule.{Rule}
 use Rattle.access_policy.specs.Rules.{has_rule}
-use Rattle.access_policy.specs.Conditions.{hex_byte, put, unescaped, user, tested, conditions_of}
+use Rattle.access_policy.specs.Conditions.{hex_byte, put, unescaped}
 
 other_byte : (b c : ℕ) → b ≢ c → (b == c) ≡ false
 other_byte b c h = grind (arith, nat_tests)
@@ -79,14 +79,3 @@ pub one_found : {X : Type 0} (found : List X) (x : X) (all rest more : Option (L
 one_found found x all None more is first = is ∙ ap (option_map (λ xs. found ++ xs)) first
 one_found found x all (Some xs) more is first =
     is ∙ ap (option_map (λ xs. found ++ xs)) first ∙ ap Some (sym (append_assoc found (x ∷ []) xs))
-
-pub user_first : (kind name : List ℕ) (behind : List (List ℕ)) → bytes_eq kind (codes "user") ≡ true →
-    conditions_of (kind ∷ name ∷ behind) ≡ put (user name) (conditions_of behind)
-user_first kind name [] is = ap (λ t. cond t (put (user name) (Some [])) None) is
-user_first kind name (next ∷ behind) is =
-    ap (λ t. cond t (put (user name) (conditions_of (next ∷ behind))) (put (tested kind name next) (conditions_of behind))) is
-
-pub tested_first : (kind attribute value : List ℕ) (behind : List (List ℕ)) → bytes_eq kind (codes "user") ≡ false →
-    conditions_of (kind ∷ attribute ∷ value ∷ behind) ≡ put (tested kind attribute value) (conditions_of behind)
-tested_first kind attribute value behind is =
-    ap (λ t. cond t (put (user attribute) (conditions_of (value ∷ behind))) (put (tested kind attribute value) (conditions_of behind))) is

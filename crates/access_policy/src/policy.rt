@@ -25,7 +25,9 @@ impl Model for Policy {
 /// What a policy decides, and the name of the rule that decides it, or `default`.
 #[derive(Clone, Copy, Debug, PartialEq, Eq)]
 pub struct Decision<'p> {
+    /// Whether the rule lets the request through.
     pub allowed: bool,
+    /// The name of the rule that decides, or `default` where none does.
     pub rule: &'p str,
 }
 

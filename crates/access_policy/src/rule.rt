@@ -56,9 +56,13 @@ pub(crate) struct Pattern {
 /// A rule.
 #[derive(Debug, Drop)]
 pub(crate) struct Rule {
+    /// The name by which the rule is told to a reader.
     pub name: Text,
+    /// Whether it lets a request through, or refuses it.
     pub allows: bool,
+    /// The paths that it is for.
     pub pattern: Pattern,
+    /// What it asks of the session. All of these have to hold.
     pub conditions: Conditions,
 }
 

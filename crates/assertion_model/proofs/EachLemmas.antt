@@ -1,5 +1,5 @@
 -- What holds while a list is read element by element.
-use Rattle.std.proofs.Common.{◌≡◌, ℕ, Bool, true, false, ◌&&◌, ◌||◌, List, [], ◌∷◌, ◌++◌, append_assoc, append-nil, map, Option, None, Some, refl, sym, ap, ◌∙◌}
+use Rattle.std.proofs.Common.{◌≡◌, ℕ, Bool, true, false, ◌&&◌, List, [], ◌∷◌, ◌++◌, append_assoc, map, Option, None, Some, refl, sym, ap, ◌∙◌}
 use Rattle.std.specs.List.{list_all, flat_map}
 use Rattle.std.specs.Option.{option_map, option_and_then}
 use Rattle.std.specs.Str.{bytes_eq}
@@ -30,16 +30,6 @@ module _ {X Y : Type 0} (f : X → Option Y) where
       sym (joined_once done y (each f others))
       ∙ ap (λ o. behind done (option_and_then (λ y. option_map (λ ys. y ∷ ys) (each f others)) o)) (sym says)
       ∙ ap (λ zs. behind done (each f zs)) (sym e) ∙ h
-
-  -- one says nothing
-  pub each_stops : (whole : Option (List Y)) (done : List Y) (xs others : List X) (x : X) → behind done (each f xs) ≡ whole → xs ≡ x ∷ others → f x ≡ None → whole ≡ None
-  each_stops whole done xs others x h e says =
-      sym h ∙ ap (λ zs. behind done (each f zs)) e
-      ∙ ap (λ o. behind done (option_and_then (λ y. option_map (λ ys. y ∷ ys) (each f others)) o)) says
-
-  -- all are read
-  pub each_ends : (whole : Option (List Y)) (done : List Y) (xs : List X) → behind done (each f xs) ≡ whole → xs ≡ [] → whole ≡ Some done
-  each_ends whole done xs h e = sym h ∙ ap (λ zs. behind done (each f zs)) e ∙ ap Some (append-nil done)
 
   -- two lists one behind the other
   pub each_append : (xs ys : List X) → each f (xs ++ ys) ≡ option_and_then (λ done. behind done (each f ys)) (each f xs)
@@ -84,12 +74,6 @@ module _ {X Y Z : Type 0} (g : X → List Z) (f : Z → Option Y) where
       sym h ∙ ap (λ zs. behind done (each f (flat_map g zs))) e ∙ ap (behind done) (each_append f (g x) (flat_map g others))
       ∙ ap (λ o. behind done (option_and_then (λ ys. behind ys (each f (flat_map g others))) o)) says
 
--- texts that are read one after the other
-pub map_more : {X Y : Type 0} (f : X → Y) (whole done : List Y) (xs others : List X) (x : X) (y : Y) → done ++ map f xs ≡ whole → xs ≡ x ∷ others → y ≡ f x →
-    (done ++ y ∷ []) ++ map f others ≡ whole
-map_more f whole done xs others x y h e is =
-    append_assoc done (y ∷ []) (map f others) ∙ ap (λ z. done ++ z ∷ map f others) is ∙ ap (λ zs. done ++ map f zs) (sym e) ∙ h
-
 -- a name that is taken, or is not
 pub took : (list rest : List Child) (k : ℕ) (name : ExpandedName) (local : List ℕ) → name ≡ saml local → list ≡ child k name ∷ rest →
     (c : Child) × (list ≡ c ∷ rest) × (is_name (saml local) c.name ≡ true)
@@ -108,32 +92,6 @@ not_took list name local n never c others e = which (is_name (saml local) c.name
     which : (b : Bool) → is_name (saml local) c.name ≡ b → is_name (saml local) c.name ≡ false
     which false h = h
     which true h = absurd (never c.number others (e ∙ ap (λ m. child c.number m ∷ others) (name_is (saml local) c.name h ∙ sym n)))
-
--- one of three tests passes, or none
-pub first_of_three : (a b c : Bool) → a ≡ true → (a || b || c) ≡ true
-first_of_three true b c h = refl
-first_of_three false b c h = absurd (let clash : false ≡ true = h in cc)
-
-pub second_of_three : (a b c : Bool) → b ≡ true → (a || b || c) ≡ true
-second_of_three true b c h = refl
-second_of_three false true c h = refl
-second_of_three false false c h = absurd (let clash : false ≡ true = h in cc)
-
-pub third_of_three : (a b c : Bool) → c ≡ true → (a || b || c) ≡ true
-third_of_three true b c h = refl
-third_of_three false true c h = refl
-third_of_three false false c h = h
-
-pub none_of_three : (a b c : Bool) → a ≡ false → b ≡ false → c ≡ false → (a || b || c) ≡ false
-none_of_three true b c h k l = absurd (let clash : true ≡ false = h in cc)
-none_of_three false true c h k l = absurd (let clash : true ≡ false = k in cc)
-none_of_three false false c h k l = l
-
--- the tests of the names that are left
-pub known_more : (p : ExpandedName → Bool) (whole : Bool) (list rest : List Child) (c : Child) → list_all p (map (λ (d : Child). d.name) list) ≡ whole →
-    list ≡ c ∷ rest → p c.name ≡ true → list_all p (map (λ (d : Child). d.name) rest) ≡ whole
-known_more p whole list rest c h e known =
-    ap (λ b. b && list_all p (map (λ (d : Child). d.name) rest)) (sym known) ∙ ap (λ l. list_all p (map (λ (d : Child). d.name) l)) (sym e) ∙ h
 
 pub known_stops : (p : ExpandedName → Bool) (whole : Bool) (list : List Child) → list_all p (map (λ (d : Child). d.name) list) ≡ whole →
     (list ≡ [] → ⊥) → ((c : Child) (others : List Child) → list ≡ c ∷ others → p c.name ≡ false) → false ≡ whole

@@ -15,9 +15,6 @@ use Rattle.xml_spec.proofs.Sorting.{sorted_is_permutation}
 pub same_bytes : (p q : List ℕ) → bytes_eq p q ≡ true → p ≡ q
 same_bytes p q h = (bytes_eq-Decides p q).0 h
 
-bytes_same : (p : List ℕ) → bytes_eq p p ≡ true
-bytes_same p = (bytes_eq-Decides p p).1 refl
-
 -- it is one whichever side is asked
 pub turned : {b : Bool} (p q : List ℕ) → bytes_eq p q ≡ b → bytes_eq q p ≡ b
 turned p q h = nat_list_eq_equiv.symm q p ∙ h

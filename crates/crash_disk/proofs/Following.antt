@@ -41,11 +41,6 @@ left_second : (first second : List Change) (disk : DiskState) (image : Image) �
 left_second [] second disk image left = left
 left_second (change ∷ first) second disk image left = inr (inr (left_second first second (after change disk) image left))
 
--- what a crash leaves of the disk before a plan
-pub left_at_start : (plan : List Change) (disk : DiskState) (image : Image) → MayLeave disk image → LeftAmid plan disk image
-left_at_start [] disk image left = left
-left_at_start (change ∷ plan) disk image left = inl left
-
 carried_second : {T E : Type 0} (result : Result T E) (first second : List Change) (disk mid now : DiskState) → mid ≡ after_all first disk →
     IsCarriedOut result second mid now → IsCarriedOut result (first ++ second) disk now
 carried_second (Ok x) first second disk mid now is done = done ∙ ap (after_all second) is ∙ sym (after_both first second disk)

@@ -1,13 +1,12 @@
 -- That disks in memory keep the disk rule.
 use Rattle.std.specs.Prelude.{Result, Ok, Err, is_ok, if◌then◌else◌, ◌==◌}
-use Rattle.std.proofs.Common.{◌≡◌, ◌⊎◌, inl, inr, Bool, true, false, ℕ, ◌+◌, ◌<◌, ◌≤◌, ◌^◌, None, Some, List, [], ◌∷◌, ◌++◌, length, take, refl, sym, ◌∙◌, ap, subst, arith, length-append}
+use Rattle.std.proofs.Common.{◌≡◌, ◌⊎◌, inl, inr, Bool, true, false, ℕ, ◌+◌, ◌≤◌, None, Some, List, [], ◌∷◌, ◌++◌, length, take, refl, sym, ◌∙◌, ap, subst, arith, length-append}
 use Rattle.std.proofs.lemmas.List.{take_all, take-append-le}
 use Rattle.std.proofs.lemmas.Bool.{cases_lt}
 use Rattle.crash_disk.specs.declared.file_no.FileNo.TheVariants.{Zero, One}
 use Rattle.crash_disk.specs.declared.change.Change.{Change}
 use Rattle.crash_disk.specs.declared.change.Change.TheVariants.{Write, Cut, Sync}
 use Rattle.crash_disk.specs.declared.change.Taken.{Taken}
-use Rattle.crash_disk.specs.Counts.{CountsFaults, one_more}
 use Rattle.crash_disk.specs.Disk.{Image, DiskState, MayLeave, LeavesAtMost, FailsIn, Changes, FileState, FileMayLeave, after_write, after_cut, settled_image, begun}
 use Rattle.crash_disk.specs.Moments.{DiskShown, IsMadeByCalls, Elapses}
 use Rattle.crash_disk.specs.Memory.{DiskInMemory, state_of, LeftSince, left_by, replay, after_taken, answered, after_call, starved_by_call, faulted, Calls, Changing, Starved, Reading}
@@ -110,9 +109,6 @@ made_by_call : (change : Change) (old new : DiskInMemory) (ok : Bool) → ((ok, 
 made_by_call change old new ok (inl is) = (Changing change ∷ [], ap (λ p. p.1) is)
 made_by_call change old new ok (inr is) = (Starved ∷ [], ap (λ p. p.1) is)
 
-made_by_none : (old new : DiskInMemory) → new ≡ old → IsMadeByCalls (Some old) (Some new)
-made_by_none old new is = ([], is)
-
 made_by_reading : (old new : DiskInMemory) → old.stopped ≡ true → new ≡ faulted old → IsMadeByCalls (Some old) (Some new)
 made_by_reading old new stopped is = (Reading ∷ [], is ∙ sym (ap (λ (b : Bool). if b then faulted old else old) stopped))
 
@@ -142,10 +138,6 @@ elapses_same old new start log made =
       calls = made;
     }
 
--- a call that only reads
-pub elapses_read : (old new : DiskInMemory) → new ≡ old → Elapses (shown_in_memory old) (shown_in_memory new)
-elapses_read old new is = elapses_same old new (ap (λ (m : DiskInMemory). m.start) is) (ap (λ (m : DiskInMemory). m.log) is) (made_by_none old new is)
-
 -- one that fails, since the disk has stopped
 pub elapses_unread : (old new : DiskInMemory) → old.stopped ≡ true → new ≡ faulted old → Elapses (shown_in_memory old) (shown_in_memory new)
 elapses_unread old new stopped is = elapses_same old new (ap (λ (m : DiskInMemory). m.start) is) (ap (λ (m : DiskInMemory). m.log) is) (made_by_reading old new stopped is)
@@ -157,23 +149,3 @@ elapses_by change old new ok made (nothing is start log) = elapses_same old new 
 
 pub elapses_in_memory : {T E : Type 0} (change : Change) (old new : DiskInMemory) (result : Result T E) → Calls change old result new → Elapses (shown_in_memory old) (shown_in_memory new)
 elapses_in_memory change old new result calls = elapses_by change old new (is_ok result) (made_by_call change old new (is_ok result) calls) (how_changed change old new (is_ok result) calls)
-
--- a call counts a fault where it fails, and no other
-fault_cases : (change : Change) (old new : DiskInMemory) (ok stopped stops fails : Bool)
-    → (ok, new) ≡ answered stopped stops fails change old
-    → new.faults ≡ (if ok then old.faults else one_more old.faults)
-fault_cases change old new ok true stops fails is = ap (λ p. p.1.faults) is ∙ sym (ap (λ p. if p.0 then old.faults else one_more old.faults) is)
-fault_cases change old new ok false true fails is = ap (λ p. p.1.faults) is ∙ sym (ap (λ p. if p.0 then old.faults else one_more old.faults) is)
-fault_cases change old new ok false false true is = ap (λ p. p.1.faults) is ∙ sym (ap (λ p. if p.0 then old.faults else one_more old.faults) is)
-fault_cases change old new ok false false false is = ap (λ p. p.1.faults) is ∙ sym (ap (λ p. if p.0 then old.faults else one_more old.faults) is)
-
-fault_counts : (change : Change) (old new : DiskInMemory) (ok : Bool) → ((ok, new) ≡ after_call change old) ⊎ ((ok, new) ≡ starved_by_call old) → new.faults ≡ (if ok then old.faults else one_more old.faults)
-fault_counts change old new ok (inl is) = fault_cases change old new ok old.stopped (old.stopping == 1) (old.failing == 1) is
-fault_counts change old new ok (inr is) = ap (λ p. p.1.faults) is ∙ sym (ap (λ p. if p.0 then old.faults else one_more old.faults) is)
-
-counts_by : {T E : Type 0} (old new : DiskInMemory) (result : Result T E) → old.faults ≤ new.faults → new.faults < 2 ^ 64 → new.faults ≡ (if is_ok result then old.faults else one_more old.faults) → CountsFaults result old.faults new.faults
-counts_by old new (Ok x) le fits is = record { never_falls = le; in_range = fits; failed = tt; kept = is }
-counts_by old new (Err e) le fits is = record { never_falls = le; in_range = fits; failed = omega arith; kept = tt }
-
-pub counts_in_memory : {T E : Type 0} (change : Change) (old new : DiskInMemory) (result : Result T E) → old.faults ≤ new.faults → new.faults < 2 ^ 64 → Calls change old result new → CountsFaults result old.faults new.faults
-counts_in_memory change old new result le fits calls = counts_by old new result le fits (fault_counts change old new (is_ok result) calls)

@@ -17,6 +17,7 @@ pub enum Change {
 /// A changing call that a disk in memory took, and how it ended.
 #[derive(Debug, Drop)]
 pub struct Taken {
+    /// The call.
     pub change: Change,
     /// None where it was done. Where the disk stopped in it, what that left: 0 the contents of the last syncs, 1 all
     /// changes, every other number all changes with the byte 0x01 at every place that was not synced.

@@ -3,7 +3,9 @@
 /// Which of a disk's two files.
 #[derive(Clone, Copy, Debug, PartialEq, Eq)]
 pub enum FileNo {
+    /// The first file.
     Zero,
+    /// The second file.
     One,
 }
 

@@ -5,7 +5,9 @@ ghost use Rattle.crash_disk.specs.Ranges.{IsOutside, is_in};
 /// The places from `start` on that lie in front of `end`.
 #[derive(Clone, Copy, Debug, PartialEq, Eq)]
 pub struct Range {
+    /// The first place, counted in bytes from 0.
     pub start: usize,
+    /// The place behind the last one.
     pub end: usize,
 }
 

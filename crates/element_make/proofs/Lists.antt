@@ -1,11 +1,10 @@
 -- Lists that are gone through, and lists in order.
-use Rattle.std.proofs.Common.{◌≡◌, ℕ, zero, suc, ◌+◌, ◌<◌, ◌≤◌, Bool, true, false, cond, List, [], ◌∷◌, ◌==◌, Result, Ok, Err, OnErr, length, drop, map, get_or, refl, sym, ap, ◌∙◌, arith}
+use Rattle.std.proofs.Common.{◌≡◌, ℕ, zero, suc, ◌+◌, ◌<◌, ◌≤◌, Bool, true, false, cond, List, [], ◌∷◌, Result, Ok, Err, OnErr, length, drop, map, get_or, refl, sym, ap, ◌∙◌, arith}
 use Rattle.std.specs.List.{insert}
 use Rattle.std.specs.Ordering.{is_le}
 use Rattle.std.specs.declared.cmp.Ordering.{Ordering}
 use Rattle.std.proofs.Math.Seq.{drop-cons}
 use Rattle.std.proofs.lemmas.Bool.{cond-true, cond-false}
-use Rattle.std.proofs.lemmas.Bool.Decides.{nat_tests}
 use Rattle.std.proofs.lemmas.List.{drop-map, drop_all, length-map}
 use Rattle.xml_spec.specs.Canonical.{inserted}
 
@@ -53,10 +52,6 @@ insert_is_inserted R x (y ∷ ys) (suc p) d fits before at =
 pub no_item : {X : Type 0} (xs : List X) → length xs ≡ 0 → xs ≡ []
 no_item [] e = refl
 no_item (x ∷ xs) e = absurd (omega arith)
-
--- a list of which a test says that it has no element
-pub no_length : (n m : ℕ) (b : Bool) → n ≡ m → b ≡ (m == 0) → b ≡ true → n ≡ 0
-no_length n m b same is empty = grind (arith, nat_tests)
 
 -- what holds of an answer that is no success
 pub on_err : {T E P : Type 0} (r : Result T E) → P → OnErr r P

@@ -12,7 +12,7 @@ use crate::names::Ns;
 use crate::piece::{Attribute, Piece, Tag, first_length, put_at};
 use crate::writing::put_form;
 use canon_octets::Octets;
-use owned_values::NoMemory;
+use owned_values::{Blob, NoMemory};
 use std::alloc::Global;
 use std::marker::Model;
 
@@ -150,5 +150,15 @@ impl Made {
         ensures err { OnErr result ((n : ℕ) × (out.new.items ≡ out.old.items ++ take n (written self.now))) }
     {
         self.put_into(out)
+    }
+
+    /// What is written of the element: its exclusive canonical form.
+    pub fn written(&self, alloc: Global) -> Result<Blob, NoMemory>
+        ensures made { IsMade self.now }
+        ensures bytes { IfOk result (λ bytes. bytes ≡ written self.now) }
+    {
+        let mut out = Vec::new(alloc);
+        self.put(&mut out)?;
+        Blob::of(alloc, out.as_slice())
     }
 }

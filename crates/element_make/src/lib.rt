@@ -3,7 +3,7 @@
 //! # What is proved
 //!
 //! Elements that are made: each call gives exactly the element that it says (`Made::new` to `attr_value`), and what is
-//! written is its exclusive canonical form (`Made::put`, `Made::put_into`), which spells its tree with good names
+//! written is its exclusive canonical form (`Made::put`, `Made::put_into`, `Made::written`), which spells its tree with good names
 //! (`a_made_element_spells_its_tree`).
 #![tactic(auto)]
 

@@ -167,10 +167,6 @@ binds_one before after p text n ready table found scope levels =
       grows = (more, is);
     }
 
--- what is bound in steps
-pub binds_none : (before : Spaces) → IsReady before → Binds before before []
-binds_none before ready = record { ready = ready; bound = refl; outer = refl; grows = grows_not before.table }
-
 -- the declarations of one more attribute, in front of those that are bound
 pub bound_more : (attributes : List Attribute) (i : ℕ) (x : Attribute) (before after : Scope) → 0 < i → i ≤ length attributes →
     x ≡ get_or attributes (i - 1) x → after ≡ declarations (attribute_view x ∷ []) ++ before →

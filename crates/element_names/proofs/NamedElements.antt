@@ -279,9 +279,6 @@ named_from scope name attributes own all apart expanded =
       expanded_once = subst AreDistinct (proper_names_are scope attributes) (expanded_distinct (map (listed scope) attributes) expanded);
     }
 
-pub well_element : (scope : Scope) (name : List ℕ) (attributes : List Attribute) → IsNamed scope name attributes → IsWellElement scope name
-well_element scope name attributes n = record { qualified = n.qualified; in_scope = n.in_scope; not_xmlns = n.not_xmlns }
-
 pub well_attributes : (scope : Scope) (name : List ℕ) (attributes : List Attribute) → IsNamed scope name attributes →
     AllByRecursion (IsWellAttribute scope) attributes
 well_attributes scope name attributes n = well_from scope attributes n.all_qualified n.all_in_scope n.declares

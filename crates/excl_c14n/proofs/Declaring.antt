@@ -1,12 +1,12 @@
 -- The listed prefixes that elements declare, found one by one: first those of an element, then those of the elements
 -- around it.
-use Rattle.std.proofs.Common.{◌≡◌, ℕ, zero, suc, ◌+◌, ◌<◌, ◌≤◌, Bool, true, false, cond, ◌||◌, ◌&&◌, codes, List, [], ◌∷◌, ◌++◌, length, map, take, Option, Some, None, IsSome, IfSome, Bor, refl, sym, ap, ◌∙◌, subst, append_assoc, arith}
+use Rattle.std.proofs.Common.{◌≡◌, ℕ, zero, suc, ◌+◌, ◌<◌, Bool, true, false, cond, ◌||◌, ◌&&◌, codes, List, [], ◌∷◌, ◌++◌, map, take, Option, Some, None, IsSome, IfSome, Bor, refl, sym, ap, ◌∙◌, append_assoc, arith}
 use Rattle.std.specs.List.{slice_get, cons_option}
 use Rattle.std.specs.Option.{option_map, unwrap_or}
 use Rattle.std.specs.Str.{bytes_eq}
 use Rattle.std.proofs.lemmas.Bool.{or_parts}
 use Rattle.std.proofs.lemmas.Cmp.{nat_list_eq_equiv}
-use Rattle.std.proofs.lemmas.List.{map-append, take_all}
+use Rattle.std.proofs.lemmas.List.{map-append}
 use Rattle.std.proofs.lemmas.List.Elements.{filter_map-append}
 use Rattle.std.proofs.lemmas.List.Folds.{list_any-append}
 use Rattle.std.proofs.lemmas.Slice.Eq.{bytes_eq-Decides}
@@ -65,12 +65,6 @@ declared_one a (Some p) e = rw (← e) refl
 -- no attribute was looked at
 pub none_found : (listed : List (List ℕ)) (attributes : List Attribute) (start : List (List ℕ)) → AreFound listed start (take 0 attributes) start
 none_found listed attributes start q = or_false (is_among q start)
-
--- with no list there is nothing to look at
-pub none_listed_found : (listed : List (List ℕ)) (attributes : List Attribute) (start : List (List ℕ)) → length listed ≡ 0 → AreFound listed start attributes start
-none_listed_found [] attributes start none q =
-    or_false (is_among q start) ∙ ap (λ b. is_among q start || b) (sym (and_false (is_among q (prefixes_of (declarations attributes)))))
-none_listed_found (token ∷ listed) attributes start none q = absurd (omega arith)
 
 -- an attribute was passed, or its prefix is not listed
 pub found_passed : (listed : List (List ℕ)) (tree : Nodes) (n i : ℕ) (declared : Option (Bor (List ℕ))) (start now : List (List ℕ)) →
@@ -207,11 +201,6 @@ placed_more listed tree n i declared prefix start now new there known some too d
         (declares_it listed (attributes_in (from_node tree n.0)) i a prefix.now (sym (shown_attribute tree n.0 i) ∙ e)
         (ap (option_map (λ (p : Bor (List ℕ)). p.now)) (sym some) ∙ k)) too
 
-pub all_found : (listed : List (List ℕ)) (attributes : List Attribute) (i : ℕ) (start now : List (List ℕ)) → length attributes ≤ i →
-    AreFound listed start (take i attributes) now → AreFound listed start attributes now
-all_found listed attributes i start now end so_far q =
-    so_far q ∙ ap (λ xs. is_among q start || is_declared_in listed xs q) (take_all i attributes end)
-
 -- the scope that is left where the elements up to this one were looked at
 abbrev pub scope_left : Nodes → Option ℕ → Scope
 scope_left tree None = outermost
@@ -223,14 +212,6 @@ pub record AreLookedAt (listed : List (List ℕ)) (tree : Nodes) (n : ℕ) (next
   pub inside : scope_inside tree n ≡ bindings ++ scope_left tree next
   pub among : (q : List ℕ) → is_among q (prefixes_in found) ≡ (is_among q (prefixes_of bindings) && is_among q (map listed_prefix listed))
   pub placed : ArePlaced tree (scope_inside tree n) found
-
-pub first_looked_at : (listed : List (List ℕ)) (tree : Nodes) (n : ℕ) (found : List Pair) → found ≡ [] → AreLookedAt listed tree n (Some n) found
-first_looked_at listed tree n found none = record {
-  bindings = [];
-  inside = refl;
-  among = λ q. ap (λ pairs. is_among q (prefixes_in pairs)) none;
-  placed = subst (ArePlaced tree (scope_inside tree n)) (sym none) tt;
-}
 
 -- a prefix that is bound first is bound as if there were no more
 bound_first : (bs : List Binding) (scope : Scope) (q : List ℕ) → is_among q (prefixes_of bs) ≡ true → namespace_of (bs ++ scope) q ≡ namespace_of bs q

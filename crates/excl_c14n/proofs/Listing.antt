@@ -4,14 +4,13 @@ use Rattle.std.specs.List.{slice_get}
 use Rattle.std.specs.Option.{is_some}
 use Rattle.std.specs.Str.{bytes_eq}
 use Rattle.std.proofs.lemmas.Cmp.{nat_list_eq_equiv}
-use Rattle.std.proofs.lemmas.List.{map-append, take_all}
+use Rattle.std.proofs.lemmas.List.{map-append}
 use Rattle.std.proofs.lemmas.List.Folds.{list_any-append}
 use Rattle.namespace_scope.specs.Levels as numbered
 use Rattle.namespace_scope.proofs.Endings.{lookup_of-declared_in}
 use Rattle.namespace_scope.proofs.LevelLaws.{length-declared_in}
 use Rattle.xml_spec.specs.Canonical.{listed_prefix}
 use Rattle.excl_c14n.specs.Levels.{is_among}
-use Rattle.excl_c14n.specs.Tables.{HasPrefixes}
 
 pub taken_more : {X : Type 0} (xs : List X) (i : ℕ) (x : X) → slice_get xs i ≡ Some x → take (suc i) xs ≡ take i xs ++ x ∷ []
 taken_more [] i x e = absurd (let clash : None ≡ Some x = e in cc)
@@ -56,7 +55,3 @@ one_more_listed tokens i token prefix levels new there is put so_far =
           ∙ ap (is_among q) (sym (map-append listed_prefix (take i tokens) (token ∷ []))
           ∙ ap (map listed_prefix) (sym (taken_more tokens i token there) ∙ ap (λ k. take k tokens) (sym next)));
     }
-
-pub all_listed : (tokens : List (List ℕ)) (i : ℕ) (levels : List numbered.Level) → i ≡ length tokens → HasListed (take i tokens) levels → HasPrefixes tokens levels
-all_listed tokens i levels end so_far =
-    record { found = λ q. so_far.found q ∙ ap (λ ts. is_among q (map listed_prefix ts)) (take_all i tokens (omega arith)) }

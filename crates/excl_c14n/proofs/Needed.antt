@@ -26,36 +26,6 @@ use Rattle.excl_c14n.specs.NodeByNode.{wanted_prefixes, IsWanted}
 use Rattle.excl_c14n.proofs.Ascending.{same_ascending}
 use Rattle.excl_c14n.proofs.Listing.{taken_more}
 
--- one more prefix, where it is to be declared
-or_and : (a b c : Bool) → c ≡ true → (a || b) ≡ (a || (b && c))
-or_and a b true e = ap (λ t. a || t) (and_true b)
-  where
-    and_true : (b : Bool) → b ≡ (b && true)
-    and_true true = refl
-    and_true false = refl
-or_and a b false e = absurd (let clash : false ≡ true = e in cc)
-
-pub wanted_too : (scope rendered : Scope) (p q : List ℕ) (anew a new : Bool) → anew ≡ is_rendered_anew scope rendered p → anew ≡ true →
-    new ≡ (a || bytes_eq q p) → new ≡ (a || (bytes_eq q p && is_rendered_anew scope rendered q))
-wanted_too scope rendered p q anew a new is needed put = put ∙ which (bytes_eq q p) refl
-  where
-    which : (b : Bool) → bytes_eq q p ≡ b → (a || b) ≡ (a || (b && is_rendered_anew scope rendered q))
-    which true e = or_and a true (is_rendered_anew scope rendered q) (ap (is_rendered_anew scope rendered) ((bytes_eq-Decides q p).0 e) ∙ sym is ∙ needed)
-    which false e = refl
-
-pub not_wanted : (scope rendered : Scope) (p q : List ℕ) (anew a : Bool) → anew ≡ is_rendered_anew scope rendered p → anew ≡ false →
-    a ≡ (a || (bytes_eq q p && is_rendered_anew scope rendered q))
-not_wanted scope rendered p q anew a is never = which (bytes_eq q p) refl
-  where
-    drop_false : (a : Bool) → a ≡ (a || false)
-    drop_false true = refl
-    drop_false false = refl
-
-    which : (b : Bool) → bytes_eq q p ≡ b → a ≡ (a || (b && is_rendered_anew scope rendered q))
-    which true e =
-        drop_false a ∙ ap (λ t. a || t) (sym (ap (is_rendered_anew scope rendered) ((bytes_eq-Decides q p).0 e) ∙ sym is ∙ never))
-    which false e = drop_false a
-
 -- one more candidate
 or_over_and : (a b c : Bool) → ((a && c) || ((b || false) && c)) ≡ ((a || (b || false)) && c)
 or_over_and true true true = refl
@@ -82,13 +52,6 @@ one_more_wanted scope rendered candidates wanted new p so_far up among = record 
       ∙ or_over_and (is_among q candidates) (bytes_eq q p) (is_rendered_anew scope rendered q)
       ∙ ap (λ b. b && is_rendered_anew scope rendered q) (sym (list_any-append (bytes_eq q) candidates (p ∷ [])));
 }
-
-pub first_wanted : (scope rendered : Scope) (new empty : List (List ℕ)) (p : List ℕ) → empty ≡ [] → IsAscending byte_order new →
-    ((q : List ℕ) → is_among q new ≡ (is_among q empty || (bytes_eq q p && is_rendered_anew scope rendered q))) →
-    IsWanted scope rendered (p ∷ []) new
-first_wanted scope rendered new empty p none up among =
-    one_more_wanted scope rendered [] [] new p (record { ascending = tt; among = λ q. refl }) up
-    (λ q. among q ∙ ap (λ xs. is_among q xs || (bytes_eq q p && is_rendered_anew scope rendered q)) none)
 
 -- what an attribute adds to the prefixes that are used
 abbrev own_prefixes : Attribute → List (List ℕ)
@@ -270,12 +233,3 @@ pub all_looked_at : (scope rendered : Scope) (used declared : List (List ℕ)) (
     IsWanted scope rendered (used ++ take i declared) wanted → IsWanted scope rendered (used ++ declared) wanted
 all_looked_at scope rendered used declared i wanted end found =
     subst (λ (ps : List (List ℕ)). IsWanted scope rendered (used ++ ps) wanted) (take_all i declared end) found
-
--- all attributes were looked at
-pub all_used : (scope rendered : Scope) (tree : Nodes) (n i : ℕ) (name : List ℕ) (wanted : List (List ℕ)) →
-    length (attributes_in (from_node tree n)) ≤ i →
-    IsWanted scope rendered (used_prefixes name (take i (attributes_in (from_node tree n)))) wanted →
-    IsWanted scope rendered (used_prefixes name (attributes_in (from_node tree n))) wanted
-all_used scope rendered tree n i name wanted end found =
-    subst (λ (attributes : List Attribute). IsWanted scope rendered (used_prefixes name attributes) wanted)
-    (take_all i (attributes_in (from_node tree n)) end) found

@@ -7,12 +7,10 @@ use Rattle.xml_spec.specs.Bytes.{is_empty}
 use Rattle.xml_spec.specs.Characters.{prefix_of}
 use Rattle.xml_spec.specs.Tree.{Attribute, Nodes, NoNodes, Element, Text, Comment, Instruction}
 use Rattle.xml_spec.specs.Numbering.{from_node}
-use Rattle.xml_spec.specs.Names.{Binding, Scope, outermost, HasNames, AreNamed, attribute_name, binding_of, bound, declared_prefix, declarations, inner_scope, namespace_of, xmlns_namespace}
+use Rattle.xml_spec.specs.Names.{Binding, Scope, outermost, HasNames, AreNamed, attribute_name, binding_of, bound, declared_prefix, declarations, namespace_of, xmlns_namespace}
 use Rattle.xml_spec.specs.Canonical.{scope_at}
-use Rattle.saml_tree.specs.Documents.{kind_of}
-use Rattle.saml_tree.specs.Elements.{IsElement, name_in, attributes_in}
-use Rattle.saml_tree.specs.NodeNames.{ShownName, attribute_at, binding_at, IsNameAt, namespace_at, shown_name, shown_attribute_name}
-use Rattle.saml_tree.specs.declared.node.NodeKind.TheVariants as kinds
+use Rattle.saml_tree.specs.Elements.{attributes_in}
+use Rattle.saml_tree.specs.NodeNames.{ShownName, attribute_at, binding_at, IsNameAt, namespace_at, shown_attribute_name}
 use Rattle.saml_tree.specs.declared.node.NodeNo.{NodeNo}
 use Rattle.saml_tree.specs.declared.node.NameAt.{NameAt}
 use Rattle.saml_tree.specs.declared.node.NameAt.TheVariants as places
@@ -35,20 +33,6 @@ named_there tree (places.Declaration n i) h = some_namespace (binding_at tree n.
 pub empty_by_length : (p : List ℕ) → eqb (length p) 0 ≡ is_empty p
 empty_by_length [] = refl
 empty_by_length (b ∷ bytes) = ne_eqb (length (b ∷ bytes)) 0 (λ e. omega arith)
-
--- an element's name uses its prefix
-pub element_speaks : (tree : Nodes) (n : NodeNo) → IsElement tree n.0 →
-    space_at tree (places.Element n) ≡ namespace_of (scope_inside tree n.0) (prefix_of (name_in (from_node tree n.0)))
-element_speaks tree n h = by_case (scope_at outermost tree n.0) (from_node tree n.0) h
-  where
-    by_case : (scope : Scope) (nodes : Nodes) → kind_of nodes ≡ Some kinds.Element →
-        unwrap_or (option_map (λ (name : ShownName). name.namespace) (shown_name scope nodes)) []
-        ≡ namespace_of (inner_scope (attributes_in nodes) scope) (prefix_of (name_in nodes))
-    by_case scope NoNodes e = absurd (let clash : None ≡ Some kinds.Element = e in cc)
-    by_case scope (Element name attributes kids rest) e = refl
-    by_case scope (Text text rest) e = absurd (let clash : Some kinds.Text ≡ Some kinds.Element = e in cc)
-    by_case scope (Comment text rest) e = absurd (let clash : Some kinds.Comment ≡ Some kinds.Element = e in cc)
-    by_case scope (Instruction target value rest) e = absurd (let clash : Some kinds.Instruction ≡ Some kinds.Element = e in cc)
 
 -- and so does an attribute's that declares nothing
 pub attribute_speaks : (tree : Nodes) (n : NodeNo) (i : ℕ) (prefix : List ℕ) (declared : Option (Bor (List ℕ))) → IsSome (attribute_at tree n.0 i) →

@@ -79,11 +79,6 @@ named_declared : (table : Table) (levels : List numbered.Level) (prefix : List �
 named_declared table [] prefix k = refl
 named_declared table (level ∷ levels) prefix k = refl
 
-below_declared : (count : ℕ) (levels : List numbered.Level) (prefix : List ℕ) (k : ℕ) → AreBelow count levels → k < count →
-    AreBelow count (numbered.declared_in prefix k levels)
-below_declared count [] prefix k below h = tt
-below_declared count (level ∷ levels) prefix k below h = ((h, below.0), below.1)
-
 more_in_level : (count more : ℕ) (level : numbered.Level) → count ≤ more → AllByRecursion (λ (pair : numbered.Pair). pair.1 < count) level →
     AllByRecursion (λ (pair : numbered.Pair). pair.1 < more) level
 more_in_level count more [] h below = tt

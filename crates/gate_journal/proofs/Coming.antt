@@ -1,12 +1,13 @@
 -- Payloads that are still to come.
 use Rattle.std.specs.Prelude.{slice_index, is_ok, Some, Result, Ok, Err}
-use Rattle.std.proofs.Common.{◌≡◌, ◌≢◌, true, false, ℕ, ◌+◌, ◌-◌, List, [], ◌∷◌, length, take, drop, refl, sym, ◌∙◌, ap, arith}
+use Rattle.std.proofs.Common.{◌≡◌, ◌≢◌, true, false, ℕ, ◌+◌, ◌-◌, ◌≤◌, List, [], ◌∷◌, length, take, drop, refl, sym, ◌∙◌, ap, arith, length-take, length-drop}
 use Rattle.std.proofs.lemmas.Bool.{true≢false}
 use Rattle.std.proofs.lemmas.List.{take_rest}
 use Rattle.gate_journal.specs.declared.header.Header.{Header}
 use Rattle.gate_journal.specs.Format.{size_of, is_whole, prepend, payloads_from, payloads_of, header_of, with_payloads}
+use Rattle.gate_journal.specs.Journal.{FitsVersion}
 use Rattle.gate_journal.specs.Texts.{sound_payloads, coming, committed}
-use Rattle.gate_journal.proofs.Payloads.{good, bad, shut}
+use Rattle.gate_journal.proofs.Payloads.{good, bad, shut, sizes-within, each-within}
 
 sound-prepend : (payload : List ℕ) (rest : Result (List (List ℕ)) ℕ) → is_ok (prepend payload rest) ≡ true → (sound_payloads (prepend payload rest) ≡ payload ∷ sound_payloads rest) × (is_ok rest ≡ true)
 sound-prepend payload (Ok payloads) e = (refl, refl)
@@ -52,3 +53,22 @@ text_holds longest file header sound same =
 
 pub sound_text : (longest : ℕ) (file : List ℕ) → is_ok (payloads_of longest file) ≡ true → is_ok (payloads_from longest 72 (slice_index file 70) (take (length file - 72) (drop 72 file))) ≡ true
 sound_text longest file sound = ap (λ (bodies : List ℕ). is_ok (payloads_from longest 72 (slice_index file 70) bodies)) (take_rest file 72) ∙ sound
+
+sound_is : (r : Result (List (List ℕ)) ℕ) → is_ok r ≡ true → r ≡ Ok (sound_payloads r)
+sound_is (Ok payloads) e = refl
+sound_is (Err place) e = absurd (true≢false (sym e))
+
+-- the payloads of a text that is not too long for version 1
+pub text_fits : (longest : ℕ) (file : List ℕ) → is_ok (payloads_of longest file) ≡ true → 72 ≤ length file → longest ≤ 524288 → length file ≤ 67108864
+    → FitsVersion 1 (sound_payloads (payloads_from longest 72 (slice_index file 70) (take (length file - 72) (drop 72 file))))
+text_fits longest file sound long short most =
+    let bodies = take (length file - 72) (drop 72 file) in
+    let dropped = length-drop 72 file in
+    let taken = length-take (length file - 72) (drop 72 file) in
+    let gate = slice_index file 70 in
+    let found = payloads_from longest 72 gate bodies in
+    let is : found ≡ Ok (sound_payloads found) = sound_is found (sound_text longest file sound) in
+    record {
+      each = each-within longest 524288 (length bodies) 72 gate bodies (sound_payloads found) short is;
+      file = omega (arith, sizes-within longest (length bodies) 72 gate bodies (sound_payloads found) is);
+    }

@@ -1,11 +1,11 @@
 -- How the first journal is made.
-use Rattle.std.specs.Prelude.{slice_index, Some, Ok}
-use Rattle.std.proofs.Common.{◌≡◌, ℕ, ◌≤◌, List, [], ◌∷◌, length, take, drop, get_or, refl, sym, ◌∙◌, ap, arith}
+use Rattle.std.specs.Prelude.{Some, Ok}
+use Rattle.std.proofs.Common.{◌≡◌, ℕ, ◌≤◌, List, [], ◌∷◌, length, get_or, refl, sym, ◌∙◌, ap, arith}
 use Rattle.crash_disk.specs.declared.file_no.FileNo.TheVariants.{Zero}
 use Rattle.crash_disk.specs.Disk.{DiskState, reads_of, overwritten}
 use Rattle.gate_journal.specs.declared.header.Header.{Header}
 use Rattle.gate_journal.specs.Format.{file_of, committed_of, payloads_in}
-use Rattle.gate_journal.specs.Making.{IsBlankBeside, IsFilling, IsUnfinished, IsWritten, Changing, with_commit, fields_bytes, head_bytes, first_journal}
+use Rattle.gate_journal.specs.Making.{IsBlankBeside, IsFilling, IsWritten, Changing, with_commit, fields_bytes, head_bytes, first_journal}
 use Rattle.std.proofs.lemmas.List.Elements.{All-nil}
 use Rattle.gate_journal.proofs.Filling.{filled_written}
 
@@ -31,10 +31,3 @@ first_made head other disk head_is is =
 pub first_over : (fields other : List ℕ) (disk : DiskState) → fields ≡ fields_bytes first_header 0 → IsFilling Zero fields [] other disk → IsWritten Zero first_journal other disk
 first_over fields other disk fields_are is =
     filled_written Zero fields other disk first_header [] fields_are (record { each = All-nil (λ p. length p ≤ 1048576); file = omega arith }) (record { generation = omega arith; horizon = omega arith; next = omega arith }) is
-
-pub first_unfinished : (head : List ℕ) → head ≡ head_bytes first_header 0 → IsUnfinished head
-first_unfinished head is = record {
-  long = ap length is;
-  letters_are = ap (λ (b : List ℕ). take 7 (drop 1 b)) is;
-  closed = λ one. let first : slice_index head 0 ≡ 0 = ap (λ (b : List ℕ). get_or b 0 0) is in absurd (omega arith);
-}

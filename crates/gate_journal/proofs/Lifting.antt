@@ -33,12 +33,6 @@ pub done : (change : Change) (told now : Option DiskState) (Pre Post : DiskState
 done change None now Pre Post is reads pre each = rw is tt
 done change (Some d) now Pre Post is reads pre each = rw is (each d reads pre)
 
--- what a disk tells after a call, where it succeeded
-pub returned : {T E : Type 0} (change : Change) (told : Option DiskState) (result : Result T E) (now : Option DiskState) (Pre Post : DiskState → Type 0) → Changes change told result now → Reads told → IfSome told Pre
-    → ((d : DiskState) → MayLeave d (image_of d) → Pre d → Post (after change d)) → OnOk result (IfSome now Post)
-returned change told (Ok x) now Pre Post is reads pre each = done change told now Pre Post is reads pre each
-returned change told (Err e) now Pre Post is reads pre each = tt
-
 -- what follows
 pub weaken : (told : Option DiskState) (Pre Post : DiskState → Type 0) → IfSome told Pre → ((d : DiskState) → Pre d → Post d) → IfSome told Post
 weaken None Pre Post pre each = tt

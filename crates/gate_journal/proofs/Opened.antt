@@ -2,14 +2,15 @@
 use Rattle.std.specs.Prelude.{◌==◌, nat_lt, if◌then◌else◌, IfSome, IfNone, Option, None, Some, Result, Ok, Err}
 use Rattle.std.specs.Option.{option_map}
 use Rattle.std.proofs.Common.{◌≡◌, inl, inr, Bool, true, false, ℕ, [], refl, sym, ◌∙◌, ap, subst, arith}
+use Rattle.crash_disk.specs.declared.file_no.FileNo.{FileNo}
 use Rattle.crash_disk.specs.declared.file_no.FileNo.TheVariants.{Zero, One}
-use Rattle.crash_disk.specs.Disk.{Image, DiskState, MayLeave, IsSettled, image_of, reads_of}
+use Rattle.crash_disk.specs.Disk.{Image, DiskState, MayLeave, IsSettled, image_of}
 use Rattle.crash_disk.specs.Plans.{after_all}
 use Rattle.crash_disk.specs.Soundness.{only-settled_image}
 use Rattle.crash_disk.specs.Moments.{Leaves}
 use Rattle.gate_journal.specs.Calls.{syncing_both}
 use Rattle.gate_journal.specs.Format.{Committed, Kept, Fault, joined, journal, file_of}
-use Rattle.gate_journal.specs.Making.{IsMadeOrBlank, IsMade, first_journal, read_of}
+use Rattle.gate_journal.specs.Making.{IsMadeOrBlank, first_journal, read_of}
 use Rattle.gate_journal.specs.Opening.{Opens, IsEmptyOrNone}
 use Rattle.gate_journal.specs.Journal.{OpenedJournal, IsOwn}
 use Rattle.gate_journal.proofs.Files.{length_blank}
@@ -30,16 +31,19 @@ not_none true t e x y is = cc
 not_none false true e x y is = cc
 not_none false false e x y is = cc
 
--- two files that are no fault and hold no journal hold nothing
-pub joined_none : (a b : Option Committed) → joined (Ok a) (Ok b) ≡ Ok None → (a ≡ None) × (b ≡ None)
-joined_none None None is = (refl, refl)
-joined_none (Some a) None is = absurd (cc)
-joined_none None (Some b) is = absurd (cc)
-joined_none (Some a) (Some b) is = absurd (not_none (a.header.generation == b.header.generation) (nat_lt b.header.generation a.header.generation) _ _ _ is)
+-- two files that hold no journal hold nothing
+joined_none : (a b : Result (Option Committed) ℕ) → joined a b ≡ Ok None → (a ≡ Ok None) × (b ≡ Ok None)
+joined_none (Err place) b is = absurd (cc)
+joined_none (Ok a) (Err place) is = absurd (cc)
+joined_none (Ok None) (Ok None) is = (refl, refl)
+joined_none (Ok (Some a)) (Ok None) is = absurd (cc)
+joined_none (Ok None) (Ok (Some b)) is = absurd (cc)
+joined_none (Ok (Some a)) (Ok (Some b)) is = absurd (not_none (a.header.generation == b.header.generation) (nat_lt b.header.generation a.header.generation) _ _ _ is)
 
-pub no_journal_told : (told : Option DiskState) (zero one : Option Committed) → IfSome told (λ d. file_of (reads_of d Zero) ≡ Ok zero) → joined (Ok zero) (Ok one) ≡ Ok None → file_of (read_of told Zero) ≡ Ok None
-no_journal_told None zero one gives is = length_blank [] (omega arith)
-no_journal_told (Some d) zero one gives is = gives ∙ ap Ok (joined_none zero one is).0
+pub no_journal_told : (told : Option DiskState) (file : FileNo) → IfSome told (λ d. journal (image_of d) ≡ Ok None) → file_of (read_of told file) ≡ Ok None
+no_journal_told None file none = length_blank [] (omega arith)
+no_journal_told (Some d) Zero none = (joined_none (file_of d.zero.reads) (file_of d.one.reads) none).0
+no_journal_told (Some d) One none = (joined_none (file_of d.zero.reads) (file_of d.one.reads) none).1
 
 -- what a crash leaves of a disk whose files were both synced
 only-synced : (d : DiskState) → IsSettled (after_all syncing_both d)
@@ -60,47 +64,25 @@ module _ (told : Option DiskState) (d : DiskState) (is : told ≡ Some d) (reads
       (image_of d, law, inl (ap journal (only-synced d image may)))
 
   -- and while the first journal is made, there is none, or it
-  pub opens_making : (now : Option DiskState) (zero one : Option Committed) → now ≡ Some (after_all syncing_both d) → IfSome now (λ d. file_of (reads_of d Zero) ≡ Ok zero) → IfSome now (λ d. file_of (reads_of d One) ≡ Ok one)
-      → joined (Ok zero) (Ok one) ≡ Ok None → (image : Image) → IsMadeOrBlank Zero first_journal (read_of now One) image → Opens d image
-  opens_making now zero one synced zero_is one_is none image (cases, beside) =
-      let parts = joined_none zero one none in
-      let z : file_of d.zero.reads ≡ Ok None = at_some now (λ d. file_of (reads_of d Zero) ≡ Ok zero) (after_all syncing_both d) synced zero_is ∙ ap Ok parts.0 in
-      let o : file_of d.one.reads ≡ Ok None = at_some now (λ d. file_of (reads_of d One) ≡ Ok one) (after_all syncing_both d) synced one_is ∙ ap Ok parts.1 in
-      let start : journal (image_of d) ≡ Ok None = ap (λ (r : Result (Option Committed) ℕ). joined r (file_of d.one.reads)) z ∙ ap (λ (r : Result (Option Committed) ℕ). joined (Ok None) r) o in
-      let other : file_of image.one ≡ Ok None = ap file_of (beside ∙ ap (λ (t : Option DiskState). read_of t One) synced) ∙ o in
+  pub opens_making : (now : Option DiskState) → now ≡ Some (after_all syncing_both d) → IfSome now (λ d. journal (image_of d) ≡ Ok None)
+      → (image : Image) → IsMadeOrBlank Zero first_journal (read_of now One) image → Opens d image
+  opens_making now synced none image (cases, beside) =
+      let start : journal (image_of d) ≡ Ok None = at_some now (λ d. journal (image_of d) ≡ Ok None) (after_all syncing_both d) synced none in
+      let other : file_of image.one ≡ Ok None = ap file_of beside ∙ no_journal_told now One none in
       elim cases [
         | inl blank ↦ (image_of d, law, inl (ap (λ (r : Result (Option Committed) ℕ). joined r (file_of image.one)) blank ∙ ap (λ (r : Result (Option Committed) ℕ). joined (Ok None) r) other ∙ sym start))
         | inr made ↦ (image_of d, law, inr (start, ap (λ (r : Result (Option Committed) ℕ). joined r (file_of image.one)) made ∙ ap (λ (r : Result (Option Committed) ℕ). joined (Ok (Some first_journal)) r) other))
       ]
 
 -- the disk of a journal that was found
-pub own_found : (told : Option DiskState) (j : OpenedJournal) (zero one : Option Committed) → j.broken ≡ false → IfSome told (λ d. (d' : DiskState) × (d ≡ after_all syncing_both d')) → IfSome told (λ d. file_of (reads_of d Zero) ≡ Ok zero)
-    → IfSome told (λ d. file_of (reads_of d One) ≡ Ok one) → joined (Ok zero) (Ok one) ≡ Ok (Some j.kept) → IsOwn told j
-own_found None j zero one whole settled zero_is one_is found = tt
-own_found (Some d) j zero one whole (d', is) zero_is one_is found =
-    own_settled (Some d) j whole (
-      subst IsSettled (sym is) (λ image may. only-synced d' image may),
-      ap (λ (r : Result (Option Committed) ℕ). joined r (file_of d.one.reads)) zero_is ∙ ap (λ (r : Result (Option Committed) ℕ). joined (Ok zero) r) one_is ∙ found,
-    )
+pub own_found : (told : Option DiskState) (j : OpenedJournal) → j.broken ≡ false → IfSome told (λ d. (d' : DiskState) × (d ≡ after_all syncing_both d'))
+    → IfSome told (λ d. journal (image_of d) ≡ Ok (Some j.kept)) → IsOwn told j
+own_found None j whole settled found = tt
+own_found (Some d) j whole (d', is) found = own_settled (Some d) j whole (subst IsSettled (sym is) (λ image may. only-synced d' image may), found)
 
 pub synced_told : (told now : Option DiskState) → now ≡ option_map (after_all syncing_both) told → IfSome now (λ d. (d' : DiskState) × (d ≡ after_all syncing_both d'))
 synced_told None now is = rw is tt
 synced_told (Some d) now is = rw is (d, refl)
-
--- the disk of a journal that was made
-pub own_made : (told now : Option DiskState) (j : OpenedJournal) (zero one : Option Committed) → j.broken ≡ false → j.kept ≡ record { file = Zero; holds = first_journal } → IfSome told (λ d. file_of (reads_of d One) ≡ Ok one)
-    → joined (Ok zero) (Ok one) ≡ Ok None → IfSome now (IsMade Zero first_journal (read_of told One)) → IsOwn now j
-own_made told None j zero one whole kept one_is none made = tt
-own_made told (Some n) j zero one whole kept one_is none made =
-    let other : file_of (read_of told One) ≡ Ok None = none_beside told one one_is (joined_none zero one none).1 in
-    own_settled (Some n) j whole (
-      made.settled,
-      ap (λ (r : Result (Option Committed) ℕ). joined r (file_of n.one.reads)) made.holds_it ∙ ap (λ (r : Result (Option Committed) ℕ). joined (Ok (Some first_journal)) r) (ap file_of made.beside ∙ other) ∙ ap (λ (k : Kept). Ok (Some k)) (sym kept),
-    )
-  where
-    none_beside : (told : Option DiskState) (one : Option Committed) → IfSome told (λ d. file_of (reads_of d One) ≡ Ok one) → one ≡ None → file_of (read_of told One) ≡ Ok None
-    none_beside None one one_is none = length_blank [] (omega arith)
-    none_beside (Some d) one one_is none = one_is ∙ ap Ok none
 
 -- a disk that does not tell
 pub if_none : (told : Option DiskState) (P : Type 0) → (told ≡ None → P) → IfNone told P

@@ -1,11 +1,11 @@
 -- Disks that are a journal's own.
-use Rattle.std.specs.Prelude.{IfSome, IsSomeAnd, MatchOption, IsOk, Option, None, Some, Result, Ok}
-use Rattle.std.proofs.Common.{◌≡◌, inl, inr, true, false, ℕ, ◌+◌, ◌≤◌, List, length, refl, sym, ◌∙◌, ap, subst, arith}
+use Rattle.std.specs.Prelude.{IfSome, IsSomeAnd, IsOk, Option, None, Some, Result, Ok}
+use Rattle.std.proofs.Common.{◌≡◌, inl, inr, true, false, ℕ, ◌+◌, ◌≤◌, List, length, refl, sym, ◌∙◌, subst, arith}
 use Rattle.crash_disk.specs.declared.file_no.FileNo.{FileNo}
 use Rattle.crash_disk.specs.Disk.{Image, DiskState, IsSettled, image_of}
 use Rattle.crash_disk.specs.Moments.{DiskShown, Leaves, LeavesOnly}
 use Rattle.gate_journal.specs.Format.{Kept, journal, end_of, gate_place}
-use Rattle.gate_journal.specs.Journal.{OpenedJournal, IsOwn, IsReadyFor, WithOrWithout, Gained, IsBeforeOrAfter, IsOldOrNew, kept_with, room_of}
+use Rattle.gate_journal.specs.Journal.{OpenedJournal, IsOwn, IsReadyFor, WithOrWithout, IsBeforeOrAfter, IsOldOrNew, room_of}
 
 pub is_ok : {T E : Type 0} (r : Result T E) (x : T) → r ≡ Ok x → IsOk r
 is_ok r x is = rw is refl
@@ -52,13 +52,3 @@ before_or_after_ok payload kept image (inr is) = is_ok _ _ is
 pub old_or_new_ok : (old new : Kept) (image : Image) → IsOldOrNew old new image → IsOk (journal image)
 old_or_new_ok old new image (inl is) = is_ok _ _ is
 old_or_new_ok old new image (inr is) = is_ok _ _ is
-
--- the disk that gained a record
-pub gained : (told now : Option DiskState) (j k : OpenedJournal) (payload : List ℕ) → IsOwn told j → j.broken ≡ false → k.broken ≡ false → k.kept ≡ kept_with payload j.kept
-    → MatchOption told (now ≡ None) (λ d. IsSomeAnd now (Gained payload d)) → IsOwn now k
-gained None now j k payload own whole whole' kept is = rw is tt
-gained (Some d) None j k payload own whole whole' kept is = absurd is
-gained (Some d) (Some n) j k payload own whole whole' kept (settled, (old, stands, new)) =
-    let was = own_is (Some d) j whole own in
-    let same : old ≡ j.kept = (let both : Ok (Some old) ≡ Ok (Some j.kept) = sym stands ∙ was.1 in cc) in
-    own_settled (Some n) k whole' (settled, new ∙ ap (λ (x : Kept). Ok (Some (kept_with payload x))) same ∙ ap (λ (x : Kept). Ok (Some x)) (sym kept))

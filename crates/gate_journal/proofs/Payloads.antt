@@ -1,8 +1,9 @@
 -- The payloads behind a gate.
-use Rattle.std.specs.Prelude.{◌==◌, slice_index, if◌then◌else◌, Result, Ok, Err}
+use Rattle.std.specs.Prelude.{All, ◌==◌, slice_index, if◌then◌else◌, Result, Ok, Err}
 use Rattle.std.proofs.Common.{◌≡◌, ◌≢◌, inl, inr, Bool, true, false, zero, suc, ℕ, ◌+◌, ◌<◌, ◌≤◌, List, [], ◌∷◌, ◌++◌, length, take, drop, get_or, refl, sym, ◌∙◌, ap, arith, length-take, length-drop, get_or-drop, get_or-take}
 use Rattle.std.specs.Int.{w32, from_be_bytes}
 use Rattle.std.proofs.lemmas.List.{ext_get_or, drop-drop}
+use Rattle.std.proofs.lemmas.List.Elements.{All-cons, All-nil}
 use Rattle.std.proofs.lemmas.Bool.{cases_Bool, cases_eq, and_parts, and_from, leb-true, le-leb}
 use Rattle.std.proofs.lemmas.Bool.Decides.{nat_tests}
 use Rattle.gate_journal.specs.Format.{size_of, payload_of, is_whole, prepend, payloads_in, payloads_from, sizes}
@@ -154,6 +155,15 @@ module _ (longest : ℕ) where
         let long = whole_long longest bodies whole in
         let dropped = length-drop (size_of bodies + 5) bodies in
         omega (arith, ap sizes parts, length-payload longest bodies whole, sizes-within steps _ _ _ rest later)
+  ]
+
+  -- and none of them is too long
+  pub each-within : (most steps place gate : ℕ) (bodies : List ℕ) (payloads : List (List ℕ)) → longest ≤ most → payloads_in steps longest place gate bodies ≡ Ok payloads → All (λ p. length p ≤ most) payloads
+  each-within most zero place gate bodies payloads le is = let none = (no_step place gate bodies payloads is).1 in rw none (All-nil (λ p. length p ≤ most))
+  each-within most (suc steps) place gate bodies payloads le is = elim (step steps place gate bodies payloads is) [
+    | ended closed none ↦ rw none (All-nil (λ p. length p ≤ most))
+    | goes_on rest open_gate whole parts later ↦
+        rw parts (All-cons (λ p. length p ≤ most) (payload_of bodies) rest (omega (arith, length-payload longest bodies whole, whole_fits longest bodies whole)) (each-within most steps _ _ _ rest le later))
   ]
 
   -- the gate behind the last of them is not open

@@ -5,13 +5,13 @@ use Rattle.std.proofs.lemmas.Bool.{cond-true, cond-false, lt-ltb, le-ltb}
 use Rattle.crash_disk.specs.declared.change.Change.{Change}
 use Rattle.crash_disk.specs.declared.change.Change.TheVariants.{Sync}
 use Rattle.crash_disk.specs.declared.file_no.FileNo.{FileNo}
-use Rattle.crash_disk.specs.declared.file_no.FileNo.TheVariants.{Zero, One}
+use Rattle.crash_disk.specs.declared.file_no.FileNo.TheVariants.{Zero}
 use Rattle.crash_disk.specs.Disk.{DiskState, reads_of, image_of}
 use Rattle.crash_disk.specs.Plans.{after_all}
 use Rattle.gate_journal.specs.Calls.{putting_header, closing, clearing, beginning, preparing_first, syncing_both, making_first, where_none, opening}
 use Rattle.gate_journal.specs.Making.{fields_bytes, head_bytes, first_journal}
 use Rattle.std.specs.Int.{w32, to_be_bytes}
-use Rattle.gate_journal.specs.Format.{Committed, Kept, file_of, joined, journal}
+use Rattle.gate_journal.specs.Format.{Kept, journal}
 
 -- a file is shorter than a header, or it is not
 if_short : (bytes : List ℕ) (n : ℕ) (short long : List Change) → n ≡ length bytes → n < 72 → cond (ltb (length bytes) 72) short long ≡ short
@@ -59,23 +59,17 @@ no_payloads [] none = refl
 no_payloads (payload ∷ payloads) none = absurd (omega arith)
 
 -- there is no journal yet, so the first one is made
-pub nothing_there : (told now : Option DiskState) (zero one : Option Committed) → IfSome told (λ d. now ≡ Some (after_all syncing_both d)) →
-    IfSome now (λ d. file_of (reads_of d Zero) ≡ Ok zero) → IfSome now (λ d. file_of (reads_of d One) ≡ Ok one) → joined (Ok zero) (Ok one) ≡ Ok None →
+pub nothing_there : (told now : Option DiskState) → IfSome told (λ d. now ≡ Some (after_all syncing_both d)) → IfSome now (λ d. journal (image_of d) ≡ Ok None) →
     IfSome told (λ d. syncing_both ++ making_first (reads_of d Zero) ≡ opening d)
-nothing_there None now zero one is a b none = tt
-nothing_there (Some d) now zero one is a b none =
-    let first : file_of d.zero.reads ≡ Ok zero = subst (λ (o : Option DiskState). IfSome o (λ d. file_of (reads_of d Zero) ≡ Ok zero)) is a in
-    let second : file_of d.one.reads ≡ Ok one = subst (λ (o : Option DiskState). IfSome o (λ d. file_of (reads_of d One) ≡ Ok one)) is b in
-    let nothing : journal (image_of d) ≡ Ok None = (λ i. joined (first i) (second i)) ∙ none in
+nothing_there None now is none = tt
+nothing_there (Some d) now is none =
+    let nothing : journal (image_of d) ≡ Ok None = subst (λ (o : Option DiskState). IfSome o (λ d. journal (image_of d) ≡ Ok None)) is none in
     ap (λ found. syncing_both ++ where_none found (making_first (reads_of d Zero))) (sym nothing)
 
 -- there is a journal, so no more is done
-pub something_there : (told now : Option DiskState) (zero one : Option Committed) (kept : Kept) → IfSome told (λ d. now ≡ Some (after_all syncing_both d)) →
-    IfSome now (λ d. file_of (reads_of d Zero) ≡ Ok zero) → IfSome now (λ d. file_of (reads_of d One) ≡ Ok one) → joined (Ok zero) (Ok one) ≡ Ok (Some kept) →
+pub something_there : (told now : Option DiskState) (kept : Kept) → IfSome told (λ d. now ≡ Some (after_all syncing_both d)) → IfSome now (λ d. journal (image_of d) ≡ Ok (Some kept)) →
     IfSome told (λ d. syncing_both ≡ opening d)
-something_there None now zero one kept is a b some = tt
-something_there (Some d) now zero one kept is a b some =
-    let first : file_of d.zero.reads ≡ Ok zero = subst (λ (o : Option DiskState). IfSome o (λ d. file_of (reads_of d Zero) ≡ Ok zero)) is a in
-    let second : file_of d.one.reads ≡ Ok one = subst (λ (o : Option DiskState). IfSome o (λ d. file_of (reads_of d One) ≡ Ok one)) is b in
-    let there : journal (image_of d) ≡ Ok (Some kept) = (λ i. joined (first i) (second i)) ∙ some in
+something_there None now kept is some = tt
+something_there (Some d) now kept is some =
+    let there : journal (image_of d) ≡ Ok (Some kept) = subst (λ (o : Option DiskState). IfSome o (λ d. journal (image_of d) ≡ Ok (Some kept))) is some in
     ap (λ found. syncing_both ++ where_none found (making_first (reads_of d Zero))) (sym there)

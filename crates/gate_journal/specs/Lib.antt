@@ -4,5 +4,4 @@ pub mod Format
 pub mod Journal
 pub mod Making
 pub mod Opening
-pub mod Reading
 pub mod Texts

@@ -39,8 +39,7 @@ pub record CausesFaults {T : Type 0} (result : Result T OpenFault) (before now :
   pub failed : IsErrOf result DiskFault → Rose before now
   pub kept : ¬ (IsErrOf result DiskFault) → now ≡ before
 
--- what a read file's error says of it
-abbrev pub FaultIs : Result (Option Committed) ℕ → FileNo → OpenFault → Type 0
-FaultIs found file DiskFault = Unit {0}
-FaultIs found file (Foreign f place) = (f ≡ file) × (found ≡ Err place)
-FaultIs found file NoMemory = Unit {0}
+-- what a file holds, or its fault at this place of this file
+abbrev pub at_file : FileNo → Result (Option Committed) ℕ → Result (Option Committed) OpenFault
+at_file file (Ok found) = Ok found
+at_file file (Err place) = Err (Foreign file place)

@@ -7,10 +7,11 @@ ghost use Rattle.gate_journal.specs.Journal.{Fits, IsOwn, IsOldOrNew, made_anew,
 ghost use Rattle.gate_journal.specs.Making.{IsWritable};
 ghost use Rattle.gate_journal.specs.Opening.{open_fault_of, CausesFaults};
 
-use crate::journal::{FIRST_BODY, size_before};
+use crate::format::HEAD_LENGTH;
+use crate::journal::size_before;
 use crate::making::{fields_of, head_of};
-use crate::reading::{Bodies, Stored};
 use crate::remaking::{body_room, first_gate, make_beside, other_of, records_of};
+use crate::stored::Stored;
 use crate::{Disk, Header, Journal, OpenFault};
 use owned_values::Blob;
 
@@ -45,12 +46,12 @@ impl Journal {
         let file = other_of(self.file);
         self.broken = true;
         make_beside(disk, file, &head, &fields, &records, &mut body)?;
-        let end = FIRST_BODY + size_before(&records);
-        let bodies = Bodies { records, end };
+        let end = HEAD_LENGTH + size_before(&records);
         let stored = Stored {
             version: 2,
             header,
-            bodies,
+            records,
+            end,
         };
         *self = Journal::of(alloc, file, stored);
         Ok(())

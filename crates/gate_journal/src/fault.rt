@@ -1,42 +1,10 @@
 //! Why a journal was not opened.
 ghost use Rattle.std.specs.Prelude.{◌≡◌};
-ghost use Rattle.gate_journal.specs.declared.fault.FileFault.TheVariants.{Starved};
 ghost use Rattle.gate_journal.specs.declared.fault.OpenFault.TheVariants.{DiskFault, NoMemory as NoMemoryFault};
 
 use crate::{Failed, FileNo};
 use owned_values::NoMemory;
-use std::alloc::{AllocError, AllocFailed};
-
-/// Why one file was not read: the place of its fault, or want of memory.
-#[derive(Clone, Copy, Debug, PartialEq, Eq)]
-pub enum FileFault {
-    Foreign(u64),
-    Starved,
-}
-
-impl From<AllocError> for FileFault {
-    ghost from_gives = { λ _ e. e ≡ Starved };
-
-    fn from(_: AllocError) -> FileFault {
-        FileFault::Starved
-    }
-}
-
-impl<T: Drop> From<AllocFailed<T>> for FileFault {
-    ghost from_gives = { λ _ e. e ≡ Starved };
-
-    fn from(_: AllocFailed<T>) -> FileFault {
-        FileFault::Starved
-    }
-}
-
-impl From<NoMemory> for FileFault {
-    ghost from_gives = { λ _ e. e ≡ Starved };
-
-    fn from(_: NoMemory) -> FileFault {
-        FileFault::Starved
-    }
-}
+use std::alloc::AllocError;
 
 /// Why a journal was not opened or made anew.
 #[derive(Clone, Copy, Debug, PartialEq, Eq)]

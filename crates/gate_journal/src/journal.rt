@@ -7,21 +7,14 @@ ghost use Rattle.gate_journal.specs.Calls.{appending};
 ghost use Rattle.gate_journal.specs.Format.{end_of, gate_place, sizes, LONGEST_PAYLOAD};
 ghost use Rattle.gate_journal.specs.Journal.{Fits, FitsVersion, IsOwn, IsBeforeOrAfter, kept_with, room_of};
 
-use crate::reading::{Bodies, LONGEST_FILE, Stored};
+use crate::format::{AROUND, FIRST_GATE, HEAD_LENGTH, LONGEST_FILE};
+use crate::stored::Stored;
 use crate::writing::write_record;
 use crate::{Disk, Failed, FileNo, Header, Record};
 use owned_values::NoMemory;
 use std::alloc::Global;
 use std::marker::Model;
 use std::mem;
-
-/// Where the first body begins, and where its gate stands.
-pub(crate) const FIRST_BODY: u64 = 72;
-
-const FIRST_GATE: u64 = 70;
-
-/// What a body has besides its payload: its length and the next gate.
-pub const AROUND: u64 = 5;
 
 /// Where the gate of the next record stands.
 fn gate_before(end: u64, records: &[Record]) -> u64
@@ -106,9 +99,9 @@ impl Journal {
         let Stored {
             version,
             header,
-            bodies,
+            records,
+            end,
         } = stored;
-        let Bodies { records, end } = bodies;
         Journal {
             file,
             version,
@@ -131,7 +124,7 @@ impl Journal {
             version: 2,
             header,
             records: Vec::new(alloc),
-            end: FIRST_BODY,
+            end: HEAD_LENGTH,
             spare: None,
             body: Vec::new(alloc),
             slot: Vec::new(alloc),
@@ -251,6 +244,6 @@ impl Journal {
         requires { i < length self.now.kept.holds.payloads }
         ensures { result ≡ end_of (take i self.now.kept.holds.payloads) }
     {
-        FIRST_BODY + size_before(&self.records[..i])
+        HEAD_LENGTH + size_before(&self.records[..i])
     }
 }

@@ -42,21 +42,22 @@
 
 mod compacting;
 mod fault;
+mod format;
 mod header;
 mod journal;
 mod making;
 mod opening;
-mod reading;
 mod record;
 mod remaking;
+mod stored;
 mod texts;
 mod writing;
 
 pub use crash_disk::{Disk, Failed, FileNo};
 pub use fault::OpenFault;
+pub use format::{AROUND, LONGEST_FILE, LONGEST_PAYLOAD};
 pub use header::Header;
-pub use journal::{AROUND, Journal};
+pub use journal::Journal;
 pub use opening::open_journal;
-pub use reading::{LONGEST_FILE, LONGEST_PAYLOAD};
 pub use record::Record;
 pub use texts::{FilePayloads, FileText, newer, read_text};

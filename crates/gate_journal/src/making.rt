@@ -10,17 +10,15 @@ ghost use Rattle.gate_journal.specs.Format.{Committed, letters};
 ghost use Rattle.gate_journal.specs.Making.{IsAt, IsShort, IsUnfinished, IsBlankBeside, IsMadeOrBlank, IsWritten, IsMade, IsClosed, IsFilling, Changing, fields_bytes};
 
 use crate::Header;
-use crate::reading::LETTERS;
+use crate::format::{COMMITTED, HEAD_LENGTH, LETTERS};
 use crash_disk::{Disk, Failed, FileNo};
 use owned_values::NoMemory;
 use std::alloc::Global;
 
-const COMMITTED: u8 = 1;
-
+/// Where the fields of a header stand, behind the commit and the letters.
 const FIELDS: u64 = 8;
 
-const HEAD: u64 = 72;
-
+/// Where the last byte of a header stands.
 const HEAD_END: u64 = 71;
 
 /// Bytes 8 to 70 of a header.
@@ -104,7 +102,7 @@ pub(crate) fn begin_anew<D: Disk>(disk: &mut D, file: FileNo, fields: &[u8]) -> 
     ensures faults { CountsFaults result (D.shows disk.old).faults (D.shows disk.new).faults }
     ensures calls { Follows D.shows (λ _. beginning file fields.now) disk.old disk.new result }
 {
-    disk.cut(file, HEAD)?;
+    disk.cut(file, HEAD_LENGTH)?;
     disk.sync(file)?;
     disk.write_at(file, FIELDS, fields)
 }

@@ -1,5 +1,5 @@
 //! How a journal is opened.
-ghost use Rattle.std.specs.Prelude.{◌≡◌, ◌<◌, None, Some, Ok, Err, true, false, length, take, IfOk, IfErr, IfSome, IfNone, OnOk, OnErr, MatchResult};
+ghost use Rattle.std.specs.Prelude.{◌≡◌, ◌<◌, None, Some, Ok, Err, true, false, length, take, IfOk, IfErr, IfSome, IfNone, OnOk, OnErr, IsErrOf};
 ghost use Rattle.std.specs.Option.{option_map};
 ghost use Rattle.owned_values.specs.Gives.{Gives};
 ghost use Rattle.crash_disk.specs.Counts.{CountsFaults};
@@ -11,19 +11,17 @@ ghost use Rattle.gate_journal.specs.Calls.{making_first, opening, preparing_firs
 ghost use Rattle.gate_journal.specs.Format.{file_of, joined, journal};
 ghost use Rattle.gate_journal.specs.Making.{IsBlankBeside, IsMadeOrBlank, IsWritten, IsMade, fields_bytes, head_bytes, first_journal, read_of};
 ghost use Rattle.gate_journal.specs.Journal.{IsOwn};
-ghost use Rattle.gate_journal.specs.Opening.{open_fault_of, opened, Opens, IsEmptyOrNone, CausesFaults, FaultIs};
+ghost use Rattle.gate_journal.specs.Opening.{at_file, open_fault_of, opened, Opens, IsEmptyOrNone, CausesFaults};
 
-use crate::fault::FileFault;
+use crate::format::{CLOSED, HEAD_LENGTH, LONGEST_FILE};
 use crate::making::{begin_anew, commit, fields_of, head_of, put_head};
-use crate::reading::{Stored, read_file};
+use crate::stored::{Stored, stored_of};
+use crate::texts::{FileText, newer, read_text};
 use crate::{Disk, Failed, FileNo, Header, Journal, OpenFault};
 use std::alloc::Global;
 
-/// How long a header is.
-const HEAD_LENGTH: u64 = 72;
-
 /// One more byte than the greatest length of a file.
-const TOO_LONG: u64 = 134_217_729;
+const TOO_LONG: u64 = LONGEST_FILE as u64 + 1;
 
 /// Syncs both files, so that a crash leaves what a read gives.
 fn sync_both<D: Disk>(disk: &mut D) -> Result<(), Failed>
@@ -51,49 +49,45 @@ fn read_whole<D: Disk>(alloc: Global, disk: &mut D, file: FileNo) -> Result<Vec<
     Ok(bytes)
 }
 
-/// What a file of the disk holds, where it is committed.
-fn load<D: Disk>(alloc: Global, disk: &mut D, file: FileNo) -> Result<Option<Stored>, OpenFault>
-    ensures gives { IfSome (D.shows disk.old).told (λ d. MatchResult result (λ found. file_of (reads_of d file) ≡ Ok found) (FaultIs (file_of (reads_of d file)) file)) }
+/// What the bytes of a file hold, read where they lie.
+fn text_of(file: FileNo, bytes: &[u8]) -> Result<Option<FileText<'_>>, OpenFault>
+    ensures { result ≡ at_file file (file_of bytes.now) }
+{
+    read_text(bytes).map_err(|place| OpenFault::Foreign { file, place })
+}
+
+/// What two texts stand for, with copies of the payloads of the newer one alone.
+fn copy_newer(
+    alloc: Global,
+    zero: Option<FileText<'_>>,
+    one: Option<FileText<'_>>,
+) -> Result<Option<(FileNo, Stored)>, OpenFault>
+    ensures gives { Gives (option_map (λ pair. record { file = pair.0; holds = pair.1 })) open_fault_of result (joined (Ok zero.entry) (Ok one.entry)) }
+    ensures not_failed { ¬ (IsErrOf result OpenFault.DiskFault) }
+{
+    match newer(zero, one) {
+        Ok(Some((file, text))) => Ok(Some((file, stored_of(alloc, &text)?))),
+        Ok(None) => Ok(None),
+        Err(place) => Err(OpenFault::Foreign {
+            file: FileNo::One,
+            place,
+        }),
+    }
+}
+
+/// What the two files of a disk stand for. File 0 is judged before file 1 is read.
+fn load<D: Disk>(alloc: Global, disk: &mut D) -> Result<Option<(FileNo, Stored)>, OpenFault>
+    ensures gives { IfSome (D.shows disk.old).told (λ d. Gives (option_map (λ pair. record { file = pair.0; holds = pair.1 })) open_fault_of result (journal (image_of d))) }
     ensures same { (D.shows disk.new).told ≡ (D.shows disk.old).told }
     ensures moments { LeavesOnly D.shows disk.old disk.new (Leaves (D.shows disk.old).told) }
     ensures faults { CausesFaults result (D.shows disk.old).faults (D.shows disk.new).faults }
 {
-    let bytes = read_whole(alloc, disk, file)?;
-    match read_file(alloc, &bytes) {
-        Ok(found) => Ok(found),
-        Err(FileFault::Foreign(place)) => Err(OpenFault::Foreign { file, place }),
-        Err(FileFault::Starved) => Err(OpenFault::NoMemory),
-    }
+    let first = read_whole(alloc, disk, FileNo::Zero)?;
+    let zero = text_of(FileNo::Zero, &first)?;
+    let second = read_whole(alloc, disk, FileNo::One)?;
+    let one = text_of(FileNo::One, &second)?;
+    copy_newer(alloc, zero, one)
 }
-
-/// The journal of two files that are no fault by themselves: the committed one with the greater generation.
-fn choose(zero: Option<Stored>, one: Option<Stored>) -> Result<Option<(FileNo, Stored)>, OpenFault>
-    ensures { MatchResult result
-        (λ found. joined (Ok zero) (Ok one) ≡ Ok (option_map (λ pair. record { file = pair.0; holds = pair.1 }) found))
-        (λ fault. joined (Ok zero) (Ok one) ≡ Err (record { file = FileNo.One; place = 8 }) × (fault ≡ OpenFault.Foreign FileNo.One 8)) }
-{
-    match (zero, one) {
-        (None, None) => Ok(None),
-        (Some(zero), None) => Ok(Some((FileNo::Zero, zero))),
-        (None, Some(one)) => Ok(Some((FileNo::One, one))),
-        (Some(zero), Some(one)) => {
-            if zero.header.generation == one.header.generation {
-                return Err(OpenFault::Foreign {
-                    file: FileNo::One,
-                    place: 8,
-                });
-            }
-            if zero.header.generation > one.header.generation {
-                Ok(Some((FileNo::Zero, zero)))
-            } else {
-                Ok(Some((FileNo::One, one)))
-            }
-        }
-    }
-}
-
-/// The gate behind the last record.
-const CLOSED: u8 = 0;
 
 /// The header of the first journal.
 const FIRST: Header = Header {
@@ -138,7 +132,8 @@ fn make_first<D: Disk>(alloc: Global, disk: &mut D) -> Result<(), OpenFault>
 }
 
 /// Opens the journal of a disk: what the two files stand for, or an empty journal in file 0 where they hold none yet.
-/// It begins with a sync of both files. At an error the disk may have been synced, or the empty journal made.
+/// It begins with a sync of both files, and copies the records of no file but the journal's. At an error the disk may have
+/// been synced, or the empty journal made.
 ///
 /// It answers [`OpenFault::Foreign`] where the files are no journal, [`OpenFault::DiskFault`] only where the disk's
 /// count of faults rose.
@@ -154,9 +149,7 @@ pub fn open_journal<D: Disk>(alloc: Global, disk: &mut D) -> Result<Journal, Ope
     ensures calls { Follows D.shows opening disk.old disk.new result }
 {
     sync_both(disk)?;
-    let zero = load(alloc, disk, FileNo::Zero)?;
-    let one = load(alloc, disk, FileNo::One)?;
-    match choose(zero, one)? {
+    match load(alloc, disk)? {
         Some((file, stored)) => Ok(Journal::of(alloc, file, stored)),
         None => {
             make_first(alloc, disk)?;

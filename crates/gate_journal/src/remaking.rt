@@ -11,16 +11,12 @@ ghost use Rattle.gate_journal.specs.Format.{Committed, bodies_of, gate_of};
 ghost use Rattle.gate_journal.specs.Journal.{Fits};
 ghost use Rattle.gate_journal.specs.Making.{IsBeforeOrBlank, IsBeforeOrMade, IsBlankBeside, IsClosed, IsFilling, IsHolding, IsMade, IsUnfinished, IsWritable, fields_bytes};
 
-use crate::journal::AROUND;
+use crate::format::{AROUND, CLOSED, COMMITTED, HEAD_LENGTH, OPEN};
 use crate::making::{begin_anew, commit, put_head};
-use crate::writing::{CLOSED, OPEN, fill_body};
+use crate::writing::fill_body;
 use crate::{Disk, Failed, FileNo, Record};
 use owned_values::{Blob, NoMemory};
 use std::alloc::Global;
-
-const COMMITTED: u8 = 1;
-
-const HEAD: u64 = 72;
 
 /// The other file.
 pub(crate) fn other_of(file: FileNo) -> FileNo
@@ -105,7 +101,7 @@ fn clear<D: Disk>(disk: &mut D, file: FileNo, head: &[u8]) -> Result<(), Failed>
     ensures faults { CountsFaults result (D.shows disk.old).faults (D.shows disk.new).faults }
     ensures calls { Follows D.shows (λ d. clearing file head.now (reads_of d file)) disk.old disk.new result }
 {
-    if disk.length(file)? >= HEAD {
+    if disk.length(file)? >= HEAD_LENGTH {
         return close(disk, file);
     }
     put_head(disk, file, head)?;
@@ -132,7 +128,7 @@ fn fill<D: Disk>(
     ensures calls { Follows D.shows (λ _. filling file fields.now records.now) disk.old disk.new result }
 {
     begin_anew(disk, file, fields)?;
-    let mut at = HEAD;
+    let mut at = HEAD_LENGTH;
     let mut left = records;
     while let Some((record, rest)) = left.split_first() {
         fill_body(body, record.as_slice(), first_gate(rest));

@@ -1,18 +1,46 @@
 //! Files of a journal that are read where they lie. No disk is asked and nothing is made; no memory is taken, and each
 //! payload is a slice of its file.
-ghost use Rattle.std.specs.Prelude.{◌≡◌, ◌+◌, ◌≤◌, ◌∷◌, [], true, length, is_ok, Ok, Err, IfSome, MatchOption, MatchResult};
+ghost use Rattle.std.specs.Prelude.{◌≡◌, ◌+◌, ◌-◌, ◌^◌, ◌<◌, ◌≤◌, ◌∷◌, [], true, false, length, slice_index, is_ok, Ok, Err, IfSome, MatchOption, MatchResult};
 ghost use Rattle.std.specs.Option.{option_map};
-ghost use Rattle.gate_journal.specs.Format.{committed_of, file_of, joined, payloads_of, with_payloads, LONGEST_FILE, LONGEST_PAYLOAD};
+ghost use Rattle.gate_journal.specs.Format.{committed_of, file_of, is_whole, joined, longest_file, longest_payload, number_at, payloads_of, size_of, with_payloads, LONGEST_FILE, LONGEST_PAYLOAD};
 
-use crate::reading::{
-    COMMITTED, GATE, HEAD, LETTERS, LONGEST_FILE, LONGEST_FILE_ONE, LONGEST_PAYLOAD,
-    LONGEST_PAYLOAD_ONE, OPEN, VERSION, number_of, whole_body,
+use crate::format::{
+    COMMITTED, GATE, GENERATION, HEAD, HEAD_LENGTH, LETTERS, LONGEST_FILE, LONGEST_FILE_ONE,
+    LONGEST_PAYLOAD, LONGEST_PAYLOAD_ONE, OPEN, VERSION,
 };
 use crate::{FileNo, Header};
 use std::marker::Model;
 
-/// Where the generation stands.
-const GENERATION: usize = 8;
+/// The number of eight bytes from a place on.
+fn number_of(file: &[u8], at: usize) -> u64
+    requires { at + 8 ≤ length file.now }
+    ensures { result ≡ number_at file.now at }
+{
+    u64::from_be_bytes([
+        file[at],
+        file[at + 1],
+        file[at + 2],
+        file[at + 3],
+        file[at + 4],
+        file[at + 5],
+        file[at + 6],
+        file[at + 7],
+    ])
+}
+
+/// How long the payload of the first of these bodies is, where that body is whole.
+fn whole_body(bodies: &[u8], longest: usize) -> Option<usize>
+    ensures { MatchOption result (is_whole longest bodies.now ≡ false) (λ n. (n ≡ size_of bodies.now) × (is_whole longest bodies.now ≡ true)) }
+{
+    if bodies.len() < 5 {
+        return None;
+    }
+    let size = u32::from_be_bytes([bodies[0], bodies[1], bodies[2], bodies[3]]) as usize;
+    if size > longest || size > bodies.len() - 5 {
+        return None;
+    }
+    Some(size)
+}
 
 /// The payloads of a file that are still to come, one after the other.
 #[derive(Debug, Drop)]
@@ -67,21 +95,24 @@ impl<'a> FilePayloads<'a> {
 /// What a committed file holds, read where it lies.
 #[derive(Debug, Drop)]
 pub struct FileText<'a> {
-    version: u8,
-    header: Header,
+    pub(crate) version: u8,
+    pub(crate) header: Header,
     payloads: FilePayloads<'a>,
 }
 
 impl<'a> Model for FileText<'a> {
-    ghost use Rattle.std.specs.Prelude.{◌≡◌};
+    ghost use Rattle.std.specs.Prelude.{◌≡◌, ◌-◌, ◌^◌, ◌<◌};
     ghost use Rattle.gate_journal.specs.Format.{Committed};
+    ghost use Rattle.gate_journal.specs.Journal.{FitsVersion};
     ghost use Rattle.gate_journal.specs.Texts.{committed};
 
     ghost Value = { Committed };
 
     ghost view = { λ t. committed t.version t.header t.payloads };
 
-    ghost invariant = { λ t. t.payloads.place ≡ 72 };
+    ghost invariant = { λ t. (t.payloads.place ≡ 72)
+        × (t.version ≡ 1 → t.header.generation < 2 ^ 64 - 1)
+        × (t.version ≡ 1 → FitsVersion 1 t.payloads.payloads) };
 }
 
 impl<'a> FileText<'a> {
@@ -129,6 +160,8 @@ fn read_records(file: &[u8], longest: usize) -> Result<Option<FileText<'_>>, u64
     requires long { 72 ≤ length file.now }
     requires short { length file.now ≤ LONGEST_FILE }
     requires longest { longest ≤ LONGEST_PAYLOAD }
+    requires last { slice_index file.now 32 ≡ 1 → number_at file.now 8 < 2 ^ 64 - 1 }
+    requires one { slice_index file.now 32 ≡ 1 → (longest ≤ longest_payload 1) × (length file.now ≤ longest_file 1) }
     ensures { result ≡ with_payloads file.now (payloads_of longest file.now) }
 {
     walk(file, longest)?;
@@ -140,7 +173,7 @@ fn read_records(file: &[u8], longest: usize) -> Result<Option<FileText<'_>>, u64
     let payloads = FilePayloads {
         bodies: &file[HEAD..],
         gate: file[GATE],
-        place: HEAD as u64,
+        place: HEAD_LENGTH,
         longest,
     };
     Ok(Some(FileText {

@@ -7,12 +7,8 @@ ghost use Rattle.std.specs.Int.{w32, to_be_bytes};
 ghost use Rattle.gate_journal.specs.Calls.{writing_record};
 ghost use Rattle.gate_journal.specs.Journal.{IsReadyFor, WithOrWithout, Gained};
 
+use crate::format::{CLOSED, OPEN};
 use crash_disk::{Disk, Failed, FileNo};
-
-/// The gate behind the last record, and the gate of a record.
-pub(crate) const CLOSED: u8 = 0;
-
-pub(crate) const OPEN: u8 = 1;
 
 /// Puts the body of a payload into a buffer that has room for it: the length, the payload, and the next gate.
 pub(crate) fn fill_body(body: &mut Vec<u8>, payload: &[u8], gate: u8)

@@ -33,8 +33,8 @@ pub enum Answer {
     Full(Blob),
 }
 
-/// The canonical phrase of a status.
-pub(crate) fn phrase(status: u16) -> &'static str
+/// The canonical phrase of a status (RFC 9110, 15); empty where it has none.
+pub fn phrase(status: u16) -> &'static str
     requires { IsStatusCode status }
     ensures { result.now ≡ unwrap_or (reason_phrase status) [] }
 {

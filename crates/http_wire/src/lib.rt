@@ -40,7 +40,7 @@
 //! of one, or no request with a status, in the order of the definition over `httparse`'s grammar of a head; bytes have
 //! one reading, how they were cut changes nothing, bytes behind a whole request or a refusal change nothing, and the
 //! first of some bytes are More or the same (`laws`). `Awaited::request`: the same whole request, of what was kept of its
-//! head. `cookie_of`, `is_form_type`, `full_answer` and `put_fixed` are
+//! head. `cookie_of`, `is_form_type`, `phrase`, `full_answer` and `put_fixed` are
 //! exact; a client reads an answer as its status, fields and body (`laws::an_answer_is_read_again`), and has one status
 //! (`laws::an_answer_has_one_status`). `vouched_answer` is the answer that names a user: whatever name and values hold,
 //! a client reads just the two lines that do, no byte of which is outside 0x20 to 0x7E, and reads name and values back
@@ -61,7 +61,7 @@ mod request;
 mod status;
 mod vouched;
 
-pub use answer::{Answer, full_answer};
+pub use answer::{Answer, full_answer, phrase};
 pub use cookie::cookie_of;
 pub use fixed::{FIXED_ROOM, put_fixed};
 pub use limits::{BODY_LIMIT, HEAD_LIMIT, LINE_LIMIT};

@@ -16,6 +16,7 @@ use std::marker::Model;
 /// A request. All texts and bytes of it are borrowed from the bytes that it was found in.
 #[derive(Clone, Copy, Debug, PartialEq, Eq)]
 pub struct HttpRequest<'b> {
+    /// The method (RFC 9110, 9).
     pub method: Method,
     /// The target without the query, of visible characters of ASCII.
     pub path: &'b str,
@@ -23,6 +24,7 @@ pub struct HttpRequest<'b> {
     pub cookie: Option<&'b str>,
     /// The first Content-Type line; none where there is none, or it is no UTF-8.
     pub content_type: Option<&'b str>,
+    /// The content, as many bytes as its Content-Length says (RFC 9112, 6.3).
     pub body: &'b [u8],
 }
 

@@ -80,12 +80,6 @@ backed_kept next numbers spent rows kept r is few place at =
       record { asked = kept.3.asked; opened = omega (arith, few, length_push rows.opened (opened_row r)); below = kept.3.below },
     )
 
--- an answer without an assertion
-pub spoke_kept : (next later : ℕ) (numbers : List ℕ) (spent : List Bool) (rows : HubRows) → AreKept next numbers spent rows → next ≤ later → later ≤ 2 ^ 63
-    → AreKept later numbers spent rows
-spoke_kept next later numbers spent rows kept less end =
-    (HaveNumbers-later next later numbers (map (λ (row : AskedRow). row.request) rows.asked) less kept.0, kept.1, end, kept.3)
-
 -- what the mark of a request says
 pub spent_at : (next : ℕ) (numbers : List ℕ) (spent : List Bool) (rows : HubRows) → AreKept next numbers spent rows → (request : List ℕ) (place : ℕ)
     → IsAskedAt rows.asked request place → (place < length spent) × (slice_index_or spent place false ≡ is_spent rows.opened request)

@@ -15,20 +15,10 @@ use crate::row::BelowRow;
 use ledger_records::hub_record::{Backed, Routed, Spoke};
 use ledger_records::{HubRecord, KeyNumber};
 use ledger_rules::{DraftFault, LAST, LIFE};
-use owned_values::{NoMemory, Text};
+use owned_values::{NoMemory, Text, copy_if_any};
 use request_rows::NewSession;
 use saml_ids::{Kind, id_of};
 use std::alloc::Global;
-
-/// A copy of a text, where there is one.
-fn copy_of(text: &Option<Text>) -> Result<Option<Text>, NoMemory>
-    ensures { IfOk result (λ copy. copy ≡ text.now) }
-{
-    match text {
-        Some(text) => Ok(Some(text.copy()?)),
-        None => Ok(None),
-    }
-}
 
 /// The record of a request upwards.
 fn routed_record(
@@ -50,7 +40,7 @@ fn routed_record(
         peer: below.peer.copy()?,
         consumer: below.consumer.copy()?,
         below: below.request.copy()?,
-        below_relay: copy_of(&below.relay)?,
+        below_relay: copy_if_any(&below.relay)?,
     }))
 }
 
@@ -85,7 +75,7 @@ fn backed_record(
         peer: below.peer.copy()?,
         consumer: below.consumer.copy()?,
         below: below.request.copy()?,
-        below_relay: copy_of(&below.relay)?,
+        below_relay: copy_if_any(&below.relay)?,
         until: LAST.min(new.until),
         attributes: new.attributes.copy()?,
     }))

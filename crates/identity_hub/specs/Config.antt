@@ -3,8 +3,8 @@ use Rattle.std.specs.Prelude.{◌≡◌, ℕ, ◌≤◌, true, List, ◌++◌, c
 use Rattle.std.specs.List.{AllByRecursion}
 use Rattle.peer_keys.specs.Peers.{differ}
 use Rattle.idp_rules.specs.Config.{IsTextPeer}
-use Rattle.idp_rules.specs.declared.config.TheConstants.{MOST_PEERS}
-use Rattle.sp_rules.specs.declared.config.TheConstants.{GREATEST_SKEW}
+use Rattle.provider_config.specs.declared.idp_config.TheConstants.{MAX_PEERS}
+use Rattle.saml_time.specs.declared.TheConstants.{GREATEST_SKEW}
 use Rattle.sp_answers.specs.Answers.{HoldsTexts}
 use Rattle.identity_hub.specs.declared.config.HubConfig.{HubConfig}
 
@@ -20,5 +20,5 @@ pub record IsUsable (config : HubConfig) : Type 0 where
   pub skew : config.upstream.skew ≤ GREATEST_SKEW
   pub times : IfSome config.upstream.next_in (λ next. next.from ≤ next.until)
   pub peers : AllByRecursion IsTextPeer config.peers
-  pub few : length config.peers ≤ MOST_PEERS
+  pub few : length config.peers ≤ MAX_PEERS
   pub apart : differ config.peers ≡ true

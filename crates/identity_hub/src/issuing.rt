@@ -8,11 +8,11 @@ ghost use Rattle.identity_hub.specs.Replies.{CanBeShown, HasLogin, HasRefusal, H
 use crate::reply::Reply;
 use crate::role::HubRole;
 use hub_ledger::{BelowRow, backed, first_id, second_id};
-use idp_answers::{Statement, issued_answer, no_passive_answer, stated_login, text_of};
+use idp_answers::{Statement, issued_answer, no_passive_answer, stated_login};
 use ledger_records::HubRecord;
 use ledger_records::hub_record::Backed;
 use ledger_rules::ASSERTION_LIFE;
-use owned_values::{Blob, NoMemory};
+use owned_values::{Blob, NoMemory, chars_if_any};
 use provider_config::SignMode;
 use saml_time::LAST;
 use sp_answers::ask_answer;
@@ -49,7 +49,7 @@ impl HubRole {
             first_id(entry),
             below.request.as_str(),
             below.consumer.as_str(),
-            text_of(&below.relay),
+            chars_if_any(&below.relay),
             now,
         )
     }
@@ -81,7 +81,7 @@ impl HubRole {
             &login,
             passed.message.as_str(),
             passed.consumer.as_str(),
-            text_of(&passed.below_relay),
+            chars_if_any(&passed.below_relay),
             None,
             now,
         )

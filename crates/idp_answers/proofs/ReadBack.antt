@@ -19,7 +19,7 @@ use Rattle.assertion_model.specs.Assertion.{assertion, IsAssertionOf}
 use Rattle.protocol_messages.specs.Making.{response, assertion_made, attribute}
 use Rattle.protocol_messages.specs.Messages.{only, at_most_one, with_value, status_in_code, IsResponse}
 use Rattle.protocol_messages.proofs.Reading.{response_read}
-use Rattle.protocol_messages.proofs.Standing.{Stands, some, first_kid, behind, kids_here, attribute_here, text_here}
+use Rattle.tree_read.proofs.Places.{Stands, some, first_kid, behind, kids_here, attribute_here, text_here}
 use Rattle.provider_config.specs.declared.idp_config.SignMode.{SignMode}
 use Rattle.provider_config.specs.declared.idp_config.SignMode.TheVariants as modes
 use Rattle.idp_answers.specs.Answers.{IsIssued, signs_response, signed_assertion, signed_response}

@@ -27,12 +27,10 @@
 
 mod issuing;
 pub mod laws;
-mod optional;
 mod sending;
 mod showing;
 mod stating;
 
 pub use issuing::{issued_answer, no_passive_answer};
-pub use optional::text_of;
 pub use showing::{login_answer, metadata_answer, plain_metadata_answer};
 pub use stating::{Statement, just, stated_login};

@@ -1,7 +1,7 @@
 //! How a Response is sent.
 ghost use Rattle.std.specs.Prelude.{◌≡◌, IfOk, None, IsTrue};
 ghost use Rattle.std.specs.Option.{option_map, ForSome};
-ghost use Rattle.element_make.specs.Made.{IsMade, written};
+ghost use Rattle.element_make.specs.Made.{IsMade};
 ghost use Rattle.http_wire.specs.Answers.{answer, is_one_line};
 ghost use Rattle.idp_answers.specs.Answers as spec;
 
@@ -14,16 +14,6 @@ use std::alloc::Global;
 /// The status of a page.
 pub(crate) const OK: u16 = 200;
 
-/// What is written of a made element.
-fn written(alloc: Global, made: Made) -> Result<Blob, NoMemory>
-    ensures bytes { IfOk result (λ bytes. bytes ≡ written made) }
-    ensures made { IsMade made }
-{
-    let mut out = Vec::new(alloc);
-    made.put(&mut out)?;
-    Blob::of(alloc, out.as_slice())
-}
-
 /// The form that sends a Response on to the consumer, with the relay where there is one (SAML Bindings, 3.5.4).
 pub(crate) fn response_form(
     alloc: Global,
@@ -34,7 +24,7 @@ pub(crate) fn response_form(
     ensures page { IfOk result (λ page. page ≡ spec.response_form sent consumer.now (option_map (λ text. text.now) relay.entry)) }
     ensures made { IsMade sent }
 {
-    let message = written(alloc, sent)?;
+    let message = sent.written(alloc)?;
     auto_form(alloc, consumer, Field::Response, message.as_slice(), relay)
 }
 

@@ -18,7 +18,7 @@ use idp_rows::SessionRow;
 use ledger_records::IdpRecord;
 use ledger_records::idp_record::{Confirmed, Ended, Left, Pending, Spoke};
 use ledger_rules::{DraftFault, LIFE, TextSet};
-use owned_values::{NoMemory, Text, Texts};
+use owned_values::{NoMemory, Text, Texts, copy_if_any};
 use saml_ids::{Kind, id_of};
 
 /// The sessions that a logout ends.
@@ -28,16 +28,6 @@ struct EndedSessions {
     cookies: Texts,
     /// Whether in one of them an assertion was issued to another peer too.
     partial: bool,
-}
-
-/// A copy of a text, where there is one.
-pub(crate) fn copy_of(text: &Option<Text>) -> Result<Option<Text>, NoMemory>
-    ensures { IfOk result (λ copy. copy ≡ text.now) }
-{
-    match text {
-        Some(text) => Ok(Some(text.copy()?)),
-        None => Ok(None),
-    }
 }
 
 /// Drafts a login that is pending. It may be used for 600,000 ms from the moment `now` on. `first_id` of the record is its ID.
@@ -62,7 +52,7 @@ pub fn draft_pending(ledger: &mut IdpLedger, now: u64, ask: &Ask) -> Result<Draf
         request: ask.request.copy()?,
         peer: ask.peer.copy()?,
         consumer: ask.consumer.copy()?,
-        relay: copy_of(&ask.relay)?,
+        relay: copy_if_any(&ask.relay)?,
     });
     draft(ledger, entry)
 }

@@ -10,14 +10,13 @@ ghost use Rattle.record_ledger.specs.Drafts.{SameLedger};
 use crate::ask::Ask;
 use crate::draft::Draft;
 use crate::drafting::draft;
-use crate::drafts::copy_of;
 use crate::ids::{LoginIds, login_ids};
 use crate::ledger::{IdpLedger, session};
 use idp_rows::{PendingRow, SessionRow};
 use ledger_records::IdpRecord;
 use ledger_records::idp_record::Issued;
 use ledger_rules::{ASSERTION_LIFE, DraftFault, LAST};
-use owned_values::{Attributes, NoMemory, Text};
+use owned_values::{Attributes, NoMemory, Text, copy_if_any};
 use std::alloc::Global;
 
 /// How long a session lives, in milliseconds.
@@ -49,7 +48,7 @@ fn login_record(
         peer: row.peer.copy()?,
         consumer: row.consumer.copy()?,
         request: row.request.copy()?,
-        relay: copy_of(&row.relay)?,
+        relay: copy_if_any(&row.relay)?,
         until: LAST.min(now + ASSERTION_LIFE),
         attributes: attributes.copy()?,
     }))
@@ -80,7 +79,7 @@ fn issue_record(
         peer: ask.peer.copy()?,
         consumer: ask.consumer.copy()?,
         request: ask.request.copy()?,
-        relay: copy_of(&ask.relay)?,
+        relay: copy_if_any(&ask.relay)?,
         until: LAST.min(now + ASSERTION_LIFE),
         attributes: row.attributes.copy()?,
     }))

@@ -10,32 +10,17 @@ ghost use Rattle.idp_rows.specs.Record.{LAST};
 
 use crate::draft::Draft;
 use crate::drafting::draft;
-use crate::drafts::copy_of;
 use crate::ids::{RoundIds, round_ids};
 use crate::ledger::{IdpLedger, rows};
 use idp_rows::IssuedRow;
 use ledger_records::IdpRecord;
 use ledger_records::idp_round::{Round, Told};
 use ledger_rules::{DraftFault, LIFE, TextSet};
-use logout_turns::{Asker, Part, Turn, Turns};
+use logout_turns::{Asker, Part, Turn, Turns, copy_of_asker};
 use owned_values::{NoMemory, Text, Texts};
 use round_rows::RoundRow;
 use saml_ids::{Id, Kind, id_of};
 use std::alloc::Global;
-
-/// A copy of a provider that asks, where one does.
-fn copy_of_asker(asker: Option<&Asker>) -> Result<Option<Asker>, NoMemory>
-    ensures { IfOk result (λ copy. copy ≡ option_copied asker.entry) }
-{
-    let Some(asker) = asker else {
-        return Ok(None);
-    };
-    Ok(Some(Asker {
-        peer: asker.peer.copy()?,
-        request: asker.request.copy()?,
-        relay: copy_of(&asker.relay)?,
-    }))
-}
 
 /// A list of the same turns.
 fn copy_of_turns(alloc: Global, turns: &[Turn]) -> Result<Turns, NoMemory>

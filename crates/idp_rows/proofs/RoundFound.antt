@@ -43,14 +43,6 @@ any_waits rows q found is =
     all_pass None = refl
     all_pass (Some row) = refl
 
--- the round that is found
-pub found_waits : (rows : List RoundRow) (q : List ℕ) (found : Option RoundRow) → IsRoundOf rows q found → find (waits_for q) rows ≡ found
-found_waits rows q found is = ap (λ (test : RoundRow → Bool). find test rows) (λ i row. and_true (waits_for q row) i) ∙ is (λ row. true) ∙ all_pass found
-  where
-    all_pass : (o : Option RoundRow) → passing (λ row. true) o ≡ o
-    all_pass None = refl
-    all_pass (Some row) = refl
-
 -- whether a Told has its next request in the round that is found
 abbrev pub fits_in : Told → Option RoundRow → Bool
 fits_in r None = false

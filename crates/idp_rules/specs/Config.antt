@@ -7,7 +7,8 @@ use Rattle.peer_keys.specs.Peers.{differ}
 use Rattle.peer_keys.specs.declared.peers.LogoutPeer.{LogoutPeer}
 use Rattle.user_store.specs.declared.user.User.{User}
 use Rattle.idp_rules.specs.declared.config.IdpConfig.{IdpConfig}
-use Rattle.idp_rules.specs.declared.config.TheConstants.{GREATEST_SKEW, MOST_PEERS}
+use Rattle.provider_config.specs.declared.idp_config.TheConstants.{MAX_PEERS}
+use Rattle.saml_time.specs.declared.TheConstants.{GREATEST_SKEW}
 
 -- SAML Metadata, 2.4.3: the address to which requests for a login are posted, and that for logout
 abbrev pub sign_on : IdpConfig → List ℕ
@@ -38,6 +39,6 @@ pub record IsUsable (config : IdpConfig) : Type 0 where
   pub base : IsText config.base
   pub peers : AllByRecursion IsTextPeer config.peers
   pub users : AllByRecursion IsTextUser config.users
-  pub few : length config.peers ≤ MOST_PEERS
+  pub few : length config.peers ≤ MAX_PEERS
   pub apart : differ config.peers ≡ true
   pub skew : config.skew ≤ GREATEST_SKEW

@@ -9,12 +9,6 @@ use provider_config::SignMode;
 use std::alloc::Global;
 use user_store::Users;
 
-/// The most milliseconds by which clocks may differ.
-pub const GREATEST_SKEW: u64 = 300_000;
-
-/// The most peers of a provider.
-pub const MOST_PEERS: usize = 16;
-
 /// What an identity provider is set up with.
 #[derive(Debug, Drop)]
 pub struct IdpConfig {

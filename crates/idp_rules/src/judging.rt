@@ -1,6 +1,6 @@
 // The verdict on a posted request (SAML Profiles, 4.1.4.1; SAML Bindings, 3.5).
 
-ghost use Rattle.std.specs.Prelude.{◌≡◌, ◌≤◌, ◌<◌, List, ℕ, codes, length, true, false, Some, unwrap_or, IfOk, IfErr, OnOk};
+ghost use Rattle.std.specs.Prelude.{◌≡◌, ◌≤◌, ◌<◌, List, ℕ, codes, length, true, Some, unwrap_or, IfOk, IfErr, OnOk};
 ghost use Rattle.saml_names.specs.Names.{ds};
 ghost use Rattle.tree_read.specs.Children.{children};
 ghost use Rattle.tree_read.specs.Views.{tree_of};
@@ -23,15 +23,7 @@ use saml_tree::{Doc, read_document};
 use sig_reference::{SigFault, verify};
 use std::alloc::Global;
 use tree_read::{At, ElementChildren, ShapeFault};
-use verdict_codes::Verdict;
-
-/// Asks that a condition holds.
-fn ask(holds: bool, verdict: Verdict) -> Result<(), Verdict>
-    ensures ok { OnOk result (holds ≡ true) }
-    ensures err { IfErr result (λ e. (e ≡ verdict) × (holds ≡ false)) }
-{
-    if holds { Ok(()) } else { Err(verdict) }
-}
+use verdict_codes::{Verdict, ask};
 
 /// The message of a form in which a request was posted, with its relay.
 fn read_posted(alloc: Global, body: &[u8]) -> Result<(Blob, Option<Text>), Judged>

@@ -30,5 +30,5 @@ mod judging;
 pub mod laws;
 
 pub use asked::Asked;
-pub use config::{GREATEST_SKEW, IdpConfig, MOST_PEERS, sign_on_address};
+pub use config::{IdpConfig, sign_on_address};
 pub use judging::judge_request;

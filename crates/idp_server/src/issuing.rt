@@ -10,14 +10,12 @@ ghost use Rattle.idp_server.specs.Replies.{CanBeShown, HasAssertion, HasRefusal,
 
 use crate::reply::Reply;
 use crate::role::IdpRole;
-use idp_answers::{
-    Statement, issued_answer, just, login_answer, no_passive_answer, stated_login, text_of,
-};
+use idp_answers::{Statement, issued_answer, just, login_answer, no_passive_answer, stated_login};
 use idp_ledger::{Ask, first_id, is_partial, issued, peer, second_id};
 use ledger_records::IdpRecord;
 use ledger_records::idp_record::Issued;
 use logout_answers::{end_answer, ending_answer, leaving_answer};
-use owned_values::{Blob, NoMemory, Text};
+use owned_values::{Blob, NoMemory, Text, chars_if_any};
 use protocol_messages::LogoutRequest;
 
 /// What is stated by an issued record.
@@ -64,7 +62,7 @@ impl IdpRole {
             &login,
             issued.message.as_str(),
             issued.consumer.as_str(),
-            text_of(&issued.relay),
+            chars_if_any(&issued.relay),
             cookie,
             now,
         )
@@ -82,7 +80,7 @@ impl IdpRole {
             first_id(entry),
             ask.request.as_str(),
             ask.consumer.as_str(),
-            text_of(&ask.relay),
+            chars_if_any(&ask.relay),
             now,
         )
     }
@@ -136,7 +134,7 @@ impl IdpRole {
             now,
             asked.id.as_str(),
             is_partial(entry),
-            text_of(relay),
+            chars_if_any(relay),
         )
     }
 

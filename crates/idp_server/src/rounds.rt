@@ -12,39 +12,15 @@ ghost use Rattle.idp_server.specs.Rounds.{asks_others, follows_of, skips_for, tu
 
 use crate::reply::{Follows, Reply};
 use crate::role::IdpRole;
+use idp_answers::just;
 use idp_answers::laws::what_is_recorded_may_stand;
-use idp_answers::{just, text_of};
 use idp_ledger::{IdpLedger, RoundRow, ending, first_id, parts, turn};
 use ledger_records::IdpRecord;
 use logout_answers::{end_answer, ending_answer, leaving_answer};
 use logout_fanout::{Next, Plan, Round, make_plan};
-use logout_turns::{Asker, Turn};
-use owned_values::{Blob, NoMemory, Text, Texts};
+use logout_turns::{Asker, Turn, copy_of_asker};
+use owned_values::{Blob, NoMemory, Text, Texts, chars_if_any, copy_if_any};
 use protocol_messages::LogoutRequest;
-
-/// A copy of a text, where there is one.
-fn copy_of(text: &Option<Text>) -> Result<Option<Text>, NoMemory>
-    ensures { IfOk result (λ copy. copy ≡ text.now) }
-{
-    match text {
-        Some(text) => Ok(Some(text.copy()?)),
-        None => Ok(None),
-    }
-}
-
-/// A copy of the provider that asks, where one does.
-fn copy_of_asker(asker: &Option<Asker>) -> Result<Option<Asker>, NoMemory>
-    ensures { IfOk result (λ copy. copy ≡ asker.now) }
-{
-    let Some(asker) = asker else {
-        return Ok(None);
-    };
-    Ok(Some(Asker {
-        peer: asker.peer.copy()?,
-        request: asker.request.copy()?,
-        relay: copy_of(&asker.relay)?,
-    }))
-}
 
 /// The name of the provider that asks, where one does.
 fn name_of(asker: &Option<Asker>) -> Option<&str>
@@ -73,7 +49,7 @@ fn follows(row: &RoundRow, confirms: bool) -> Result<Follows, NoMemory>
         Next::Ask(place) => Ok(Follows::Turn(row.turns.at(place).copy()?)),
         Next::Done { partial } => Ok(Follows::End {
             message: row.message.copy()?,
-            asker: copy_of_asker(&row.asker)?,
+            asker: copy_of_asker(row.asker.as_ref())?,
             partial,
         }),
     }
@@ -169,7 +145,7 @@ impl IdpRole {
         let asker = Asker {
             peer: name.copy()?,
             request: asked.id.copy()?,
-            relay: copy_of(relay)?,
+            relay: copy_if_any(relay)?,
         };
         self.ask_all(ledger, Some(asker), cookies)
     }
@@ -248,7 +224,7 @@ impl IdpRole {
             now,
             asker.request.as_str(),
             partial,
-            text_of(&asker.relay),
+            chars_if_any(&asker.relay),
         )
     }
 

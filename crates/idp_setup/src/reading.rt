@@ -4,35 +4,17 @@ ghost use Rattle.std.specs.Prelude.{◌≡◌, ◌≤◌, IfOk, IfErr};
 ghost use Rattle.user_store.specs.Store.{users};
 ghost use Rattle.user_store.specs.declared.read.TheConstants.{MAX_USERS_LENGTH};
 ghost use Rattle.sp_setup.specs.Faults.{IsFaultOf};
-ghost use Rattle.sp_setup.specs.Files.{whole, text_of, key_file, id_key_file, metadata_file};
+ghost use Rattle.sp_setup.specs.Files.{text_of, key_file, id_key_file, metadata_file};
 ghost use Rattle.idp_setup.specs.Setup.{peer_of};
 
 use metadata::{MetaFault, Peer, Role, read_peer};
 use peer_keys::LogoutPeer;
 use provider_config::PeerFiles;
-use saml_outside::{Blob, Files, NoMemory, read_file};
-use sp_setup::{GREATEST_KEY, ID_KEY, LEAST_KEY, SetupFault};
+use saml_outside::{Blob, Files, NoMemory};
+use sp_setup::{GREATEST_KEY, ID_KEY, LEAST_KEY, SetupFault, read_whole};
 use std::alloc::Global;
 use user_store::{MAX_USERS_LENGTH, UserFault, Users, read_users};
 use xml_spec::MAX_DOCUMENT_LENGTH;
-
-/// The bytes of a file of at most `limit` bytes.
-fn read_named<F: Files>(
-    alloc: Global,
-    files: &mut F,
-    name: &str,
-    limit: u64,
-) -> Result<Vec<u8>, SetupFault>
-    ensures ok { IfOk result (λ bytes. (whole limit name.now).gives (F.holds files.old) bytes.items) }
-    ensures err { IfErr result (IsFaultOf ((whole limit name.now).fails (F.holds files.old)) (F.faults_of files.old) (F.faults_of files.new)) }
-    ensures same { F.holds files.new ≡ F.holds files.old }
-    ensures never_falls { F.faults_of files.old ≤ F.faults_of files.new }
-{
-    match read_file(alloc, files, name, limit)? {
-        Some(bytes) => Ok(bytes),
-        None => Err(SetupFault::bad_file(alloc, name, 0)),
-    }
-}
 
 /// A key of messages.
 fn read_key<F: Files>(alloc: Global, files: &mut F, name: &str) -> Result<Blob, SetupFault>
@@ -41,7 +23,7 @@ fn read_key<F: Files>(alloc: Global, files: &mut F, name: &str) -> Result<Blob, 
     ensures same { F.holds files.new ≡ F.holds files.old }
     ensures never_falls { F.faults_of files.old ≤ F.faults_of files.new }
 {
-    let bytes = read_named(alloc, files, name, GREATEST_KEY)?;
+    let bytes = read_whole(alloc, files, name, GREATEST_KEY)?;
     if bytes.len() < LEAST_KEY {
         return Err(SetupFault::bad_file(alloc, name, 0));
     }
@@ -62,7 +44,7 @@ pub(crate) fn read_id_key<F: Files>(
     ensures same { F.holds files.new ≡ F.holds files.old }
     ensures never_falls { F.faults_of files.old ≤ F.faults_of files.new }
 {
-    let bytes = read_named(alloc, files, name, GREATEST_KEY)?;
+    let bytes = read_whole(alloc, files, name, GREATEST_KEY)?;
     if bytes.len() != ID_KEY {
         return Err(SetupFault::bad_file(alloc, name, 0));
     }
@@ -78,7 +60,7 @@ fn read_metadata<F: Files>(alloc: Global, files: &mut F, name: &str) -> Result<P
     ensures same { F.holds files.new ≡ F.holds files.old }
     ensures never_falls { F.faults_of files.old ≤ F.faults_of files.new }
 {
-    let bytes = read_named(alloc, files, name, MAX_DOCUMENT_LENGTH as u64)?;
+    let bytes = read_whole(alloc, files, name, MAX_DOCUMENT_LENGTH as u64)?;
     match read_peer(alloc, &bytes, Role::Sp) {
         Ok(peer) => Ok(peer),
         Err(MetaFault::NoMemory) => Err(SetupFault::NoMemory),
@@ -97,7 +79,7 @@ pub(crate) fn read_user_file<F: Files>(
     ensures same { F.holds files.new ≡ F.holds files.old }
     ensures never_falls { F.faults_of files.old ≤ F.faults_of files.new }
 {
-    let bytes = read_named(alloc, files, name, MAX_USERS_LENGTH as u64)?;
+    let bytes = read_whole(alloc, files, name, MAX_USERS_LENGTH as u64)?;
     match read_users(alloc, &bytes) {
         Ok(users) => Ok(users),
         Err(UserFault::Line(line)) => Err(SetupFault::bad_file(alloc, name, u64::from(line))),

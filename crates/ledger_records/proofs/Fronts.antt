@@ -171,9 +171,6 @@ text_spelled = record {
 
 -- ---- one byte
 
-abbrev Always : {X : Type 0} → X → Type 0
-Always x = Unit {0}
-
 flag_takes : (bytes : List ℕ) (is : Bool) (rest : List ℕ) → IsBytes bytes → flag_at bytes ≡ Some (is, rest) → Takes bytes (flag is) rest × Unit {0}
 unfolding flag_at
 flag_takes [] is rest fits e = absurd cc

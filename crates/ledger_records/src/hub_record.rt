@@ -100,8 +100,11 @@ pub struct Spoke {
 /// A record of a hub.
 #[derive(Debug, Drop)]
 pub enum HubRecord {
+    /// A request from below was passed on upwards.
     Routed(Routed),
+    /// A login from above was passed on downwards.
     Backed(Backed),
+    /// An answer without an assertion was sent.
     Spoke(Spoke),
 }
 

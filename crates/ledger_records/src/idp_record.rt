@@ -149,13 +149,21 @@ pub struct Spoke {
 /// A record of an identity provider.
 #[derive(Debug, Drop)]
 pub enum IdpRecord {
+    /// A login was begun.
     Pending(Pending),
+    /// An assertion was issued.
     Issued(Issued),
+    /// A service provider ended sessions.
     Ended(Ended),
+    /// A logout was begun here, and one service provider was asked.
     Left(Left),
+    /// A service provider answered a request for a logout.
     Confirmed(Confirmed),
+    /// An answer without an assertion was sent.
     Spoke(Spoke),
+    /// A logout was begun that asks service providers one after another.
     Round(Round),
+    /// A service provider that was asked so answered.
     Told(Told),
 }
 

@@ -6,7 +6,9 @@ ghost use Rattle.ledger_records.specs.Fields.{key_byte};
 /// The number of a key.
 #[derive(Clone, Copy, Debug, PartialEq, Eq)]
 pub enum KeyNumber {
+    /// The key that the config names first.
     First,
+    /// The key that follows it.
     Second,
 }
 

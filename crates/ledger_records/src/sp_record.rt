@@ -111,10 +111,15 @@ pub struct Confirmed {
 /// A record of a service provider.
 #[derive(Debug, Drop)]
 pub enum SpRecord {
+    /// A login was asked for.
     Asked(Asked),
+    /// A session was opened.
     Opened(Opened),
+    /// A logout was begun here.
     Left(Left),
+    /// The identity provider ended sessions.
     Ended(Ended),
+    /// The identity provider answered a request for a logout.
     Confirmed(Confirmed),
 }
 

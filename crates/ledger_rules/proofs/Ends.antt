@@ -19,19 +19,6 @@ linked_inside links k l link = elim (cases_lt k (length links)) [
   | inr past ↦ let none : link_at links k ≡ None = get_or_past links k None (omega arith) in absurd (cc)
 ]
 
--- nothing was followed
-pub none_followed : (links : List (Option ℕ)) (ends : List ℕ) (least : ℕ) → length ends ≡ length links → length links ≤ least
-    → AreFollowed links least 0 ends
-none_followed links ends least long past = record {
-  long = long;
-  within = λ k from inside. absurd (omega arith);
-  led = λ k from inside. absurd (omega arith);
-  up = λ k l from link less.
-      let inside = linked_inside links k l link in
-      absurd (omega arith);
-  down = λ k l less link back. absurd (omega arith);
-}
-
 module _ (links : List (Option ℕ)) (ends : List ℕ) (p : ℕ) (inside : p < length links) where
   -- the end of one record more, of which links to later ones are followed
   pub more_followed : (least : ℕ) → least ≡ suc p → AreFollowed links least 0 ends → (end : ℕ) → end < length links

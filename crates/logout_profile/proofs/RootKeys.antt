@@ -41,10 +41,6 @@ module _ (document : DocumentView) (n : ℕ) (root : n ≡ 0) where
       IsNotVouched (key ∷ others) document.tree fault
   not_by_first key others fault other u = inl (unvouched key fault u, other)
 
-  -- there is no other key
-  pub by_none : (key : List ℕ) → IsUnvouched key document.tree n TagDiffers → IsNotVouched (key ∷ []) document.tree TagDiffers
-  by_none key u = inr (unvouched key TagDiffers u, refl)
-
   -- the second key does not vouch either
   pub not_by_second : (key other : List ℕ) (fault : SigFault) → IsUnvouched key document.tree n TagDiffers → IsUnvouched other document.tree n fault →
       IsNotVouched (key ∷ other ∷ []) document.tree fault

@@ -11,11 +11,11 @@
 //! # What is proved
 //!
 //! Parts of sessions, askers and turns as contracts see them: each call on a list of turns is exact on the list of what it
-//! holds, and leaves it as it was where memory runs out.
+//! holds, and leaves it as it was where memory runs out. A copy of an asker is that asker (`copy_of_asker`).
 #![tactic(auto)]
 
 mod part;
 mod turns;
 
-pub use part::{Asker, Part};
+pub use part::{Asker, Part, copy_of_asker};
 pub use turns::{Turn, Turns};

@@ -1,6 +1,7 @@
 //! What a session was used for, and who asks for its end.
+ghost use Rattle.std.specs.Prelude.{◌≡◌, IfOk, option_copied};
 
-use owned_values::Text;
+use owned_values::{NoMemory, Text, copy_if_any};
 
 /// A provider to which an Assertion was issued in a session (a session participant; SAML Profiles, 4.4.1).
 #[derive(Debug, Drop)]
@@ -22,4 +23,18 @@ pub struct Asker {
     pub request: Text,
     /// The relay state of its request, where it has one (SAML Bindings, 3.5.3).
     pub relay: Option<Text>,
+}
+
+/// A copy of a provider that asks, where one does.
+pub fn copy_of_asker(asker: Option<&Asker>) -> Result<Option<Asker>, NoMemory>
+    ensures { IfOk result (λ copy. copy ≡ option_copied asker.entry) }
+{
+    let Some(asker) = asker else {
+        return Ok(None);
+    };
+    Ok(Some(Asker {
+        peer: asker.peer.copy()?,
+        request: asker.request.copy()?,
+        relay: copy_if_any(&asker.relay)?,
+    }))
 }

@@ -4,11 +4,8 @@ ghost use Rattle.std.specs.Prelude.{◌≡◌, ◌≤◌, ◌<◌, ◌^◌, leng
 ghost use Rattle.std.specs.List.{count_by};
 ghost use Rattle.std.specs.Option.{option_copied};
 ghost use Rattle.owned_values.specs.Gives.{Gives};
-ghost use Rattle.saml_names.specs.Views.{name_of};
-ghost use Rattle.tree_read.specs.Children.{is_name};
 ghost use Rattle.tree_read.specs.Texts.{attribute_text};
 ghost use Rattle.tree_read.specs.Views.{tree_of};
-ghost use Rattle.tree_read.specs.Walk.{name_of_node};
 ghost use Rattle.metadata.specs.Metadata.{not_empty};
 ghost use Rattle.assertion_model.specs.Instants.{moment_of};
 ghost use Rattle.meta_registry.specs.Aggregate.{is_aggregate, valid_until, descriptors, entry_of, has_name, peer_in};
@@ -18,7 +15,7 @@ use crate::entry::Entry;
 use crate::fault::{PeerFault, RegistryFault};
 use metadata::{Peer, Role};
 use owned_values::NoMemory;
-use saml_names::{ExpandedName, md};
+use saml_names::md;
 use saml_time::read_instant;
 use saml_tree::{Doc, read_document};
 use sig_reference::verify_first;
@@ -46,14 +43,6 @@ impl Model for Registry {
     ghost invariant = { λ r. length r.entries.items < 2 ^ 32 };
 }
 
-/// Whether an element has this expanded name.
-fn is_named(at: At<'_, '_>, name: ExpandedName<'_>) -> bool
-    ensures { result ≡ is_name (name_of name.entry) (name_of_node (tree_of at.entry) at.entry.node.0) }
-{
-    let here = at.doc.name(at.node);
-    here.namespace == name.namespace && here.local == name.local
-}
-
 /// Whether an element has an ID that is not empty.
 fn has_id(alloc: Global, at: At<'_, '_>) -> Result<bool, NoMemory>
     ensures { IfOk result (λ has. has ≡ is_some (not_empty (attribute_text (tree_of at.entry) at.entry.node.0 (codes "ID")))) }
@@ -68,7 +57,7 @@ fn has_id(alloc: Global, at: At<'_, '_>) -> Result<bool, NoMemory>
 fn is_aggregate(alloc: Global, at: At<'_, '_>) -> Result<bool, NoMemory>
     ensures { IfOk result (λ is. is ≡ is_aggregate (tree_of at.entry) at.entry.node.0) }
 {
-    if !is_named(at, md("EntitiesDescriptor")) {
+    if !at.is_named(md("EntitiesDescriptor")) {
         return Ok(false);
     }
     has_id(alloc, at)

@@ -75,15 +75,6 @@ fn entity_descriptor(alloc: Global, entity: &str, described: Made) -> Result<Mad
     Ok(made)
 }
 
-/// What is written of a made element.
-fn written(alloc: Global, made: Made) -> Result<Blob, NoMemory>
-    ensures { IfOk result (λ bytes. bytes ≡ written made) }
-{
-    let mut out = Vec::new(alloc);
-    made.put(&mut out)?;
-    Blob::of(alloc, out.as_slice())
-}
-
 /// The metadata of a provider in this role, whose addresses stand below `base`: `/sso` or `/acs`, and `/slo`.
 ///
 /// # Errors
@@ -96,7 +87,7 @@ pub fn put_metadata(alloc: Global, role: Role, entity: &str, base: &str) -> Resu
 {
     let described = full_descriptor(alloc, role, base)?;
     let made = entity_descriptor(alloc, entity, described)?;
-    written(alloc, made)
+    made.written(alloc)
 }
 
 /// The same without an address for logout.
@@ -116,5 +107,5 @@ pub fn put_plain_metadata(
 {
     let described = plain_descriptor(alloc, role, base)?;
     let made = entity_descriptor(alloc, entity, described)?;
-    written(alloc, made)
+    made.written(alloc)
 }

@@ -2,11 +2,8 @@
 
 ghost use Rattle.std.specs.Prelude.{◌≡◌, ◌≤◌, codes, length, IfOk, IfErr, Ok};
 ghost use Rattle.owned_values.specs.Gives.{Gives};
-ghost use Rattle.saml_names.specs.Views.{name_of};
-ghost use Rattle.tree_read.specs.Children.{is_name};
 ghost use Rattle.tree_read.specs.Texts.{attribute_text};
 ghost use Rattle.tree_read.specs.Views.{tree_of};
-ghost use Rattle.tree_read.specs.Walk.{name_of_node};
 ghost use Rattle.saml_names.specs.Uris as uris;
 ghost use Rattle.owned_values.specs.Options.{is_there};
 ghost use Rattle.metadata.specs.Metadata.{address, not_empty, entity, peer_of};
@@ -15,19 +12,11 @@ ghost use Rattle.metadata.specs.Faults.{fault_of, IsRead, IsRefused};
 use crate::fault::MetaFault;
 use crate::peer::{Peer, Role};
 use owned_values::{NoMemory, Text};
-use saml_names::{ExpandedName, MD, POST, md};
+use saml_names::{MD, POST, md};
 use saml_tree::{TreeFault, read_document};
 use std::alloc::Global;
 use tree_read::{At, ElementChildren, attr_text, only_child};
 use xml_spec::MAX_DOCUMENT_LENGTH;
-
-/// Whether an element has this expanded name.
-fn is_named(at: At<'_, '_>, name: ExpandedName<'_>) -> bool
-    ensures { result ≡ is_name (name_of name.entry) (name_of_node (tree_of at.entry) at.entry.node.0) }
-{
-    let here = at.doc.name(at.node);
-    here.namespace == name.namespace && here.local == name.local
-}
 
 /// The text, where it is not empty.
 fn not_empty(text: Option<Text>) -> Option<Text>
@@ -44,7 +33,7 @@ fn not_empty(text: Option<Text>) -> Option<Text>
 fn read_entity(alloc: Global, at: At<'_, '_>) -> Result<Option<Text>, NoMemory>
     ensures { IfOk result (λ name. name ≡ entity (tree_of at.entry) at.entry.node.0) }
 {
-    if !is_named(at, md("EntityDescriptor")) {
+    if !at.is_named(md("EntityDescriptor")) {
         return Ok(None);
     }
     let name = attr_text(alloc, at, "entityID")?;

@@ -6,12 +6,12 @@ ghost use Rattle.namespace_scope.specs.Marks.{levels_of, with_bare, IsIndexed};
 
 use crate::NoMemory;
 
-// What a scope keeps of each call that added to it, in the order of the calls.
+/// What a scope keeps of each call that added to it, in the order of the calls.
 #[derive(Drop)]
 pub enum Mark<'a> {
-    // a level began
+    /// A level began.
     Level,
-    // a prefix was declared, which until then had the number `shadowed`
+    /// A prefix was declared, which until then had the number `shadowed`.
     Pair {
         prefix: &'a str,
         name: u32,
@@ -19,7 +19,7 @@ pub enum Mark<'a> {
     },
 }
 
-// Gives each level that began behind the marks a mark of its own.
+/// Gives each level that began behind the marks a mark of its own.
 pub fn settle(marks: &mut Vec<Mark<'_>>, bare: &mut usize) -> Result<(), NoMemory>
     ensures none { OnOk result (bare.new ≡ 0) }
     ensures same { with_bare bare.new (levels_of (reverse marks.new.items)) ≡ with_bare bare.old (levels_of (reverse marks.old.items)) }

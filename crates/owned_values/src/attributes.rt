@@ -8,7 +8,9 @@ use std::marker::Model;
 /// An attribute: its name, and its values in order (SAML Core, 2.7.3.1).
 #[derive(Debug, Drop)]
 pub struct Attribute {
+    /// The name, as it is stated.
     pub name: Text,
+    /// The values, in the order in which they are stated.
     pub values: Texts,
 }
 

@@ -13,15 +13,17 @@
 //! # What is proved
 //!
 //! Texts, bytes, lists of texts and attributes as contracts see them: each call exact, and what it was lent unchanged
-//! where memory runs out. What a call may return is fixed by what the definition gives
-//! (`laws::what_is_given_is_one_answer`).
+//! where memory runs out; so are the calls on a text that may be absent (`copy_if_any`, `chars_if_any`). What a call may
+//! return is fixed by what the definition gives (`laws::what_is_given_is_one_answer`).
 #![tactic(auto)]
 
 mod attributes;
 pub mod laws;
 mod memory;
+mod optional;
 mod owned;
 
 pub use attributes::{Attribute, Attributes};
 pub use memory::NoMemory;
+pub use optional::{chars_if_any, copy_if_any};
 pub use owned::{Blob, Text, Texts};

@@ -8,13 +8,12 @@ ghost use Rattle.post_agent.specs.Received.{Receives, what_of};
 ghost use Rattle.post_agent.specs.Views.{text_view, answer_view};
 
 use crate::answer::{Answer, answer_of};
-use crate::form::as_text;
 use crate::laws::each_answer_has_one_reading;
 use crate::page::page_of;
 use crate::request::{get, login_form, post};
 use crate::seen::{AutoForm, Location, LoginPage, Outgoing, Page, Seen, What};
 use crate::site::{Site, place_of};
-use owned_values::{NoMemory, Text};
+use owned_values::{NoMemory, Text, chars_if_any};
 use post_binding::post_body;
 use std::alloc::Global;
 use std::marker::Model;
@@ -64,7 +63,7 @@ fn posted(
         alloc,
         form.field,
         form.message.as_slice(),
-        as_text(&form.relay),
+        chars_if_any(&form.relay),
     )?;
     let bytes = post(alloc, site, cookie, path, body.as_slice())?;
     Ok(Outgoing { site, bytes })
@@ -136,8 +135,8 @@ impl Agent {
         ensures { text_view result ≡ spec.cookie_at site self.now }
     {
         match site {
-            Site::Sp => as_text(&self.sp_cookie),
-            Site::Idp => as_text(&self.idp_cookie),
+            Site::Sp => chars_if_any(&self.sp_cookie),
+            Site::Idp => chars_if_any(&self.idp_cookie),
         }
     }
 

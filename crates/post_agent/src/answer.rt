@@ -1,14 +1,15 @@
 // Answers are read (RFC 9112, 2 to 5).
 
-ghost use Rattle.std.specs.Prelude.{◌≡◌, [], IfSome, unwrap_or};
+ghost use Rattle.std.specs.Prelude.{◌≡◌, IfSome};
 ghost use Rattle.std.specs.Option.{option_map};
-ghost use Rattle.http.specs.StatusCode.{IsStatusCode, reason_phrase};
+ghost use Rattle.http.specs.StatusCode.{IsStatusCode};
 ghost use Rattle.http_wire.specs.Answers.{is_one_line};
 ghost use Rattle.post_agent.specs.Reading as spec;
 ghost use Rattle.post_agent.specs.Views.{text_view, cut_view, field_view, answer_view};
 
 use crate::cut::{behind, cut};
 use http::StatusCode;
+use http_wire::phrase;
 use itoa::Buffer;
 
 /// The parts of an answer.
@@ -34,17 +35,6 @@ fn status_in(bytes: &[u8]) -> Option<(u16, &[u8])>
     }
 }
 
-/// The phrase of a status.
-fn phrase_of(status: u16) -> &'static str
-    requires { IsStatusCode status }
-    ensures { result.now ≡ unwrap_or (reason_phrase status) [] }
-{
-    match StatusCode::from_u16(status).unwrap().canonical_reason() {
-        Some(phrase) => phrase,
-        None => "",
-    }
-}
-
 /// The status of an answer, and what stands behind its phrase.
 fn status_line(bytes: &[u8]) -> Option<(u16, &[u8])>
     ensures { option_map (λ found. (found.0, found.1.now)) result ≡ spec.status_line bytes.now }
@@ -52,7 +42,7 @@ fn status_line(bytes: &[u8]) -> Option<(u16, &[u8])>
     let rest = behind(bytes, b"HTTP/1.1 ")?;
     let (status, rest) = status_in(rest)?;
     let rest = behind(rest, b" ")?;
-    let rest = behind(rest, phrase_of(status).as_bytes())?;
+    let rest = behind(rest, phrase(status).as_bytes())?;
     Some((status, rest))
 }
 

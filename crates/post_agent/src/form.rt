@@ -9,7 +9,7 @@ ghost use Rattle.post_agent.specs.Views.{text_view, parts_view};
 use crate::cut::quoted;
 use crate::escaped::{message_in, text_in};
 use crate::seen::AutoForm;
-use owned_values::{Blob, NoMemory, Text};
+use owned_values::{Blob, NoMemory, Text, chars_if_any};
 use post_binding::{Field, auto_form, login_page};
 use std::alloc::Global;
 
@@ -112,16 +112,6 @@ fn form_of(alloc: Global, parts: FormParts<'_>) -> Result<Option<AutoForm>, NoMe
     }))
 }
 
-/// The text, where there is one.
-pub(crate) fn as_text(text: &Option<Text>) -> Option<&str>
-    ensures { text_view result ≡ text.now }
-{
-    match text {
-        Some(text) => Some(text.as_str()),
-        None => None,
-    }
-}
-
 /// The page of a form.
 fn page_of_form(alloc: Global, form: &AutoForm) -> Result<Blob, NoMemory>
     ensures { IfOk result (λ page. page ≡ form_page form.now) }
@@ -131,7 +121,7 @@ fn page_of_form(alloc: Global, form: &AutoForm) -> Result<Blob, NoMemory>
         form.url.as_str(),
         form.field,
         form.message.as_slice(),
-        as_text(&form.relay),
+        chars_if_any(&form.relay),
     )
 }
 

@@ -7,6 +7,7 @@ use post_binding::Field;
 /// A request to a node.
 #[derive(Debug, Drop)]
 pub struct Outgoing {
+    /// The node that it goes to.
     pub site: Site,
     /// All bytes of the request.
     pub bytes: Blob,
@@ -17,7 +18,9 @@ pub struct Outgoing {
 pub struct AutoForm {
     /// Where it is posted.
     pub url: Text,
+    /// The field that holds the message.
     pub field: Field,
+    /// The message itself, no longer in base64.
     pub message: Blob,
     /// The RelayState, where there is one.
     pub relay: Option<Text>,
@@ -26,23 +29,29 @@ pub struct AutoForm {
 /// A login page that was seen: the node that sent it, and the ID of its pending login.
 #[derive(Debug, Drop)]
 pub struct LoginPage {
+    /// The node that sent it.
     pub site: Site,
+    /// The ID of the pending login.
     pub pending: Text,
 }
 
 /// A Location that was seen, and the node that sent it.
 #[derive(Debug, Drop)]
 pub struct Location {
+    /// The node that sent it.
     pub site: Site,
+    /// The path of the URL, as the node gave it.
     pub path: Text,
 }
 
 /// The page that a body is.
 #[derive(Debug, Drop)]
 pub enum Page {
+    /// A page that posts this form as soon as it is shown.
     Form(AutoForm),
     /// The login page of this pending login.
     Login(Text),
+    /// The page that says how a logout ended.
     End,
     /// The page of the verdict of this number.
     Code(u16),
@@ -57,6 +66,7 @@ pub enum Page {
 pub enum What {
     /// A page that posts a message in this field as soon as it is shown.
     Form(Field),
+    /// The page that asks for a name and a password.
     Login,
     /// The page of a user, or any other body.
     Page,
@@ -75,5 +85,6 @@ pub enum What {
 pub struct Seen {
     /// The status; 0 where the bytes are no answer.
     pub status: u16,
+    /// What the body is, beside the status.
     pub what: What,
 }

@@ -9,7 +9,9 @@ use crate::cut::behind;
 /// A node of a deployment: the service provider at `127.0.0.1:8081`, or the identity provider at `127.0.0.1:8080`.
 #[derive(Clone, Copy, Debug, PartialEq, Eq)]
 pub enum Site {
+    /// The service provider.
     Sp,
+    /// The identity provider.
     Idp,
 }
 

@@ -12,7 +12,9 @@ pub const RELAY_LIMIT: usize = 80;
 /// The field that a message is posted in (SAML Bindings 3.5.4): `SAMLRequest` or `SAMLResponse`.
 #[derive(Clone, Copy, Debug, PartialEq, Eq)]
 pub enum Field {
+    /// `SAMLRequest`: the message asks.
     Request,
+    /// `SAMLResponse`: the message answers.
     Response,
 }
 

@@ -10,12 +10,13 @@ ghost use Rattle.post_binding.specs.declared.posted.TheConstants.{MESSAGE_LIMIT}
 
 use crate::fault::FormFault;
 use crate::posted::{Field, MESSAGE_LIMIT, Posted, RELAY_LIMIT};
-use crate::text::{decoded, has_replacement, has_white, is_name, without_white};
+use crate::text::{decoded, has_replacement, has_white, is_name};
 use base64::DecodeAllocError;
 use base64::engine::general_purpose::STANDARD;
 use form_urlencoded::{decode, raw_pairs};
 use owned_values::{Blob, NoMemory, Text, Texts};
 use std::alloc::Global;
+use xml_chars::without_white;
 
 /// How often a name stands in a form.
 #[derive(Drop)]
@@ -119,7 +120,9 @@ fn decode_message(alloc: Global, text: &str) -> Result<Blob, FormFault>
 {
     let symbols = text.as_bytes();
     if has_white(symbols) {
-        let bare = without_white(alloc, symbols)?;
+        let Ok(bare) = without_white(alloc, symbols) else {
+            return Err(FormFault::NoMemory);
+        };
         return decode_symbols(alloc, bare.as_slice());
     }
     decode_symbols(alloc, symbols)

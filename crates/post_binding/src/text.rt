@@ -1,5 +1,5 @@
 // Texts of a form's fields.
-ghost use Rattle.std.specs.Prelude.{◌≡◌, not, filter, IfOk};
+ghost use Rattle.std.specs.Prelude.{◌≡◌, IfOk};
 ghost use Rattle.std.specs.List.{list_any};
 ghost use Rattle.std.specs.Str.{bytes_eq};
 ghost use Rattle.xml_spec.specs.Syntax.{is_white};
@@ -8,6 +8,7 @@ ghost use Rattle.post_binding.specs.Form.{decoded, has_replacement};
 use form_urlencoded::decode;
 use owned_values::{NoMemory, Text};
 use std::alloc::Global;
+use xml_chars::is_white;
 
 // U+FFFD in UTF-8.
 const REPLACEMENT: [u8; 3] = [0xEF, 0xBF, 0xBD];
@@ -46,13 +47,6 @@ pub(crate) fn has_replacement(text: &str) -> bool
     false
 }
 
-// Whether the byte is white space (XML 1.0, 2.3, S).
-fn is_white(byte: u8) -> bool
-    ensures { result ≡ is_white byte }
-{
-    matches!(byte, b' ' | b'\t' | b'\r' | b'\n')
-}
-
 /// Whether one of the bytes is white space. All are looked at, so that many are at once.
 pub(crate) fn has_white(bytes: &[u8]) -> bool
     ensures { result ≡ list_any is_white bytes.now }
@@ -62,16 +56,4 @@ pub(crate) fn has_white(bytes: &[u8]) -> bool
         any |= is_white(*byte);
     }
     any
-}
-
-/// The bytes that are no white space.
-pub(crate) fn without_white(alloc: Global, bytes: &[u8]) -> Result<Vec<u8>, NoMemory>
-    ensures { IfOk result (λ kept. kept.items ≡ filter (λ b. not (is_white b)) bytes.now) }
-{
-    let kept = bytes
-        .iter()
-        .filter(|byte| !is_white(**byte))
-        .copied()
-        .collect(alloc)?;
-    Ok(kept)
 }

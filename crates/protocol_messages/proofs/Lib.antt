@@ -1,7 +1,6 @@
 pub mod Statuses
 pub mod OneMessage
 pub mod Indexes
-pub mod Standing
 pub mod Reading
 pub mod Texts
 mod Examples

@@ -19,7 +19,7 @@ use Rattle.protocol_messages.specs.declared.logout.Outcome.TheVariants as outcom
 use Rattle.protocol_messages.specs.declared.parts.Status.{Status}
 use Rattle.protocol_messages.specs.Messages.{only, at_most_one, with_value, status_in_code, issuer_named, outcome_of, IsAuthnRequest, IsResponse, IsLogoutRequest, IsLogoutResponse}
 use Rattle.protocol_messages.specs.Making.{authn_request, response, assertion_made, session_indexes, logout_request, logged_out, succeeded, failed, attribute}
-use Rattle.protocol_messages.proofs.Standing.{Stands, some, first_kid, behind, kids_here, attribute_here, text_here}
+use Rattle.tree_read.proofs.Places.{Stands, some, first_kid, behind, kids_here, attribute_here, text_here}
 
 -- the text of an element that holds one text
 text_alone : (text : List ℕ) → text_in (with_text text NoNodes) ≡ text

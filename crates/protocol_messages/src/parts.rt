@@ -1,12 +1,11 @@
 // The parts that several messages have (SAML Core, 3.2).
 
-ghost use Rattle.std.specs.Prelude.{◌≡◌, ℕ, List, Option, None, Some, IfOk, IfErr, IsTrue, OnErr, codes, ◌↔◌};
+ghost use Rattle.std.specs.Prelude.{◌≡◌, ℕ, List, Option, None, Some, IfOk, IfErr, OnErr, codes};
 ghost use Rattle.std.specs.Option.{option_map};
 ghost use Rattle.saml_names.specs.Names.{samlp};
 ghost use Rattle.saml_names.specs.Views.{name_of};
 ghost use Rattle.tree_read.specs.Children.{children};
 ghost use Rattle.tree_read.specs.Texts.{attribute_text};
-ghost use Rattle.tree_read.specs.Walk.{name_of_node};
 ghost use Rattle.tree_read.specs.Faults.{IsShapeFault};
 ghost use Rattle.tree_read.specs.Views.{tree_of};
 ghost use Rattle.protocol_messages.specs.Messages.{IsMessage, Tell, only, issuer_of, boolean, flag, value_inside, at_most_one, status_in_code, status_of};
@@ -18,14 +17,6 @@ use std::alloc::Global;
 use tree_read::{
     At, OtherShape, ShapeFault, at_most_one, attr_equals, attr_text, only_child, trimmed,
 };
-
-/// Whether an element has this expanded name.
-fn is_named(at: At<'_, '_>, name: ExpandedName<'_>) -> bool
-    ensures { IsTrue result ↔ (name_of_node (tree_of at.entry) at.entry.node.0 ≡ name_of name.entry) }
-{
-    let here = at.doc.name(at.node);
-    here.namespace == name.namespace && here.local == name.local
-}
 
 /// The only child of a name.
 ///
@@ -125,7 +116,7 @@ pub(crate) fn read_head(alloc: Global, at: At<'_, '_>, local: &str) -> Result<He
     ensures ok { IfOk result (λ head. IsMessage (tree_of at.entry) at.entry.node.0 local.now head.id head.issued) }
     ensures other { IfErr result (λ fault. IsShapeFault fault ((id : List ℕ) (issued : ℕ) → ¬ (IsMessage (tree_of at.entry) at.entry.node.0 local.now id issued))) }
 {
-    if !is_named(at, samlp(local)) {
+    if !at.is_named(samlp(local)) {
         return Err(ShapeFault::WrongShape);
     }
     if !attr_equals(at, "Version", "2.0") {

@@ -25,7 +25,9 @@ pub enum FileRole {
 /// A file that a config names.
 #[derive(Debug, Drop)]
 pub struct NamedFile {
+    /// What the file holds.
     pub role: FileRole,
+    /// The name of the file, as the line has it.
     pub name: Text,
 }
 
@@ -52,15 +54,20 @@ pub enum SpFile {
 /// From when a key counts, and until when the key before it does: moments in milliseconds since 1970.
 #[derive(Clone, Copy, Debug, PartialEq, Eq)]
 pub struct Times {
+    /// From when on the key counts.
     pub from: u64,
+    /// Until when the key before it counts.
     pub until: u64,
 }
 
 /// A request that was asked.
 #[derive(Debug, Drop)]
 pub struct AskedLine {
+    /// The ID of the request.
     pub request: Text,
+    /// The RelayState that went with it.
     pub relay: Text,
+    /// The path that the user was on the way to.
     pub target: Text,
     /// Until when it can be answered, in milliseconds since 1970.
     pub until: u64,
@@ -69,8 +76,11 @@ pub struct AskedLine {
 /// A request that was answered.
 #[derive(Debug, Drop)]
 pub struct OpenedLine {
+    /// The ID of the request.
     pub request: Text,
+    /// The name of the identity provider that answered.
     pub issuer: Text,
+    /// The ID of the assertion that answered.
     pub assertion: Text,
     /// Until when the assertion is remembered, in milliseconds since 1970.
     pub until: u64,

@@ -160,9 +160,6 @@ module _ {Setup R : Type 0} (rules : RecordRules R) (Answers : AnswersBy Setup R
   abbrev pub Goes : Start (Provider Setup R) → Type 0
   Goes = GoesAt rules Answers AnyMoment
 
-  abbrev pub LeftBy : Start (Provider Setup R) → Image → Type 0
-  LeftBy = LeftByAt rules Answers AnyMoment
-
   abbrev pub LeftBehind : (start : Held R) → List (Start (Provider Setup R)) → Image → Type 0
   LeftBehind = LeftBehindAt rules Answers AnyMoment
 

@@ -123,12 +123,6 @@ pub spent_closed : (spent : List Bool) (rows : SpRows) (test : OpenedRow → Boo
     → AreMarks spent (map (λ row. row.request) rows.asked) (map (λ row. row.request) (closed_where test rows.opened))
 spent_closed spent rows test m = subst (AreMarks spent (map (λ row. row.request) rows.asked)) (sym (closed_requests test rows.opened)) m
 
--- where there are no rows
-pub none_spent : (spent : List Bool) (rows : SpRows) → spent ≡ [] → rows ≡ record { asked = []; opened = []; left = [] } → AreSpent spent rows
-none_spent spent rows empty none =
-    let nothing : AreMarks [] [] [] = record { long = refl; each = λ k within. absurd (omega (arith, within)); named = λ id is. is } in
-    subst (λ (r : SpRows). AreSpent spent r) (sym none) (subst (λ m. AreMarks m [] []) (sym empty) nothing)
-
 -- behind one record more
 pub spent_asked : (next : ℕ) (numbers : List ℕ) (spent : List Bool) (rows : SpRows) (r : Asked) → HaveNumbers next numbers (map (λ row. row.request) rows.asked)
     → next ≤ r.first → r.first < NUMBER_END → has_number r.first r.request ≡ true → AreSpent spent rows

@@ -40,10 +40,6 @@ step_appends before after put gone left step first front has =
       rose = λ failed. omega (arith, has.never_falls, step.rose failed);
     }
 
--- nothing was done
-pub same_appends : (state : Passing) → Appends state state []
-same_appends state first front has = subst (λ xs. HasPut first xs state) (sym (append-nil front)) has
-
 -- nothing was appended, and then these bytes
 pub then_appends : (one other last : Passing) (bytes : List ℕ) → Appends one other [] → Appends other last bytes → Appends one last bytes
 then_appends one other last bytes none some first front has =

@@ -1,12 +1,11 @@
 -- What a replay leaves, and how one ends.
-use Rattle.std.proofs.Common.{◌≡◌, ℕ, List, Bool, true, false, Option, Ok, refl, sym, subst}
+use Rattle.std.proofs.Common.{ℕ, List, Bool, true, Option, refl}
 use Rattle.saml_outside.specs.Files.{File, Reads}
 use Rattle.saml_outside.specs.declared.reading.FileRead.TheVariants as reads
 use Rattle.crash_disk.specs.Disk.{Image, DiskState}
 use Rattle.crash_disk.specs.Moments.{DiskShown, Leaves, LeavesOnly}
 use Rattle.provider_run.specs.Runs.{Outside}
 use Rattle.schedules.specs.Made.{made}
-use Rattle.schedules.specs.Schedules.{schedule}
 use Rattle.schedules.specs.declared.read.TheConstants.{MAX_SCHEDULE_LENGTH}
 use Rattle.schedules.specs.declared.step.Step.{Step}
 use Rattle.saml_commands.specs.Replay.{DidReplay, DidReplayFile, DidReplayText}
@@ -57,13 +56,6 @@ module _ {D : Type 0} (shows : D → DiskShown) (told : Option DiskState) (disk 
   file_leaves files file Unserved did leaves = leaves
   file_leaves files file (RanReplay done silent sp_starts idp_starts result) did leaves = leaves
   file_leaves files file (RanProvider role turns result) did leaves = absurd did
-
--- the steps of a text are those that were replayed
-pub text_of_steps : (bytes : List ℕ) (steps : List Step) (ran : Ran) → schedule bytes ≡ Ok steps → DidReplay steps false ran → DidReplayText bytes ran
-text_of_steps bytes steps Unserved is did = tt
-text_of_steps bytes steps (RanReplay done silent sp_starts idp_starts result) is did =
-    (subst (λ (s : List Step). schedule bytes ≡ Ok s) (sym did.0) is, did.1, did.2)
-text_of_steps bytes steps (RanProvider role turns result) is did = absurd did
 
 -- and those of a file are those of its bytes
 pub file_of_text : (told : Option (List File)) (file bytes : List ℕ) (ran : Ran) → Reads told file MAX_SCHEDULE_LENGTH reads.Whole bytes → DidReplayText bytes ran →

@@ -2,15 +2,14 @@
 use Rattle.std.proofs.Common.{◌≡◌, ◌≢◌, ℕ, ◌⊎◌, List, [], Option, Some, None, MatchOption, Ok, Err, append-nil, refl, sym, ap, subst}
 use Rattle.saml_outside.specs.Files.{File}
 use Rattle.crash_disk.specs.Disk.{Image, DiskState}
-use Rattle.provider_run.specs.declared.ended.Ended.{Ended}
 use Rattle.provider_run.specs.declared.ended.Ended.TheVariants as ends
-use Rattle.provider_run.specs.Runs.{Outside, IsServed}
+use Rattle.provider_run.specs.Runs.{Outside}
 use Rattle.saml_commands.specs.declared.status.Status.{Status}
 use Rattle.saml_commands.specs.declared.status.Status.TheVariants as statuses
 use Rattle.saml_commands.specs.Answers.{Answer, Printed, Refused, BadFile, Foreign, Usage, status_of}
 use Rattle.saml_commands.specs.Running.{Command, Canon, Vouch, Check, Serve, Replay, Make, command_of, Does, DoesCommand, Carries, CommandCarries, OfCommand, Answers, Prints, EndsWith, EndsAfter, Accepts, AcceptsServing, IsRunnableBy, Records}
-use Rattle.saml_commands.specs.Serving.{Ran, Unserved, RanProvider, RanReplay, answer_of}
-use Rattle.saml_commands.proofs.Answering.{IsYes, weaker, answered, done_yes, settled}
+use Rattle.saml_commands.specs.Serving.{Ran, Unserved, RanProvider, RanReplay}
+use Rattle.saml_commands.proofs.Answering.{weaker, answered, done_yes, settled}
 use Rattle.saml_commands.proofs.Completeness.{Laws, accepted_yes, never_yes}
 
 -- ---- what is answered names no fault of the disk or the link
@@ -60,20 +59,10 @@ pub carried : (left : ℕ → Image → Type 0) (words : List (List ℕ)) (told 
 carried left words told command e before ran after h =
     subst (λ (o : Option Command). MatchOption o (Unit {0}) (λ c. CommandCarries left told c before ran after)) (sym e) h
 
--- without a command nothing is carried
-pub nothing_carried : (left : ℕ → Image → Type 0) (words : List (List ℕ)) (told : Option (List File)) → command_of words ≡ None → (before : Outside) → Carries left words told before Unserved before
-nothing_carried left words told e before =
-    subst (λ (o : Option Command). MatchOption o (Unit {0}) (λ c. CommandCarries left told c before Unserved before)) (sym e) tt
-
 -- without a command nothing is done but to say so
 pub nothing_done : (left : ℕ → Image → Type 0) (words : List (List ℕ)) (told : Option (List File)) → command_of words ≡ None → (before : Outside) → Does left words told before Unserved before
 nothing_done left words told e before =
     subst (λ (o : Option Command). MatchOption o ((Unserved ≡ Unserved) × (before ≡ before)) (λ c. DoesCommand left told c before Unserved before)) (sym e) (refl, refl)
-
-pub usage_answered : (words : List (List ℕ)) (told : Option (List File)) (ran : Ran) → command_of words ≡ None → (answer : Answer) → answer ≡ Usage →
-    Answers words told ran answer
-usage_answered words told ran e answer is =
-    subst (λ (o : Option Command). MatchOption o (answer ≡ Usage) (λ c. OfCommand told ran c answer)) (sym e) is
 
 -- ---- completeness
 
@@ -118,17 +107,6 @@ accepted_done laws left words told command e accepted before ran after old new s
     subst (λ (r : Ran). EndsAfter r (OfCommand told r command) old new status) idle ends in
     settled (Answers words told Unserved) old new status (accepted_yes laws words told accepted) no_read no_write
     (weaker (OfCommand told Unserved command) (Answers words told Unserved) old new status (answered words told Unserved command e) plain)
-
-served_yes : (ended : Ended) (answer : Answer) → IsServed (Ok ended) → answer ≡ answer_of ended → IsYes answer
-served_yes (ends.BadFile file line) answer h e = absurd h
-served_yes (ends.Foreign file place) answer h e = absurd h
-served_yes (ends.Served served) answer h e = subst IsYes (sym e) tt
-
--- a provider that served is done, or there was no memory to say so
-pub served_done : (ended : Ended) (old new : Option (List ℕ)) (status : Status) → IsServed (Ok ended) → EndsWith (λ answer. answer ≡ answer_of ended) old new status →
-    (status ≢ statuses.ReadFault) → (status ≢ statuses.WriteFault) → (status ≡ statuses.Done) ⊎ (status ≡ statuses.NoMemory)
-served_done ended old new status h ends no_read no_write =
-    settled (λ answer. answer ≡ answer_of ended) old new status (λ answer. served_yes ended answer h) no_read no_write ends
 
 -- a command of the words that can be run
 pub runnable : (words : List (List ℕ)) (told : Option (List File)) (disk : Option DiskState) (command : Command) → command_of words ≡ Some command →

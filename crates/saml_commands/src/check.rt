@@ -8,8 +8,8 @@ use crate::answer::Answer;
 use record_lines::put_escaped;
 use request_rows::{AskedRow, NewSession, OpenedRow, ROW_LIMIT, Rows};
 use saml_outside::{Attribute, Attributes, Blob, NoMemory, Text};
-use saml_time::LAST;
-use sp_rules::{FIRST, GREATEST_SKEW, Judged, SpConfig, judge};
+use saml_time::{GREATEST_SKEW, LAST};
+use sp_rules::{FIRST, Judged, SpConfig, judge};
 use sp_setup::{AskedLine, OpenedLine, SetUp};
 use std::alloc::Global;
 

@@ -6,6 +6,7 @@ ghost use Rattle.saml_outside.specs.Sinks.{Puts};
 /// A `put` failed. It took the first `sent` bytes of its piece, and no more.
 #[derive(Clone, Copy, Debug, PartialEq, Eq)]
 pub struct SinkFailed {
+    /// How many bytes of the piece were taken.
     pub sent: usize,
 }
 

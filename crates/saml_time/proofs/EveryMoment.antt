@@ -6,7 +6,7 @@ use Rattle.std.proofs.lemmas.Bool.{cases_lt}
 use Rattle.std.proofs.lemmas.List.Elements.{All-from_recursion}
 use Rattle.saml_time.specs.declared.TheConstants.{LAST}
 use Rattle.saml_time.specs.Calendar.{is_leap_year, days_in_year, days_in_month, days_of_years, days_of_months}
-use Rattle.saml_time.specs.Instant.{EachIsTold, Day, IsDay, TellsInFull, days_of, digit}
+use Rattle.saml_time.specs.Instant.{EachIsTold, IsDay, days_of}
 use Rattle.saml_time.specs.Pieces.{day_of}
 use Rattle.saml_time.proofs.WrittenLemmas.{tells, written}
 
@@ -150,9 +150,6 @@ each_day zero h = (
 each_day (suc n) h =
     let (y, m, d, is, at) = each_day n (omega arith) in
     next n y m d (cases_lt d (days_in_month y m)) is at h
-
-graphic_digit : (n place : ℕ) → IsAsciiGraphic (digit n place)
-graphic_digit n place = omega arith
 
 graphic : (year month day hour minute second fraction : ℕ) → All IsAsciiGraphic (written year month day hour minute second fraction)
 graphic year month day hour minute second fraction =

@@ -19,6 +19,9 @@ pub use write::put_instant;
 /// The last moment that has a written form: 9999-12-31T23:59:59.999Z, in milliseconds since 1970.
 pub const LAST: u64 = 253_402_300_799_999;
 
+/// The longest difference between the clocks of two providers that may be allowed for, in milliseconds.
+pub const GREATEST_SKEW: u64 = 300_000;
+
 /// The law that a text is the written form of one instant at most: no bytes are printed by two.
 pub fn text_has_one_instant()
     ensures { OneInstant }

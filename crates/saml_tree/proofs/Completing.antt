@@ -16,9 +16,6 @@ pub run_append : (ts us : List Token) (s : State) → run s (ts ++ us) ≡ run (
 run_append [] us s = refl
 run_append (t ∷ ts) us s = run_append ts us (step s t)
 
-sum_place : (place a b : ℕ) → (place + a) + b ≡ place + (a + b)
-sum_place place a b = omega arith
-
 length_tokens : (t : Token) (ts : List Token) → length (print_tokens (t ∷ ts)) ≡ length (print_token t) + length (print_tokens ts)
 length_tokens t ts = length-append (print_token t) (print_tokens ts)
 

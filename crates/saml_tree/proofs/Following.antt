@@ -97,9 +97,6 @@ pub not_taken : (text : List ℕ) (e : TreeFault) (P : Type 0) → (e ≡ faults
 not_taken text e P (inl memory) h = subst (IsNotKept text) (sym memory) tt
 not_taken text e P (inr bad) h = subst (IsNotKept text) (sym bad.0) (h bad.1)
 
-pub out_of_memory : (text : List ℕ) (e : TreeFault) → e ≡ faults.NoMemory → IsNotKept text e
-out_of_memory text e memory = subst (IsNotKept text) (sym memory) tt
-
 -- all was read
 module _ (text rest left : List ℕ) (ts : List Token) (o : outlines.Outline) (p : Progress text rest left ts o)
     (ended : left ≡ []) (complete : is_complete o ≡ true) where

@@ -17,9 +17,6 @@ wider low high l h spans a b all =
     each_weaker (Within l h) (Within low high)
     (λ span in_it. record { from = omega (arith, in_it.from); ordered = in_it.ordered; to = omega (arith, in_it.to) }) spans all
 
-tokens_length : Content → ℕ
-tokens_length content = length (print_tokens (tokens_of content))
-
 more : (token : Token) (tokens : List Token) → length (print_tokens (token ∷ tokens)) ≡ length (print_token token) + length (print_tokens tokens)
 more token tokens = length-append (print_token token) (print_tokens tokens)
 

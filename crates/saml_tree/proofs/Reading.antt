@@ -5,7 +5,7 @@ use Rattle.std.specs.Option.{option_and_then}
 use Rattle.xml_spec.specs.Bytes.{begins_with, no_two}
 use Rattle.xml_spec.specs.Characters.{IsText}
 use Rattle.xml_spec.specs.Tree.{Nodes}
-use Rattle.xml_spec.specs.Syntax.{Characters, Refers, Section, CommentItem, ProcessingInstruction, EmptyTag, Token, Alone, StartTag, EndTag, print_token, print_tokens, is_run, IsToken, AreTokens, NoContent, tokens_of, Content}
+use Rattle.xml_spec.specs.Syntax.{Characters, Refers, Section, CommentItem, ProcessingInstruction, EmptyTag, Token, Alone, StartTag, EndTag, print_token, print_tokens, is_run, IsToken, AreTokens, tokens_of, Content}
 use Rattle.xml_spec.specs.Document.{is_document, Document, print_head, Writes, Spells}
 use Rattle.xml_spec.specs.Laws.{BeginsWith}
 use Rattle.xml_spec.proofs.Tests.{both_true, and_true}
@@ -130,23 +130,6 @@ pub record Progress (text rest now : List ℕ) (ts : List Token) (o : Outline) :
   pub count : count (after text rest ts) ≤ (after text rest ts).place
   pub stack : length (after text rest ts).open_elements ≤ (after text rest ts).place
   pub place : (after text rest ts).place + length now ≡ length text
-
-head_length : (text rest : List ℕ) → HasHead text rest → start text rest + length rest ≡ length text
-head_length text rest head =
-    let all = ap length head.printed
-    ∙ length-append (print_head (record { mark = head.mark; declaration = head.declaration; content = NoContent })) rest in
-    omega arith
-
--- before the first token
-pub no_progress : (text rest : List ℕ) → HasHead text rest → Progress text rest rest [] first_outline
-no_progress text rest head = record {
-  reads = refl;
-  outline = refl;
-  level = refl;
-  count = omega arith;
-  stack = omega arith;
-  place = head_length text rest head;
-}
 
 -- one more token
 pub more_progress : (text rest now behind : List ℕ) (ts : List Token) (o next : Outline) (t : Token) → Progress text rest now ts o →

@@ -87,10 +87,6 @@ declaration_named scope (Some a) h = ap (λ b. Some (cond b xmlns_namespace (att
 abbrev attribute_in : Nodes → ℕ → Option Attribute
 attribute_in nodes i = option_and_then (λ attributes. slice_get attributes i) (attributes_of nodes)
 
-abbrev attribute_name_in : Scope → Nodes → ℕ → Option ShownName
-attribute_name_in scope nodes i =
-    option_and_then (λ attributes. option_map (shown_attribute_name (inner_scope attributes scope)) (slice_get attributes i)) (attributes_of nodes)
-
 shape_attribute_namespace : (table : List (List ℕ)) (numbers : List ℕ) (scope : Scope) (shape : Shape) (kids rest : Nodes) (names : RowNames) (i : ℕ) →
     IsSome (attribute_in (node shape kids rest) i) → IsResolvedShape table numbers scope shape names →
     option_and_then (slice_get table) (slice_get numbers (names.from + i))
@@ -198,16 +194,6 @@ element_named tree k shape kids rest name space attributes here is h =
     let scope = scope_at outermost tree k in
     some_name name space (name_at tree k) (element_name (inner_scope attributes scope) name).namespace
     (ap (shown_name scope) (here ∙ ap (λ s. node s kids rest) is)) h
-
-pub is_an_element : (tree : Nodes) (k : ℕ) (shape : Shape) (kids rest : Nodes) (name : List ℕ) (attributes : List Attribute) →
-    from_node tree k ≡ node shape kids rest → shape ≡ ElementShape name attributes → kind_of (from_node tree k) ≡ Some kinds.Element
-is_an_element tree k shape kids rest name attributes here is = ap kind_of (here ∙ ap (λ s. node s kids rest) is)
-
-pub instruction_named : (tree : Nodes) (k : ℕ) (shape : Shape) (kids rest : Nodes) (target value : List ℕ) →
-    from_node tree k ≡ node shape kids rest → shape ≡ InstructionShape target value →
-    name_at tree k ≡ Some (record { prefix = []; local = target; namespace = [] })
-instruction_named tree k shape kids rest target value here is =
-    ap (shown_name (scope_at outermost tree k)) (here ∙ ap (λ s. node s kids rest) is)
 
 attribute_named_in : (scope : Scope) (o : Option (List Attribute)) (i : ℕ) (a : Attribute) →
     option_and_then (λ attributes. slice_get attributes i) o ≡ Some a →

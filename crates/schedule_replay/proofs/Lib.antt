@@ -5,5 +5,4 @@ mod Going
 mod Hosting
 mod Passing
 mod Replaying
-mod Rounding
 mod Summing

@@ -2,13 +2,11 @@ mod AnyScope
 mod Checking
 mod Digests
 mod Examples
-mod Judging
 mod Lengths
 mod MadeNames
 mod MadeScopes
 pub mod OneSignature
 mod Parting
-mod Places
 mod PutInside
 mod Shapes
 pub mod SignatureMade

@@ -17,7 +17,7 @@ use Rattle.sig_reference.specs.Signing.{has_no_signature}
 use Rattle.sig_reference.proofs.AnyScope.{same_form}
 use Rattle.sig_reference.proofs.MadeNames.{none_signed}
 use Rattle.sig_reference.proofs.MadeScopes.{Has, has_none, has_inside}
-use Rattle.sig_reference.proofs.Places.{Stands, some, first_kid, kids_here, canonical_here}
+use Rattle.tree_read.proofs.Places.{Stands, some, first_kid, kids_here, canonical_here}
 
 -- the nodes and then others, where no texts meet
 abbrev followed : Nodes → Nodes → Nodes

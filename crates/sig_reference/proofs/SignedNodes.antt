@@ -12,7 +12,7 @@ use Rattle.saml_names.specs.Names.{ds_namespace}
 use Rattle.tree_read.specs.Children.{child}
 use Rattle.sig_reference.specs.Form.{Parts, IsMethod, IsCanonicalization, AreTransforms, IsReference, IsSignedInfo, IsSignature, IsBase64}
 use Rattle.sig_reference.specs.Signature.{number_sign}
-use Rattle.sig_reference.proofs.Places.{Stands, some, first_kid, behind, kids_here, attribute_here, text_here}
+use Rattle.tree_read.proofs.Places.{Stands, some, first_kid, behind, kids_here, attribute_here, text_here}
 
 abbrev pub own_element : List ℕ → List Attribute → Nodes → Nodes → Nodes
 own_element local attributes kids rest = Element (qualified Ds local) attributes kids rest

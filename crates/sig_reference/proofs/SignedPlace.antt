@@ -20,7 +20,7 @@ use Rattle.saml_names.specs.Names.{ds_namespace}
 use Rattle.tree_read.specs.Children.{child, elements_of}
 use Rattle.sig_reference.specs.Form.{HasForm, IsBase64}
 use Rattle.sig_reference.specs.Signing.{has_no_signature, signed_info}
-use Rattle.sig_reference.proofs.Places.{Stands, some, first_kid, behind, kids_here, attribute_here, canonical_here}
+use Rattle.tree_read.proofs.Places.{Stands, some, first_kid, behind, kids_here, attribute_here, canonical_here}
 use Rattle.sig_reference.proofs.SignatureMade.{info_made}
 use Rattle.sig_reference.proofs.SignedNodes.{own_element, info_kids, signature_kids, made_parts, is_signature}
 use Rattle.sig_reference.proofs.AnyScope.{proper_here, same_form}

@@ -19,7 +19,7 @@ use Rattle.sig_reference.proofs.Digests.{digest_is_bytes, tag_is_bytes, tag_leng
 use Rattle.sig_reference.proofs.AnyScope.{same_form}
 use Rattle.sig_reference.proofs.MadeNames.{value_there}
 use Rattle.sig_reference.proofs.MadeScopes.{Has}
-use Rattle.sig_reference.proofs.Places.{Stands}
+use Rattle.tree_read.proofs.Places.{Stands}
 use Rattle.sig_reference.proofs.PutInside.{IsPut}
 use Rattle.sig_reference.proofs.SignatureMade.{issued, unsigned_made}
 use Rattle.sig_reference.proofs.SignedNodes.{made_parts}

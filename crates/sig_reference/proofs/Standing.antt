@@ -5,7 +5,7 @@ use Rattle.xml_spec.specs.Tree.{Nodes}
 use Rattle.xml_spec.specs.Numbering.{size, from_node, kids_of}
 use Rattle.saml_tree.specs.Elements.{IsElement}
 use Rattle.saml_tree.proofs.Numbers.{left_from, some_from, size_parts, kid_from}
-use Rattle.sig_reference.specs.Form.{Parts, HasForm, HasFirstForm, IsSignature}
+use Rattle.sig_reference.specs.Form.{Parts, HasForm, HasFirstForm}
 use Rattle.sig_reference.specs.Vouching.{VouchedView, IsVouchedWith, IsVouchedFirstWith, IsVouched, IsIn}
 use Rattle.sig_reference.proofs.Shapes.{first_child, second_child}
 
@@ -20,9 +20,6 @@ first_element tree e parts form = (first_child tree e form.children).1
 
 pub first_below : (tree : Nodes) (e : ℕ) (parts : Parts) → HasFirstForm tree e parts → e < parts.signature
 first_below tree e parts form = (first_child tree e form.children).0
-
-pub info_element : (tree : Nodes) (parts : Parts) → IsSignature tree parts → IsElement tree parts.signed_info
-info_element tree parts signature = (first_child tree parts.signature signature.children).1
 
 -- the Signature of what is vouched for is an element
 pub vouched_element : (v : VouchedView) → IsVouched v → IsElement v.document.tree v.signature

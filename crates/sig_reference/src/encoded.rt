@@ -1,7 +1,6 @@
 // Base64 of 32 bytes in the text of an element (RFC 4648, 4; XML Signature, 4.2 and 4.3.3.6).
 
-ghost use Rattle.std.specs.Prelude.{◌≡◌, ℕ, List, not, filter, length, IfOk, IfErr};
-ghost use Rattle.xml_spec.specs.Syntax.{is_white};
+ghost use Rattle.std.specs.Prelude.{◌≡◌, ℕ, List, length, IfOk, IfErr};
 ghost use Rattle.tree_read.specs.Faults.{IsShapeFault};
 ghost use Rattle.tree_read.specs.Texts.{text_of};
 ghost use Rattle.tree_read.specs.Views.{tree_of};
@@ -11,19 +10,8 @@ use base64::DecodeAllocError;
 use base64::engine::general_purpose::STANDARD;
 use owned_values::NoMemory;
 use std::alloc::Global;
-use tree_read::{At, ShapeFault, is_white, text_of};
-
-/// The bytes that are no white space.
-fn without_white(alloc: Global, bytes: &[u8]) -> Result<Vec<u8>, NoMemory>
-    ensures { IfOk result (λ kept. kept.items ≡ filter (λ b. not (is_white b)) bytes.now) }
-{
-    let kept = bytes
-        .iter()
-        .filter(|byte| !is_white(**byte))
-        .copied()
-        .collect(alloc)?;
-    Ok(kept)
-}
+use tree_read::{At, ShapeFault, text_of};
+use xml_chars::without_white;
 
 /// The 32 bytes that there are.
 fn digest_of(bytes: &[u8]) -> Result<[u8; 32], ShapeFault>
@@ -47,7 +35,9 @@ fn decoded(alloc: Global, text: &[u8]) -> Result<[u8; 32], ShapeFault>
     ensures ok { IfOk result (λ digest. IsBase64 text.now digest) }
     ensures other { IfErr result (λ fault. IsShapeFault fault ((digest : List ℕ) → ¬ (IsBase64 text.now digest))) }
 {
-    let symbols = without_white(alloc, text)?;
+    let Ok(symbols) = without_white(alloc, text) else {
+        return Err(ShapeFault::NoMemory);
+    };
     match STANDARD.decode(alloc, symbols.as_slice()) {
         Ok(bytes) => digest_of(bytes.as_slice()),
         Err(DecodeAllocError::OutOfMemory) => Err(ShapeFault::NoMemory),

@@ -1,15 +1,12 @@
 // The words of a text, and the prefixes of a PrefixList (Exclusive XML Canonicalization 1.0, 4).
 
-ghost use Rattle.std.specs.Prelude.{◌≡◌, ◌↔◌, [], ◌++◌, IfOk, IsTrue, OnOk, is_some};
+ghost use Rattle.std.specs.Prelude.{◌≡◌, ◌↔◌, [], ◌++◌, IfOk, IsTrue, OnOk};
 ghost use Rattle.std.specs.List.{AllByRecursion};
-ghost use Rattle.std.specs.Option.{option_map};
-ghost use Rattle.xml_spec.specs.Characters.{at_colon};
 ghost use Rattle.sig_reference.specs.Form.{with_word, words, IsPrefix};
 
 use owned_values::{NoMemory, Text, Texts};
 use std::alloc::Global;
-use tree_read::is_white;
-use xml_chars::is_name;
+use xml_chars::{has_colon, is_name, is_white};
 
 /// Puts a word behind others; an empty one is none.
 fn push_word(alloc: Global, word: &str, words: &mut Texts) -> Result<(), NoMemory>
@@ -38,20 +35,6 @@ pub(crate) fn words(alloc: Global, text: &str) -> Result<Texts, NoMemory>
     }
     push_word(alloc, &text[start..], &mut found)?;
     Ok(found)
-}
-
-/// What stands before the first colon and what stands behind it.
-fn split_colon<'a>(name: &'a str) -> Option<(&'a str, &'a str)>
-    ensures { option_map (λ parts. (parts.0.now, parts.1.now)) result ≡ at_colon name.now }
-{
-    name.split_once(':')
-}
-
-/// Whether a name has a colon.
-fn has_colon(name: &str) -> bool
-    ensures { result ≡ is_some (at_colon name.now) }
-{
-    split_colon(name).is_some()
 }
 
 /// Whether the word is a prefix, or `#default`, which stands for the default namespace.

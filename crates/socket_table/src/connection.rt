@@ -22,7 +22,9 @@ pub enum Stage {
 /// A connection. Moments are in milliseconds.
 #[derive(Drop)]
 pub struct Connection {
+    /// The number of the connection.
     pub number: u32,
+    /// How far it is.
     pub stage: Stage,
     /// The moment when its stage began, or when something was sent on it last.
     pub since: u64,

@@ -8,7 +8,9 @@ use std::io::{Read, Write};
 /// A connection and its stream.
 #[derive(Drop)]
 pub struct Seat<S> {
+    /// The connection.
     pub connection: Connection,
+    /// Its stream.
     pub stream: S,
 }
 

@@ -20,6 +20,7 @@ pub enum Next {
 pub struct Heard {
     /// How many bytes came.
     pub count: usize,
+    /// What may come behind them.
     pub next: Next,
 }
 
@@ -28,6 +29,7 @@ pub struct Heard {
 pub struct Taken {
     /// How many bytes it took.
     pub count: usize,
+    /// What it may take behind them.
     pub next: Next,
 }
 

@@ -30,6 +30,7 @@ fn longer_silent(found: Option<Silent>, next: Silent) -> Silent
 /// The connections, in the order of their turns.
 #[derive(Drop)]
 pub struct SocketTable<S> {
+    /// The connections that are there, each with its stream.
     pub seats: Vec<Seat<S>>,
     /// The number that was given last.
     pub last: u32,

@@ -1,7 +1,6 @@
 //! How a login is asked for.
-ghost use Rattle.std.specs.Prelude.{◌≡◌, ◌≢◌, ◌≤◌, [], IfOk};
+ghost use Rattle.std.specs.Prelude.{◌≢◌, ◌≤◌, [], IfOk};
 ghost use Rattle.xml_spec.specs.Characters.{IsText};
-ghost use Rattle.element_make.specs.Made.{written};
 ghost use Rattle.sp_answers.specs.Answers.{HoldsTexts, IsAskAnswer};
 
 use element_make::Made;
@@ -16,15 +15,6 @@ use std::alloc::Global;
 
 /// The status of a page.
 pub(crate) const OK: u16 = 200;
-
-/// What is written of a made element.
-pub(crate) fn written(alloc: Global, made: Made) -> Result<Blob, NoMemory>
-    ensures { IfOk result (λ bytes. bytes ≡ written made) }
-{
-    let mut out = Vec::new(alloc);
-    made.put(&mut out)?;
-    Blob::of(alloc, out.as_slice())
-}
 
 /// The answer that asks the identity provider for a login, by a form that sends on a signed AuthnRequest of this ID, issued at
 /// `now`, with its relay state (SAML Profiles, 4.1.4.1; SAML Bindings, 3.5.4).
@@ -52,7 +42,7 @@ pub fn ask_answer(
         now,
     )?;
     let signed = sign(alloc, made, config.key_out.as_slice())?;
-    let message = written(alloc, signed)?;
+    let message = signed.written(alloc)?;
     let page = auto_form(
         alloc,
         service,

@@ -1,5 +1,5 @@
 -- Which signatures cover an assertion.
-use Rattle.std.proofs.Common.{◌≡◌, ℕ, Bool, true, false, cond, List, [], ◌∷◌, ◌++◌, ◌⊎◌, Some, codes, inl, inr, refl, sym, ◌∙◌, ap, subst, arith}
+use Rattle.std.proofs.Common.{◌≡◌, ℕ, Bool, true, false, cond, List, [], ◌∷◌, ◌++◌, ◌⊎◌, Some, codes, inl, inr, sym, ◌∙◌, ap, subst, arith}
 use Rattle.std.specs.List.{AllByRecursion}
 use Rattle.xml_spec.specs.Tree.{Nodes}
 use Rattle.saml_names.specs.Names.{saml}
@@ -9,7 +9,6 @@ use Rattle.saml_tree.specs.Elements.{IsElement}
 use Rattle.saml_tree.specs.declared.node.NodeNo.{NodeNo}
 use Rattle.sig_reference.specs.Vouching.{VouchedView, IsIn}
 use Rattle.sig_reference.specs.declared.fault.SigFault.{SigFault}
-use Rattle.sig_reference.specs.declared.fault.SigFault.TheVariants as faults
 use Rattle.assertion_model.specs.Parts.{own_signature}
 use Rattle.assertion_model.specs.Places.{IsPartOf}
 use Rattle.assertion_model.proofs.ApartLemmas.{children_are_parts}
@@ -98,10 +97,6 @@ assertion_unverified keys tree p fault r a u =
     inr (subst (λ es. IsFirstUnverified keys tree es fault) (sym (assertion_alone tree p r ∙ signed_is tree p a)) (inl u))
 
 -- NOTHING IS SIGNED
-
-pub nothing_covers : (keys : List Key) (tree : Nodes) (p : ℕ) → is_signed tree 0 ≡ false → is_signed tree p ≡ false →
-    IsUncovered keys tree p faults.BadSignatureForm
-nothing_covers keys tree p r a = inl (assertion_alone tree p r ∙ unsigned_is tree p a, refl)
 
 -- WHICH ELEMENT IS THE FIRST
 

@@ -3,9 +3,6 @@
 use metadata::Peer;
 use owned_values::{Blob, Text};
 
-/// The longest difference between two providers' clocks that may be allowed for, in milliseconds.
-pub const GREATEST_SKEW: u64 = 300_000;
-
 /// How long a session lives at most, in milliseconds: eight hours.
 pub const SESSION_LENGTH: u64 = 28_800_000;
 

@@ -1,6 +1,6 @@
 // The verdict on a posted form (SAML Profiles, 4.1.4; SAML Bindings, 3.5).
 
-ghost use Rattle.std.specs.Prelude.{◌≡◌, ◌≤◌, ℕ, List, length, None, Some, true, false, IfOk, IfErr, IfSome, OnOk};
+ghost use Rattle.std.specs.Prelude.{◌≡◌, ◌≤◌, ℕ, List, length, None, Some, IfOk, IfErr, IfSome, OnOk};
 ghost use Rattle.std.specs.List.{AllByRecursion};
 ghost use Rattle.saml_tree.specs.Documents.{IsSpelled};
 ghost use Rattle.saml_tree.specs.Elements.{IsElement};
@@ -13,7 +13,7 @@ ghost use Rattle.sp_rules.specs.Shown.{IsOpening};
 ghost use Rattle.sp_rules.specs.Verdict.{form_refusal, head_refusal, login_refusal, IsRefused};
 
 use crate::accepted::Accepted;
-use crate::config::{GREATEST_SKEW, SpConfig};
+use crate::config::SpConfig;
 use crate::cover::cover_of;
 use crate::login::{
     consumer_address, is_for, is_from, is_in_time, is_outstanding, is_relayed, is_sent_to,
@@ -27,19 +27,11 @@ use owned_values::{Blob, Text};
 use post_binding::{Field, MESSAGE_LIMIT, read_form};
 use protocol_messages::ResponseHead;
 use request_rows::{AskedRow, Rows};
-use saml_time::LAST;
+use saml_time::{GREATEST_SKEW, LAST};
 use saml_tree::{Doc, read_document};
 use std::alloc::Global;
 use tree_read::At;
-use verdict_codes::Verdict;
-
-/// Asks that a condition holds.
-fn ask(holds: bool, verdict: Verdict) -> Result<(), Verdict>
-    ensures ok { OnOk result (holds ≡ true) }
-    ensures err { IfErr result (λ e. (e ≡ verdict) × (holds ≡ false)) }
-{
-    if holds { Ok(()) } else { Err(verdict) }
-}
+use verdict_codes::{Verdict, ask};
 
 /// The message of a form in which a Response was posted, with its relay.
 fn read_posted(alloc: Global, body: &[u8]) -> Result<(Blob, Option<Text>), Judged>

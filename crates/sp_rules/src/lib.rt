@@ -40,7 +40,7 @@ mod reading;
 mod shown;
 
 pub use accepted::{Accepted, Spans};
-pub use config::{FIRST, GREATEST_SKEW, NextKey, SECOND, SESSION_LENGTH, SpConfig};
+pub use config::{FIRST, NextKey, SECOND, SESSION_LENGTH, SpConfig};
 pub use fault_verdicts::Judged;
 pub use judging::judge;
 pub use keys::UsableKeys;

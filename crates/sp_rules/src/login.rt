@@ -4,12 +4,12 @@ ghost use Rattle.std.specs.Prelude.{◌≡◌, ◌≤◌, IfOk, option_copied};
 ghost use Rattle.sp_rules.specs.Meant.{consumer, is_if_any, is_from, names_provider, is_for, is_destination, is_sent_to, is_before_with, is_from_with, is_in_time};
 ghost use Rattle.sp_rules.specs.Outstanding.{is_outstanding, is_unspent, is_unseen, is_relayed};
 
-use crate::config::{GREATEST_SKEW, SpConfig};
+use crate::config::SpConfig;
 use assertion_model::Login;
 use owned_values::{NoMemory, Text, Texts};
 use protocol_messages::ResponseHead;
 use request_rows::{AskedRow, Rows};
-use saml_time::LAST;
+use saml_time::{GREATEST_SKEW, LAST};
 use std::alloc::Global;
 
 /// The path below a provider's base to which responses go.

@@ -14,12 +14,12 @@ ghost use Rattle.sp_rules.specs.Shown.{AreWrittenAt, session_end, session_of, Is
 ghost use Rattle.sp_rules.specs.Views.{IsCoverOf};
 
 use crate::accepted::{Accepted, Spans};
-use crate::config::{GREATEST_SKEW, SESSION_LENGTH, SpConfig};
+use crate::config::{SESSION_LENGTH, SpConfig};
 use crate::cover::Cover;
 use assertion_model::{Login, Places};
 use owned_values::{NoMemory, Text};
 use request_rows::NewSession;
-use saml_time::LAST;
+use saml_time::{GREATEST_SKEW, LAST};
 use saml_tree::Doc;
 use std::alloc::Global;
 use tree_read::Nodes;

@@ -2,7 +2,7 @@
 use Rattle.std.specs.Prelude.{◌≤◌, IfSome}
 use Rattle.xml_spec.specs.Characters.{IsText}
 use Rattle.sp_rules.specs.declared.config.SpConfig.{SpConfig}
-use Rattle.sp_rules.specs.declared.config.TheConstants.{GREATEST_SKEW}
+use Rattle.saml_time.specs.declared.TheConstants.{GREATEST_SKEW}
 use Rattle.sp_answers.specs.Answers.{HoldsTexts}
 
 -- A config with which a provider can be started: its texts and the addresses of the identity provider hold characters

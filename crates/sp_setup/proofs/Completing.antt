@@ -15,7 +15,7 @@ use Rattle.provider_config.specs.declared.line.TheConstants.{MILLIS, MOST_SKEW}
 use Rattle.request_rows.specs.declared.rows.TheConstants.{ROW_LIMIT}
 use Rattle.sp_rules.specs.declared.config.NextKey.{NextKey}
 use Rattle.sp_rules.specs.declared.config.SpConfig.{SpConfig}
-use Rattle.sp_rules.specs.declared.config.TheConstants.{GREATEST_SKEW}
+use Rattle.saml_time.specs.declared.TheConstants.{GREATEST_SKEW}
 use Rattle.sp_setup.specs.declared.loaded.Loaded.{Loaded}
 use Rattle.sp_setup.specs.declared.setup.SetUp.{SetUp}
 use Rattle.sp_setup.specs.Config.{next_of, config_of}

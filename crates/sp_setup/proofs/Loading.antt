@@ -1,5 +1,5 @@
 -- The files that lines name, one after the other.
-use Rattle.std.proofs.Common.{◌≡◌, ℕ, ◌+◌, ◌<◌, Bool, true, false, cond, ◌||◌, List, [], ◌∷◌, length, drop, get_or, Option, inl, inr, refl, sym, ap, subst, ◌∙◌, arith}
+use Rattle.std.proofs.Common.{◌≡◌, ℕ, ◌+◌, ◌<◌, Bool, true, false, cond, ◌||◌, List, [], ◌∷◌, length, drop, get_or, Option, inr, refl, sym, ap, subst, ◌∙◌, arith}
 use Rattle.std.specs.Prelude.{count_by}
 use Rattle.std.specs.List.{list_any}
 use Rattle.std.proofs.lemmas.List.{drop_more}
@@ -19,9 +19,6 @@ next_left : {L : Type 0} (lines : List L) (i : ℕ) (item : L) → i < length li
 next_left {L} lines i item within is = ap (λ (x : L). x ∷ drop (i + 1) lines) is ∙ sym (drop_more lines i item within)
 
 module _ {L X : Type 0} (of_line : L → X → Reading X) (told : Option (List File)) (lines : List L) (start : X) where
-  pub leads_at_first : LeadsToAll of_line told lines lines start start
-  leads_at_first = record { gives = λ after h. h; fails = λ file line h. h }
-
   pub leads_on : (i : ℕ) (item : L) (before middle : X) → i < length lines → item ≡ get_or lines i item → LeadsToAll of_line told lines (drop i lines) start before →
       (of_line item before).gives told middle → LeadsToAll of_line told lines (drop (i + 1) lines) start middle
   leads_on i item before middle within is leads adds = record {
@@ -30,12 +27,6 @@ module _ {L X : Type 0} (of_line : L → X → Reading X) (told : Option (List F
     fails = λ file line h.
         leads.fails file line (subst (λ (left : List L). (in_order of_line left before).fails told file line) (next_left lines i item within is) (inr (middle, adds, h)));
   }
-
-  -- the line at a place is bad, and those before it are not
-  pub bad_here : (i : ℕ) (item : L) (before : X) → i < length lines → item ≡ get_or lines i item → LeadsToAll of_line told lines (drop i lines) start before →
-      (file : List ℕ) (line : ℕ) → (of_line item before).fails told file line → (in_order of_line lines start).fails told file line
-  bad_here i item before within is leads file line bad =
-      leads.fails file line (subst (λ (left : List L). (in_order of_line left before).fails told file line) (next_left lines i item within is) (inl bad))
 
   -- all were read
   pub read_all : (left : List L) (before : X) → left ≡ [] → LeadsToAll of_line told lines left start before → (in_order of_line lines start).gives told before

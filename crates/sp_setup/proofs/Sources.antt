@@ -1,5 +1,5 @@
 -- What a registry gives, and what it refuses.
-use Rattle.std.proofs.Common.{◌≡◌, ℕ, ◌≤◌, List, Option, None, Some, MatchOption, Result, Ok, Err, IfOk, inl, inr, refl, sym, ap, ◌∙◌}
+use Rattle.std.proofs.Common.{◌≡◌, ℕ, ◌≤◌, List, Option, None, Some, MatchOption, Result, Ok, Err, IfOk, inl, inr, refl}
 use Rattle.xml_spec.specs.declared.TheConstants.{MAX_DOCUMENT_LENGTH}
 use Rattle.saml_outside.specs.Files.{File}
 use Rattle.provider_config.specs.declared.config.RegistryLine.{RegistryLine}
@@ -13,7 +13,7 @@ use Rattle.sp_setup.specs.declared.source.Source.{Source}
 use Rattle.sp_setup.specs.Faults.{IsFaultOf}
 use Rattle.sp_setup.specs.Files.{whole, key_file}
 use Rattle.sp_setup.specs.Setup.{load_registry}
-use Rattle.sp_setup.specs.Views.{Lists, IsUnlisted, no_registry, no_provider, TakesProvider}
+use Rattle.sp_setup.specs.Views.{Lists, IsUnlisted, no_registry, no_provider}
 use Rattle.sp_setup.proofs.Telling.{wider}
 
 -- what is found in a registry that was read
@@ -32,27 +32,6 @@ module _ (told : Option (List File)) (line : RegistryLine) (before : Loaded) (by
   bad_key start middle now fault later h =
       wider ((key_file line.key).fails told) ((load_registry line before).fails told) start middle now fault later
       (λ file number bad. inr (bytes, there, inl bad)) h
-
-  -- both files were read, and the registry gives the provider
-  pub listed_here : (key : List ℕ) (after : Loaded) → (key_file line.key).gives told key → TakesProvider bytes key line.entity before after →
-      (load_registry line before).gives told after
-  listed_here key after key_there (peer, until, lists, is) = (
-    bytes,
-    there,
-    (
-      key,
-      key_there,
-      (
-        lists.registry,
-        lists.read,
-        (
-          peer,
-          lists.says,
-          is ∙ ap (λ (u : ℕ). record before { idp = Some peer; expiry = Some u }) (sym lists.ends),
-        ),
-      ),
-    ),
-  )
 
   -- or none
   pub unlisted_here : (key : List ℕ) → (key_file line.key).gives told key → IsUnlisted bytes key line.entity → (load_registry line before).fails told line.file 0

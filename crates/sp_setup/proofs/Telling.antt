@@ -1,5 +1,5 @@
 -- What a fault says.
-use Rattle.std.proofs.Common.{◌≡◌, ℕ, ◌≤◌, List, Option, Result, Ok, Err, IfOk, IfErr, inl, inr, sym, subst, arith}
+use Rattle.std.proofs.Common.{◌≡◌, ℕ, ◌≤◌, List, Option, Result, Ok, Err, IfOk, IfErr, inl, sym, subst, arith}
 use Rattle.std.specs.Prelude.{IsErrAnd}
 use Rattle.saml_outside.specs.Files.{File}
 use Rattle.saml_outside.specs.Counts.{Rose}
@@ -45,9 +45,3 @@ pub first_fails : {X Y : Type 0} (held : Option (List File)) (first : Reading X)
     IsFaultOf (first.fails held) before now fault → IsFaultOf ((first >>= next).fails held) before now fault
 first_fails held first next before now fault h =
     wider (first.fails held) ((first >>= next).fails held) before before now fault (omega arith) (λ file line bad. inl bad) h
-
--- and so is what is told of those that follow on what they gave
-pub next_fails : {X Y : Type 0} (held : Option (List File)) (first : Reading X) (next : X → Reading Y) (x : X) (before middle now : ℕ) (fault : SetupFault) →
-    first.gives held x → before ≤ middle → IsFaultOf ((next x).fails held) middle now fault → IsFaultOf ((first >>= next).fails held) before now fault
-next_fails held first next x before middle now fault given later h =
-    wider ((next x).fails held) ((first >>= next).fails held) before middle now fault later (λ file line bad. inr (x, given, bad)) h

@@ -21,7 +21,7 @@ use Rattle.provider_config.specs.declared.config.FileRole.TheVariants as roles
 use Rattle.provider_config.specs.declared.line.Purpose.{Purpose}
 use Rattle.request_rows.specs.declared.rows.TheConstants.{ROW_LIMIT}
 use Rattle.sp_rules.specs.declared.config.SpConfig.{SpConfig}
-use Rattle.sp_rules.specs.declared.config.TheConstants.{GREATEST_SKEW}
+use Rattle.saml_time.specs.declared.TheConstants.{GREATEST_SKEW}
 use Rattle.sp_setup.specs.Config.{config_of}
 use Rattle.sp_setup.specs.Files.{in_order}
 use Rattle.sp_setup.specs.Setup.{Setup, nothing, load, IsSetUp}

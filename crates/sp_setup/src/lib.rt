@@ -18,7 +18,7 @@
 //! `set_up`: a service provider exactly as its config and the files that it names say, with its policy and the end of
 //! its registry (`ok`), or the first file that can't be used and its line, unless a reading failed or memory ran out
 //! (`err`); within the bounds that judging asks for (`bounds`), and with names and addresses that a document may hold
-//! (`texts`). A config has one outcome (`laws::a_config_has_one_outcome`); with a registry the identity provider is
+//! (`texts`). `read_whole`: a file that has to be there, in the same way. A config has one outcome (`laws::a_config_has_one_outcome`); with a registry the identity provider is
 //! what the covered aggregate lists (`laws::a_registry_tells_the_provider`).
 #![tactic(auto)]
 
@@ -31,6 +31,6 @@ mod source;
 
 pub use fault::SetupFault;
 pub use limits::{GREATEST_KEY, ID_KEY, LEAST_KEY};
-pub use loaded::Loaded;
+pub use loaded::{Loaded, read_whole};
 pub use provider_config::{AskedLine, OpenedLine, Purpose};
 pub use setup::{SetUp, config_of, set_up};

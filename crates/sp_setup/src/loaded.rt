@@ -59,8 +59,10 @@ fn take_key(alloc: Global, bytes: &[u8], key: &mut Option<Blob>) -> Result<Optio
     Ok(None)
 }
 
-/// The bytes of a file, which has to be there and may have this many.
-fn read_whole<F: Files>(
+/// The bytes of a file, which has to be there and may have at most `limit` of them.
+///
+/// Errors: `BadFile` with line 0, `ReadFault` only where the files' count of faults rose, `NoMemory`.
+pub fn read_whole<F: Files>(
     alloc: Global,
     files: &mut F,
     name: &str,

@@ -1,8 +1,8 @@
 -- What one line adds to what a text says.
-use Rattle.std.proofs.Common.{◌≡◌, ℕ, suc, ◌+◌, Bool, true, false, cond, not, List, [], ◌∷◌, refl, sym, ap, ◌∙◌, arith}
+use Rattle.std.proofs.Common.{◌≡◌, ℕ, suc, ◌+◌, Bool, true, false, cond, not, List, [], ◌∷◌, sym, ap, ◌∙◌, arith}
 use Rattle.xml_spec.specs.Characters.{IsText}
 use Rattle.text_lines.specs.Lines.{is_text, is_passed_over, lines, Says, NoText, said_from}
-use Rattle.text_lines.proofs.Texts.{text_tested, no_text_tested}
+use Rattle.text_lines.proofs.Texts.{text_tested}
 
 by_tests : (number : ℕ) (line : List ℕ) (others : List (List ℕ)) (t p : Bool) → is_text line ≡ t → is_passed_over line ≡ p →
     said_from number (line ∷ others) ≡ cond (not t) (NoText number ∷ []) (cond p (said_from (suc number) others) (Says number line ∷ said_from (suc number) others))
@@ -12,11 +12,6 @@ by_tests number line others t p text passed =
 
 one_more : (number : ℕ) → suc number ≡ number + 1
 one_more number = omega arith
-
-pub no_text_ends : (number : ℕ) (bytes line rest : List ℕ) → lines bytes ≡ line ∷ lines rest → ¬ (IsText line) →
-    said_from number (lines bytes) ≡ NoText number ∷ []
-no_text_ends number bytes line rest cut unread =
-    ap (said_from number) cut ∙ by_tests number line (lines rest) false (is_passed_over line) (no_text_tested line unread) refl
 
 pub passed_over : (number : ℕ) (bytes line rest text : List ℕ) → lines bytes ≡ line ∷ lines rest → text ≡ line → IsText text → is_passed_over text ≡ true →
     said_from number (lines bytes) ≡ said_from (number + 1) (lines rest)

@@ -1,5 +1,5 @@
 -- The test of a text agrees with the word of XML.
-use Rattle.std.proofs.Common.{◌≡◌, ℕ, Bool, true, false, List, refl, sym, ap, ◌∙◌}
+use Rattle.std.proofs.Common.{◌≡◌, ℕ, true, List, sym, ap, ◌∙◌}
 use Rattle.std.specs.List.{list_all}
 use Rattle.std.specs.Str.{chars, encode_utf8_all, bytes_eq}
 use Rattle.std.proofs.lemmas.Str.{chars-encodes}
@@ -21,10 +21,3 @@ text_tested bytes t =
     let spelled : encode_utf8_all (chars bytes) ≡ bytes = ap encode_utf8_all same ∙ sym t.spelled in
     and_true (list_all is_char (chars bytes)) (bytes_eq (encode_utf8_all (chars bytes)) bytes) allowed
     ((bytes_eq-Decides (encode_utf8_all (chars bytes)) bytes).1 spelled)
-
-not_true : (b : Bool) → (b ≡ true → ⊥) → b ≡ false
-not_true true h = absurd (h refl)
-not_true false h = refl
-
-pub no_text_tested : (bytes : List ℕ) → ¬ (IsText bytes) → is_text bytes ≡ false
-no_text_tested bytes h = not_true (is_text bytes) (λ t. h (tested_text bytes t))

@@ -1,6 +1,6 @@
 -- What one found child says of those behind it.
-use Rattle.std.proofs.Common.{◌≡◌, ℕ, ◌+◌, ◌<◌, ◌≤◌, true, false, ◌∷◌, Option, Some, None, IfSome, is_some, ap, arith}
-use Rattle.std.proofs.lemmas.Bool.{cond-true, cond-false}
+use Rattle.std.proofs.Common.{◌≡◌, ℕ, ◌+◌, ◌<◌, ◌≤◌, false, Option, Some, None, IfSome, is_some, ap, arith}
+use Rattle.std.proofs.lemmas.Bool.{cond-false}
 use Rattle.xml_spec.specs.Tree.{Nodes}
 use Rattle.xml_spec.specs.Numbering.{size, next_of}
 use Rattle.xml_spec.specs.Names.{ExpandedName}
@@ -14,11 +14,6 @@ use Rattle.tree_read.proofs.Walking.{number_of, IsBehind, left_at, from_behind}
 pub element_there : (tree : Nodes) (n : ℕ) → IsElement tree n → n < size tree
 element_there tree n h = node_there tree n (ap is_some h)
 
-pub found_elements : (tree : Nodes) (found : Option NodeNo) → IfSome found (λ k. IsElement tree k.0) →
-    IfSome (number_of found) (λ k. IsElement tree k)
-found_elements tree None h = tt
-found_elements tree (Some k) h = h
-
 -- what is behind a node is a place
 pub place_behind : (tree : Nodes) (n : ℕ) (o : Option ℕ) → IsBehind tree n o → IsPlace tree o
 place_behind tree n None h = tt
@@ -27,13 +22,6 @@ place_behind tree n (Some k) h = (omega (arith, h.0), h.1)
 pub place_there : (tree : Nodes) (o : Option NodeNo) → IsPlace tree (number_of o) → IfSome o (λ k. k.0 < size tree)
 place_there tree None h = tt
 place_there tree (Some k) h = h.1
-
--- what is found from a place on has a number above 0
-pub found_positive : (tree : Nodes) (o : Option ℕ) (found : Option NodeNo) → IsPlace tree o → IfSome found (λ n. IsFrom o n.0) →
-    IfSome (number_of found) (λ k. 0 < k)
-found_positive tree o None place from = tt
-found_positive tree None (Some n) place from = absurd from
-found_positive tree (Some k) (Some n) place from = omega (arith, place.0)
 
 -- what is found behind an element leaves fewer numbers than the element did
 pub less_left : (tree : Nodes) (o next : Option ℕ) (found : Option NodeNo) (k : ℕ) → o ≡ Some k →
@@ -51,11 +39,6 @@ still_below tree count more k next None less few behind from = tt
 still_below tree count more k next (Some n) less few behind from = omega (arith, from_behind tree k next n.0 behind from)
 
 module _ (wanted : ExpandedName) (tree : Nodes) where
-  -- an element of the name, and those behind it
-  pub named_here : (k : ℕ) → is_name wanted (name_of_node tree k) ≡ true →
-      named wanted (children_first tree (Some k)) ≡ k ∷ named wanted (children_from tree (next_of tree k))
-  named_here k e = cond-true (is_name wanted (name_of_node tree k)) _ _ e
-
   -- another element
   pub named_behind : (k : ℕ) → is_name wanted (name_of_node tree k) ≡ false →
       named wanted (children_first tree (Some k)) ≡ named wanted (children_from tree (next_of tree k))

@@ -4,6 +4,7 @@ pub mod Finding
 pub mod LastNodes
 mod NamesLeft
 pub mod Placed
+pub mod Places
 pub mod TextBelow
 pub mod Trimming
 pub mod Walking

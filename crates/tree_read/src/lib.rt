@@ -29,6 +29,6 @@ pub use attribute_names::AttributeNames;
 pub use fault::{OtherShape, ShapeFault};
 pub use named::{ChildFault, at_most_one, children, first_child, only_child};
 pub use nodes::Nodes;
-pub use texts::{is_white, text_of, trimmed};
+pub use texts::{text_of, trimmed};
 pub use values::{attr_equals, attr_text, has_attr};
 pub use walk::{ElementChildren, Elements};

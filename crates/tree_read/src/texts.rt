@@ -11,6 +11,7 @@ use crate::at::At;
 use owned_values::{NoMemory, Text};
 use saml_tree::{Doc, NodeKind, NodeNo};
 use std::alloc::Global;
+use xml_chars::is_white;
 
 /// The last kid of a node; only an element has kids.
 fn last_kid(doc: &Doc<'_>, node: NodeNo) -> Option<NodeNo>
@@ -62,13 +63,6 @@ pub fn text_of(alloc: Global, at: At<'_, '_>) -> Result<Text, NoMemory>
     let mut chars = String::new(alloc);
     put_text(at, &mut chars)?;
     Text::of(alloc, chars.as_str())
-}
-
-/// Whether the byte is white space (XML 1.0, 2.3, S).
-pub fn is_white(byte: u8) -> bool
-    ensures { result ≡ is_white byte }
-{
-    matches!(byte, b' ' | b'\t' | b'\r' | b'\n')
 }
 
 /// How many bytes of white space stand in front.

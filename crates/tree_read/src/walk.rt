@@ -19,10 +19,21 @@ use std::marker::Model;
 /// Whether an element has this expanded name (Namespaces in XML 1.0, 2.1).
 fn is_named(doc: &Doc<'_>, node: NodeNo, name: ExpandedName<'_>) -> bool
     requires { IsElement doc.now.tree node.0 }
-    ensures { result ≡ is_name (name_of name.entry) (name_of_node doc.now.tree node.0) }
+    ensures test { result ≡ is_name (name_of name.entry) (name_of_node doc.now.tree node.0) }
+    ensures equal { IsTrue result ↔ (name_of_node doc.now.tree node.0 ≡ name_of name.entry) }
 {
     let here = doc.name(node);
     here.namespace == name.namespace && here.local == name.local
+}
+
+impl At<'_, '_> {
+    /// Whether the element has this expanded name (Namespaces in XML 1.0, 2.1).
+    pub fn is_named(self, name: ExpandedName<'_>) -> bool
+        ensures test { result ≡ is_name (name_of name.entry) (name_of_node (tree_of self.entry) self.entry.node.0) }
+        ensures equal { IsTrue result ↔ (name_of_node (tree_of self.entry) self.entry.node.0 ≡ name_of name.entry) }
+    {
+        is_named(self.doc, self.node, name)
+    }
 }
 
 /// The first element among a node and those behind it in its list.

@@ -168,10 +168,6 @@ abbrev accepted : List ℕ → Option User → Option User
 accepted password None = None
 accepted password (Some user) = cond (is_password password user) (Some user) None
 
--- the user has this name and this password
-abbrev is_checked : List ℕ → List ℕ → User → Bool
-is_checked name password user = has_name name user && is_password password user
-
 nobody : (name password : List ℕ) (users : List User) → list_any (has_name name) users ≡ false → checked users name password ≡ None
 nobody name password [] none = refl
 nobody name password (user ∷ users) none =

@@ -12,7 +12,9 @@ pub(crate) const VALUE_LENGTH: usize = 32;
 /// A user: its name, and the attributes that are stated of it, in the order of their lines.
 #[derive(Debug, Drop)]
 pub struct User {
+    /// The name that the user logs in by.
     pub name: Text,
+    /// The attributes, in the order of their lines.
     pub attributes: Attributes,
     pub(crate) salt: Blob,
     pub(crate) rounds: u32,

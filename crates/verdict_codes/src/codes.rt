@@ -1,5 +1,5 @@
 //! The verdicts and their codes.
-ghost use Rattle.std.specs.Prelude.{◌≡◌};
+ghost use Rattle.std.specs.Prelude.{◌≡◌, true, false, IfErr, OnOk};
 ghost use Rattle.verdict_codes.specs.Codes.{number_of, name_of};
 
 /// What the program answers where it does not do what a message asks for. Each has a number, and its name is printed
@@ -231,3 +231,11 @@ pub const VERDICTS: [Verdict; 40] = [
     Verdict::Foreign,
     Verdict::RegistryExpired,
 ];
+
+/// Asks that a condition holds: where it does not, the answer is this verdict.
+pub fn ask(holds: bool, verdict: Verdict) -> Result<(), Verdict>
+    ensures ok { OnOk result (holds ≡ true) }
+    ensures err { IfErr result (λ e. (e ≡ verdict) × (holds ≡ false)) }
+{
+    if holds { Ok(()) } else { Err(verdict) }
+}

@@ -9,10 +9,11 @@
 //!
 //! # What is proved
 //!
-//! The verdicts' numbers and names, the whole table (`Verdict::number`, `Verdict::name`); no two are alike (`laws`).
+//! The verdicts' numbers and names, the whole table (`Verdict::number`, `Verdict::name`); no two are alike (`laws`). A
+//! condition that does not hold is answered by its verdict (`ask`).
 #![tactic(auto)]
 
 mod codes;
 pub mod laws;
 
-pub use codes::{VERDICTS, Verdict};
+pub use codes::{VERDICTS, Verdict, ask};

@@ -4,8 +4,8 @@
 //! # What is proved
 //!
 //! Exactly the characters, names and texts of XML 1.0 (`is_char`, `is_name_start`, `is_name_char`, `is_name`,
-//! `is_text`, `text_of`), the parts of a qualified name, and references: the character and where the reference ends,
-//! none exactly where none begins (`read_reference`).
+//! `is_text`, `text_of`), the parts of a qualified name, the bytes that are no white space (`without_white`), and
+//! references: the character and where the reference ends, none exactly where none begins (`read_reference`).
 #![tactic(auto)]
 
 ghost use Rattle.std.specs.Prelude.{◌↔◌, IsTrue};
@@ -17,6 +17,7 @@ mod text;
 
 pub use parts::{
     XML_NAMESPACE, XMLNS_NAMESPACE, has_colon, is_white, local_of, prefix_of, split_colon,
+    without_white,
 };
 pub use references::read_reference;
 pub use text::{is_text, text_of};
@@ -24,7 +25,9 @@ pub use text::{is_text, text_of};
 /// A range of bytes of a text: from `start` to in front of `end`.
 #[derive(Clone, Copy, Debug, PartialEq, Eq)]
 pub struct Span {
+    /// The first byte, counted from 0.
     pub start: usize,
+    /// The byte behind the last one.
     pub end: usize,
 }
 

@@ -1,9 +1,11 @@
 // Names in two parts, white space, and the namespaces that are bound from the start.
 
-ghost use Rattle.std.specs.Prelude.{◌≡◌, is_some};
+ghost use Rattle.std.specs.Prelude.{◌≡◌, filter, is_some, not, IfOk};
 ghost use Rattle.std.specs.Option.{option_map};
 ghost use Rattle.xml_spec.specs.Characters.{at_colon, prefix_of, local_of};
 ghost use Rattle.xml_spec.specs.Syntax.{is_white};
+
+use std::alloc::{AllocError, Global};
 
 /// The namespace of the prefix xml (Namespaces in XML 1.0, 3).
 pub const XML_NAMESPACE: &str = "http://www.w3.org/XML/1998/namespace";
@@ -16,6 +18,18 @@ pub fn is_white(byte: u8) -> bool
     ensures { result ≡ is_white byte }
 {
     matches!(byte, b' ' | b'\t' | b'\r' | b'\n')
+}
+
+/// The bytes that are no white space.
+pub fn without_white(alloc: Global, bytes: &[u8]) -> Result<Vec<u8>, AllocError>
+    ensures { IfOk result (λ kept. kept.items ≡ filter (λ b. not (is_white b)) bytes.now) }
+{
+    let kept = bytes
+        .iter()
+        .filter(|byte| !is_white(**byte))
+        .copied()
+        .collect(alloc)?;
+    Ok(kept)
 }
 
 /// What stands before the first colon of a name and what stands behind it (Namespaces in XML 1.0, 4).

@@ -5,12 +5,9 @@ use Rattle.std.specs.Cmp.{IsTotalOrder}
 use Rattle.std.proofs.lemmas.Cmp.{nat_list_cmp_total, on_total, then_total}
 use Rattle.xml_spec.specs.Tree.{Attribute}
 use Rattle.xml_spec.specs.Names.{Scope, ExpandedName, attribute_name, proper_attributes}
-use Rattle.xml_spec.specs.Canonical.{byte_order, expanded_order, written_attributes}
+use Rattle.xml_spec.specs.Canonical.{expanded_order, written_attributes}
 use Rattle.xml_spec.specs.Laws.{IsNonDescending}
 use Rattle.xml_spec.proofs.Sorting.{sorted_is_non_descending, sorted_is_permutation}
-
-pub byte_order_is_total : IsTotalOrder byte_order
-byte_order_is_total = nat_list_cmp_total
 
 pub expanded_order_is_total : IsTotalOrder expanded_order
 expanded_order_is_total = then_total (on_total (λ (a : ExpandedName). a.namespace) nat_list_cmp_total) (on_total (λ (a : ExpandedName). a.local) nat_list_cmp_total)

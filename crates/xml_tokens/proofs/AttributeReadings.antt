@@ -128,10 +128,6 @@ no_space [] rest none stops attribute x at =
     (at.split ∙ assignment_parts at.assignment x)
 no_space (b ∷ space) rest none stops attribute x at = absurd (omega arith)
 
--- no name, no equals sign or no value: no attribute
-pub unnamed_unassigned : (rest : List ℕ) → NoName rest → NoAssigned rest
-unnamed_unassigned rest none attribute behind at = none attribute.name at.sign at.named
-
 pub unequal_unassigned : (rest name mid : List ℕ) → NameAt rest name mid → NoEquals mid → NoAssigned rest
 unequal_unassigned rest name mid n none attribute behind at =
     none at.quote (subst (λ m. EqualsAt m at.quote) (sym (same_name rest name attribute.name mid at.sign n at.named).1) at.equated)

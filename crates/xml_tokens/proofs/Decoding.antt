@@ -331,9 +331,6 @@ pub record IsPut (whole rest before out : List ℕ) : Type 0 where
   pub put : out ≡ before ++ done
   pub left : value_of whole ≡ done ++ value_of rest
 
-pub nothing_put : (whole before : List ℕ) → IsPut whole whole before before
-nothing_put whole before = record { done = []; put = sym (append-nil before); left = refl }
-
 pub kept_put : (whole rest before out kept at new : List ℕ) → IsPut whole rest before out → rest ≡ kept ++ at → AllPass is_kept_byte kept →
     new ≡ out ++ kept → IsPut whole at before new
 kept_put whole rest before out kept at new h e passes n = record {

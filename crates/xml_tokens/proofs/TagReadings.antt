@@ -1,15 +1,15 @@
 -- Readings of a tag's attributes and of a tag are one, and what refuses them.
-use Rattle.std.proofs.Common.{◌≡◌, ℕ, ◌+◌, ◌<◌, true, List, [], ◌∷◌, ◌++◌, length, IsFalse, refl, sym, ◌∙◌, ap, subst, append_assoc, append-nil, length-append, arith}
+use Rattle.std.proofs.Common.{◌≡◌, ℕ, ◌+◌, true, List, [], ◌∷◌, ◌++◌, IsFalse, refl, sym, ◌∙◌, ap, subst, append_assoc, append-nil}
 use Rattle.std.specs.List.{flat_map, AllByRecursion}
 use Rattle.std.proofs.lemmas.List.{map-append}
 use Rattle.std.proofs.lemmas.List.Concat.{flat_map-append}
-use Rattle.xml_spec.specs.Ascii.{equals_sign, greater_than}
+use Rattle.xml_spec.specs.Ascii.{greater_than}
 use Rattle.xml_spec.specs.Bytes.{AllPass, begins_with}
 use Rattle.xml_spec.specs.Tree as tree
-use Rattle.xml_spec.specs.Syntax.{is_white, print_piece, Assignment, print_assignment, IsAssignment, Tag}
+use Rattle.xml_spec.specs.Syntax.{is_white, Assignment, print_assignment, IsAssignment, Tag}
 use Rattle.xml_spec.specs.Meaning.{attribute_of, attributes_of}
 use Rattle.xml_spec.proofs.Runs.{same_run}
-use Rattle.xml_spec.proofs.Tags.{Closes, from_value, from_right, from_left, from_name, assignment_parts, from_assignments, assignments_go_on, same_assignment, tag_parts, same_tag, name_begins_not_white, not_both_ways, no_assignment, assignments_stop_name}
+use Rattle.xml_spec.proofs.Tags.{Closes, assignment_parts, from_assignments, assignments_go_on, same_assignment, tag_parts, same_tag, name_begins_not_white, not_both_ways, no_assignment, assignments_stop_name}
 use Rattle.xml_tokens.specs.Lexing.{is_name_byte, NameAt, AssignmentAt, AttributesAt, AreSoFar, TagAt, NoName, NoAssignment, NoAttributes, NoTag}
 use Rattle.xml_tokens.proofs.AttributeReadings.{same_name}
 
@@ -34,19 +34,6 @@ one_more whole read rest attribute behind far at =
           ∙ ap (λ z. z ++ behind) (ap (λ z. flat_map print_assignment far.assignments ++ z) (sym (append-nil (print_assignment a)))
           ∙ sym (flat_map-append print_assignment far.assignments (a ∷ [])));
     }
-
--- an attribute has a byte
-pub assignment_is_some : (bytes : List ℕ) (attribute : tree.Attribute) (behind : List ℕ) → AssignmentAt bytes attribute behind → length behind < length bytes
-assignment_is_some bytes attribute behind at =
-    let a = at.assignment in
-    let some = at.valid.apart in
-    let whole : length bytes ≡ length a.before + length (from_name a behind) =
-    ap length (at.split ∙ assignment_parts a behind) ∙ length-append a.before (from_name a behind) in
-    let parts : length (from_name a behind) ≡ length a.name + length (from_left a behind) = length-append a.name (from_left a behind) in
-    let left : length (from_left a behind) ≡ length a.left + length (equals_sign ∷ from_right a behind) = length-append a.left (equals_sign ∷ from_right a behind) in
-    let right : length (from_right a behind) ≡ length a.right + length (a.quote ∷ from_value a behind) = length-append a.right (a.quote ∷ from_value a behind) in
-    let value : length (from_value a behind) ≡ length (flat_map print_piece a.pieces) + length (a.quote ∷ behind) = length-append (flat_map print_piece a.pieces) (a.quote ∷ behind) in
-    omega arith
 
 -- all attributes
 pub all_read : (whole : List ℕ) (read : List tree.Attribute) (rest space at : List ℕ) → AreSoFar whole read rest →

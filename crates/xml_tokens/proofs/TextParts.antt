@@ -1,5 +1,5 @@
 -- How a text is read part by part.
-use Rattle.std.proofs.Common.{◌≡◌, ℕ, Bool, true, ◌==◌, List, [], ◌∷◌, ◌++◌, length, take, drop, IsTrue, ◌↔◌, refl, sym, ap, ◌∙◌, append_assoc, append-nil, arith}
+use Rattle.std.proofs.Common.{◌≡◌, ℕ, List, [], ◌++◌, length, take, drop, refl, sym, ap, ◌∙◌, append_assoc, append-nil}
 use Rattle.std.proofs.Math.Seq.{take-append_seam}
 use Rattle.std.proofs.lemmas.List.{append_cancel_left, take-append-drop}
 
@@ -50,9 +50,6 @@ pub record IsComparedSoFar (all rest text left : List ℕ) : Type 0 where
   pub from : rest ≡ left → all ≡ text
   pub to : all ≡ text → rest ≡ left
 
-pub none_compared : (all text : List ℕ) → IsComparedSoFar all all text text
-none_compared all text = record { from = λ e. e; to = λ e. e }
-
 pub more_compared : (all rest text left meant behind more : List ℕ) → IsComparedSoFar all rest text left → rest ≡ meant ++ behind → left ≡ meant ++ more →
     IsComparedSoFar all behind text more
 more_compared all rest text left meant behind more h e l = record {
@@ -63,12 +60,3 @@ more_compared all rest text left meant behind more h e l = record {
 pub differs : (all rest text left meant behind : List ℕ) → IsComparedSoFar all rest text left → rest ≡ meant ++ behind →
     ((x : List ℕ) → ¬ (left ≡ meant ++ x)) → all ≡ text → ⊥
 differs all rest text left meant behind h e none same = none behind (sym (h.to same) ∙ e)
-
-pub ended_compared : (all rest text left : List ℕ) (ended : Bool) → IsComparedSoFar all rest text left → rest ≡ [] → ended ≡ (length left == 0) →
-    IsTrue ended ↔ (all ≡ text)
-ended_compared all rest text left ended h e is =
-    (λ t. h.from (e ∙ sym (empty left (sym is ∙ t))), λ same. is ∙ ap (λ (x : List ℕ). length x == 0) (sym (h.to same) ∙ e))
-  where
-    empty : (x : List ℕ) → (length x == 0) ≡ true → x ≡ []
-    empty [] k = refl
-    empty (b ∷ x) k = absurd (grind arith)

@@ -10,11 +10,8 @@ use Rattle.xml_spec.specs.Syntax.{Item, Characters, Refers, Section, CommentItem
 use Rattle.xml_spec.specs.Laws.{BeginsWith}
 use Rattle.xml_spec.proofs.Tests.{both_true}
 use Rattle.xml_tokens.specs.Lexing.{is_character_byte}
-use Rattle.xml_tokens.specs.Texts.{characters_of, is_text, item_text, IsTextItem, IsWrittenText, ends_with, IsReadText, RunView, run_view}
+use Rattle.xml_tokens.specs.Texts.{characters_of, is_text, item_text, IsTextItem, ends_with, IsReadText, RunView, run_view}
 use Rattle.xml_tokens.proofs.TextMeanings.{text_means}
-
-pub read_none : (rest : List ℕ) → IsReadText rest rest
-read_none rest = record { items = []; each = tt; apart = refl; whole = refl; printed = refl }
 
 each_push : (items : List Item) (item : Item) → AllByRecursion IsTextItem items → IsTextItem item → AllByRecursion IsTextItem (items ++ item ∷ [])
 each_push [] item h k = (k, tt)
@@ -105,15 +102,6 @@ run_adds from behind next item r text b =
     (printed_push from behind next r.items item r.printed b.printed)
     ∙ flat_map-append item_text r.items (item ∷ []) ∙ ap (λ (x : List ℕ). flat_map item_text r.items ++ x) (append-nil (item_text item))
     ∙ ap (λ (x : List ℕ). x ++ item_text item) (sym (read_text from behind r.items r.each r.apart r.printed)))
-
--- what was read of a text is one
-pub read_is_written : (from behind written : List ℕ) → IsReadText from behind → written ≡ take (length from - length behind) from → IsWrittenText written
-read_is_written from behind written r e = record {
-  items = r.items;
-  each = r.each;
-  apart = r.apart;
-  printed = e ∙ cut_is from behind (flat_map print_item r.items) r.printed;
-}
 
 at_seam : (front behind : List ℕ) → get_or (front ++ behind) (length front) 0 ≡ get_or behind 0 0
 at_seam [] behind = refl

@@ -1,5 +1,5 @@
 -- What tags, end tags, runs of characters and references say of the first token, and what refuses one.
-use Rattle.std.proofs.Common.{◌≡◌, ℕ, ◌<◌, Bool, true, false, cond, ◌&&◌, ◌||◌, not, ◌==◌, List, [], ◌∷◌, ◌++◌, length, get_or, drop, codes, ◌⊎◌, inl, inr, Option, Some, None, Result, IsFalse, refl, sym, ◌∙◌, ap, subst, arith}
+use Rattle.std.proofs.Common.{◌≡◌, ℕ, ◌<◌, Bool, true, false, ◌&&◌, not, ◌==◌, List, [], ◌∷◌, ◌++◌, length, drop, codes, ◌⊎◌, inl, inr, Option, Some, None, Result, IsFalse, refl, sym, ◌∙◌, ap, subst, arith}
 use Rattle.std.specs.Option.{ok_or}
 use Rattle.std.specs.Result.{IfErr}
 use denote.Ref.{Bor}
@@ -8,12 +8,11 @@ use Rattle.xml_spec.specs.Bytes.{AllPass, begins_with, has}
 use Rattle.xml_spec.specs.Tree as tree
 use Rattle.xml_spec.specs.Syntax.{is_white, print_tag, Characters, Refers, Section, CommentItem, ProcessingInstruction, EmptyTag, Token, Alone, StartTag, EndTag, print_token, print_tokens, IsToken}
 use Rattle.xml_spec.specs.Meaning.{attributes_of}
-use Rattle.xml_spec.specs.Laws.{IsWhole, BeginsWith}
+use Rattle.xml_spec.specs.Laws.{BeginsWith}
 use Rattle.xml_spec.proofs.Runs.{same_run}
-use Rattle.xml_spec.proofs.Values.{first_not}
 use Rattle.xml_spec.proofs.Tokens.{kind, kind_of, token_kind, empty_parts, start_parts, end_parts, space_stops_name}
 use Rattle.xml_spec.proofs.Sequences.{head_is_whole}
-use Rattle.xml_chars.specs.Reading.{BeginsWithReference, BeginsWithNone}
+use Rattle.xml_chars.specs.Reading.{BeginsWithReference}
 use Rattle.xml_tokens.specs.declared.token.Markup.{Markup}
 use Rattle.xml_tokens.specs.declared.token.TokenFault.{TokenFault}
 use Rattle.xml_tokens.specs.declared.token.TokenFault.TheVariants.{Invalid, NoMemory}
@@ -167,41 +166,6 @@ closed_no_characters bytes text mid e passes stops closed other behind at =
     let unclosed : has (codes "]]>") other ≡ false = at.not_closed in
     let clash : true ≡ false = sym closed ∙ same ∙ unclosed in
     cc
-
-is_text_kind : ℕ → Bool
-is_text_kind k = k == 0 || k == 1
-
-text_kind : (b : ℕ) (rest : List ℕ) → (b == 60) ≡ false → is_text_kind (kind (b ∷ rest)) ≡ true
-unfolding is_text_kind
-text_kind b rest h = which (b == 38) (b == 60) h
-  where
-    which : (c d : Bool) → d ≡ false →
-        is_text_kind (cond c 1 (cond d (cond (get_or rest 0 0 == 33) (cond (get_or rest 1 0 == 91) 2 3) (cond (get_or rest 0 0 == 63) 4 (cond (get_or rest 0 0 == 47) 5 6))) 0)) ≡ true
-    which true d h = refl
-    which false true h = absurd (let clash : true ≡ false = h in cc)
-    which false false h = refl
-
-text_begins : (rest : List ℕ) → 0 < length rest → ((x : List ℕ) → ¬ (rest ≡ 60 ∷ x)) → is_text_kind (kind rest) ≡ true
-text_begins [] l h = absurd (omega arith)
-text_begins (b ∷ rest) l h = text_kind b rest (not_equal b 60 (λ (e : b ≡ 60). h rest (ap (λ c. c ∷ rest) e)))
-
-pub no_text_token : (rest : List ℕ) → 0 < length rest → ((x : List ℕ) → ¬ (rest ≡ 60 ∷ x)) → BeginsWithNone rest → NoCharacters rest → NoToken rest
-unfolding is_text_kind
-no_text_token rest l h unreferred none t x b = case t b.valid b.whole b.printed
-  where
-    k : is_text_kind (kind rest) ≡ true
-    k = text_begins rest l h
-
-    case : (t : Token) → IsToken t → IsWhole t x → rest ≡ print_token t ++ x → ⊥
-    case (Alone (Characters a)) v w e =
-        none a x (record { some = v.0; passes = v.1; not_closed = v.2; split = e; ends = first_not true (begins_with is_character_byte x) w refl })
-    case (Alone (Refers r)) v w e = unreferred r x v e
-    case (Alone (Section a)) v w e = other_kind is_text_kind rest (Alone (Section a)) x k refl v e
-    case (Alone (CommentItem a)) v w e = other_kind is_text_kind rest (Alone (CommentItem a)) x k refl v e
-    case (Alone (ProcessingInstruction a b d)) v w e = other_kind is_text_kind rest (Alone (ProcessingInstruction a b d)) x k refl v e
-    case (EndTag a b) v w e = other_kind is_text_kind rest (EndTag a b) x k refl v e
-    case (Alone (EmptyTag a)) v w e = other_kind is_text_kind rest (Alone (EmptyTag a)) x k refl v e
-    case (StartTag a) v w e = other_kind is_text_kind rest (StartTag a) x k refl v e
 
 whole_when_stopped : (b : Bool) → b ≡ false → not (true && b) ≡ true
 whole_when_stopped b h = ap not h

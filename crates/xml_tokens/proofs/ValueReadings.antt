@@ -1,5 +1,5 @@
 -- The parts of a value up to its quote: each is read as it must be.
-use Rattle.std.proofs.Common.{◌≡◌, ℕ, ◌+◌, ◌<◌, Bool, true, false, ◌&&◌, not, ◌==◌, List, [], ◌∷◌, ◌++◌, length, drop, ◌⊎◌, inl, inr, IsFalse, refl, sym, ◌∙◌, ap, subst, append-nil, length-append, arith}
+use Rattle.std.proofs.Common.{◌≡◌, ℕ, ◌+◌, ◌<◌, Bool, true, false, ◌&&◌, not, ◌==◌, List, [], ◌∷◌, ◌++◌, length, drop, ◌⊎◌, inl, inr, IsFalse, refl, sym, ◌∙◌, ap, subst, append-nil, arith}
 use Rattle.std.specs.List.{list_all, flat_map, AllByRecursion}
 use Rattle.std.specs.Char.{encode_utf8}
 use Rattle.xml_spec.specs.Ascii.{less_than, ampersand}
@@ -180,9 +180,6 @@ pub record IsValueSoFar (quote : ℕ) (whole rest : List ℕ) : Type 0 where
   pub reads : (value behind : List ℕ) → PiecesAt quote rest value behind → (total : List ℕ) × PiecesAt quote whole total behind
   pub refuses : NoPieces quote rest → NoPieces quote whole
 
-pub value_begins : (quote : ℕ) (whole : List ℕ) → IsValueSoFar quote whole whole
-value_begins quote whole = record { reads = λ value behind at. (value, at); refuses = λ none. none }
-
 pub one_more_part : (quote : ℕ) (whole rest literal at : List ℕ) (character : ℕ) (behind : List ℕ) → is_quote quote ≡ true →
     IsValueSoFar quote whole rest → rest ≡ literal ++ at → AllPass (is_value_byte quote) literal →
     IsFalse (begins_with (is_value_byte quote) at) → BeginsWithReference at character behind → IsValueSoFar quote whole behind
@@ -198,20 +195,6 @@ pub value_ends : (quote : ℕ) (whole rest literal at behind : List ℕ) →
     at ≡ quote ∷ behind → (value : List ℕ) × PiecesAt quote whole value behind
 value_ends quote whole rest literal at behind far e passes f =
     far.reads (blanks literal) behind (last_literal quote rest literal at behind e passes f)
-
--- a reference has a byte
-pub reference_is_some : (rest literal at : List ℕ) (character : ℕ) (behind : List ℕ) → rest ≡ literal ++ at → BeginsWithReference at character behind →
-    length behind < length rest
-reference_is_some rest literal at character behind e begins =
-    let r = begins.reference in
-    let whole : length at ≡ length (ampersand ∷ (drop 1 (print_reference r) ++ behind)) = ap length (begins.printed ∙ reference_begins r behind) in
-    let parts : length (drop 1 (print_reference r) ++ behind) ≡ length (drop 1 (print_reference r)) + length behind = length-append (drop 1 (print_reference r)) behind in
-    let all : length rest ≡ length literal + length at = ap length e ∙ length-append literal at in
-    omega arith
-
--- a value and its quote
-pub unquoted_no_value : (bytes : List ℕ) → NoQuote bytes → NoValue bytes
-unquoted_no_value bytes none value behind at = none at.quote at.inner at.quoted at.split
 
 pub unread_no_value : (bytes inner : List ℕ) (quote : ℕ) → bytes ≡ quote ∷ inner → NoPieces quote inner → NoValue bytes
 unread_no_value bytes inner quote e none value behind at =

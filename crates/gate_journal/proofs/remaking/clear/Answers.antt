@@ -29,9 +29,9 @@ module _ (g : Over) (c : After-length g) (before : Option Committed) (other : Li
 pub returns-in_err-length-clause-moments : goal.returns-in_err-length-clause-moments
 returns-in_err-length-clause-moments g c before other holding = (looked g (goal.at.returns-in_err-length-clause-moments g c).After-length before other holding).moments
 
-pub returns-then-branch-ge-HEAD-clause-moments : goal.returns-then-branch-ge-HEAD-clause-moments
-returns-then-branch-ge-HEAD-clause-moments g c before other holding =
-    let run = looked g (goal.at.returns-then-branch-ge-HEAD-clause-moments g c).After-length before other holding in
+pub returns-then-branch-ge-HEAD_LENGTH-clause-moments : goal.returns-then-branch-ge-HEAD_LENGTH-clause-moments
+returns-then-branch-ge-HEAD_LENGTH-clause-moments g c before other holding =
+    let run = looked g (goal.at.returns-then-branch-ge-HEAD_LENGTH-clause-moments g c).After-length before other holding in
     joins c.close.new.disk run _ (c.close.ensures.moments before other run.state) (λ i p. p)
 
 -- where a header was put to a shorter file
@@ -47,18 +47,18 @@ pub returns-in_err-put_head-clause-moments : goal.returns-in_err-put_head-clause
 returns-in_err-put_head-clause-moments g c before other holding =
     let a = (goal.at.returns-in_err-put_head-clause-moments g c).After-length in
     joins c.put_head.new.disk (looked g a before other holding) (IsBlankBeside c.args.file other)
-    (c.put_head.ensures.moments other (short g a before other holding c.in_ok-length.field-0 c.in_ok-length.ensures.length c.if-branch-ge-HEAD.false)) (blank_before c.args.file before other)
+    (c.put_head.ensures.moments other (short g a before other holding c.in_ok-length.field-0 c.in_ok-length.ensures.length c.if-branch-ge-HEAD_LENGTH.false)) (blank_before c.args.file before other)
 
 pub returns-clause-moments : goal.returns-clause-moments
 returns-clause-moments g c before other holding =
     let at = goal.at.returns-clause-moments g c in
-    let run = put g at.In_ok-put_head before other (looked g at.After-length before other holding) (short g at.After-length before other holding c.in_ok-length.field-0 c.in_ok-length.ensures.length c.if-branch-ge-HEAD.false) in
+    let run = put g at.In_ok-put_head before other (looked g at.After-length before other holding) (short g at.After-length before other holding c.in_ok-length.field-0 c.in_ok-length.ensures.length c.if-branch-ge-HEAD_LENGTH.false) in
     tries c.sync.new.self run (Sync c.args.file) c.sync.result c.sync.ensures.time c.sync.ensures.changes (g.met.D.Disk.reads_an_image c.put_head.new.disk) (λ d reads is image may. blank_before c.args.file before other image (is.each image may))
 
 pub returns-clause-ok : goal.returns-clause-ok
 returns-clause-ok g c = on_ok c.sync.result _ (λ x is before other holding.
     let at = goal.at.returns-clause-ok g c in
-    let run = put g at.In_ok-put_head before other (looked g at.After-length before other holding) (short g at.After-length before other holding c.in_ok-length.field-0 c.in_ok-length.ensures.length c.if-branch-ge-HEAD.false) in
+    let run = put g at.In_ok-put_head before other (looked g at.After-length before other holding) (short g at.After-length before other holding c.in_ok-length.field-0 c.in_ok-length.ensures.length c.if-branch-ge-HEAD_LENGTH.false) in
     done (Sync c.args.file) (g.D.Disk.shows c.put_head.new.disk).told (g.D.Disk.shows c.sync.new.self).told (Changing (IsBlankBeside c.args.file other) c.args.file (overwritten c.args.head.now 71 (0 ∷ [])) other) (IsClosed c.args.file other)
     (rw is at c.sync.ensures.changes) (g.met.D.Disk.reads_an_image c.put_head.new.disk) run.state (λ d reads is. head_synced c.args.file other c.args.head.now c.requires.head d is))
 
@@ -78,7 +78,7 @@ returns-in_err-put_head-clause-calls g c =
     let other = c.from_residual-in_err-put_head.result in
     let plan : DiskState → List Change = λ _. putting_header file c.args.head.now in
     calls.follows_same other (λ _. putting_header file c.args.head.now ++ Sync file ∷ []) (λ d. clearing file c.args.head.now (reads_of d file)) d0 c.put_head.new.disk
-    (cleared_short file c.args.head.now c.in_ok-length.field-0 (g.D.Disk.shows d0).told c.in_ok-length.ensures.length c.if-branch-ge-HEAD.false)
+    (cleared_short file c.args.head.now c.in_ok-length.field-0 (g.D.Disk.shows d0).told c.in_ok-length.ensures.length c.if-branch-ge-HEAD_LENGTH.false)
     (calls.then_follows other (λ _. []) (λ _. putting_header file c.args.head.now ++ Sync file ∷ []) d0 c.length.new.self c.put_head.new.disk (asked g a)
     (calls.breaks_off {T = Unit {0}} _ c.in_err-put_head.field-0.0 other plan (λ _. Sync file ∷ []) c.length.new.self c.put_head.new.disk
     c.from_residual-in_err-put_head.ensures.1 c.in_err-put_head.ensures.calls))
@@ -93,14 +93,14 @@ returns-clause-calls g c =
     let plan : DiskState → List Change = λ _. putting_header file c.args.head.now in
     let put = calls.then_follows _ (λ _. []) plan d0 d1 d2 (asked g a) (calls.made c.in_ok-put_head.field-0 plan d1 d2 c.in_ok-put_head.ensures.calls) in
     calls.follows_same c.sync.result (λ _. putting_header file c.args.head.now ++ Sync file ∷ []) (λ d. clearing file c.args.head.now (reads_of d file)) d0 c.sync.new.self
-    (cleared_short file c.args.head.now c.in_ok-length.field-0 (g.D.Disk.shows d0).told c.in_ok-length.ensures.length c.if-branch-ge-HEAD.false)
+    (cleared_short file c.args.head.now c.in_ok-length.field-0 (g.D.Disk.shows d0).told c.in_ok-length.ensures.length c.if-branch-ge-HEAD_LENGTH.false)
     (calls.tries (Sync file) c.sync.result plan d0 d2 c.sync.new.self put (g.met.D.Disk.only_now d2) (g.met.D.Disk.reads_an_image d2) c.sync.ensures.changes c.sync.ensures.time)
 
-pub returns-then-branch-ge-HEAD-clause-calls : goal.returns-then-branch-ge-HEAD-clause-calls
-returns-then-branch-ge-HEAD-clause-calls g c =
-    let a = (goal.at.returns-then-branch-ge-HEAD-clause-calls g c).After-length in
+pub returns-then-branch-ge-HEAD_LENGTH-clause-calls : goal.returns-then-branch-ge-HEAD_LENGTH-clause-calls
+returns-then-branch-ge-HEAD_LENGTH-clause-calls g c =
+    let a = (goal.at.returns-then-branch-ge-HEAD_LENGTH-clause-calls g c).After-length in
     let d0 = c.args.disk.now in
     let file = c.args.file in
     calls.follows_same c.close.result (λ d. closing file (reads_of d file)) (λ d. clearing file c.args.head.now (reads_of d file)) d0 c.close.new.disk
-    (cleared_long file c.args.head.now c.in_ok-length.field-0 (g.D.Disk.shows d0).told c.in_ok-length.ensures.length c.if-branch-ge-HEAD.true)
+    (cleared_long file c.args.head.now c.in_ok-length.field-0 (g.D.Disk.shows d0).told c.in_ok-length.ensures.length c.if-branch-ge-HEAD_LENGTH.true)
     (calls.then_follows c.close.result (λ _. []) (λ d. closing file (reads_of d file)) d0 c.length.new.self c.close.new.disk (asked g a) c.close.ensures.calls)

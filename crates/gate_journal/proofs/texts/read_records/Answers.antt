@@ -1,7 +1,7 @@
-use Rattle.std.proofs.Common.{◌≡◌, ◌-◌, length, drop, length-take, length-drop, arith}
+use Rattle.std.proofs.Common.{◌≡◌, ◌-◌, length, drop, length-take, length-drop, refl, arith}
 use Rattle.gate_journal.specs.declared.header.Header.{Header}
 use Rattle.gate_journal.specs.Format.{header_of}
-use Rattle.gate_journal.proofs.Coming.{text_holds, sound_text}
+use Rattle.gate_journal.proofs.Coming.{text_holds, sound_text, text_fits}
 use Rattle.gate_journal.proofs.texts.read_records.Goals as goal
 
 pub invariant_of-payloads : goal.invariant_of-payloads
@@ -10,6 +10,13 @@ invariant_of-payloads c =
     let within = length-drop 72 file in
     let taken = length-take (length file - 72) (drop 72 file) in
     (sound_text c.args.longest file c.in_ok-walk.ensures, omega (arith, within, taken, c.requires.short, c.requires.long), c.requires.longest)
+
+pub invariant_of-result : goal.invariant_of-result
+invariant_of-result c = (
+  refl,
+  (λ one. let last = c.requires.last one in omega (arith, c.number_of.ensures)),
+  (λ one. let short = c.requires.one one in text_fits c.args.longest c.args.file.now c.in_ok-walk.ensures c.requires.long short.0 short.1),
+)
 
 pub returns : goal.returns
 returns c =

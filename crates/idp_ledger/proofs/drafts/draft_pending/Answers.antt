@@ -20,12 +20,12 @@ draft-requires c =
       request = c.in_ok-copy.field-0;
       peer = c.in_ok-copy-2.field-0;
       consumer = c.in_ok-copy-3.field-0;
-      relay = c.in_ok-copy_of.field-0;
+      relay = c.in_ok-copy_if_any.field-0;
     }) in
     let request = c.in_ok-copy.ensures in
     let peer = c.in_ok-copy-2.ensures in
     let consumer = c.in_ok-copy-3.ensures in
-    let relay = c.in_ok-copy_of.ensures in
+    let relay = c.in_ok-copy_if_any.ensures in
     let same : made ≡ pending key first c.args.now ask = λ i. kinds.Pending (record {
       first = first;
       moment = c.args.now;

@@ -6,4 +6,4 @@ use Rattle.metadata.proofs.make.put_plain_metadata.Goals as goal
 
 pub returns : goal.returns
 returns c =
-    IfOk-weaker c.written.result _ _ (λ bytes e. e ∙ ap written (c.in_ok-made.ensures ∙ ap (entity_descriptor c.args.entity.now) c.in_ok-described.ensures)) c.written.ensures
+    IfOk-weaker c.written.result _ _ (λ bytes e. e ∙ ap written (c.in_ok-made.ensures ∙ ap (entity_descriptor c.args.entity.now) c.in_ok-described.ensures)) c.written.ensures.bytes

@@ -6,4 +6,4 @@ pub returns : goal.returns
 returns c =
     subst (λ (made : List ℕ). IfOk c.auto_form.result (λ page. page ≡ made))
     (λ i. auto_form (c.as_str.ensures i) c.args.form.now.field (c.as_slice.ensures i)
-    (c.as_text.ensures i)) c.auto_form.ensures
+    (c.chars_if_any.ensures i)) c.auto_form.ensures

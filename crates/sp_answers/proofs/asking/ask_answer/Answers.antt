@@ -30,7 +30,7 @@ returns c =
     ∙ ap (λ (x : List ℕ). authn_request c.args.id.now config.entity x c.as_str-2.result.now m.instant) service
     ∙ ap (λ (x : List ℕ). authn_request c.args.id.now config.entity config.idp.service x m.instant) consumer_is in
     let message : c.as_slice-2.result.now ≡ ask_message config m.instant c.args.id.now =
-    c.as_slice-2.ensures ∙ c.in_ok-message.ensures
+    c.as_slice-2.ensures ∙ c.in_ok-message.ensures.bytes
     ∙ ap written (c.in_ok-signed.ensures ∙ ap (λ (x : List ℕ). signed x c.in_ok-made.made) c.as_slice.ensures ∙ ap (signed config.key_out) made) in
     let page : c.as_slice-3.result.now ≡ ask_page config m.instant c.args.id.now c.args.relay.now =
     c.as_slice-3.ensures ∙ c.in_ok-page.ensures

@@ -30,5 +30,5 @@ returns c =
           ∙ ap (λ (e : List ℕ). login_of e issued) c.as_str.ensures;
       message_is = c.as_str-2.ensures;
       consumer_is = c.as_str-3.ensures;
-      relay_is = c.text_of.ensures;
+      relay_is = c.chars_if_any.ensures;
     }) c.issued_answer.ensures)

@@ -14,5 +14,5 @@ returns c =
     (end_page_of config c.args.message.now c.args.asker.now c.in-Some.asker c.args.partial c.args.now
     c.in-Some-place_of.place c.at.result.now c.as_str.result.now c.as_str-2.result.now
     c.as_str-3.result.now c.as_str-4.result.now _ c.ending_answer.result c.in-Some.is c.as_str.ensures
-    c.as_str-2.ensures c.as_str-3.ensures c.as_str-4.ensures c.text_of.ensures
+    c.as_str-2.ensures c.as_str-3.ensures c.as_str-4.ensures c.chars_if_any.ensures
     (sym c.in-Some-place_of.ensures.place) c.at.ensures c.ending_answer.ensures)

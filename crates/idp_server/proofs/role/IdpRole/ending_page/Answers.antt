@@ -29,4 +29,4 @@ returns c =
       issuer_is = c.as_str.ensures;
       request_is = c.as_str-2.ensures;
       partial_is = c.is_partial.ensures;
-    }) c.text_of.ensures c.at.ensures c.ending_answer.ensures)
+    }) c.chars_if_any.ensures c.at.ensures c.ending_answer.ensures)
