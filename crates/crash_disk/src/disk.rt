@@ -22,7 +22,9 @@ pub trait Disk {
         ensures faults { CountsFaults result (shows self.old).faults (shows self.new).faults };
 
     /// Reads as many bytes from `at` on as are there and fit into the front of `into`, and answers how many.
+    /// A read begins inside the file or at its end: where a system refuses places far behind it, no caller meets that.
     fn read_at(&mut self, file: FileNo, at: u64, into: &mut [u8]) -> Result<usize, Failed>
+        requires { IfSome (shows self.old).told (λ disk. at ≤ length (reads_of disk file)) }
         ensures fits { IfOk result (λ n. n ≤ length into.new) }
         ensures count { IfOk result (λ n. IfSome (shows self.old).told (λ disk. n ≡ length (read_from (reads_of disk file) at (length into.old)))) }
         ensures bytes { IfOk result (λ n. IfSome (shows self.old).told (λ disk. into.new ≡ read_from (reads_of disk file) at (length into.old) ++ drop n into.old)) }

@@ -24,7 +24,7 @@ module _ (hold : ImagesHoldRecords) (left : ℕ → Image → Type 0) (told : Op
       let is =
       of_service IsSetUp address key hub_rules Answers hold left told file before turns after run tells AreKeptOnce law in
       record {
-        all = kept_then Answers _ run.serves.last turns is.all (world_of run.last after)
+        all = kept_then hub_rules Answers _ run.serves.last turns is.all (world_of run.last after)
             (left_then IsSetUp address key hub_rules Answers hold left told file before turns after run tells);
         once = is.once;
       }

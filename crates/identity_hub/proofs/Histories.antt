@@ -48,7 +48,7 @@ kept_once law never_twice first last turns kept at tells run =
     let (image, left) = some_left hub_rules Answers first last turns kept at tells run in
     let (found, stands, came) = is.kept image left in
     record {
-      all = kept_so Answers _ last turns is _
+      all = kept_so hub_rules Answers _ last turns is _
           (came_so hub_rules PassOnce (Contains (moments_of turns)) start
           (λ held events leads. never_twice start held events at.records leads) is.records);
       once = still_differ came.events is.records (requests_backed start.records) came.includes

@@ -22,7 +22,7 @@ PassOnce start events = AreDifferent (requests_of_run start events)
 -- leave behind it, in which each compaction was at the moment of one of its requests, and no two logins of such a
 -- history answer one request upwards; so no two of their logins, with those of the ledger at the start, do.
 pub record AreKeptOnce (first last : World Provider) (turns : List (Turn Provider)) : Type 0 where
-  pub all : any.AreKeptSo Answers
+  pub all : any.AreKeptSo hub_rules Answers
       (any.HoldsWhatCameSo hub_rules PassOnce (Contains (moments_of turns)) first.node.ledger.held) last turns
   pub once : AreDifferent (flat_map request_backed all.records ++ requests_backed first.node.ledger.held.records)
 
@@ -38,7 +38,7 @@ module _ (IsMoment : ℕ → Type 0) where
   -- their moments, and no two logins of such a history answer one request upwards; so no two of their logins, with
   -- those at the start, do.
   pub record AreKeptOnceOverAt (start : Held) (starts : List (Start Provider)) : Type 0 where
-    pub all : AreKeptOverSo Answers (LeftBehindAt hub_rules Answers IsMoment start starts)
+    pub all : AreKeptOverSo hub_rules Answers (LeftBehindAt hub_rules Answers IsMoment start starts)
         (OpensWhatCameSo hub_rules PassOnce IsMoment start) starts
     pub once : AreDifferent (flat_map request_backed all.records ++ requests_backed start.records)
 

@@ -28,7 +28,7 @@ module _ (hold : ImagesHoldRecords) (left : ℕ → Image → Type 0) (told : Op
   kept_behind law =
       let is = of_service IsSetUp address key idp_rules Answers hold left told file before turns after run tells AreKept law in
       record {
-        all = kept_then Answers _ run.serves.last turns is.all (world_of run.last after) left_before;
+        all = kept_then idp_rules Answers _ run.serves.last turns is.all (world_of run.last after) left_before;
         ended = λ r cookie has ends image may. is.ended r cookie has ends image (left_before image may);
         stays = λ cookie was image may. is.stays cookie was image (left_before image may);
       }

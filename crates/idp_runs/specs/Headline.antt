@@ -101,8 +101,8 @@ pub record EndsExactly (asked : Asked Provider) (before after : World Provider) 
 
 -- A logout that asks all others: the answer that begins a round asks the provider of the first turn, and each that
 -- stands for the answer of a provider the one of the next turn; where no turn is left it ends the round, with Success
--- exactly where none was skipped, as many providers answered as there are turns, and each confirmed. No other answer
--- says how the logout ended. And in the records of any ledger the answers of a round are to its requests, in order, of
+-- exactly where none was skipped, as many providers answered as there are turns, and each confirmed. No other answer of
+-- the round says how it ended. And in the records of any ledger the answers of a round are to its requests, in order, of
 -- which there is one for each turn: none is asked twice.
 pub record AsksInTurn (asked : Asked Provider) : Type 0 where
   pub begins : (held : Held) (bytes : List ℕ) (r : Round)

@@ -126,7 +126,7 @@ pub fn no_other_page_is_unrecorded()
 
 /// A logout that asks all others asks the provider of the first turn first, and behind each answer the one of the next
 /// turn. It ends with Success exactly where none was skipped, as many providers answered as there are turns, and each
-/// confirmed; no other answer says how the logout ended.
+/// confirmed; no other answer of the round says how it ended.
 pub fn a_round_ends_as_confirmed()
     ensures begins { RoundsBeginWithTheFirst }
     ensures ends { RoundsEndAsConfirmed }

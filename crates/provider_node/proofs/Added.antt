@@ -65,12 +65,14 @@ module _ {Setup R : Type 0} (rules : RecordRules R) (Answers : AnswersBy Setup R
         of_case : Contains one.held.records r ⊎ Contains (one.r ∷ []) r → Contains found.records r ⊎ Is
         of_case (inl before) = inl (in_over one before)
         of_case (inr (zero, less, same)) =
-            inr (record {
-              held = one.held;
-              answer = one.answer;
-              adds = subst (λ (x : R). Answers old.setup one.held request now one.answer (Some x)) same one.adds;
-              over = (found, finds, ⊎_elim (λ both. inl both.0) (λ both. inr both.0) one.over);
-            })
+            inr (
+              one.answer,
+              record {
+                held = one.held;
+                answers = subst (λ (x : R). Answers old.setup one.held request now one.answer (Some x)) same one.adds;
+                over = (found, finds, ⊎_elim (λ both. inl both.0) (λ both. inr both.0) one.over);
+              },
+            )
         of_case (inr (suc k, less, same)) = absurd (omega (arith, less))
 
     in_serving : ServingLeaves rules Answers old.setup found request now told image → Contains found.records r ⊎ Is

@@ -26,9 +26,10 @@ use Rattle.serve_loop.proofs.Telling.{goes_on_reading, goes_on_telling}
 use Rattle.provider_node.specs.Node.{provider_rules}
 use Rattle.provider_node.specs.Added.{DrawsAbove, IsAbove}
 use Rattle.provider_node.specs.Histories.{Another, AreAcknowledged, AreBehind, AreKept, AreKeptSo, CameFrom}
-use Rattle.provider_node.specs.Histories.{CompactsWhere, Includes, moments_of, ForCode, ForNone, ForRecord}
+use Rattle.provider_node.specs.Histories.{CompactsWhere, Includes, moments_of, ForAnswer, ForCode}
 use Rattle.provider_node.specs.Histories.{HoldsWhatCame, HoldsWhatCameSo, IsAtStart, IsProviders, Nothing, Stands}
 use Rattle.provider_node.specs.Histories.{This}
+use Rattle.provider_node.specs.Causes.{Finds, IsAnsweredOver}
 use Rattle.provider_node.specs.Calls.{CompactingLeaves}
 use Rattle.provider_node.specs.Node as node
 use Rattle.provider_node.specs.Node.{CompactionLeaves}
@@ -216,17 +217,26 @@ module _ {Setup R : Type 0} (rules : RecordRules R) (Answers : AnswersBy Setup R
 
   -- what a request does
   abbrev Goes : List R → Asked (Provider Setup R) → World (Provider Setup R) → Type 0
-  Goes records one later = (r : Option R) × Stands Answers one r × Known later (option_to_list r ++ records)
+  Goes records one later = (r : Option R) × Stands rules Answers one r × Known later (option_to_list r ++ records)
 
   module _ (one : Asked (Provider Setup R)) (w later : World (Provider Setup R)) (records : List R)
-      (tells : IsSome w.disk) (node : one.node ≡ w.node) (reads : IfSome w.disk (λ d. MayLeave d (image_of d)))
-      (holds : Known w records) (own : OwnsDisk rules later.node later.disk) (left_over : (image : Image)
+      (tells : IsSome w.disk) (node : one.node ≡ w.node) (disk : one.disk ≡ w.disk)
+      (reads : IfSome w.disk (λ d. MayLeave d (image_of d))) (holds : Known w records)
+      (own : OwnsDisk rules later.node later.disk) (left_over : (image : Image)
       → Leaves later.disk image → StepLeaves rules Answers w.node w.disk one.request one.now image)
       (Risen : Type 0) (moment : IsMoment one.now) where
-    answers_of : (held : Held R) (adds : Option R) → Answers w.node.setup held one.request one.now one.answer adds
-        → Answers one.node.setup held one.request one.now one.answer adds
-    answers_of held adds answers =
-        subst (λ (p : Provider Setup R). Answers p.setup held one.request one.now one.answer adds) (sym node) answers
+    -- the answer, over the ledger that the step of the request finds, or over what its one compaction makes of this
+    stands : (found held : Held R) (adds : Option R) → Finds rules w.node w.disk found
+        → (held ≡ found) ⊎ MakesRoom rules Answers w.node.setup found one.request one.now held
+        → Answers w.node.setup held one.request one.now one.answer adds → Stands rules Answers one adds
+    stands found held adds finds which answers =
+        let over : IsAnsweredOver rules Answers w.node w.disk one.request one.now one.answer adds =
+        record { held = held; answers = answers; over = (found, finds, which) } in
+        ForAnswer adds
+        (subst (λ (p : Provider Setup R). IsAnsweredOver rules Answers p one.disk one.request one.now one.answer adds)
+        (sym node)
+        (subst (λ (d : Option DiskState). IsAnsweredOver rules Answers w.node d one.request one.now one.answer adds)
+        (sym disk) over))
 
     added_behind : (held : Held R) (r : R)
         → Answers w.node.setup held one.request one.now one.answer (Some r) → CameFrom rules IsMoment start records held
@@ -262,41 +272,50 @@ module _ {Setup R : Type 0} (rules : RecordRules R) (Answers : AnswersBy Setup R
           λ image there. step_left records w tells reads holds one.now moment one.request image (left_over image there);
     }
 
-    served : (found : Held R) → CameFrom rules IsMoment start records found
+    served : (found : Held R) → Finds rules w.node w.disk found → CameFrom rules IsMoment start records found
         → Serves rules Answers found one.request one.now Risen one.answer w.node later.node → Goes records one later
-    served found came (steps.Plain answers whole) =
-        (None, ForNone found (answers_of found None answers), wholly found came whole)
-    served found came (steps.Recorded r answers place whole) =
-        (Some r, ForRecord found r (answers_of found (Some r) answers), added_behind found r answers came whole)
-    served found came (steps.RecordedAfterCompaction held r room answers place whole) =
-        let then = compacted rules IsMoment start records one.now found held moment room.made came in
-        (Some r, ForRecord held r (answers_of held (Some r) answers), added_behind held r answers then whole)
-    served found came (steps.NoPlace held r another room answers still is whole) = (
+    served found finds came (steps.Plain answers whole) =
+        (None, stands found found None finds (inl refl) answers, wholly found came whole)
+    served found finds came (steps.Recorded r answers place whole) = (
+      Some r,
+      stands found found (Some r) finds (inl refl) answers,
+      added_behind found r answers came whole,
+    )
+    served found finds came (steps.RecordedAfterCompaction held r room answers place whole) =
+        let then = compacted rules IsMoment start records one.now found held moment room.made came in (
+          Some r,
+          stands found held (Some r) finds (inr room) answers,
+          added_behind held r answers then whole,
+        )
+    served found finds came (steps.NoPlace held r another room answers still is whole) = (
       None,
-      ForCode FULL is,
+      ForCode FULL (1, omega arith, refl) is,
       wholly held (compacted rules IsMoment start records one.now found held moment room.made came) whole,
     )
-    served found came (steps.Failed wanted other wants risen is broken) = (None, ForCode DISK_FAULT is, brokenly)
-    served found came (steps.Starved held which is whole) =
+    served found finds came (steps.Failed wanted other wants risen is broken) =
+        (None, ForCode DISK_FAULT (0, omega arith, refl) is, brokenly)
+    served found finds came (steps.Starved held which is whole) =
         let then = roomed rules
         Answers law numbers IsMoment start records w.node.setup found one.request one.now moment came held which in
-        (None, ForCode NO_MEMORY is, wholly held then whole)
+        (None, ForCode NO_MEMORY (2, omega arith, refl) is, wholly held then whole)
 
     stepped : Steps rules Answers w.node w.disk one.request one.now Risen one.answer later.node → Goes records one later
     stepped (steps.WithLedger whole serves) =
-        served w.node.ledger.held (whole_came records w tells reads holds one.now moment whole) serves
+        served w.node.ledger.held (inl (whole, refl))
+        (whole_came records w tells reads holds one.now moment whole) serves
     stepped (steps.WithOpened found broken is serves) =
-        served found (found_told rules IsMoment start records w.disk found tells reads holds.disk is) serves
-    stepped (steps.NotOpened was risen is broken) = (None, ForCode DISK_FAULT is, brokenly)
-    stepped (steps.Strange was none is broken) = (None, ForCode FOREIGN is, brokenly)
-    stepped (steps.StarvedAtOpening was is broken) = (None, ForCode NO_MEMORY is, brokenly)
+        served found (inr (broken, is))
+        (found_told rules IsMoment start records w.disk found tells reads holds.disk is) serves
+    stepped (steps.NotOpened was risen is broken) = (None, ForCode DISK_FAULT (0, omega arith, refl) is, brokenly)
+    stepped (steps.Strange was none is broken) = (None, ForCode FOREIGN (3, omega arith, refl) is, brokenly)
+    stepped (steps.StarvedAtOpening was is broken) = (None, ForCode NO_MEMORY (2, omega arith, refl) is, brokenly)
 
   -- what a request does to a world
   pub asked_goes : (one : Asked (Provider Setup R)) (w later : World (Provider Setup R)) (records : List R)
       → IsSome one.disk
       → IsMoment one.now → Known w records → Asks (IsProviders rules Answers) one w later → Goes records one later
   asked_goes one w later records tells moment holds asks =
-      stepped one w later records (subst IsSome asks.disk tells) asks.node asks.answers.reads
+      stepped one w later records (subst IsSome asks.disk tells) asks.node asks.disk asks.answers.reads
       holds asks.answers.owns asks.answers.left (Rose w.disk_faults later.disk_faults) moment asks.answers.does.step
 
   -- ---- the world from turn to turn
@@ -305,7 +324,7 @@ module _ {Setup R : Type 0} (rules : RecordRules R) (Answers : AnswersBy Setup R
   pub record Knows (former : List R) (turns : List (Turn (Provider Setup R))) (w : World (Provider Setup R)) : Type 0
     where
       pub records : List R
-      pub are : AreAcknowledged Answers turns records
+      pub are : AreAcknowledged rules Answers turns records
       pub all : List R
       pub joined : all ≡ records ++ former
       pub holds : Known w all
@@ -324,7 +343,8 @@ module _ {Setup R : Type 0} (rules : RecordRules R) (Answers : AnswersBy Setup R
     are = (
       knows.records,
       knows.are,
-      subst (λ (l : List (Asked (Provider Setup R))). AreBehind Answers l knows.records knows.records) (sym none) refl,
+      subst (λ (l : List (Asked (Provider Setup R))). AreBehind rules Answers l knows.records knows.records) (sym none)
+          refl,
     );
     all = knows.all;
     joined = knows.joined;
@@ -365,7 +385,7 @@ module _ {Setup R : Type 0} (rules : RecordRules R) (Answers : AnswersBy Setup R
   -- those of the turns alone
   pub known : (first last : World (Provider Setup R)) (turns : List (Turn (Provider Setup R))) (kept : Table)
       → Known first [] → AreTold turns → AreMoments IsMoment turns → Run (IsProviders rules Answers)
-      first turns kept last → (records : List R) × AreAcknowledged Answers turns records × Known last records
+      first turns kept last → (records : List R) × AreAcknowledged rules Answers turns records × Known last records
   known first last turns kept begins told at run =
       let knows = known_behind [] first last turns kept begins told at run in
       (knows.records, knows.are, subst (Known last) (knows.joined ∙ append-nil knows.records) knows.holds)
@@ -419,16 +439,17 @@ module _ {Setup R : Type 0} (rules : RecordRules R) (Answers : AnswersBy Setup R
 
 -- ---- what else holds of what is kept
 
-module _ {Setup R : Type 0} (Answers : AnswersBy Setup R) (Holds : List R → Image → Type 0) (last : World
-    (Provider Setup R)) (turns : List (Turn (Provider Setup R))) (kept : AreKeptSo Answers Holds last turns) where
+module _ {Setup R : Type 0} (rules : RecordRules R) (Answers : AnswersBy Setup R)
+    (Holds : List R → Image → Type 0) (last : World (Provider Setup R)) (turns : List (Turn (Provider Setup R)))
+    (kept : AreKeptSo rules Answers Holds last turns) where
   abbrev pub kept_so : (IsSo : List R → Image → Type 0)
-      → ((image : Image) → Holds kept.records image → IsSo kept.records image) → AreKeptSo Answers IsSo last turns
+      → ((image : Image) → Holds kept.records image → IsSo kept.records image) → AreKeptSo rules Answers IsSo last turns
   kept_so IsSo so =
       record { records = kept.records; are = kept.are; kept = λ image left. so image (kept.kept image left) }
 
   -- and of a disk that leaves nothing more
   abbrev pub kept_then : (later : World (Provider Setup R))
-      → ((image : Image) → Leaves later.disk image → Leaves last.disk image) → AreKeptSo Answers Holds later turns
+      → ((image : Image) → Leaves later.disk image → Leaves last.disk image) → AreKeptSo rules Answers Holds later turns
   kept_then later no_more =
       record { records = kept.records; are = kept.are; kept = λ image left. kept.kept image (no_more image left) }
 

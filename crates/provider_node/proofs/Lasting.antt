@@ -42,7 +42,7 @@ module _ {R : Type 0} (rules : RecordRules R) (IsMoment : ℕ → Type 0) where
   }
 
 came_behind : {Setup R : Type 0} (rules : RecordRules R) (Answers : AnswersBy Setup R) (IsMoment : ℕ → Type 0)
-    (start held : Held R) (asked : List (Asked (Provider Setup R))) (earlier records : List R) → AreBehind Answers
+    (start held : Held R) (asked : List (Asked (Provider Setup R))) (earlier records : List R) → AreBehind rules Answers
     asked earlier records → CameFrom rules IsMoment start records held → CameFrom rules IsMoment start earlier held
 came_behind rules Answers IsMoment start held [] earlier records same came =
     subst (λ (l : List _). CameFrom rules IsMoment start l held) same came
@@ -65,7 +65,7 @@ module _ {Setup R : Type 0} (rules : RecordRules R) (Answers : AnswersBy Setup R
 
   abbrev Behind : List R → Turn (Provider Setup R) → World (Provider Setup R) → Type 0
   Behind earlier turn later =
-      (records : List R) × AreBehind Answers (asked_by turn) earlier records × Known later records
+      (records : List R) × AreBehind rules Answers (asked_by turn) earlier records × Known later records
 
   passes : (earlier : List R) (turn : Turn (Provider Setup R)) (new : Table) (w later : World (Provider Setup R))
       → AllByRecursion (λ (one : Asked (Provider Setup R)). IsSome one.disk) (asked_by turn)
@@ -73,7 +73,7 @@ module _ {Setup R : Type 0} (rules : RecordRules R) (Answers : AnswersBy Setup R
       → Goes (IsProviders rules Answers) w new later turn → Known w earlier → Behind earlier turn later
   passes earlier turn new w later told moment (Quiet none same) holds = (
     earlier,
-    subst (λ (l : List (Asked (Provider Setup R))). AreBehind Answers l earlier earlier) (sym none) refl,
+    subst (λ (l : List (Asked (Provider Setup R))). AreBehind rules Answers l earlier earlier) (sym none) refl,
     stays w later earlier
         (ap (λ (x : World (Provider Setup R)). x.node) same) (ap (λ (x : World (Provider Setup R)). x.disk) same) holds,
   )

@@ -227,7 +227,7 @@ abbrev pub kept_over_so : {Setup R : Type 0} (rules : RecordRules R) (Answers : 
     (Event R) → Type 0) (IsMoment : ℕ → Type 0) (start : Held R) (starts : List (Start (Provider Setup R)))
     → ((held : Held R) (events : List (Event R)) → Leads rules start events held → IsSo start events)
     → AreKeptOverAt rules Answers IsMoment start starts
-    → AreKeptOverSo Answers (LeftBehindAt rules Answers IsMoment start starts)
+    → AreKeptOverSo rules Answers (LeftBehindAt rules Answers IsMoment start starts)
     (OpensWhatCameSo rules IsSo IsMoment start) starts
 kept_over_so rules Answers IsSo IsMoment start starts so kept = record {
   records = kept.records;

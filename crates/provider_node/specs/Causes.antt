@@ -31,14 +31,17 @@ Finds rules old disk found = ((old.ledger.broken ≡ false) × (found ≡ old.le
 
 module _ {Setup R : Type 0} (rules : RecordRules R) (Answers : AnswersBy Setup R)
     (old : Provider Setup R) (disk : Option DiskState) (request : Request) (now : ℕ) where
-  -- A request adds this record with some answer, be it one that was never sent: over the ledger that the step finds, or
-  -- over what the one compaction makes of this.
-  pub record IsAddedOver (r : R) : Type 0 where
+  -- A request is answered so, with a record that it adds or with none: over the ledger that the step finds, or over
+  -- what the one compaction makes of this.
+  pub record IsAnsweredOver (answer : Answer) (adds : Option R) : Type 0 where
     pub held : Held R
-    pub answer : Answer
-    pub adds : Answers old.setup held request now answer (Some r)
+    pub answers : Answers old.setup held request now answer adds
     pub over : (found : Held R) × Finds rules old disk found
         × ((held ≡ found) ⊎ MakesRoom rules Answers old.setup found request now held)
+
+  -- A request adds this record with some answer, be it one that was never sent.
+  abbrev pub IsAddedOver : R → Type 0
+  IsAddedOver r = (answer : Answer) × IsAnsweredOver answer (Some r)
 
   -- A record was to be added to the ledger that the step found, and there was no place for it; nor was there one for
   -- the record that was to be added to what one compaction made of this ledger.

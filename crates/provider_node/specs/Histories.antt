@@ -9,6 +9,8 @@ use Rattle.serve_loop.specs.Turns.{Asked, Turn, asked_by}
 use Rattle.record_ledger.specs.Rules.{RecordRules, AreRecords}
 use Rattle.record_ledger.specs.Ledger.{Held, ledger_in}
 use Rattle.record_ledger.specs.Runs.{Event, Adds, Compacts, Leads}
+use Rattle.provider_node.specs.declared.codes.TheConstants.{DISK_FAULT, FOREIGN, FULL, NO_MEMORY}
+use Rattle.provider_node.specs.Causes.{IsAnsweredOver}
 use Rattle.provider_node.specs.Node.{provider_rules}
 use Rattle.provider_node.specs.Step.{AnswersBy, Provider, OwnsDisk}
 use Rattle.std.specs.Option.{option_to_list}
@@ -20,14 +22,15 @@ module _ {Setup R : Type 0} (rules : RecordRules R) (Answers : AnswersBy Setup R
 
 -- WHAT IS ACKNOWLEDGED
 
-module _ {Setup R : Type 0} (Answers : AnswersBy Setup R) where
+module _ {Setup R : Type 0} (rules : RecordRules R) (Answers : AnswersBy Setup R) where
   module _ (asked : Asked (Provider Setup R)) where
-    -- The answer to a request stands for a record that is added with it, or for none.
+    -- The answer to a request stands for a record that is added with it, or for none, over the ledger that its step
+    -- found, or over what the one compaction made of this; or it is a code that a provider answers for itself.
     pub data Stands : Option R → Type 0 where
-      ForRecord : (held : Held R) (r : R)
-          → Answers asked.node.setup held asked.request asked.now asked.answer (Some r) → Stands (Some r)
-      ForNone : (held : Held R) → Answers asked.node.setup held asked.request asked.now asked.answer None → Stands None
-      ForCode : (code : ℕ) → asked.answer ≡ Fixed code → Stands None
+      ForAnswer : (adds : Option R)
+          → IsAnsweredOver rules Answers asked.node asked.disk asked.request asked.now asked.answer adds → Stands adds
+      ForCode : (code : ℕ) → Contains (DISK_FAULT ∷ FULL ∷ NO_MEMORY ∷ FOREIGN ∷ []) code
+          → asked.answer ≡ Fixed code → Stands None
 
   -- the records for which the answers of some turns stand, the latest first
   abbrev pub AreBehind : List (Asked (Provider Setup R)) → (earlier records : List R) → Type 0
@@ -95,13 +98,13 @@ pub record IsAtStart {Setup R : Type 0} (rules : RecordRules R) (first : World (
 
 -- WHAT IS KEPT
 
-module _ {Setup R : Type 0} (Answers : AnswersBy Setup R)
+module _ {Setup R : Type 0} (rules : RecordRules R) (Answers : AnswersBy Setup R)
     (Holds : List R → Image → Type 0) (last : World (Provider Setup R)) (turns : List (Turn (Provider Setup R))) where
   -- Of the records for which the answers of a service stand this holds, and of every image that a crash may leave
   -- behind it.
   pub record AreKeptSo : Type 0 where
     pub records : List R
-    pub are : AreAcknowledged Answers turns records
+    pub are : AreAcknowledged rules Answers turns records
     pub kept : (image : Image) → Leaves last.disk image → Holds records image
 
 module _ {Setup R : Type 0} (rules : RecordRules R) (Answers : AnswersBy Setup R) where
@@ -109,4 +112,4 @@ module _ {Setup R : Type 0} (rules : RecordRules R) (Answers : AnswersBy Setup R
   -- behind it; in this each compaction was at the moment of one of its requests.
   abbrev pub AreKept : (first last : World (Provider Setup R)) → List (Turn (Provider Setup R)) → Type 0
   AreKept first last turns =
-      AreKeptSo Answers (HoldsWhatCame rules (Contains (moments_of turns)) first.node.ledger.held) last turns
+      AreKeptSo rules Answers (HoldsWhatCame rules (Contains (moments_of turns)) first.node.ledger.held) last turns

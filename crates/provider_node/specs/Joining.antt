@@ -24,30 +24,45 @@ module _ {Setup R : Type 0} (rules : RecordRules R) (Answers : AnswersBy Setup R
     pub among : Contains asked one
     pub left : LeavesBut disk (StepLeaves rules Answers one.node one.disk one.request one.now)
 
--- `IsMoment` says of the moments of the starts before and of the run.
-module _ {Setup R : Type 0} (rules : RecordRules R) (Answers : AnswersBy Setup R) (IsMoment : ℕ → Type 0) where
-  -- A run on a disk that told this before, and that was stopped where it left this disk, as a start: it was cut inside
-  -- the opening of its ledger; or it was served from its first world on, and was cut inside the answer to the request
-  -- of one of its turns, behind those that were done before it, the latest first.
-  pub data IsCutOf (before : Option DiskState) (IsFirst : World (Provider Setup R) → Type 0)
-      (turns : List (Turn (Provider Setup R))) (disk : DiskState) : Start (Provider Setup R) → Type 0 where
-    InOpening : LeavesBut disk (LeftByOpening rules before) → IsCutOf before IsFirst turns disk (Cut before)
-    InServing : (first : World (Provider Setup R)) (past later : List (Turn (Provider Setup R)))
-        (turn : Turn (Provider Setup R)) (kept : Table) (last : World (Provider Setup R)) → IsFirst first
-        → turns ≡ later ++ turn ∷ past → Run (IsProviders rules Answers) first past kept last
-        → IsInside rules Answers (asked_by turn) disk → IsCutOf before IsFirst turns disk (Served before first past kept last)
+  -- A moment at which a run that did these turns on a disk which told this before may have been stopped, so that it
+  -- left this disk: inside the opening of its ledger; or inside the answer to the request of one of its turns, behind
+  -- those that were done before it, the latest first.
+  pub data IsStoppedAt (before : Option DiskState) (turns : List (Turn (Provider Setup R))) (disk : DiskState) : Type 0
+    where
+      InOpening : LeavesBut disk (LeftByOpening rules before) → IsStoppedAt before turns disk
+      InServing : (past later : List (Turn (Provider Setup R))) (turn : Turn (Provider Setup R))
+          → turns ≡ later ++ turn ∷ past → IsInside (asked_by turn) disk → IsStoppedAt before turns disk
 
-  -- From this disk a later start goes on, behind starts and one more, which is the run cut at a moment: each start on a
-  -- disk that tells just this is the next.
-  pub record GoesOn (start : Held R) (earlier : List (Start (Provider Setup R))) (before : Option DiskState) (IsFirst :
-      World (Provider Setup R) → Type 0) (turns : List (Turn (Provider Setup R))) (disk : DiskState) : Type 0 where
+  -- A run that was stopped at a moment, as a start: it was cut inside the opening; or it was served from its first
+  -- world on, and was cut behind the turns that were done before that moment.
+  abbrev pub IsCutAt : (before : Option DiskState) (IsFirst : World (Provider Setup R) → Type 0)
+      (turns : List (Turn (Provider Setup R))) (disk : DiskState) → IsStoppedAt before turns disk
+      → Start (Provider Setup R) → Type 0
+  IsCutAt before IsFirst turns disk (InOpening left) one = one ≡ Cut before
+  IsCutAt before IsFirst turns disk (InServing past later turn are inside) one =
+      (first : World (Provider Setup R)) × (kept : Table) × (last : World (Provider Setup R)) × IsFirst first
+      × Run (IsProviders rules Answers) first past kept last × (one ≡ Served before first past kept last)
+
+-- `IsMoment` says of the moments of the starts before and of the run.
+module _ {Setup R : Type 0} (rules : RecordRules R) (Answers : AnswersBy Setup R) (IsMoment : ℕ → Type 0)
+    (start : Held R) (earlier : List (Start (Provider Setup R))) (before : Option DiskState)
+    (IsFirst : World (Provider Setup R) → Type 0) (turns : List (Turn (Provider Setup R))) (disk : DiskState) where
+  -- From this disk a later start goes on, behind starts and one more, which is the run cut at this moment: each start
+  -- on a disk that tells just this is the next.
+  pub record GoesOn (at : IsStoppedAt rules Answers before turns disk) : Type 0 where
     pub one : Start (Provider Setup R)
-    pub cut : IsCutOf before IsFirst turns disk one
+    pub cut : IsCutAt rules Answers before IsFirst turns disk at one
     pub starts : AreStartsAt rules Answers IsMoment start (one ∷ earlier)
     pub left : LeavesBut disk (LeftBehindAt rules Answers IsMoment start (one ∷ earlier))
     pub next : (later : Start (Provider Setup R)) → told_before later ≡ Some disk
         → GoesAt rules Answers IsMoment later → IsNextAt rules Answers IsMoment start (one ∷ earlier) later
 
+  -- There is a moment at which the run may have left this disk, and so it goes on from each such moment.
+  pub record GoesOnFromEach : Type 0 where
+    pub stopped : IsStoppedAt rules Answers before turns disk
+    pub goes : (at : IsStoppedAt rules Answers before turns disk) → GoesOn at
+
+module _ {Setup R : Type 0} (rules : RecordRules R) (Answers : AnswersBy Setup R) (IsMoment : ℕ → Type 0) where
   -- It is so of each disk that a run may leave where it is stopped at a moment, and that reads as a crash may leave it,
   -- where the run is next behind starts, and did nothing or served.
   abbrev pub EachDiskGoesOn : (IsFirst : World (Provider Setup R) → Type 0) → Type 0
@@ -58,4 +73,4 @@ module _ {Setup R : Type 0} (rules : RecordRules R) (Answers : AnswersBy Setup R
       → (turns ≡ []) ⊎ ((first last : World (Provider Setup R)) × (kept : Table)
       × IsFirst first × IsServed rules Answers before first turns kept last) → MayLeave disk (image_of disk)
       → LeavesBut disk (LeftByOpening rules before) ⊎ IsInside rules Answers (asked_in turns) disk
-      → GoesOn start earlier before IsFirst turns disk
+      → GoesOnFromEach rules Answers IsMoment start earlier before IsFirst turns disk

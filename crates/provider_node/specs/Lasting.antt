@@ -24,7 +24,7 @@ module _ {Setup R : Type 0} (rules : RecordRules R) (Answers : AnswersBy Setup R
       → Run (IsProviders rules Answers) first turns kept now → List R → Type 0
   StayIn [] kept now run records = (records ≡ []) × AreInEachSince now.moment records
   StayIn (turn ∷ past) kept now (old, before, given, did, next, does) records = (earlier : List R)
-      × AreBehind Answers (asked_by turn) earlier records × AreInEachSince now.moment records
+      × AreBehind rules Answers (asked_by turn) earlier records × AreInEachSince now.moment records
       × StayIn past old before did earlier
 
 module _ {Setup R : Type 0} (rules : RecordRules R) (Answers : AnswersBy Setup R)

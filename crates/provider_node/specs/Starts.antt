@@ -87,13 +87,14 @@ module _ {R : Type 0} (rules : RecordRules R) (IsSo : Held R → List (Event R) 
     pub came : CameFrom rules IsMoment start records held
     pub so : IsSo start came.events
 
-module _ {Setup R : Type 0} (Answers : AnswersBy Setup R) where
+module _ {Setup R : Type 0} (rules : RecordRules R) (Answers : AnswersBy Setup R) where
   -- the records for which the answers of starts stand, the latest first
   abbrev pub AreAcknowledgedIn : List (Start (Provider Setup R)) → List R → Type 0
   AreAcknowledgedIn [] records = records ≡ []
   AreAcknowledgedIn (Cut before ∷ earlier) records = AreAcknowledgedIn earlier records
   AreAcknowledgedIn (one ∷ earlier) records = (latest : List R) × (former : List R)
-      × AreAcknowledged Answers (turns_of one) latest × AreAcknowledgedIn earlier former × (records ≡ latest ++ former)
+      × AreAcknowledged rules Answers (turns_of one) latest × AreAcknowledgedIn earlier former
+      × (records ≡ latest ++ former)
 
   module _ (IsLeft : Image → Type 0) (Holds : List R → Image → Type 0) (starts : List (Start (Provider Setup R))) where
     -- Of the records for which the answers of starts stand this holds, and of every image that may be left behind
@@ -150,7 +151,7 @@ module _ {Setup R : Type 0} (rules : RecordRules R) (Answers : AnswersBy Setup R
   -- behind them, whatever a crash left; in this each compaction was at one of their moments.
   pub record AreKeptOverAt (start : Held R) (starts : List (Start (Provider Setup R))) : Type 0 where
     pub records : List R
-    pub are : AreAcknowledgedIn Answers starts records
+    pub are : AreAcknowledgedIn rules Answers starts records
     pub kept : (image : Image) → LeftBehindAt start starts image → OpensWhatCame rules IsMoment start records image
     -- there is such a history
     pub history : (held : Held R) × CameFrom rules IsMoment start records held
@@ -187,7 +188,7 @@ module _ {Setup R : Type 0} (rules : RecordRules R) (Answers : AnswersBy Setup R
     pub record AreOverBehind : Type 0 where
       pub at_first : (token : List ℕ) → IsClosed start token → IsOverBehind token
       pub records : List R
-      pub are : AreAcknowledgedIn Answers starts records
+      pub are : AreAcknowledgedIn rules Answers starts records
       pub since : (r : R) (token : List ℕ) → Contains records r → closes token r ≡ true → IsOverBehind token
 
   abbrev pub StayClosedOverStarts : Type 0

@@ -57,7 +57,7 @@ module _ {R X : Type 0} (rules : RecordRules R)
       -- leave behind it.
       pub record SessionsStay : Type 0 where
         pub records : List R
-        pub are : AreAcknowledged Answers turns records
+        pub are : AreAcknowledged rules Answers turns records
         pub stay : (x : X) (image : Image)
             → Opened records x → Leaves last.disk image → HoldsAsLeft (moments_of turns) first.node.ledger.held x image
 
@@ -71,7 +71,7 @@ module _ {R X : Type 0} (rules : RecordRules R)
       -- which was asked at one of these moments, also one that a crash cut.
       pub record SessionsStayOver : Type 0 where
         pub records : List R
-        pub are : AreAcknowledgedIn Answers starts records
+        pub are : AreAcknowledgedIn rules Answers starts records
         pub stay : (x : X) (image : Image) → Opened records x
             → LeftBehindAt rules Answers (Contains moments) start starts image → OpensAsLeft moments start x image
 

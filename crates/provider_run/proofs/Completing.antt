@@ -67,7 +67,7 @@ module _ {Setup R : Type 0} (SetsUp : SetUpBy Setup) (IsBad : BadSetUpBy) (addre
       → OpeningFails rules before after known → IsServed result ⊎ (result ≡ Err faults.NoMemory)
   not_opened before after (Ok (ends.BadFile file line)) e holds why = absurd why
   not_opened before after (Ok (ends.Foreign file place)) e holds why =
-      absurd (held_not_foreign rules before.disk _ holds why)
+      absurd (held_not_foreign rules before.disk _ holds why.0)
   not_opened before after (Ok (ends.Served served)) e holds why = absurd why
   not_opened before after (Err faults.ReadFault) e holds why = absurd why
   not_opened before after (Err faults.DiskFault) e holds why = absurd (undisked (sym e))

@@ -9,7 +9,7 @@ use Rattle.provider_run.specs.declared.ended.RunFault.{RunFault}
 use Rattle.provider_run.specs.Providers.{BadSetUpBy, Begins, RunLeaves, Runs, SetUpBy}
 use Rattle.provider_run.specs.Runs.{Outside, world_of}
 use Rattle.provider_node.specs.Calls.{OpeningLeaves}
-use Rattle.provider_node.specs.Joining.{GoesOn, IsInside, LeavesBut}
+use Rattle.provider_node.specs.Joining.{GoesOnFromEach, IsInside, LeavesBut}
 use Rattle.provider_node.specs.Histories.{moments_of}
 use Rattle.provider_node.specs.Starts.{AreStartsAt, Cut, IsNextAt, Start}
 use Rattle.provider_node.specs.Step.{AnswersBy, Provider}
@@ -37,9 +37,9 @@ pub data IsLeftStopped {Setup R : Type 0} (rules : RecordRules R) (Answers : Ans
       → IsLeftStopped rules Answers before turns disk
 
 -- Where a run is next behind starts of its provider, on a disk that tells, each disk that it leaves where it is stopped
--- at one of its moments is one from which a later start goes on, as behind a start of this run that was cut at that
--- moment: inside the answer to the request that was asked then. `IsMoment` says of the moments of the starts and of the
--- run.
+-- at one of its moments is one from which a later start goes on, for each moment at which the run may have left it, as
+-- behind a start of this run that was cut at that moment: inside the opening, or inside the answer to the request that
+-- was asked then. `IsMoment` says of the moments of the starts and of the run.
 abbrev pub EachDiskOfARunGoesOn : {Setup R : Type 0} (SetsUp : SetUpBy Setup) (IsBad : BadSetUpBy)
     (address key : Setup → List ℕ) (rules : RecordRules R) (Answers : AnswersBy Setup R) (left : ℕ → Image → Type 0)
     (IsMoment : ℕ → Type 0) → Type 0
@@ -49,5 +49,5 @@ EachDiskOfARunGoesOn {Setup} {R} SetsUp IsBad address key rules Answers left IsM
     (disk : DiskState) → Runs SetsUp IsBad address key rules Answers left told file budget before turns result after
     → AreStartsAt rules Answers IsMoment start earlier → IsNextAt rules Answers IsMoment start earlier (Cut before.disk)
     → ((now : ℕ) → Contains (moments_of turns) now → IsMoment now) → IsLeftStopped rules Answers before.disk turns disk
-    → GoesOn rules Answers IsMoment start earlier before.disk (IsBegun SetsUp address key rules told file before) turns
-    disk
+    → GoesOnFromEach rules Answers IsMoment start earlier before.disk
+    (IsBegun SetsUp address key rules told file before) turns disk

@@ -40,7 +40,7 @@ module _ {Setup R : Type 0} (SetsUp : SetUpBy Setup) (key : Setup → List ℕ) 
     (opened : Outside) where
   -- The config in this file sets such a provider up, its ledger was opened, by all calls of an opening on the disk and
   -- no other, and all but the disk is like this. From then on the disk is the provider's own; it tells as it did, reads
-  -- as an image that it may leave, and its count of faults has not fallen.
+  -- as an image that it may leave, and its count of faults is as it was.
   pub record IsReady : Type 0 where
     pub set_up : SetsUp told file provider.setup
     pub started : IsStarted key rules before.disk provider
@@ -48,7 +48,7 @@ module _ {Setup R : Type 0} (SetsUp : SetUpBy Setup) (key : Setup → List ℕ) 
     pub own : OwnsDisk rules provider opened.disk
     pub tells : is_some opened.disk ≡ is_some before.disk
     pub reads : IfSome opened.disk (λ d. MayLeave d (image_of d))
-    pub disk_faults : before.disk_faults ≤ opened.disk_faults
+    pub disk_faults : opened.disk_faults ≡ before.disk_faults
     pub same : IsButTheDisk but_the_disk opened
 
 module _ {Setup R : Type 0} (SetsUp : SetUpBy Setup) (address key : Setup → List ℕ) (rules : RecordRules R)
@@ -72,12 +72,13 @@ module _ {Setup R : Type 0} (SetsUp : SetUpBy Setup) (address key : Setup → Li
   Begins begun = IsHeard (listening (address provider.setup)) begun
 
 -- Why no ledger was opened: what the disk holds is none, and this is the fault that it has, as far as the disk tells;
--- the disk failed; there was no memory.
+-- the disk failed; there was no memory. Where the disk did not fail, its count of faults is as it was.
 abbrev pub OpeningFails : {R : Type 0} → RecordRules R → Outside → Outside → Result Ended RunFault → Type 0
 OpeningFails rules before after (Ok (ends.Foreign file place)) =
     IfSome before.disk (λ d. taken (ledger_in rules (image_of d)) ≡ Err (record { file = file; place = place }))
+    × (after.disk_faults ≡ before.disk_faults)
 OpeningFails rules before after (Err faults.DiskFault) = Rose before.disk_faults after.disk_faults
-OpeningFails rules before after (Err faults.NoMemory) = Unit {0}
+OpeningFails rules before after (Err faults.NoMemory) = after.disk_faults ≡ before.disk_faults
 OpeningFails rules before after other = ⊥
 
 module _ {Setup R : Type 0} (SetsUp : SetUpBy Setup) (rules : RecordRules R)

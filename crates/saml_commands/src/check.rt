@@ -1,12 +1,12 @@
 // What `check` answers for a provider that is set up and a posted form.
 
-ghost use Rattle.std.specs.Prelude.{◌≡◌, ◌≤◌, ◌<◌, ◌++◌, length, map, IfOk, IfSome, OnOk};
+ghost use Rattle.std.specs.Prelude.{◌≡◌, ◌≤◌, ◌<◌, ◌++◌, true, length, map, IfOk, IfSome, OnOk};
 ghost use Rattle.saml_commands.specs.Check.{attribute_line, attribute_lines, session_lines, asked_row_of, opened_row_of, rows_of, OfJudged};
 ghost use Rattle.sp_setup.specs.Views.{IsWithinBounds};
 
 use crate::answer::Answer;
 use record_lines::put_escaped;
-use request_rows::{AskedRow, NewSession, OpenedRow, ROW_LIMIT, Rows};
+use request_rows::{AskedRow, KeptRows, NewSession, OpenedRow, ROW_LIMIT, Rows};
 use saml_outside::{Attribute, Attributes, Blob, NoMemory, Text};
 use saml_time::{GREATEST_SKEW, LAST};
 use sp_rules::{FIRST, Judged, SpConfig, judge};
@@ -44,21 +44,28 @@ fn opened_row_of(alloc: Global, line: OpenedLine) -> OpenedRow
     }
 }
 
-/// The rows that a config names.
-fn rows_of(alloc: Global, asked: Vec<AskedLine>, opened: Vec<OpenedLine>) -> Result<Rows, NoMemory>
+/// The rows that a config names, with their indexes, each made by one sort.
+fn rows_of(
+    alloc: Global,
+    asked: Vec<AskedLine>,
+    opened: Vec<OpenedLine>,
+) -> Result<KeptRows, NoMemory>
     requires asked { length asked.items < ROW_LIMIT }
     requires opened { length opened.items < ROW_LIMIT }
-    ensures asked { IfOk result (λ rows. rows.asked ≡ map asked_row_of asked.items) }
-    ensures opened { IfOk result (λ rows. rows.opened ≡ map opened_row_of opened.items) }
+    ensures asked { IfOk result (λ kept. kept.rows.asked ≡ map asked_row_of asked.items) }
+    ensures opened { IfOk result (λ kept. kept.rows.opened ≡ map opened_row_of opened.items) }
+    ensures indexed { IfOk result (λ kept. kept.is_indexed ≡ true) }
 {
-    let mut rows = Rows::new(alloc);
+    let mut kept = KeptRows::new(alloc);
     for request in asked {
-        rows.add_asked(asked_row_of(request))?;
+        kept.reserve_asked()?;
+        kept.put_asked(asked_row_of(request));
     }
     for answer in opened {
-        rows.add_opened(opened_row_of(alloc, answer))?;
+        kept.reserve_opened()?;
+        kept.put_opened(opened_row_of(alloc, answer));
     }
-    Ok(rows)
+    kept.indexed(alloc)
 }
 
 /// Puts the line of an attribute's value.
@@ -121,6 +128,6 @@ pub(crate) fn check(alloc: Global, setup: SetUp, now: u64, body: &[u8]) -> Resul
     requires bounds { IsWithinBounds setup }
     ensures { IfOk result (λ answer. OfJudged (rows_of setup.asked.items setup.opened.items) setup.config now body.now answer) }
 {
-    let rows = rows_of(alloc, setup.asked, setup.opened)?;
-    verdict_on(alloc, &setup.config, &rows, now, body)
+    let kept = rows_of(alloc, setup.asked, setup.opened)?;
+    verdict_on(alloc, &setup.config, kept.rows(), now, body)
 }

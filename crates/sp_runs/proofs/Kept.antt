@@ -23,7 +23,7 @@ kept_once hold acknowledged told file budget before opened after provider last t
     (any.still_tells IsServedBy address key request_rules Answers hold told file before opened provider tells begins) run in
     let same = at_end budget turns behind (world_of last after) served ends in
     record {
-      all = kept_then Answers _ behind turns is.all (world_of last after)
+      all = kept_then request_rules Answers _ behind turns is.all (world_of last after)
           (λ image left. subst (λ (d : Option DiskState). Leaves d image) same.1 left);
       once = is.once;
     }

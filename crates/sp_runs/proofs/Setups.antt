@@ -17,7 +17,7 @@ use Rattle.verdict_codes.specs.Codes.{number_of}
 use Rattle.verdict_codes.specs.declared.codes.Verdict.TheVariants.{RegistryExpired}
 use Rattle.sp_server.specs.Step.{Setup, Provider, Answers, is_expired, session_for}
 use Rattle.provider_node.specs.Step.{Steps}
-use Rattle.provider_node.specs.Histories.{ForRecord, ForNone, ForCode, IsProviders, Stands}
+use Rattle.provider_node.specs.Histories.{ForAnswer, ForCode, IsProviders, Stands}
 use Rattle.sp_setup.specs.Laws.{ARegistryTellsTheProvider, WithoutARegistryNothingEnds}
 use Rattle.sp_runs.specs.Laws.{ARunUsesWhatItsRegistryLists, EachRequestIsServedByTheSameSetup, AnEndedRegistryAddsNothing, AnEndedRegistryRecordsNothing, AnEndedRegistryAsksNothing, AsksAndOpensNothing, WithoutARegistryNothingIsExpired}
 use Rattle.sp_setup.specs.Setup as setups
@@ -66,12 +66,12 @@ module _ (setup : Setup) (held : Held) (request : Request) (now : ℕ) (answer :
   nothing_asked (steps.ByUnknownLogout response to unexpired obeyed unknown is none) = (none, inl (_, is))
 
 stands_for_none : (asked : Asked Provider) (stood : Option SpRecord) (r : SpRecord)
-    → is_expired asked.node.setup.expiry asked.now ≡ true → stood ≡ Some r → Stands Answers asked stood → ⊥
-stands_for_none asked stood r ended some (ForRecord held other answers) =
-    let e = (nothing_asked asked.node.setup held asked.request asked.now asked.answer (Some other) ended answers).0 in
+    → is_expired asked.node.setup.expiry asked.now ≡ true → stood ≡ Some r
+    → Stands request_rules Answers asked stood → ⊥
+stands_for_none asked stood r ended some (ForAnswer adds is) =
+    let e = (nothing_asked asked.node.setup is.held asked.request asked.now asked.answer adds ended is.answers).0 in
     cc
-stands_for_none asked stood r ended some (ForNone held answers) = cc
-stands_for_none asked stood r ended some (ForCode code is) = cc
+stands_for_none asked stood r ended some (ForCode code own is) = cc
 
 at_or_after : (until now : ℕ) → until ≤ now → nat_le until now ≡ true
 at_or_after until now late = grind (arith, Rattle.std.proofs.lemmas.Bool.Decides.nat_tests)

@@ -177,7 +177,7 @@ pub record KeepsToItsConfig (told : Option (List File)) (file : List ℕ) (befor
   pub same : (asked : Asked Provider) → Contains (asked_in turns) asked
       → asked.node.setup ≡ served_by begins.set_up.setup
   pub ends : (asked : Asked Provider) (until : ℕ) (r : SpRecord) → begins.set_up.setup.expiry ≡ Some until
-      → Contains (asked_in turns) asked → until ≤ asked.now → ¬ (Stands Answers asked (Some r))
+      → Contains (asked_in turns) asked → until ≤ asked.now → ¬ (Stands request_rules Answers asked (Some r))
   pub adds_none : (request : Request) (until now : ℕ) (r : SpRecord) → begins.set_up.setup.expiry ≡ Some until
       → until ≤ now → ¬ (IsAddedBy Answers (served_by begins.set_up.setup) request now r)
   pub asks : (asked : Asked Provider) (until : ℕ) → begins.set_up.setup.expiry ≡ Some until

@@ -106,7 +106,7 @@ AnEndedRegistryRecordsNothing =
     (asked : Asked Provider) (until : ℕ) (r : SpRecord) → (begins : Begins told file before provider opened)
     → Run (IsProviders request_rules Answers) (world_of provider opened) turns kept behind
     → begins.set_up.setup.expiry ≡ Some until → Contains (asked_in turns) asked → until ≤ asked.now
-    → ¬ (Stands Answers asked (Some r))
+    → ¬ (Stands request_rules Answers asked (Some r))
 
 -- From the moment on at which a registry ends no request adds a record, whatever is answered: no answer by the
 -- definition, over whatever ledger, stands for one, be it one that was never sent.

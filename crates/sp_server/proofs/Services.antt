@@ -69,7 +69,7 @@ kept_once law never_twice first last turns kept at tells run =
     let (image, left) = some_left request_rules Answers first last turns kept at tells run in
     let (found, stands, witness) = is.kept image left in
     record {
-      all = kept_so Answers _ last turns is _
+      all = kept_so request_rules Answers _ last turns is _
           (came_so request_rules OpenOnce (Contains (moments_of turns)) start
           (λ held events leads. never_twice start held events at.records leads) is.records);
       once = still_differ witness.events is.records (requests_opened start.records) witness.includes

@@ -19,7 +19,7 @@ OpenOnce start events = AreDifferent (requests_of_run start events)
 -- leave behind it, in which each compaction was at the moment of one of its requests, and no two sessions of such a
 -- history are of one request; so no two of their sessions, with those of the ledger at the start, are.
 pub record AreKeptOnce (first last : World Provider) (turns : List (Turn Provider)) : Type 0 where
-  pub all : AreKeptSo Answers
+  pub all : AreKeptSo request_rules Answers
       (HoldsWhatCameSo request_rules OpenOnce (Contains (moments_of turns)) first.node.ledger.held) last turns
   pub once : AreDifferent (flat_map request_opened all.records ++ requests_opened first.node.ledger.held.records)
 

@@ -19,7 +19,7 @@ module _ (IsMoment : ℕ → Type 0) where
   -- behind them, whatever a crash left; in this each compaction was at one of their moments, and no two sessions of
   -- such a history are of one request; so no two of their sessions, with those at the start, are.
   pub record AreKeptOnceOverAt (start : Held) (starts : List (Start Provider)) : Type 0 where
-    pub all : AreKeptOverSo Answers (LeftBehindAt request_rules Answers IsMoment start starts)
+    pub all : AreKeptOverSo request_rules Answers (LeftBehindAt request_rules Answers IsMoment start starts)
         (OpensWhatCameSo request_rules OpenOnce IsMoment start) starts
     pub once : AreDifferent (flat_map request_opened all.records ++ requests_opened start.records)
 

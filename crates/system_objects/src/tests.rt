@@ -20,7 +20,11 @@ fn the_clock_shows_a_moment_of_our_days(rt: HostRuntime) {
 }
 
 // The length of a file, and what a read of it into four bytes gives.
-fn read_of(disk: &mut impl Disk, file: FileNo, at: u64) -> Result<(u64, usize, [u8; 4]), Failed> {
+fn read_of(
+    disk: &mut FsDisk<'_, HostRuntime>,
+    file: FileNo,
+    at: u64,
+) -> Result<(u64, usize, [u8; 4]), Failed> {
     let mut into = [b'.'; 4];
     let length = disk.length(file)?;
     let count = disk.read_at(file, at, &mut into)?;

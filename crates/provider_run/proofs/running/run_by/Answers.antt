@@ -25,7 +25,7 @@ returns-in-Ok-clause-runs g c = let link = c.args.link.now in
         own = starts.own;
         tells = g.met.D.Disk.tells_always c.start.new.disk ∙ sym (g.met.D.Disk.tells_always disk);
         reads = g.met.D.Disk.reads_an_image c.start.new.disk;
-        disk_faults = starts.faults.never_falls;
+        disk_faults = starts.faults.kept (λ e. cc);
         same = refl;
       }),
       served g.D.Disk.shows (OpeningLeaves g.R.Role.Rows.Standing.rules)
@@ -41,7 +41,11 @@ returns-in-Err-Foreign-clause-runs g c = let why = rw c.in-Err-Foreign.field-0-i
       λ told file set_up. NotOpened (record {
         setup = c.args.role;
         set_up = set_up;
-        fails = why;
+        fails = (
+          why,
+          c.in-Err-Foreign.ensures.faults.kept
+              (λ e. let both = sym (ap Err c.in-Err-Foreign.field-0-is) ∙ e in cc),
+        );
         calls = follows_err g.D.Disk.shows
             (opening g.R.Role.Rows.Standing.rules) c.args.disk.now c.start.new.disk _ c.in-Err-Foreign.ensures.calls;
       }) refl refl,
@@ -74,7 +78,7 @@ returns-in-Err-NoMemory-clause-runs g c = (
   λ told file set_up. NotOpened (record {
     setup = c.args.role;
     set_up = set_up;
-    fails = tt;
+    fails = c.in-Err-NoMemory.ensures.faults.kept (λ e. let both = sym (ap Err c.in-Err-NoMemory.field-0-is) ∙ e in cc);
     calls = follows_err g.D.Disk.shows
         (opening g.R.Role.Rows.Standing.rules) c.args.disk.now c.start.new.disk _ c.in-Err-NoMemory.ensures.calls;
   }) refl refl,

@@ -6,14 +6,16 @@ use Rattle.saml_commands.proofs.check.rows_of.Given as goal
 
 abbrev pub invariant-loop-request : goal.invariant-loop-request
 invariant-loop-request l = record {
-  asked : l.rows.asked ++ map asked_row_of (into_iter_items l.request-iterator) ≡ map asked_row_of l.fn.asked.items;
-  opened : l.rows.opened ≡ [];
-  count : length l.rows.asked + length (into_iter_items l.request-iterator) ≡ length l.fn.asked.items;
+  asked :
+      l.kept.rows.asked ++ map asked_row_of (into_iter_items l.request-iterator) ≡ map asked_row_of l.fn.asked.items;
+  opened : l.kept.rows.opened ≡ [];
+  count : length l.kept.rows.asked + length (into_iter_items l.request-iterator) ≡ length l.fn.asked.items;
 }
 
 abbrev pub invariant-loop-answer : goal.invariant-loop-answer
 invariant-loop-answer l = record {
-  asked : l.rows.asked ≡ map asked_row_of l.fn.asked.items;
-  opened : l.rows.opened ++ map opened_row_of (into_iter_items l.answer-iterator) ≡ map opened_row_of l.fn.opened.items;
-  count : length l.rows.opened + length (into_iter_items l.answer-iterator) ≡ length l.fn.opened.items;
+  asked : l.kept.rows.asked ≡ map asked_row_of l.fn.asked.items;
+  opened :
+      l.kept.rows.opened ++ map opened_row_of (into_iter_items l.answer-iterator) ≡ map opened_row_of l.fn.opened.items;
+  count : length l.kept.rows.opened + length (into_iter_items l.answer-iterator) ≡ length l.fn.opened.items;
 }
