@@ -1,4 +1,5 @@
--- A service provider and an identity provider in one world, each over its starts with crashes between them, and what joins them.
+-- A service provider and an identity provider in one world, each over its starts with crashes between them, and what
+-- joins them.
 use Rattle.std.specs.Prelude.{◌≡◌, ◌⊎◌, ℕ, List, Contains, Some}
 use Rattle.crash_disk.specs.Counts.{Rose}
 use Rattle.http_wire.specs.declared.answer.Answer.{Answer}
@@ -15,10 +16,10 @@ use Rattle.sp_rules.specs.declared.config.SpConfig.{SpConfig}
 use Rattle.sp_rules.specs.Opening.{Brought}
 use Rattle.sp_rules.specs.Shown.{session_of}
 use Rattle.serve_loop.specs.Turns.{Asked}
-use Rattle.serve_loop.specs.Worlds.{World}
 use Rattle.provider_node.specs.declared.codes.TheConstants.{NO_MEMORY}
 use Rattle.provider_node.specs.Starts as any
-use Rattle.provider_node.specs.Starts.{Start, asked_over, last_of, AreOverBehind, AreStarts, AreStartsAt}
+use Rattle.provider_node.specs.Origins.{RecordsHaveTheirRequests, WasAsked}
+use Rattle.provider_node.specs.Starts.{Start, asked_over, AreOverBehind, AreStarts, AreStartsAt}
 use Rattle.provider_node.specs.Staying.{SessionsStayOver}
 use Rattle.request_ledger.specs.Ledger.{Held}
 use Rattle.request_ledger.specs.Record.{AreRecords, request_rules}
@@ -40,13 +41,6 @@ use Rattle.recorded_logins.specs.Recorded.{Added, AreOf}
 use Rattle.recorded_logins.specs.Logins.{IsRecordedSession}
 use Rattle.provider_node.specs.Step.{Serves}
 
--- A request that a node was asked in these starts; or any in whose answer one of them may have been cut, of a node as it was at the
--- end of that start.
-pub data WasAsked {N : Type 0} (starts : List (Start N)) (asked : Asked N) : Type 0 where
-  Answered : Contains (asked_over starts) asked → WasAsked starts asked
-  MayBeCut : (one : Start N) (last : World N) → Contains starts one → last_of one ≡ Some last → asked.node ≡ last.node
-      → asked.disk ≡ last.disk → WasAsked starts asked
-
 -- An identity provider of this setup recorded this at a request of these starts, and its answer stands for it.
 pub record WasRecorded (setup : IdpConfig) (starts : List (Start idp.Provider)) (one : Added) : Type 0 where
   pub asked : Asked idp.Provider
@@ -64,16 +58,16 @@ pub record WereSigned (setup : IdpConfig) (start : idp_ledger.Held) (starts : Li
   pub recorded : (one : Added) → Contains added one → IsKnown setup start starts one
   pub of : AreOf setup added issued
 
--- The session is that of a login which the identity provider recorded: of one of these records, for this provider, to its address and in
--- its time.
+-- The session is that of a login which the identity provider recorded: of one of these records, for this provider, to
+-- its address and in its time.
 pub record IsOfARecordedLogin (setup : IdpConfig) (start : idp_ledger.Held) (starts : List (Start idp.Provider)) (added : List Added)
     (config : SpConfig) (now : ℕ) (session : NewSession) : Type 0 where
   pub is : IsRecordedSession setup added config now session
   pub recorded : IsKnown setup start starts (record { held = is.held; r = kinds.Issued is.r })
 
--- A request that the service provider was asked opens a session exactly where the posted form opens one: it records one, with whatever
--- answer, only there; and wherever a form does, over the ledger that the step found, where there is room and the disk does not fail, the
--- session is recorded and given, or there was no memory.
+-- A request that the service provider was asked opens a session exactly where the posted form opens one: it records
+-- one, with whatever answer, only there; and wherever a form does, over the ledger that the step found, where there is
+-- room and the disk does not fail, the session is recorded and given, or there was no memory.
 pub record OpensExactly (asked : Asked sp.Provider) : Type 0 where
   pub only : (held : Held) (answer : Answer) (r : OpenedRecord)
       → sp.Answers asked.node.setup held asked.request asked.now answer (Some (sp_kinds.Opened r))
@@ -84,17 +78,21 @@ pub record OpensExactly (asked : Asked sp.Provider) : Type 0 where
       → ¬ (Rose faults later)
       → (asked.answer ≡ Fixed NO_MEMORY) ⊎ IsOpened asked.node.setup found asked.request asked.now b asked.answer new.ledger.held
 
--- Sessions are opened exactly where forms open them, also where a crash cut the request. Each that is given, with
--- whatever answer, is of a recorded login: for each list of what the identity provider signed for records of these
--- starts, or that it had at first, where no HMAC in the posted form is made by anybody else and no other text there has
--- the hash of one of them. What the service provider acknowledged is kept, once: no request opens two sessions, those
--- whose answer was lost included. A session of the service provider that was closed, at first or by what it
--- acknowledged, is live in no ledger that may be opened behind these starts, and none of the identity provider that was
--- ended, at first or by what that acknowledged. And at both, for each list of moments among which are all of these
--- starts, those of requests that were cut included, each session whose answer went out stays as it was left.
+-- Sessions are opened exactly where forms open them, also where a crash cut the request; and each record that stands in
+-- a ledger of either which may be opened behind these starts stood there at first, or is one that a request of these
+-- starts adds, whatever was answered, so each session is one that was there at first or that was opened so. Each that
+-- is given, with whatever answer, is of a recorded login: for each list of what the identity provider signed for
+-- records of these starts, or that it had at first, where no HMAC in the posted form is made by anybody else and no
+-- other text there has the hash of one of them. What the service provider acknowledged is kept, once: no request opens
+-- two sessions, those whose answer was lost included. A session of the service provider that was closed, at first or by
+-- what it acknowledged, is live in no ledger that may be opened behind these starts, and none of the identity provider
+-- that was ended, at first or by what that acknowledged. And at both, for each list of moments among which are all of
+-- these starts, those of requests that were cut included, each session whose answer went out stays as it was left.
 pub record Headline (start : Held) (sp_starts : List (Start sp.Provider)) (idp_start : idp_ledger.Held)
     (idp_starts : List (Start idp.Provider)) : Type 0 where
   pub opens : (asked : Asked sp.Provider) → WasAsked sp_starts asked → OpensExactly asked
+  pub from : RecordsHaveTheirRequests request_rules Answers start sp_starts
+  pub idp_from : RecordsHaveTheirRequests idp_rules idp.Answers idp_start idp_starts
   pub recorded : (setup : IdpConfig) (added : List Added) (issued : List Signed) (asked : Asked sp.Provider) (held : Held) (answer : Answer)
       (r : SpRecord)
       → WereSigned setup idp_start idp_starts added issued → WasAsked sp_starts asked

@@ -12,19 +12,21 @@
 //!
 //! One law over all starts of a service provider and of an identity provider, wherever crashes stop them
 //! (`the_headline_holds_of_both`): a session is opened exactly where a posted form opens one, also where a crash cut
-//! the request; each that is given, with whatever answer, is of a login that the identity provider recorded, for this
-//! provider, to its address and in its time, in these starts or before, where nobody else makes HMACs that match and no
-//! hash collides; what the service provider acknowledged is kept, once, and no request opens two; a session of the
-//! service provider that was closed, and one of the identity provider that was ended, at first or by what an answer of
-//! these starts acknowledged, is live in no ledger that may be opened behind them; and a session whose answer went out
-//! is found there as it was left, at both, for each list of moments among which are all of these starts.
-//! [HEADLINE](HEADLINE.md) has it word by word.
+//! the request, and each record behind these starts stood there at first or is one that a request of theirs adds; each
+//! that is given, with whatever answer, is of a login that the identity provider recorded, for this provider, to its
+//! address and in its time, in these starts or before, where nobody else makes HMACs that match and no hash collides;
+//! what the service provider acknowledged is kept, once, and no request opens two; a session of the service provider
+//! that was closed, and one of the identity provider that was ended, at first or by what an answer of these starts
+//! acknowledged, is live in no ledger that may be opened behind them; and a session whose answer went out is found
+//! there as it was left, at both, for each list of moments among which are all of these starts. [HEADLINE](HEADLINE.md)
+//! has it word by word.
 #![tactic(auto)]
 
 ghost use Rattle.both_providers.specs.Together.{TheHeadlineHoldsOfBoth};
 
 /// Over all starts of a service provider and of an identity provider: a session is opened exactly where a posted form opens one, also
-/// where a crash cut the request; each that is given is that of a login which the identity provider recorded, for this provider, to its
+/// where a crash cut the request, and each record that stands behind these starts stood there at first or is one that a request of
+/// theirs adds, whatever was answered; each that is given is that of a login which the identity provider recorded, for this provider, to its
 /// address and in its time, with an answer that stands for the record, or whose record its ledger had at first: for each list of such
 /// records, where nobody else makes HMACs that match and no hash collides; what the service provider acknowledged is kept, once: no
 /// request opens two sessions; a session of the service provider that was closed, and one of the identity provider that was ended, at

@@ -14,6 +14,7 @@ use Rattle.hub_ledger.specs.Laws.{AnswerAlike, ImagesHoldRecords}
 use Rattle.hub_ledger.specs.Record.{hub_rules}
 use Rattle.identity_hub.specs.Histories.{WhatIsAcknowledgedIsKeptOnce, WhatIsAcknowledgedIsKeptOnceOverStarts}
 use Rattle.provider_node.specs.Causes.{GivesNoOwnCode}
+use Rattle.provider_node.proofs.Origins.{each_has_its_request}
 use Rattle.provider_node.specs.Histories.{AnyMoment, IsProviders}
 use Rattle.identity_hub.specs.Passing.{EachRefusalIsOfOneBelow, EachRequestUpwardsIsOfOneBelow, NothingIsAskedOfAUserWhoMayNotBeAsked, OnlyWhereALoginIsBrought, WhereverALoginIsBrought}
 use Rattle.identity_hub.specs.Recorded.{IsPosted}
@@ -51,13 +52,13 @@ pub record RunLaws : Type 0 where
   pub below : EachSessionBelowIsOfALoginAbove
 
 module _ (laws : Laws) (asked : Asked Provider) where
-  passes_exactly : (before after : World Provider) → PassesOnExactly asked before after
-  passes_exactly before after = record {
+  passes_exactly : PassesOnExactly asked
+  passes_exactly = record {
     only = λ held answer r answers. laws.only asked.node.setup held asked.request asked.now answer r answers;
     back = λ held answer r answers. laws.back asked.node.setup held asked.request asked.now answer r answers;
     askers = λ held answer r answers. laws.askers asked.node.setup held asked.request asked.now answer r answers;
     refusals = λ held answer r answers. laws.refusals asked.node.setup held asked.request asked.now answer r answers;
-    wherever = of_asked asked before after laws.wherever;
+    wherever = λ before after. of_asked asked before after laws.wherever;
   }
 
   signs_only : (before after : World Provider) → Asks (IsProviders hub_rules Answers) asked before after
@@ -72,7 +73,7 @@ module _ (laws : Laws) (asked : Asked Provider) where
   goes_exactly = record {
     steps = stepped hub_rules Answers asked;
     causes = for_a_cause hub_rules Answers asked laws.none_own;
-    passes = λ before after asks. passes_exactly before after;
+    passes = passes_exactly;
     signs = signs_only;
     passive = λ held answer r login peer asks passive answers.
         laws.passive asked.node.setup held asked.request asked.now answer r login peer asks passive answers;
@@ -106,6 +107,7 @@ pub over_starts : Laws → WhatIsAcknowledgedIsKeptOnceOverStarts AnyMoment
     → TheHeadlineHoldsOverStarts
 over_starts laws once once_at below start starts are begun = record {
   goes = λ asked there. goes_exactly laws asked;
+  from = each_has_its_request hub_rules Answers start starts begun;
   once = once start starts are begun;
   once_at = λ moments at. once_at moments start starts are at;
   below = below start.records (asked_over starts);

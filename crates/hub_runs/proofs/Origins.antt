@@ -43,17 +43,18 @@ each_recorded law above added issued setup request now r are unforged apart by =
     law above added issued setup r are (passed_on setup request now issued r unforged apart by)
 
 pub each_below : ASessionBelowWasPassedOn → EachLoginWasRecorded → EachSessionBelowIsOfALoginAbove
-each_below below recorded start asked above added issued_above hub passed issued config rows horizon now body accepted
-    are unforged_above signed unforged apart opening =
+each_below below recorded start asked hub passed issued config rows horizon now body accepted signed unforged apart
+    opening =
     let is = below hub passed issued config rows horizon now body accepted signed.of unforged apart opening in
     record {
       below = is;
       of =
           elim (signed.known is.one is.known) [
             | inl old ↦ inl old
-            | inr was ↦
-                let both = unforged_above was.one was.there in
-                inr (recorded above added issued_above hub was.one.request was.one.now is.one are both.0 both.1
-                was.adds)
+            | inr was ↦ inr (record {
+              was = was;
+              recorded = λ above added list are none apart_above.
+                  recorded above added list hub was.one.request was.one.now is.one are none apart_above was.adds;
+            })
           ];
     }

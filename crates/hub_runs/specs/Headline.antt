@@ -33,6 +33,7 @@ use Rattle.passed_logins.specs.Passed.{IsOfARecordedLogin}
 use Rattle.provider_node.specs.declared.codes.TheConstants.{NO_MEMORY}
 use Rattle.provider_node.specs.Added.{IsAddedBy}
 use Rattle.provider_node.specs.Lasting.{AreKeptSince}
+use Rattle.provider_node.specs.Origins.{RecordsHaveTheirRequests, WasAsked}
 use Rattle.provider_node.specs.Starts.{AreStarts, AreStartsAt, Start, asked_over}
 use Rattle.provider_run.specs.Headlines.{AddsOnlyItsOwn, AnswersForACause, AnswersOnceRecorded, EachGoes, GoesOnDisk, HeadlineBy, HeadlineOf, KeepsWhatIsVisible, ServedOver, ServedRun, WhereAsked}
 use Rattle.provider_run.specs.Runs.{Outside, world_of}
@@ -55,7 +56,7 @@ use Rattle.hub_setup.specs.Setup.{IsSetUp}
 -- says that the user may not be asked. And wherever a form brings a login, over the ledger that the step found, where
 -- there is room, at once or behind one compaction, and the disk does not fail, it is recorded and passed on; or there
 -- was no memory.
-pub record PassesOnExactly (asked : Asked Provider) (before after : World Provider) : Type 0 where
+pub record PassesOnExactly (asked : Asked Provider) : Type 0 where
   pub only : (held : Held) (answer : Answer) (r : Backed)
       → Answers asked.node.setup held asked.request asked.now answer (Some (kinds.Backed r))
       → PassesLogin asked.node.setup held asked.request asked.now (kinds.Backed r) answer
@@ -67,7 +68,7 @@ pub record PassesOnExactly (asked : Asked Provider) (before after : World Provid
   pub refusals : (held : Held) (answer : Answer) (r : Spoke)
       → Answers asked.node.setup held asked.request asked.now answer (Some (kinds.Spoke r))
       → IsOfPassive asked.node.setup asked.request r
-  pub wherever : (found : Held) (b : Brought) (row : Route) (peer : LogoutPeer)
+  pub wherever : (before after : World Provider) (found : Held) (b : Brought) (row : Route) (peer : LogoutPeer)
       → ServedOver hub_rules Answers found asked before after
       → CanPassOn asked.node.setup found asked.request asked.now b row peer
       → HasRoom asked.node.setup found asked.now b row
@@ -126,7 +127,7 @@ key config = config.upstream.id_key
 pub record GoesExactly (asked : Asked Provider) : Type 0 where
   pub steps : WhereAsked hub_rules Answers asked (GoesOnDisk hub_rules Answers asked)
   pub causes : WhereAsked hub_rules Answers asked (AnswersForACause hub_rules Answers asked)
-  pub passes : WhereAsked hub_rules Answers asked (PassesOnExactly asked)
+  pub passes : PassesOnExactly asked
   pub signs : WhereAsked hub_rules Answers asked (λ before after. SignsOnlyItsRecords asked after)
   pub passive : AsksNobodyAbove asked
   pub from_above : IsOfALoginFromAbove asked
@@ -160,9 +161,12 @@ Headline = HeadlineBy IsSetUp address key hub_rules Answers Says
 
 -- ---- over runs
 
--- The same sentence over starts, each of which opens what a crash of the one before it may have left.
+-- The same sentence over starts, each of which opens what a crash of the one before it may have left: of each request,
+-- also of one in whose answer a crash may have cut a start; and each record in a ledger that may be opened behind them
+-- stood there at first, or is one that such a request adds, whatever was answered.
 pub record HeadlineOver (start : Held) (starts : List (Start Provider)) : Type 0 where
-  pub goes : (asked : Asked Provider) → Contains (asked_over starts) asked → GoesExactly asked
+  pub goes : (asked : Asked Provider) → WasAsked starts asked → GoesExactly asked
+  pub from : RecordsHaveTheirRequests hub_rules Answers start starts
   pub once : AreKeptOnceOver start starts
   -- where each request of the starts was asked at one of these moments, each compaction in such a history was at one of
   -- them

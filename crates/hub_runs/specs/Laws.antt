@@ -102,29 +102,30 @@ pub record WereSigned (hub : HubConfig) (start : List HubRecord) (asked : List (
   pub known : (r : Backed) → Contains passed r → Contains start (kinds.Backed r) ⊎ WasPassedAt hub asked r
   pub of : AreSignedFor hub passed issued
 
--- In no form that was posted with these requests an HMAC is made by anybody but the provider above, of which these
--- elements are, and no other text there has the hash of one of them.
-abbrev pub AreUnforged : List Signed → HubConfig → List (Asked Provider) → Type 0
-AreUnforged issued hub asked =
-    (one : Asked Provider) → Contains asked one
-    → Unforged issued hub.upstream one.now one.request.body × NoCollision issued one.request.body
+-- The login was passed on at one of these requests. Where in the form that was posted with this one no HMAC is made by
+-- anybody but a provider above, of which these elements are, each for a record that it added, and no other text there
+-- has the hash of one of them, it has the name and the attributes of a login that this provider recorded for the hub.
+pub record CameFromAbove (hub : HubConfig) (asked : List (Asked Provider)) (r : Backed) : Type 0 where
+  pub was : WasPassedAt hub asked r
+  pub recorded : (above : IdpConfig) (added : List Added) (issued : List Signed) → AreOf above added issued
+      → Unforged issued hub.upstream was.one.now was.one.request.body → NoCollision issued was.one.request.body
+      → IsOfARecordedLogin above added hub r
 
 -- The session is of a login that the hub passed on to this provider; and that is in a record which the hub had at the
--- start, or has the name and the attributes of a login that the provider above recorded for the hub.
-pub record IsOfALoginAbove (above : IdpConfig) (added : List Added) (hub : HubConfig) (start : List HubRecord)
+-- start, or came from above.
+pub record IsOfALoginAbove (hub : HubConfig) (start : List HubRecord) (asked : List (Asked Provider))
     (passed : List Backed) (config : SpConfig) (now : ℕ) (session : NewSession) : Type 0 where
   pub below : IsPassedSession hub passed config now session
-  pub of : Contains start (kinds.Backed below.one) ⊎ IsOfARecordedLogin above added hub below.one
+  pub of : Contains start (kinds.Backed below.one) ⊎ CameFromAbove hub asked below.one
 
 -- So it is of each session that a provider below opens, by whatever form and over whatever rows, where nobody but the
 -- hub makes HMACs that match in that form and no hash collides.
 abbrev pub SessionsBelowAreOfLoginsAbove : (start : List HubRecord) → (asked : List (Asked Provider)) → Type 0
 SessionsBelowAreOfLoginsAbove start asked =
-    (above : IdpConfig) (added : List Added) (issued_above : List Signed) (hub : HubConfig) (passed : List Backed)
-    (issued : List Signed) (config : SpConfig) (rows : RowsView) (horizon now : ℕ) (body : List ℕ) (accepted : Accepted)
-    → AreOf above added issued_above → AreUnforged issued_above hub asked → WereSigned hub start asked passed issued
+    (hub : HubConfig) (passed : List Backed) (issued : List Signed) (config : SpConfig) (rows : RowsView)
+    (horizon now : ℕ) (body : List ℕ) (accepted : Accepted) → WereSigned hub start asked passed issued
     → Unforged issued config now body → NoCollision issued body → IsOpening config rows horizon now body accepted
-    → IsOfALoginAbove above added hub start passed config now accepted.session
+    → IsOfALoginAbove hub start asked passed config now accepted.session
 
 -- Whatever records it had at the start, and whatever requests it was asked: those of one run, or of all its starts.
 abbrev pub EachSessionBelowIsOfALoginAbove : Type 0

@@ -34,7 +34,9 @@ pub fn each_login_is_of_one_above()
 
 /// Over both hops, and all requests of one run or of several starts: each session that a provider below opens, where
 /// nobody but the hub makes HMACs that match for what it signs, is of a login that the hub passed on to this provider;
-/// and that is one that the provider above recorded for the hub, or stands in a record that the hub had at the start.
+/// and that stands in a record which the hub had at the start, or was passed on at one of these requests, and is one
+/// that the provider above recorded for the hub, where in the form of this one request nobody else makes HMACs that
+/// match for what that signed.
 pub fn each_session_below_is_of_a_login_above()
     ensures { EachSessionBelowIsOfALoginAbove }
 {
@@ -85,7 +87,9 @@ pub fn a_run_carries_the_headline<D: Disk>()
     what_is_visible_stays();
 }
 
-/// The same sentence over all starts of a hub, each of which opens what a crash of the one before it may have left.
+/// The same sentence over all starts of a hub, each of which opens what a crash of the one before it may have left: of
+/// each request, also of one that a crash cut, and of each record, which stood there at first or is one that a request
+/// adds.
 pub fn the_headline_holds_over_starts()
     ensures { TheHeadlineHoldsOverStarts }
 {
@@ -113,10 +117,11 @@ pub fn a_run_is_a_start()
 
 /// Where a run is next behind starts of its hub, on a disk that tells, each disk that it leaves where it is stopped at
 /// one of its moments is one from which a later start goes on: for each moment at which the run may have left it, as
-/// behind a start of this run that was cut at that moment, inside the opening or inside the answer to the request that
-/// was asked then. It may be one that a crash left, which holds an image, or one of a process that was killed, of which
-/// a crash may still leave several. So runs that were stopped join into one service, of which the laws of starts speak,
-/// with the moments of all its requests, those in which it was stopped too.
+/// behind a start of this run that was cut at that moment, inside the opening, inside the answer to the request that
+/// was asked then, or behind the turns that were done by then. It may be one that a crash left, which holds an image,
+/// or one of a process that was killed, of which a crash may still leave several. So runs that were stopped, and those
+/// that ended, join into one service, of which the laws of starts speak, with the moments of all its requests, those in
+/// which it was stopped too.
 pub fn each_disk_of_a_run_goes_on<D: Disk>()
     ensures any { (disk : D) → EachDiskOfARunGoesOn IsSetUp IsBadSetUp address key hub_rules Answers
         (D.shows disk).left_since AnyMoment }

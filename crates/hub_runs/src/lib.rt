@@ -11,10 +11,11 @@
 //! A contract sees how a run goes as one of the five cases of `provider_run` (`Runs` of its `specs/Providers.antt`),
 //! with the hub's own setup, ledger and steps. It carries the headline ([`laws`]): a login from above is passed on
 //! exactly where a posted form brings it for a request of a provider below that is known; each signed element is one of
-//! a record, and no form is sent before its record is durable; no request upwards backs two logins; and where nobody
-//! else makes HMACs that match and no hash collides, each session below is of a login that the provider above recorded,
-//! or of a record that the hub had at the start. A crash at any moment of a run leaves of a disk that tells what one
-//! inside the opening may leave, or what one inside an answer may.
+//! a record, and no form is sent before its record is durable; no request upwards backs two logins; and each session
+//! below is of a record that the hub had at the start, or of a login that it passed on, which the provider above
+//! recorded, where nobody else makes HMACs that match in the form of that request and no hash collides there. A crash
+//! at any moment of a run leaves of a disk that tells what one inside the opening may leave, or what one inside an
+//! answer may.
 //!
 //! # What is proved
 //!
@@ -33,14 +34,16 @@
 //! has in its history the records for which the answers up to that point stand (`AreKeptSince`); each login goes back
 //! to the request below for which one was sent upwards (`EachLoginInAnImageHasItsRequest`). Where only the provider
 //! above makes HMACs that match and no hash collides, each login that is passed on is one that it signed, and where it
-//! is an identity provider one that it recorded for the hub (`IsOfALoginFromAbove`), and over both hops, where besides
-//! nobody but the hub makes HMACs that match for those below, each session that a provider below opens is of such a
-//! login, or of a record that the hub had at the start (`SessionsBelowAreOfLoginsAbove`). Over all starts of a hub it
-//! holds of each request, of what is kept, once, and of the sessions below (`laws::the_headline_holds_over_starts`): a
-//! run that served is a start (`laws::a_run_is_a_start`), and from each disk that a run leaves where a crash cuts it, or
-//! its process is killed, a later start goes on (`laws::each_disk_of_a_run_goes_on`). Each fault comes only where its
-//! count rose; where a hub can be run and nothing failed it served, or memory ran out (`complete`). 50, 51 and 53 are
-//! answered for their causes alone (`AnswersForACause`).
+//! is an identity provider one that it recorded for the hub (`IsOfALoginFromAbove`), and over both hops, where nobody
+//! but the hub makes HMACs that match for those below, each session that a provider below opens is of a record that the
+//! hub had at the start, or of a login that it passed on at one of its requests, which came from above so, whatever
+//! else was posted to the hub (`SessionsBelowAreOfLoginsAbove`). Over all starts of a hub it holds of each request,
+//! also of one that a crash cut, of each record, which stood there at first or is one that a request adds, of what is
+//! kept, once, and of the sessions below (`laws::the_headline_holds_over_starts`): a run that served is a start
+//! (`laws::a_run_is_a_start`), and from each disk that a run leaves where a crash cuts it, its process is killed, or it
+//! ends, a later start goes on (`laws::each_disk_of_a_run_goes_on`). Each fault comes only where its count rose; where
+//! a hub can be run and nothing failed it served, or memory ran out (`complete`). 50, 51 and 53 are answered for their
+//! causes alone (`AnswersForACause`).
 #![tactic(auto)]
 
 pub mod laws;

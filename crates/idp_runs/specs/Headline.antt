@@ -101,9 +101,9 @@ pub record EndsExactly (asked : Asked Provider) (before after : World Provider) 
 
 -- A logout that asks all others: the answer that begins a round asks the provider of the first turn, and each that
 -- stands for the answer of a provider the one of the next turn; where no turn is left it ends the round, with Success
--- exactly where none was skipped, as many providers answered as there are turns, and each confirmed. No other answer of
--- the round says how it ended. And in the records of any ledger the answers of a round are to its requests, in order, of
--- which there is one for each turn: none is asked twice.
+-- exactly where none was skipped, as many providers answered as there are turns, and each confirmed. No other answer
+-- of the round says how it ended. And in the records of any ledger the answers of a round are to its requests, in
+-- order, of which there is one for each turn: none is asked twice.
 pub record AsksInTurn (asked : Asked Provider) : Type 0 where
   pub begins : (held : Held) (bytes : List ℕ) (r : Round)
       → Answers asked.node.setup held asked.request asked.now (Full bytes) (Some (kinds.Round r))

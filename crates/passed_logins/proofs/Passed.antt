@@ -54,6 +54,7 @@ below law hub passed issued config rows horizon now body accepted signed unforge
       audience = ap (λ (r : Issued). trimmed r.peer) same ∙ is.audience;
       address = ap (λ (r : Issued). r.consumer) same ∙ is.address;
       begun = subst (λ (r : Issued). r.moment ≤ now + config.skew) (sym same) is.begun;
+      accepted = subst (λ (r : Issued). now < r.until + config.skew) (sym same) is.accepted;
       lives = subst (λ (r : Issued). now < r.session_end) (sym same) is.lives;
       request = ap (λ (s : NewSession). s.request) is.is ∙ ap (λ (r : Issued). r.request) (sym same);
       assertion = ap (λ (s : NewSession). s.assertion) is.is ∙ ap (λ (r : Issued). r.assertion) (sym same);

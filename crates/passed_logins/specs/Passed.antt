@@ -15,6 +15,7 @@ use Rattle.peer_keys.specs.Peers.{place_of}
 use Rattle.peer_keys.specs.declared.peers.LogoutPeer.{LogoutPeer}
 use Rattle.request_rows.specs.declared.row.NewSession.{NewSession}
 use Rattle.request_rows.specs.Rows.{RowsView}
+use Rattle.idp_answers.specs.Stating.{presented_until}
 use Rattle.idp_ledger.specs.Ledger as idp_ledger
 use Rattle.idp_rules.specs.declared.config.IdpConfig.{IdpConfig}
 use Rattle.sp_rules.specs.declared.accepted.Accepted.{Accepted}
@@ -65,6 +66,7 @@ pub record IsPassedSession (hub : HubConfig) (passed : List Backed) (config : Sp
   pub audience : trimmed one.peer ≡ config.entity
   pub address : one.consumer ≡ consumer config
   pub begun : one.moment ≤ now + config.skew
+  pub accepted : now < presented_until one.moment + config.skew
   pub lives : now < one.until
   pub request : session.request ≡ one.below
   pub assertion : session.assertion ≡ one.assertion

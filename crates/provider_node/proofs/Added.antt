@@ -75,7 +75,8 @@ module _ {Setup R : Type 0} (rules : RecordRules R) (Answers : AnswersBy Setup R
             )
         of_case (inr (suc k, less, same)) = absurd (omega (arith, less))
 
-    in_serving : ServingLeaves rules Answers old.setup found request now told image → Contains found.records r ⊎ Is
+    pub in_serving : ServingLeaves rules Answers old.setup found request now told image
+        → Contains found.records r ⊎ Is
     in_serving (AtFirst same may) = inl (in_found (ledger_in rules image) held found r is same there)
     in_serving (InCompaction room left) = ⊎_elim
         (λ same. inl (in_found (ledger_in rules image) held found r is same there)) (λ (made, compacts, same). inl

@@ -14,10 +14,10 @@ use Rattle.record_ledger.specs.Rules.{RecordRules}
 use Rattle.record_ledger.specs.Ledger.{Held, LeftByOpening}
 use Rattle.provider_node.specs.Step.{AnswersBy, Provider, StepLeaves}
 use Rattle.provider_node.specs.Histories.{IsProviders, moments_of}
-use Rattle.provider_node.specs.Joining.{EachDiskGoesOn, GoesOn, InOpening, InServing, IsCutAt, IsInside, IsStoppedAt}
-use Rattle.provider_node.specs.Joining.{LeavesBut}
-use Rattle.provider_node.specs.Starts.{AreStartsAt, Cut, GoesAt, InAnswer, IsNextAt, IsServed, LeftByAt, Served, Start}
-use Rattle.provider_node.specs.Starts.{told_before}
+use Rattle.provider_node.specs.Joining.{BehindTurns, EachDiskGoesOn, GoesOn, InOpening, InServing, IsCutAt, IsInside}
+use Rattle.provider_node.specs.Joining.{IsStoppedAt, LeavesBut}
+use Rattle.provider_node.specs.Starts.{AreStartsAt, Behind, Cut, GoesAt, InAnswer, IsNextAt, IsServed, LeftByAt}
+use Rattle.provider_node.specs.Starts.{Served, Start, told_before}
 use Rattle.provider_node.proofs.Histories.{AreMoments, moment_at, moments_are}
 
 -- a disk that was synced as an image
@@ -119,10 +119,10 @@ module _ {Setup R : Type 0} (rules : RecordRules R) (Answers : AnswersBy Setup R
       goes = goes;
     }
 
-    abbrev From : IsStoppedAt rules Answers before turns disk → Type 0
+    abbrev From : IsStoppedAt rules Answers before IsFirst turns disk → Type 0
     From at = GoesOn rules Answers IsMoment start earlier before IsFirst turns disk at
 
-    goes_on : (at : IsStoppedAt rules Answers before turns disk) (one : Start (Provider Setup R))
+    goes_on : (at : IsStoppedAt rules Answers before IsFirst turns disk) (one : Start (Provider Setup R))
         → IsCutAt rules Answers before IsFirst turns disk at one
         → IsNextAt rules Answers IsMoment start earlier one → LeavesBut disk (LeftByAt rules Answers IsMoment one)
         → From at
@@ -141,20 +141,23 @@ module _ {Setup R : Type 0} (rules : RecordRules R) (Answers : AnswersBy Setup R
     Ran = (turns ≡ []) ⊎ ((first last : World (Provider Setup R)) × (kept : Table)
         × IsFirst first × IsServed rules Answers before first turns kept last)
 
-    moment_among : (later past : List (Turn (Provider Setup R))) (turn : Turn (Provider Setup R))
-        → turns ≡ later ++ turn ∷ past → (now : ℕ) → Contains (moments_of (turn ∷ past)) now → IsMoment now
-    moment_among later past turn are now there =
+    moment_among : (later past : List (Turn (Provider Setup R))) → turns ≡ later ++ past
+        → (now : ℕ) → Contains (moments_of past) now → IsMoment now
+    moment_among later past are now there =
         times now (subst (λ (l : List (Turn (Provider Setup R))). Contains (moments_of l) now) (sym are)
-        (moments_in later (turn ∷ past) now there))
+        (moments_in later past now there))
 
-    goes_from : Ran → (at : IsStoppedAt rules Answers before turns disk) → From at
+    goes_from : Ran → (at : IsStoppedAt rules Answers before IsFirst turns disk) → From at
     goes_from ran (InOpening left) = goes_on (InOpening left) (Cut before) refl is_next left
+    goes_from ran (BehindTurns past later first kept last are is served left) =
+        goes_on (BehindTurns past later first kept last are is served left) (Served before first past kept last) refl
+        (served_next first last past kept served (moment_among later past are)) (λ image may. Behind (left image may))
     goes_from (inl bare) (InServing past later turn are inside) =
         absurd (none_among turns later past turn bare are)
     goes_from (inr (first, last, kept, is_first, served)) (InServing past later turn are inside) =
         let all = subst (λ (l : List (Turn (Provider Setup R))). Run (IsProviders rules Answers) first l kept last) are
         served.run in
-        let among = moment_among later past turn are in
+        let among = moment_among later (turn ∷ past) are in
         let (mid, world, run) = cut_behind rules Answers first last later (turn ∷ past) kept all in
         let cut = cut_at first world past turn mid run (moments_are IsMoment (turn ∷ past) among) inside in
         goes_on (InServing past later turn are inside) (Served before first past cut.kept cut.last)
@@ -166,17 +169,18 @@ module _ {Setup R : Type 0} (rules : RecordRules R) (Answers : AnswersBy Setup R
         (λ image may. InAnswer cut.request cut.now cut.at (cut.left image may))
 
 module _ {Setup R : Type 0} (rules : RecordRules R) (Answers : AnswersBy Setup R) (IsMoment : ℕ → Type 0) where
-  stopped_at : (before : Option DiskState) (turns : List (Turn (Provider Setup R))) (disk : DiskState)
+  stopped_at : (before : Option DiskState) (IsFirst : World (Provider Setup R) → Type 0)
+      (turns : List (Turn (Provider Setup R))) (disk : DiskState)
       → LeavesBut disk (LeftByOpening rules before) ⊎ IsInside rules Answers (asked_in turns) disk
-      → IsStoppedAt rules Answers before turns disk
-  stopped_at before turns disk (inl left) = InOpening left
-  stopped_at before turns disk (inr inside) =
+      → IsStoppedAt rules Answers before IsFirst turns disk
+  stopped_at before IsFirst turns disk (inl left) = InOpening left
+  stopped_at before IsFirst turns disk (inr inside) =
       let (past, later, turn, are, there) = stopped_in rules Answers disk turns inside in
       InServing past later turn are there
 
   pub each_disk_goes_on : (IsFirst : World (Provider Setup R) → Type 0)
       → EachDiskGoesOn rules Answers IsMoment IsFirst
   each_disk_goes_on IsFirst start earlier before turns disk were next at ran reads which = record {
-    stopped = stopped_at before turns disk which;
+    stopped = stopped_at before IsFirst turns disk which;
     goes = goes_from rules Answers IsMoment disk start earlier before IsFirst turns were next at reads ran;
   }

@@ -26,3 +26,4 @@ pub mod Ids
 pub mod Judged
 pub mod Causes
 pub mod Refusals
+pub mod Origins

@@ -3,6 +3,7 @@
 -- image; a process that is killed leaves its disk, of which a crash may still leave several.
 use Rattle.std.specs.Prelude.{◌≡◌, ◌⊎◌, ℕ, List, [], ◌∷◌, ◌++◌, Contains, Option, Some}
 use Rattle.crash_disk.specs.Disk.{Image, DiskState, MayLeave, image_of}
+use Rattle.crash_disk.specs.Moments.{Leaves}
 use Rattle.conn_table.specs.Table.{Table}
 use Rattle.serve_loop.specs.Turns.{Asked, Run, Turn, asked_by, asked_in}
 use Rattle.serve_loop.specs.Worlds.{World}
@@ -24,24 +25,29 @@ module _ {Setup R : Type 0} (rules : RecordRules R) (Answers : AnswersBy Setup R
     pub among : Contains asked one
     pub left : LeavesBut disk (StepLeaves rules Answers one.node one.disk one.request one.now)
 
-  -- A moment at which a run that did these turns on a disk which told this before may have been stopped, so that it
-  -- left this disk: inside the opening of its ledger; or inside the answer to the request of one of its turns, behind
-  -- those that were done before it, the latest first.
-  pub data IsStoppedAt (before : Option DiskState) (turns : List (Turn (Provider Setup R))) (disk : DiskState) : Type 0
-    where
-      InOpening : LeavesBut disk (LeftByOpening rules before) → IsStoppedAt before turns disk
+  module _ (before : Option DiskState) (IsFirst : World (Provider Setup R) → Type 0)
+      (turns : List (Turn (Provider Setup R))) (disk : DiskState) where
+    -- A moment at which a run that did these turns on a disk which told this before may have been stopped, so that it
+    -- left this disk: inside the opening of its ledger; inside the answer to the request of one of its turns, behind
+    -- those that were done before it, the latest first; or between two turns, or behind the last one, where the disk
+    -- may leave nothing but what it may leave in the world there.
+    pub data IsStoppedAt : Type 0 where
+      InOpening : LeavesBut disk (LeftByOpening rules before) → IsStoppedAt
       InServing : (past later : List (Turn (Provider Setup R))) (turn : Turn (Provider Setup R))
-          → turns ≡ later ++ turn ∷ past → IsInside (asked_by turn) disk → IsStoppedAt before turns disk
+          → turns ≡ later ++ turn ∷ past → IsInside (asked_by turn) disk → IsStoppedAt
+      BehindTurns : (past later : List (Turn (Provider Setup R))) (first : World (Provider Setup R)) (kept : Table)
+          (last : World (Provider Setup R)) → turns ≡ later ++ past → IsFirst first
+          → IsServed rules Answers before first past kept last → LeavesBut disk (Leaves last.disk) → IsStoppedAt
 
-  -- A run that was stopped at a moment, as a start: it was cut inside the opening; or it was served from its first
-  -- world on, and was cut behind the turns that were done before that moment.
-  abbrev pub IsCutAt : (before : Option DiskState) (IsFirst : World (Provider Setup R) → Type 0)
-      (turns : List (Turn (Provider Setup R))) (disk : DiskState) → IsStoppedAt before turns disk
-      → Start (Provider Setup R) → Type 0
-  IsCutAt before IsFirst turns disk (InOpening left) one = one ≡ Cut before
-  IsCutAt before IsFirst turns disk (InServing past later turn are inside) one =
-      (first : World (Provider Setup R)) × (kept : Table) × (last : World (Provider Setup R)) × IsFirst first
-      × Run (IsProviders rules Answers) first past kept last × (one ≡ Served before first past kept last)
+    -- A run that was stopped at a moment, as a start: it was cut inside the opening; or it was served from its first
+    -- world on, and was cut behind the turns that were done before that moment.
+    abbrev pub IsCutAt : IsStoppedAt → Start (Provider Setup R) → Type 0
+    IsCutAt (InOpening left) one = one ≡ Cut before
+    IsCutAt (InServing past later turn are inside) one =
+        (first : World (Provider Setup R)) × (kept : Table) × (last : World (Provider Setup R)) × IsFirst first
+        × Run (IsProviders rules Answers) first past kept last × (one ≡ Served before first past kept last)
+    IsCutAt (BehindTurns past later first kept last are is served left) one =
+        one ≡ Served before first past kept last
 
 -- `IsMoment` says of the moments of the starts before and of the run.
 module _ {Setup R : Type 0} (rules : RecordRules R) (Answers : AnswersBy Setup R) (IsMoment : ℕ → Type 0)
@@ -49,7 +55,7 @@ module _ {Setup R : Type 0} (rules : RecordRules R) (Answers : AnswersBy Setup R
     (IsFirst : World (Provider Setup R) → Type 0) (turns : List (Turn (Provider Setup R))) (disk : DiskState) where
   -- From this disk a later start goes on, behind starts and one more, which is the run cut at this moment: each start
   -- on a disk that tells just this is the next.
-  pub record GoesOn (at : IsStoppedAt rules Answers before turns disk) : Type 0 where
+  pub record GoesOn (at : IsStoppedAt rules Answers before IsFirst turns disk) : Type 0 where
     pub one : Start (Provider Setup R)
     pub cut : IsCutAt rules Answers before IsFirst turns disk at one
     pub starts : AreStartsAt rules Answers IsMoment start (one ∷ earlier)
@@ -59,8 +65,8 @@ module _ {Setup R : Type 0} (rules : RecordRules R) (Answers : AnswersBy Setup R
 
   -- There is a moment at which the run may have left this disk, and so it goes on from each such moment.
   pub record GoesOnFromEach : Type 0 where
-    pub stopped : IsStoppedAt rules Answers before turns disk
-    pub goes : (at : IsStoppedAt rules Answers before turns disk) → GoesOn at
+    pub stopped : IsStoppedAt rules Answers before IsFirst turns disk
+    pub goes : (at : IsStoppedAt rules Answers before IsFirst turns disk) → GoesOn at
 
 module _ {Setup R : Type 0} (rules : RecordRules R) (Answers : AnswersBy Setup R) (IsMoment : ℕ → Type 0) where
   -- It is so of each disk that a run may leave where it is stopped at a moment, and that reads as a crash may leave it,

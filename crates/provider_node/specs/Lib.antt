@@ -17,3 +17,4 @@ pub mod Recorded
 pub mod Changes
 pub mod Room
 pub mod Causes
+pub mod Origins

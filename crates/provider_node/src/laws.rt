@@ -2,6 +2,7 @@
 ghost use Rattle.std.specs.Prelude.{Contains};
 ghost use Rattle.provider_node.specs.Added.{WhatIsNewIsOfTheRequest};
 ghost use Rattle.provider_node.specs.Causes.{EachCodeHasItsCause};
+ghost use Rattle.provider_node.specs.Origins.{EachRecordHasItsRequest};
 ghost use Rattle.provider_node.specs.Starving.{WhatIsVisibleStays};
 ghost use Rattle.provider_node.specs.Staying.{RowIsAsLeft, SessionsStayInAService, SessionsStayOverStarts};
 ghost use Rattle.provider_node.specs.Staying.{WhatWasOpenedIsAsLeft};
@@ -12,6 +13,12 @@ use crate::role::Role;
 /// stood nowhere before, is one that this request adds, whatever was answered.
 pub fn what_is_new_is_of_the_request<R: Role>()
     ensures { WhatIsNewIsOfTheRequest R.Rows.rules R.answers }
+{}
+
+/// Each record in each ledger that may be opened behind starts, wherever a crash stopped them, stood there at first, or
+/// is one that a request of these starts adds, whatever was answered to it and also where a crash cut it.
+pub fn each_record_has_its_request<R: Role>()
+    ensures { EachRecordHasItsRequest R.Rows.rules R.answers }
 {}
 
 /// Each row for whose record an answer went out is as it was left in each image that has in its history what was

@@ -27,12 +27,13 @@
 //! `specs/Histories.antt` says what was acknowledged over a service, and how its ledger came from the one at the start,
 //! with compactions at the moments of its requests alone; `specs/Lasting.antt` that it is kept since then, inside later
 //! answers too; `specs/Staying.antt` what happened since a record was added, and that the session which it opened is
-//! found as it was left, and so is each row; `specs/Added.antt` that what stands anew is of the request;
-//! `specs/Changes.antt` what a request may do to a ledger; `specs/Room.antt` where there is room for a record, at once
-//! or behind one compaction; `specs/Recorded.antt` that the record of an answer is kept; `specs/Starving.antt` that
-//! nothing visible is lost where there was no memory; `specs/Causes.antt` what the codes that a provider answers for
-//! itself stand for; and `specs/Joining.antt` that a later start goes on from whatever a run left where a crash cut it,
-//! or its process was killed, inside the answer that was made then. The laws of any role are in [`laws`].
+//! found as it was left, and so is each row; `specs/Added.antt` that what stands anew is of the request, and
+//! `specs/Origins.antt` of which request each record is that stands behind starts; `specs/Changes.antt` what a request
+//! may do to a ledger; `specs/Room.antt` where there is room for a record, at once or behind one compaction;
+//! `specs/Recorded.antt` that the record of an answer is kept; `specs/Starving.antt` that nothing visible is lost where
+//! there was no memory; `specs/Causes.antt` what the codes that a provider answers for itself stand for; and
+//! `specs/Joining.antt` that a later start goes on from whatever a run left where a crash cut it, its process was
+//! killed, or it ended. The laws of any role are in [`laws`].
 //!
 //! # What is proved
 //!
@@ -47,20 +48,22 @@
 //! the opening of a ledger that had failed, of one compaction, of one commit, all or a beginning; `StepLeaves` is what
 //! a crash inside may leave, amid these calls. A record that stands in an image that a crash may leave, and stood
 //! nowhere before, is one that this request adds, whatever was answered, over the ledger that it finds or what the one
-//! compaction makes of this (`laws::what_is_new_is_of_the_request`); where there was no memory and the ledger was not
-//! broken what was visible stays visible (`laws::what_is_visible_stays`); and each row of an acknowledged record is as
-//! it was left, while it is visible at each moment of the runs (`laws::each_row_stays`), behind a service and over
-//! starts (`laws::each_row_stays_over_starts`). Over them: what was acknowledged in a service and how its ledger came
-//! from the one at the start (`specs/Histories.antt`), the worlds between requests (`specs/Points.antt`), lists of
-//! starts with crashes between, each of which opens what one may have left (`specs/Starts.antt`), and that runs which a
-//! crash cut join into one service, with the moments of their requests (`specs/Joining.antt`). A compaction in a
-//! history is bound to a moment of the run. A page is made before its record is written, and a second try comes only
-//! behind a compaction that ended; `start`, `restart` and `compact` give what the disk stands for, or a fault by its
-//! cause. In a request that is not answered by 50 the disk's count of faults stays as it was (`CountsAnswer`). The laws
-//! of each provider say these of its own answers; `code_of` gives the code of a fault. Where no answer of a role is one
-//! of the codes that a provider answers for itself, 50 is answered only where the disk's count of faults rose, 51 only
-//! where there was no place for a record, at once and behind one compaction, and 53 only where the ledger was broken
-//! and, as far as the disk tells, this stands for none (`laws::each_code_has_its_cause`).
+//! compaction makes of this (`laws::what_is_new_is_of_the_request`), and each record behind starts stood there at first
+//! or is one that a request of theirs adds (`laws::each_record_has_its_request`); where there was no memory and the
+//! ledger was not broken what was visible stays visible (`laws::what_is_visible_stays`); and each row of an
+//! acknowledged record is as it was left, while it is visible at each moment of the runs (`laws::each_row_stays`),
+//! behind a service and over starts (`laws::each_row_stays_over_starts`). Over them: what was acknowledged in a service
+//! and how its ledger came from the one at the start (`specs/Histories.antt`), the worlds between requests
+//! (`specs/Points.antt`), lists of starts with crashes between, each of which opens what one may have left
+//! (`specs/Starts.antt`), and that runs which were stopped at any moment, or ended, join into one service, with the
+//! moments of their requests (`specs/Joining.antt`). A compaction in a history is bound to a moment of the run. A page
+//! is made before its record is written, and a second try comes only behind a compaction that ended; `start`, `restart`
+//! and `compact` give what the disk stands for, or a fault by its cause. In a request that is not answered by 50 the
+//! disk's count of faults stays as it was (`CountsAnswer`). The laws of each provider say these of its own answers;
+//! `code_of` gives the code of a fault. Where no answer of a role is one of the codes that a provider answers for
+//! itself, 50 is answered only where the disk's count of faults rose, 51 only where there was no place for a record, at
+//! once and behind one compaction, and 53 only where the ledger was broken and, as far as the disk tells, this stands
+//! for none (`laws::each_code_has_its_cause`).
 #![tactic(auto)]
 
 mod answering;

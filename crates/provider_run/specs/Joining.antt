@@ -38,8 +38,8 @@ pub data IsLeftStopped {Setup R : Type 0} (rules : RecordRules R) (Answers : Ans
 
 -- Where a run is next behind starts of its provider, on a disk that tells, each disk that it leaves where it is stopped
 -- at one of its moments is one from which a later start goes on, for each moment at which the run may have left it, as
--- behind a start of this run that was cut at that moment: inside the opening, or inside the answer to the request that
--- was asked then. `IsMoment` says of the moments of the starts and of the run.
+-- behind a start of this run that was cut at that moment: inside the opening, inside the answer to the request that was
+-- asked then, or behind the turns that were done by then. `IsMoment` says of the moments of the starts and of the run.
 abbrev pub EachDiskOfARunGoesOn : {Setup R : Type 0} (SetsUp : SetUpBy Setup) (IsBad : BadSetUpBy)
     (address key : Setup → List ℕ) (rules : RecordRules R) (Answers : AnswersBy Setup R) (left : ℕ → Image → Type 0)
     (IsMoment : ℕ → Type 0) → Type 0

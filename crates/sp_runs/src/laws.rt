@@ -104,12 +104,13 @@ pub fn a_run_carries_the_headline<D: Disk>()
     a_session_is_shown_by_its_row();
 }
 
-/// Where a run is next behind starts of its provider, on a disk that tells, each disk that it leaves where it is stopped
-/// at one of its moments is one from which a later start goes on: for each moment at which the run may have left it, as
-/// behind a start of this run that was cut at that moment, inside the opening or inside the answer to the request that
-/// was asked then. It may be one that a crash left, which holds an image, or one of a process that was killed, of which
-/// a crash may still leave several. So runs that were stopped join into one service, of which the laws of starts speak,
-/// with the moments of all its requests, those in which it was stopped too.
+/// Where a run is next behind starts of its provider, on a disk that tells, each disk that it leaves where it is
+/// stopped at one of its moments is one from which a later start goes on: for each moment at which the run may have
+/// left it, as behind a start of this run that was cut at that moment, inside the opening, inside the answer to the
+/// request that was asked then, or behind the turns that were done by then. It may be one that a crash left, which
+/// holds an image, or one of a process that was killed, of which a crash may still leave several. So runs that were
+/// stopped, and those that ended, join into one service, of which the laws of starts speak, with the moments of all its
+/// requests, those in which it was stopped too.
 pub fn each_disk_of_a_run_goes_on<D: Disk>()
     ensures any { (disk : D) → EachDiskOfARunGoesOn IsServedBy IsBadFile address key request_rules Answers
         (D.shows disk).left_since AnyMoment }

@@ -3,6 +3,9 @@ use Rattle.idp_ledger.specs.Record.{idp_rules}
 use Rattle.idp_rows.specs.RowsOf.{ends}
 use Rattle.idp_server.specs.Histories.{IsDead, IsEnded}
 use Rattle.idp_server.specs.Step as idp_steps
+use Rattle.request_ledger.specs.Record.{request_rules}
+use Rattle.sp_server.specs.Step as sp_steps
+use Rattle.provider_node.proofs.Origins.{each_has_its_request}
 use Rattle.both_providers.proofs.Over.{over_behind}
 use Rattle.both_providers.proofs.Together.{counts}
 use Rattle.both_providers.proofs.the_headline_holds_of_both.Goals as goal
@@ -13,6 +16,8 @@ returns c = λ start sp_starts idp_start idp_starts records sp idp. record {
     only = λ held answer r answers. c.a_session_opens_exactly.ensures.only asked.node.setup held asked.request asked.now answer r answers;
     wherever = λ found faults later. c.a_session_opens_exactly.ensures.wherever found asked.request asked.now faults later asked.answer asked.node;
   };
+  from = each_has_its_request request_rules sp_steps.Answers start sp_starts sp;
+  idp_from = each_has_its_request idp_rules idp_steps.Answers idp_start idp_starts idp;
   recorded = λ setup added issued asked held answer r signed there unforged apart gives.
       let config = asked.node.setup.config in
       let b = gives.brought in
