@@ -29,9 +29,9 @@
 //! once, and says Success exactly where each confirmed and none was skipped (`AsksInTurn`); and each image that a crash
 //! might leave since a point of the run, also inside later requests, has in its history the records for which the
 //! answers up to that point stand (`AreKeptSince`). A run that served is a start, over which the laws of starts go
-//! (`laws::a_run_is_a_start`), and from each disk that a run leaves where a crash cuts it, or its process is killed, a
-//! later start goes on (`laws::each_disk_of_a_run_goes_on`). Each fault comes only where its count rose; where a
-//! provider can be run and nothing failed it served, or memory ran out (`complete`). 50, 51 and 53 are answered for
+//! (`laws::a_run_is_a_start`), and from each disk that a run leaves where a crash cuts it, its process is killed, or it
+//! ends, a later start goes on (`laws::each_disk_of_a_run_goes_on`). Each fault comes only where its count rose; where
+//! a provider can be run and nothing failed it served, or memory ran out (`complete`). 50, 51 and 53 are answered for
 //! their causes alone (`AnswersForACause`).
 #![tactic(auto)]
 

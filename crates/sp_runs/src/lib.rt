@@ -36,8 +36,8 @@
 //! is given is that of a login which it signed (`each_session_was_signed`); a registry tells the provider at each
 //! request, and from its end on nothing is asked or recorded (`a_registry_tells_and_ends`); a session that lives over
 //! the ledger that a step found is shown by the policy, the path and its own row alone
-//! (`a_session_is_shown_by_its_row`); from each disk that a run leaves where a crash cuts it, or its process is killed,
-//! a later start goes on, as behind that run cut there, inside the answer that was made then
+//! (`a_session_is_shown_by_its_row`); from each disk that a run leaves where a crash cuts it, its process is killed, or
+//! it ends, a later start goes on, for each moment at which it may have been left, as behind that run cut there
 //! (`each_disk_of_a_run_goes_on`). What the laws say of policies, registries and guards is part of the headline, and so
 //! is that a session is found as it was left. 50, 51 and 53 are answered for their causes alone (`AnswersForACause`).
 #![tactic(auto)]
